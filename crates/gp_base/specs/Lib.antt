@@ -1,0 +1,4 @@
+pub mod Cells
+pub mod Order
+pub mod Texts
+pub mod Writing

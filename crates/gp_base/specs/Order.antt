@@ -1,0 +1,34 @@
+-- The order of cells and rows, and lists put in order.
+use Rattle.std.specs.Prelude.{ℕ, List, [], ◌∷◌, if◌then◌else◌}
+use Rattle.std.specs.declared.cmp.Ordering.{Ordering}
+use Rattle.std.specs.declared.cmp.Ordering.TheVariants.{Less, Equal, Greater}
+use Rattle.std.specs.Ordering.{nat_cmp, int_cmp, is_le}
+use Rattle.std.specs.Cmp.Lexicographic.{slice_cmp}
+use Rattle.gp_base.specs.declared.cell.Cell.{Cell}
+use Rattle.gp_base.specs.declared.cell.Cell.TheVariants.{Null, Int, Text}
+
+-- NULL is before every number, and every number before every text; texts go by their bytes
+abbrev pub cell_cmp : Cell → Cell → Ordering
+cell_cmp Null Null = Equal
+cell_cmp Null (Int m) = Less
+cell_cmp Null (Text s) = Less
+cell_cmp (Int n) Null = Greater
+cell_cmp (Int n) (Int m) = int_cmp n m
+cell_cmp (Int n) (Text s) = Less
+cell_cmp (Text t) Null = Greater
+cell_cmp (Text t) (Int m) = Greater
+cell_cmp (Text t) (Text s) = slice_cmp nat_cmp t s
+
+-- rows go cell by cell, and a row that ends first is before
+abbrev pub row_cmp : List Cell → List Cell → Ordering
+row_cmp = slice_cmp cell_cmp
+
+-- the item before the first that is not below it
+abbrev pub placed : {T : Type 0} → (T → T → Ordering) → T → List T → List T
+placed cmp item [] = item ∷ []
+placed cmp item (other ∷ others) = if is_le (cmp item other) then item ∷ other ∷ others else other ∷ placed cmp item others
+
+-- the items in order, each as often as it occurs
+abbrev pub in_order : {T : Type 0} → (T → T → Ordering) → List T → List T
+in_order cmp [] = []
+in_order cmp (item ∷ items) = placed cmp item (in_order cmp items)

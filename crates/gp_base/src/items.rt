@@ -1,0 +1,132 @@
+//! A list of values that contracts see as a list.
+
+ghost use Rattle.std.specs.Prelude.{◌≡◌, ◌++◌, ◌∷◌, [], IfOk, OnOk, OnErr, length};
+
+use crate::memory::NoMemory;
+use std::alloc::Global;
+use std::cmp::Ordering;
+use std::marker::Model;
+
+/// A value that can be copied where memory allows.
+pub trait TryCopy: Sized {
+    /// An equal value, in memory of its own.
+    fn try_copy(&self, alloc: Global) -> Result<Self, NoMemory>
+        ensures { IfOk result (λ copy. copy ≡ self.now) };
+}
+
+/// A list of values. Contracts see the list alone, and neither where it lies nor its capacity.
+#[derive(Debug, Drop)]
+pub struct Items<T> {
+    items: Vec<T>,
+}
+
+impl<T> Model for Items<T> {
+    ghost use Rattle.std.specs.Prelude.{List};
+
+    ghost Value = { List T };
+
+    ghost view = { λ a. a.items.items };
+}
+
+impl<T> Items<T> {
+    /// No values.
+    pub fn new(alloc: Global) -> Items<T>
+        ensures { result ≡ [] }
+    {
+        Items {
+            items: Vec::new(alloc),
+        }
+    }
+
+    /// The values of a vector, in its order.
+    pub fn from_vec(items: Vec<T>) -> Items<T>
+        ensures { result ≡ items.items }
+    {
+        Items { items }
+    }
+
+    /// The values of a slice, each as it is.
+    pub fn from_slice(alloc: Global, items: &[T]) -> Result<Items<T>, NoMemory>
+    where
+        T: Copy,
+        ensures { IfOk result (λ list. list ≡ items.now) }
+    {
+        Ok(Items {
+            items: Vec::from_slice(alloc, items)?,
+        })
+    }
+
+    /// The values as a slice.
+    pub fn as_slice(&self) -> &[T]
+        ensures { result.now ≡ self.now }
+    {
+        self.items.as_slice()
+    }
+
+    /// Adds a value at the end.
+    pub fn push(&mut self, item: T) -> Result<(), NoMemory>
+    where
+        T: Drop,
+        ensures ok { OnOk result (self.new ≡ self.old ++ item ∷ []) }
+        ensures err { OnErr result (self.new ≡ self.old) }
+    {
+        self.items.push(item)?;
+        Ok(())
+    }
+}
+
+impl<T: TryCopy + Drop> TryCopy for Items<T> {
+    fn try_copy(&self, alloc: Global) -> Result<Items<T>, NoMemory> {
+        let mut items = Vec::with_capacity(alloc, self.items.len())?;
+        for item in &self.items {
+            items.push(item.try_copy(alloc)?)?;
+        }
+        Ok(Items { items })
+    }
+}
+
+impl<T: PartialEq> PartialEq for Items<T> {
+    ghost use Rattle.std.specs.Cmp.Lexicographic.{pointwise, lists_per};
+
+    ghost eq = { pointwise T.eq };
+
+    ghost laws = { lists_per T.PartialEq.laws };
+
+    fn eq(&self, other: &Items<T>) -> bool {
+        self.items == other.items
+    }
+}
+
+impl<T: Eq> Eq for Items<T> {
+    ghost use Rattle.std.specs.Cmp.Lexicographic.{lists_equiv};
+
+    ghost laws = { lists_equiv T.Eq.laws };
+}
+
+impl<T: PartialOrd> PartialOrd for Items<T> {
+    ghost use Rattle.std.specs.Cmp.Lexicographic.{slice_partial_cmp, lists_po};
+
+    ghost partial_cmp = { slice_partial_cmp T.partial_cmp };
+
+    ghost laws = { lists_po T.PartialOrd.laws };
+
+    fn partial_cmp(&self, other: &Items<T>) -> Option<Ordering> {
+        self.items.partial_cmp(&other.items)
+    }
+}
+
+impl<T: Ord> Ord for Items<T> {
+    ghost use Rattle.std.specs.Cmp.Lexicographic.{slice_cmp, lists_total, lists_agrees, lists_ties};
+
+    ghost cmp = { slice_cmp T.cmp };
+
+    ghost total = { lists_total T.total };
+
+    ghost matches_partial_cmp = { lists_agrees T.matches_partial_cmp };
+
+    ghost matches_eq = { lists_ties T.cmp T.matches_eq };
+
+    fn cmp(&self, other: &Items<T>) -> Ordering {
+        self.items.cmp(&other.items)
+    }
+}

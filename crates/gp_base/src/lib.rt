@@ -1,0 +1,22 @@
+//! The values that every layer of gprom speaks of.
+#![tactic(auto)]
+
+mod cell;
+mod items;
+mod memory;
+mod refusal;
+mod row;
+mod row_text;
+mod table;
+mod text;
+mod writing;
+
+pub use cell::Cell;
+pub use items::{Items, TryCopy};
+pub use memory::NoMemory;
+pub use refusal::{Refusal, write_refusal};
+pub use row::Row;
+pub use row_text::write_row;
+pub use table::{Column, Kind, Table};
+pub use text::{Name, Text};
+pub use writing::{WriteText, push_all, write_joined};

@@ -1,0 +1,68 @@
+//! Rows, which are lists of cells.
+
+ghost use Rattle.std.specs.Prelude.{◌≡◌, ◌++◌, ◌∷◌, [], IfOk, OnOk, OnErr};
+ghost use Rattle.gp_base.specs.Cells.{IsInRange, AreInRange};
+
+use crate::cell::Cell;
+use crate::items::{Items, TryCopy};
+use crate::memory::NoMemory;
+use std::alloc::Global;
+use std::marker::Model;
+
+/// The cells of a row in the order of its columns. Rows are ordered cell by cell, and a row that ends first is before.
+#[derive(Debug, Drop, PartialEq, Eq, PartialOrd, Ord)]
+pub struct Row {
+    cells: Items<Cell>,
+}
+
+impl Model for Row {
+    ghost use Rattle.std.specs.Prelude.{List};
+    ghost use Rattle.gp_base.specs.declared.cell.Cell.{Cell};
+    ghost use Rattle.gp_base.specs.Cells.{AreInRange};
+
+    ghost Value = { List Cell };
+
+    ghost view = { λ a. a.cells };
+
+    ghost invariant = { λ a. AreInRange a.cells };
+
+    ghost inverse = { λ cells. record { cells = cells } };
+}
+
+impl Row {
+    /// A row of no cells.
+    pub fn new(alloc: Global) -> Row
+        ensures { result ≡ [] }
+    {
+        Row {
+            cells: Items::new(alloc),
+        }
+    }
+
+    /// The cells of the row. Each number in them lies within 64 bits.
+    pub fn cells(&self) -> &[Cell]
+        ensures cells { result.now ≡ self.now }
+        ensures in_range { AreInRange self.now }
+    {
+        self.cells.as_slice()
+    }
+
+    #[tactic(auto, using(crate::proofs::CellLemmas::rows_in_range))]
+    /// Adds a cell at the end. An `Err` leaves the row as it was.
+    pub fn push(&mut self, cell: Cell) -> Result<(), NoMemory>
+        requires { IsInRange cell }
+        ensures ok { OnOk result (self.new ≡ self.old ++ cell ∷ []) }
+        ensures err { OnErr result (self.new ≡ self.old) }
+    {
+        self.cells.push(cell)?;
+        Ok(())
+    }
+}
+
+impl TryCopy for Row {
+    fn try_copy(&self, alloc: Global) -> Result<Row, NoMemory> {
+        Ok(Row {
+            cells: self.cells.try_copy(alloc)?,
+        })
+    }
+}

@@ -1,0 +1,69 @@
+//! The texts of cells and rows.
+
+ghost use Rattle.std.specs.Prelude.{◌≡◌, ◌++◌, OnOk, OnErr, IfOk};
+ghost use Rattle.std.specs.Fmt.{signed_decimal};
+ghost use Rattle.std.specs.List.{flat_map};
+ghost use Rattle.gp_base.specs.Texts.{cell_text, row_text, quoted_byte};
+ghost use Rattle.gp_base.specs.Writing.{HasFront};
+
+use crate::cell::Cell;
+use crate::memory::NoMemory;
+use crate::row::Row;
+use crate::text::Text;
+use crate::writing::{WriteText, push_all, write_joined};
+use std::alloc::Global;
+
+const QUOTE: u8 = b'\'';
+
+/// The text with each quote written twice.
+fn quoted(alloc: Global, text: &[u8]) -> Result<Vec<u8>, NoMemory>
+    ensures { IfOk result (λ bytes. bytes.items ≡ flat_map quoted_byte text.now) }
+{
+    let mut bytes = Vec::new(alloc);
+    for byte in text {
+        if *byte == QUOTE {
+            bytes.push(QUOTE)?;
+        }
+        bytes.push(*byte)?;
+    }
+    Ok(bytes)
+}
+
+fn write_number(alloc: Global, number: i64, out: &mut Vec<u8>) -> Result<(), NoMemory>
+    ensures ok { OnOk result (out.new.items ≡ out.old.items ++ signed_decimal number) }
+    ensures err { OnErr result (HasFront out.old.items out.new.items (signed_decimal number)) }
+{
+    let digits = number.to_string(alloc)?;
+    push_all(out, &[digits.as_bytes()])?;
+    Ok(())
+}
+
+fn write_quoted(alloc: Global, text: &Text, out: &mut Vec<u8>) -> Result<(), NoMemory>
+    ensures ok { OnOk result (out.new.items ≡ out.old.items ++ cell_text (Cell.Text text.now)) }
+    ensures err { OnErr result (HasFront out.old.items out.new.items (cell_text (Cell.Text text.now))) }
+{
+    let inside = quoted(alloc, text.as_bytes())?;
+    push_all(out, &[b"'", &inside, b"'"])?;
+    Ok(())
+}
+
+impl WriteText for Cell {
+    ghost text = { cell_text };
+
+    fn write_text(&self, alloc: Global, out: &mut Vec<u8>) -> Result<(), NoMemory> {
+        match self {
+            Cell::Null => push_all(out, &[b"NULL"]),
+            Cell::Int(number) => write_number(alloc, *number, out),
+            Cell::Text(text) => write_quoted(alloc, text, out),
+        }
+    }
+}
+
+/// Appends the text of a row: its cells with a comma and a space between. Where memory runs out, some front of it was
+/// appended.
+pub fn write_row(alloc: Global, row: &Row, out: &mut Vec<u8>) -> Result<(), NoMemory>
+    ensures ok { OnOk result (out.new.items ≡ out.old.items ++ row_text row.now) }
+    ensures err { OnErr result (HasFront out.old.items out.new.items (row_text row.now)) }
+{
+    write_joined(alloc, row.cells(), b", ", out)
+}

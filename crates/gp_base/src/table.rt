@@ -1,0 +1,51 @@
+//! Tables: their names and the names and kinds of their columns.
+
+use crate::items::{Items, TryCopy};
+use crate::memory::NoMemory;
+use crate::text::Name;
+use std::alloc::Global;
+
+/// What a column holds beside NULL.
+#[derive(Clone, Copy, Debug, PartialEq, Eq)]
+pub enum Kind {
+    /// Whole numbers of 64 bits with sign.
+    Int,
+    /// Texts.
+    Text,
+}
+
+/// A column of a table.
+#[derive(Debug, Drop, PartialEq, Eq)]
+pub struct Column {
+    /// Its name, which no other column of the table has.
+    pub name: Name,
+    /// What it holds beside NULL.
+    pub kind: Kind,
+}
+
+/// A table: its name, and its columns in order.
+#[derive(Debug, Drop, PartialEq, Eq)]
+pub struct Table {
+    /// Its name, which no other table has.
+    pub name: Name,
+    /// Its columns, each under a name of its own.
+    pub cols: Items<Column>,
+}
+
+impl TryCopy for Column {
+    fn try_copy(&self, alloc: Global) -> Result<Column, NoMemory> {
+        Ok(Column {
+            name: self.name.try_copy(alloc)?,
+            kind: self.kind,
+        })
+    }
+}
+
+impl TryCopy for Table {
+    fn try_copy(&self, alloc: Global) -> Result<Table, NoMemory> {
+        Ok(Table {
+            name: self.name.try_copy(alloc)?,
+            cols: self.cols.try_copy(alloc)?,
+        })
+    }
+}
