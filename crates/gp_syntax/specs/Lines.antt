@@ -1,0 +1,60 @@
+-- How a script is cut into lines, and which lines are skipped.
+use Rattle.std.specs.Prelude.{ℕ, ◌+◌, Bool, true, false, ◌&&◌, ◌||◌, not, List, [], ◌∷◌, length, nat_le, if◌then◌else◌, ◌==◌, filter}
+
+abbrev pub line_feed : ℕ
+line_feed = 10
+
+abbrev pub carriage_return : ℕ
+carriage_return = 13
+
+-- a line has at most this many bytes, without its end
+abbrev pub longest_line : ℕ
+longest_line = 4096
+
+-- the byte before everything in the first line, or alone in a line where there is none
+abbrev pub onto_line : ℕ → List (List ℕ) → List (List ℕ)
+onto_line byte [] = (byte ∷ []) ∷ []
+onto_line byte (line ∷ lines) = (byte ∷ line) ∷ lines
+
+-- the bytes begin with a line feed
+abbrev pub begins_with_feed : List ℕ → Bool
+begins_with_feed [] = false
+begins_with_feed (byte ∷ bytes) = byte == line_feed
+
+-- The lines of a text. Each ends at a line feed, which the last may lack; one carriage return directly before a line feed belongs to the end of its line.
+abbrev pub lines_of : List ℕ → List (List ℕ)
+lines_of [] = []
+lines_of (byte ∷ bytes) =
+    if byte == line_feed then [] ∷ lines_of bytes
+    else (if (byte == carriage_return) && begins_with_feed bytes then lines_of bytes else onto_line byte (lines_of bytes))
+
+-- a line and its number in the script, from 1
+abbrev pub NumberedLine : Type 0
+NumberedLine = ℕ × List ℕ
+
+-- the lines under their numbers
+abbrev pub numbered : ℕ → List (List ℕ) → List (ℕ × List ℕ)
+numbered number [] = []
+numbered number (line ∷ lines) = (number, line) ∷ numbered (number + 1) lines
+
+abbrev pub is_blank : ℕ → Bool
+is_blank byte = (byte == 32) || (byte == 9)
+
+-- two hyphens stand first
+abbrev pub begins_comment : List ℕ → Bool
+begins_comment [] = false
+begins_comment (first ∷ []) = false
+begins_comment (first ∷ second ∷ bytes) = (first == 45) && (second == 45)
+
+-- nothing but blanks, or a comment behind blanks
+abbrev pub says_nothing : List ℕ → Bool
+says_nothing [] = true
+says_nothing (byte ∷ bytes) = if is_blank byte then says_nothing bytes else begins_comment (byte ∷ bytes)
+
+-- a line that is answered: one that says something, or is too long to be looked into
+abbrev pub is_answered : List ℕ → Bool
+is_answered line = not (nat_le (length line) longest_line && says_nothing line)
+
+-- the lines of a script that are answered, under their numbers
+abbrev pub script_lines : List ℕ → List (ℕ × List ℕ)
+script_lines bytes = filter (λ line. is_answered line.1) (numbered 1 (lines_of bytes))

@@ -1,0 +1,31 @@
+-- Names of tables and columns.
+use Rattle.std.specs.Prelude.{ℕ, Bool, true, false, ◌&&◌, ◌||◌, not, List, [], ◌∷◌, length, nat_le, ◌==◌, codes}
+use Rattle.std.specs.List.{slice_split, list_any}
+use Rattle.std.specs.Str.{bytes_eq}
+
+abbrev pub is_lower_letter : ℕ → Bool
+is_lower_letter byte = nat_le 97 byte && nat_le byte 122
+
+-- a lower letter, a digit or an underscore
+abbrev pub is_name_byte : ℕ → Bool
+is_name_byte byte = is_lower_letter byte || (nat_le 48 byte && nat_le byte 57) || (byte == 95)
+
+abbrev pub are_name_bytes : List ℕ → Bool
+are_name_bytes [] = true
+are_name_bytes (byte ∷ bytes) = is_name_byte byte && are_name_bytes bytes
+
+-- the reserved words, in lower letters
+abbrev pub reserved_words : List (List ℕ)
+reserved_words = slice_split (λ byte. byte == 32) (codes "all and as begin case commit create delete else end from insert int into is not null or rollback select set table text then true union update values when where")
+
+abbrev pub is_reserved : List ℕ → Bool
+is_reserved word = list_any (λ other. bytes_eq other word) reserved_words
+
+-- how many bytes a name has at the most
+abbrev pub longest_name : ℕ
+longest_name = 30
+
+-- a lower letter, then lower letters, digits and underscores; no reserved word
+abbrev pub is_name : List ℕ → Bool
+is_name [] = false
+is_name (byte ∷ bytes) = is_lower_letter byte && are_name_bytes bytes && nat_le (length (byte ∷ bytes)) longest_name && not (is_reserved (byte ∷ bytes))

@@ -1,0 +1,6 @@
+//! The language of scripts: lines, commands, their canonical texts and the reader of commands.
+#![tactic(auto)]
+
+mod command;
+
+pub use command::{Command, ScriptLine};
