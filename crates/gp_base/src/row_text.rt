@@ -10,7 +10,7 @@ use crate::cell::Cell;
 use crate::memory::NoMemory;
 use crate::row::Row;
 use crate::text::Text;
-use crate::writing::{WriteText, push_all, write_joined};
+use crate::writing::{TextOf, push_all, write_joined};
 use std::alloc::Global;
 
 const QUOTE: u8 = b'\'';
@@ -47,11 +47,15 @@ fn write_quoted(alloc: Global, text: &Text, out: &mut Vec<u8>) -> Result<(), NoM
     Ok(())
 }
 
-impl WriteText for Cell {
+/// The text of a cell: NULL, a decimal number, or a text in quotes with each quote in it twice.
+#[derive(Clone, Copy, Debug)]
+pub struct CellText;
+
+impl TextOf<Cell> for CellText {
     ghost text = { cell_text };
 
-    fn write_text(&self, alloc: Global, out: &mut Vec<u8>) -> Result<(), NoMemory> {
-        match self {
+    fn write(&self, alloc: Global, cell: &Cell, out: &mut Vec<u8>) -> Result<(), NoMemory> {
+        match cell {
             Cell::Null => push_all(out, &[b"NULL"]),
             Cell::Int(number) => write_number(alloc, *number, out),
             Cell::Text(text) => write_quoted(alloc, text, out),
@@ -65,5 +69,5 @@ pub fn write_row(alloc: Global, row: &Row, out: &mut Vec<u8>) -> Result<(), NoMe
     ensures ok { OnOk result (out.new.items ≡ out.old.items ++ row_text row.now) }
     ensures err { OnErr result (HasFront out.old.items out.new.items (row_text row.now)) }
 {
-    write_joined(alloc, row.cells(), b", ", out)
+    write_joined(alloc, row.cells(), &CellText, b", ", out)
 }

@@ -18,61 +18,64 @@ pub fn push_all(out: &mut Vec<u8>, pieces: &[&[u8]]) -> Result<(), NoMemory>
     Ok(())
 }
 
-/// A value with one text.
-pub trait WriteText {
-    /// The text of the value.
-    ghost text: { Self → List ℕ };
+/// A way to write values of a type, each as one text.
+pub trait TextOf<T> {
+    /// The text of a value.
+    ghost text: { T → List ℕ };
 
-    /// Appends the text. Where memory runs out, some front of it was appended.
-    fn write_text(&self, alloc: Global, out: &mut Vec<u8>) -> Result<(), NoMemory>
-        ensures ok { OnOk result (out.new.items ≡ out.old.items ++ text self.now) }
-        ensures err { OnErr result (HasFront out.old.items out.new.items (text self.now)) };
+    /// Appends the text of a value. Where memory runs out, some front of it was appended.
+    fn write(&self, alloc: Global, item: &T, out: &mut Vec<u8>) -> Result<(), NoMemory>
+        ensures ok { OnOk result (out.new.items ≡ out.old.items ++ text item.now) }
+        ensures err { OnErr result (HasFront out.old.items out.new.items (text item.now)) };
 }
 
-fn write_others<T: WriteText>(
+fn write_others<T, W: TextOf<T>>(
     alloc: Global,
     items: &[T],
+    texts: &W,
     separator: &[u8],
     out: &mut Vec<u8>,
 ) -> Result<(), NoMemory>
-    ensures ok { OnOk result (out.new.items ≡ out.old.items ++ flat_map (λ item. separator.now ++ T.text item) items.now) }
-    ensures err { OnErr result (HasFront out.old.items out.new.items (flat_map (λ item. separator.now ++ T.text item) items.now)) }
+    ensures ok { OnOk result (out.new.items ≡ out.old.items ++ flat_map (λ item. separator.now ++ W.text item) items.now) }
+    ensures err { OnErr result (HasFront out.old.items out.new.items (flat_map (λ item. separator.now ++ W.text item) items.now)) }
 {
     for item in items {
         out.extend_from_slice(separator)?;
-        item.write_text(alloc, out)?;
+        texts.write(alloc, item, out)?;
     }
     Ok(())
 }
 
 #[tactic(auto, using(crate::proofs::WritingLemmas::fronts))]
-fn write_from<T: WriteText>(
+fn write_from<T, W: TextOf<T>>(
     alloc: Global,
     first: &T,
     others: &[T],
+    texts: &W,
     separator: &[u8],
     out: &mut Vec<u8>,
 ) -> Result<(), NoMemory>
-    ensures ok { OnOk result (out.new.items ≡ out.old.items ++ joined T.text separator.now (first.now ∷ others.now)) }
-    ensures err { OnErr result (HasFront out.old.items out.new.items (joined T.text separator.now (first.now ∷ others.now))) }
+    ensures ok { OnOk result (out.new.items ≡ out.old.items ++ joined W.text separator.now (first.now ∷ others.now)) }
+    ensures err { OnErr result (HasFront out.old.items out.new.items (joined W.text separator.now (first.now ∷ others.now))) }
 {
-    first.write_text(alloc, out)?;
-    write_others(alloc, others, separator, out)?;
+    texts.write(alloc, first, out)?;
+    write_others(alloc, others, texts, separator, out)?;
     Ok(())
 }
 
-/// Appends the texts of the items with the separator between each two.
-pub fn write_joined<T: WriteText>(
+/// Appends the texts of the items with the separator between each two. Where memory runs out, some front was appended.
+pub fn write_joined<T, W: TextOf<T>>(
     alloc: Global,
     items: &[T],
+    texts: &W,
     separator: &[u8],
     out: &mut Vec<u8>,
 ) -> Result<(), NoMemory>
-    ensures ok { OnOk result (out.new.items ≡ out.old.items ++ joined T.text separator.now items.now) }
-    ensures err { OnErr result (HasFront out.old.items out.new.items (joined T.text separator.now items.now)) }
+    ensures ok { OnOk result (out.new.items ≡ out.old.items ++ joined W.text separator.now items.now) }
+    ensures err { OnErr result (HasFront out.old.items out.new.items (joined W.text separator.now items.now)) }
 {
     match items {
         [] => Ok(()),
-        [first, others @ ..] => write_from(alloc, first, others, separator, out),
+        [first, others @ ..] => write_from(alloc, first, others, texts, separator, out),
     }
 }

@@ -7,22 +7,22 @@ use Rattle.gp_base.proofs.writing.write_others.Goals as goal
 pub returns-in_err-extend_from_slice-clause-err : goal.returns-in_err-extend_from_slice-clause-err
 returns-in_err-extend_from_slice-clause-err g c =
     let p = err_from_is_err_and c.from_residual.result c.from_residual.ensures.1 in
-    let text = λ (item : g.row.T.Denot). c.args.separator.now ++ g.T.WriteText.text item in
+    let text = λ (item : g.row.T.Denot). c.args.separator.now ++ g.W.TextOf.text item in
     let items = c.args.items.now in
     rw p.1 (HasFront-part c.args.out.now.items c.extend_from_slice.new.self.items (flat_map text items) (flat_map text (take c.loop-item.item-index items)) _
     (c.in_err-extend_from_slice.ensures.items ∙ c.loop-item.invariant) (flat_map-parts text items c.loop-item.item-index))
 
-pub returns-in_err-write_text-clause-err : goal.returns-in_err-write_text-clause-err
-returns-in_err-write_text-clause-err g c =
-    let p = err_from_is_err_and c.from_residual-in_err-write_text.result c.from_residual-in_err-write_text.ensures.1 in
-    let text = λ (item : g.row.T.Denot). c.args.separator.now ++ g.T.WriteText.text item in
+pub returns-in_err-write-clause-err : goal.returns-in_err-write-clause-err
+returns-in_err-write-clause-err g c =
+    let p = err_from_is_err_and c.from_residual-in_err-write.result c.from_residual-in_err-write.ensures.1 in
+    let text = λ (item : g.row.T.Denot). c.args.separator.now ++ g.W.TextOf.text item in
     let items = c.args.items.now in
     let i = c.loop-item.item-index in
     let item = c.item-item.result in
     let around = flat_map-around text items i item c.loop-item-test.true c.item-item.is in
     let rest = flat_map text (drop (i + 1) items) in
-    rw p.1 (HasFront-after c.args.out.now.items c.extend_from_slice.new.self.items c.write_text.new.out.items (flat_map text items)
-    (flat_map text (take i items) ++ c.args.separator.now) (g.T.WriteText.text item) rest
+    rw p.1 (HasFront-after c.args.out.now.items c.extend_from_slice.new.self.items c.write.new.out.items (flat_map text items)
+    (flat_map text (take i items) ++ c.args.separator.now) (g.W.TextOf.text item) rest
     (c.in_ok-extend_from_slice.ensures.items ∙ ap (λ (t : List _). t ++ c.args.separator.now) c.loop-item.invariant ∙ append_assoc c.args.out.now.items (flat_map text (take i items)) c.args.separator.now)
-    c.in_err-write_text.ensures.err
+    c.in_err-write.ensures.err
     (around ∙ simp append_assoc))
