@@ -28,10 +28,6 @@ lines_of (byte ∷ bytes) =
     if byte == line_feed then [] ∷ lines_of bytes
     else (if (byte == carriage_return) && begins_with_feed bytes then lines_of bytes else onto_line byte (lines_of bytes))
 
--- a line and its number in the script, from 1
-abbrev pub NumberedLine : Type 0
-NumberedLine = ℕ × List ℕ
-
 -- the lines under their numbers
 abbrev pub numbered : ℕ → List (List ℕ) → List (ℕ × List ℕ)
 numbered number [] = []
@@ -55,6 +51,10 @@ says_nothing (byte ∷ bytes) = if is_blank byte then says_nothing bytes else be
 abbrev pub is_answered : List ℕ → Bool
 is_answered line = not (nat_le (length line) longest_line && says_nothing line)
 
+-- the lines of these bytes that are answered, where the first line has this number
+abbrev pub answered_from : ℕ → List ℕ → List (ℕ × List ℕ)
+answered_from number bytes = filter (λ line. is_answered line.1) (numbered number (lines_of bytes))
+
 -- the lines of a script that are answered, under their numbers
 abbrev pub script_lines : List ℕ → List (ℕ × List ℕ)
-script_lines bytes = filter (λ line. is_answered line.1) (numbered 1 (lines_of bytes))
+script_lines bytes = answered_from 1 bytes

@@ -6,17 +6,77 @@ ghost use Rattle.gp_base.specs.Writing.{HasFront, joined};
 ghost use Rattle.gp_syntax.specs.Canonical.{canonical, column_text, tuple_text};
 
 use crate::command::Command;
-use gp_base::{Cell, Column, Kind, Name, NoMemory, Row, Table, WriteText, push_all, write_joined, write_row};
+use gp_base::{
+    Column, Items, Kind, Name, NoMemory, Row, Table, TextOf, push_all, write_joined, write_row,
+};
 use std::alloc::Global;
 
-impl WriteText for Column {
+/// The text of a column: its name and its kind.
+struct ColumnText;
+
+impl TextOf<Column> for ColumnText {
     ghost text = { column_text };
 
-    fn write_text(&self, _alloc: Global, out: &mut Vec<u8>) -> Result<(), NoMemory> {
-        let name = self.name.as_bytes();
-        match self.kind {
-            Kind::Int => push_all(out, &[name, b" ", b"INT"]),
-            Kind::Text => push_all(out, &[name, b" ", b"TEXT"]),
+    fn write(&self, _alloc: Global, column: &Column, out: &mut Vec<u8>) -> Result<(), NoMemory> {
+        let kind: &[u8] = match column.kind {
+            Kind::Int => b"INT",
+            Kind::Text => b"TEXT",
+        };
+        push_all(out, &[column.name.as_bytes(), b" ", kind])?;
+        Ok(())
+    }
+}
+
+/// The text of a row as literals in brackets.
+struct TupleText;
+
+impl TextOf<Row> for TupleText {
+    ghost text = { tuple_text };
+
+    fn write(&self, alloc: Global, row: &Row, out: &mut Vec<u8>) -> Result<(), NoMemory> {
+        let mut cells = Vec::new(alloc);
+        write_row(alloc, row, &mut cells)?;
+        push_all(out, &[b"(", &cells, b")"])?;
+        Ok(())
+    }
+}
+
+fn text_of_pieces(alloc: Global, pieces: &[&[u8]]) -> Result<Vec<u8>, NoMemory>
+    ensures { IfOk result (λ text. text.items ≡ flat_map (λ piece. piece.now) pieces.now) }
+{
+    let mut text = Vec::new(alloc);
+    push_all(&mut text, pieces)?;
+    Ok(text)
+}
+
+fn create_text(alloc: Global, table: &Table) -> Result<Vec<u8>, NoMemory>
+    ensures { IfOk result (λ text. text.items ≡ canonical (Command.Create table.now)) }
+{
+    let mut columns = Vec::new(alloc);
+    write_joined(alloc, table.cols.as_slice(), &ColumnText, b", ", &mut columns)?;
+    let name = table.name.as_bytes();
+    text_of_pieces(alloc, &[b"CREATE TABLE ", name, b" (", &columns, b")"])
+}
+
+fn insert_text(alloc: Global, table: &Name, rows: &Items<Row>) -> Result<Vec<u8>, NoMemory>
+    ensures { IfOk result (λ text. text.items ≡ canonical (Command.Insert table.now rows.now)) }
+{
+    let mut tuples = Vec::new(alloc);
+    write_joined(alloc, rows.as_slice(), &TupleText, b", ", &mut tuples)?;
+    text_of_pieces(alloc, &[b"INSERT INTO ", table.as_bytes(), b" VALUES ", &tuples])
+}
+
+/// The one canonical text of a command: reserved words in capitals, names as they are, one space between tokens.
+pub fn write_command(alloc: Global, command: &Command) -> Result<Vec<u8>, NoMemory>
+    ensures { IfOk result (λ text. text.items ≡ canonical command.now) }
+{
+    match command {
+        Command::Create { table } => create_text(alloc, table),
+        Command::Begin => text_of_pieces(alloc, &[b"BEGIN"]),
+        Command::Commit => text_of_pieces(alloc, &[b"COMMIT"]),
+        Command::Insert { table, rows } => insert_text(alloc, table, rows),
+        Command::Select { table } => {
+            text_of_pieces(alloc, &[b"SELECT * FROM ", table.as_bytes()])
         }
     }
 }

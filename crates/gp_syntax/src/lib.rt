@@ -3,5 +3,10 @@
 
 mod canonical;
 mod command;
+mod cutting;
 
+mod scan;
+
+pub use canonical::write_command;
+pub use cutting::{LONGEST_LINE, Line, LineIter, lines};
 pub use command::{Command, ScriptLine};

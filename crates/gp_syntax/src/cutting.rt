@@ -1,0 +1,138 @@
+//! The lines of a script.
+
+ghost use Rattle.std.specs.Prelude.{◌≡◌, ◌+◌, ◌^◌, ◌<◌, ◌&&◌, ◌==◌, not, length, nat_le, option_copied};
+ghost use Rattle.std.specs.Prelude.{◌-◌, ◌∷◌};
+ghost use Rattle.std.specs.Iterator.{YieldsFirstBy, item_count};
+ghost use Rattle.std.specs.Str.Lines.{strip_carriage_return};
+ghost use Rattle.gp_syntax.specs.Lines.{lines_of, script_lines, says_nothing, is_answered, longest_line, begins_comment, is_blank, line_feed};
+ghost use Rattle.std.specs.List.{position_or_len};
+
+use crate::scan::place_of;
+use std::marker::Model;
+
+/// The greatest number of bytes of a line, without its end.
+pub const LONGEST_LINE: usize = 4096;
+
+const LINE_FEED: u8 = b'\n';
+
+const CARRIAGE_RETURN: u8 = b'\r';
+
+fn is_blank(byte: u8) -> bool
+    ensures { result ≡ is_blank byte }
+{
+    byte == b' ' || byte == b'\t'
+}
+
+fn begins_comment(bytes: &[u8]) -> bool
+    ensures { result ≡ begins_comment bytes.now }
+{
+    match bytes {
+        [first, second, ..] => *first == b'-' && *second == b'-',
+        _ => false,
+    }
+}
+
+/// Whether the line is blank or a comment.
+fn says_nothing(line: &[u8]) -> bool
+    ensures { result ≡ says_nothing line.now }
+{
+    let mut rest = line;
+    while let [first, others @ ..] = rest {
+        if !is_blank(*first) {
+            return begins_comment(rest);
+        }
+        rest = others;
+    }
+    true
+}
+
+/// Whether a line is answered: a line that is too long is, whatever it holds.
+fn is_answered(line: &[u8]) -> bool
+    ensures { result ≡ is_answered line.now }
+{
+    !(line.len() <= LONGEST_LINE && says_nothing(line))
+}
+
+
+/// The bytes without the one carriage return at their end, if there is one.
+fn without_return(line: &[u8]) -> &[u8]
+    ensures { result.now ≡ strip_carriage_return line.now }
+{
+    match line {
+        [front @ .., CARRIAGE_RETURN] => front,
+        _ => line,
+    }
+}
+
+/// The first line, and the bytes behind its end.
+fn first_line(bytes: &[u8]) -> (&[u8], &[u8])
+    requires { 0 < length bytes.now }
+    ensures lines { lines_of bytes.now ≡ result.0.now ∷ lines_of result.1.now }
+    ensures shorter { length result.1.now < length bytes.now }
+{
+    let end = place_of(bytes, LINE_FEED);
+    if end < bytes.len() {
+        (without_return(&bytes[..end]), &bytes[end + 1..])
+    } else {
+        (bytes, &[])
+    }
+}
+
+/// A line of a script.
+#[derive(Clone, Copy, Debug)]
+pub struct Line<'a> {
+    /// Its number in the script, from 1.
+    pub number: u32,
+    /// Its bytes, without its end.
+    pub bytes: &'a [u8],
+}
+
+/// The lines of a script that are answered: those that are neither blank nor comments, and those that are too long.
+#[derive(Debug, Drop)]
+pub struct LineIter<'a> {
+    rest: &'a [u8],
+    number: u32,
+}
+
+impl<'a> Model for LineIter<'a> {
+    ghost use Rattle.std.specs.Prelude.{List, ℕ, ◌+◌, ◌<◌, ◌^◌, length};
+    ghost use Rattle.gp_syntax.specs.Lines.{answered_from};
+
+    ghost Value = { List (ℕ × List ℕ) };
+
+    ghost view = { λ a. answered_from a.number a.rest.now };
+
+    ghost invariant = { λ a. a.number + length a.rest.now < 2 ^ 32 };
+}
+
+impl<'a> Iterator for LineIter<'a> {
+    type Item = Line<'a>;
+
+    ghost next_gives = { YieldsFirstBy (λ line. (line.number, line.bytes.now)) (λ lines. lines) };
+
+    ghost remaining = { item_count (λ lines. lines) };
+
+    fn next(&mut self) -> Option<Line<'a>> {
+        while !self.rest.is_empty() {
+            let (bytes, rest) = first_line(self.rest);
+            let number = self.number;
+            self.rest = rest;
+            self.number += 1;
+            if is_answered(bytes) {
+                return Some(Line { number, bytes });
+            }
+        }
+        None
+    }
+}
+
+/// The lines of a script that are answered, in order. The script has fewer than 2^32 - 1 bytes.
+pub fn lines(bytes: &[u8]) -> LineIter<'_>
+    requires { length bytes.now < 2 ^ 32 - 1 }
+    ensures { result ≡ script_lines bytes.now }
+{
+    LineIter {
+        rest: bytes,
+        number: 1,
+    }
+}
