@@ -1,2 +1,6 @@
-mod ScanLemmas
-mod CuttingLemmas
+pub mod CuttingLemmas
+pub mod DraftLemmas
+pub mod NumberLemmas
+pub mod PlaceLemmas
+pub mod ReadingLaw
+pub mod ScanLemmas
