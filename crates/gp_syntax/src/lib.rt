@@ -5,6 +5,7 @@ mod canonical;
 mod command;
 mod cutting;
 
+mod names;
 mod scan;
 
 pub use canonical::write_command;
