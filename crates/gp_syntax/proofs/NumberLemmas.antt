@@ -1,5 +1,5 @@
 -- The number that a text writes: what `parse` gives at such a text, and the number again at its own decimal text.
-use Rattle.std.proofs.Common.{◌≡◌, ℕ, suc, ◌^◌, ◌≤◌, Bool, true, false, cond, List, [], ◌∷◌, length, ℤ, pos, negsuc, Result, Ok, Err, leb, lit<, lit≤, refl, sym, ap, subst, ◌∙◌, arith}
+use Rattle.std.proofs.Common.{◌≡◌, ℕ, zero, suc, ◌^◌, ◌<◌, ◌≤◌, eqb, inl, inr, IsAscii, IsUtf8, Bool, true, false, cond, List, [], ◌∷◌, length, ℤ, pos, negsuc, Result, Ok, Err, leb, lit<, lit≤, refl, sym, ap, subst, ◌∙◌, arith}
 use Rattle.std.specs.Bool.{Decides}
 use Rattle.std.specs.Char.{is_ascii_digit}
 use Rattle.std.specs.Int.{w64}
@@ -9,10 +9,11 @@ use Rattle.std.specs.List.{AllByRecursion}
 use Rattle.std.specs.Result.{result_unwrap_or}
 use Rattle.std.specs.Str.{all_ascii_digits}
 use Rattle.std.specs.Str.Parse.{AllDigits, IsNumeral, ParsesSigned, without_leading_sign, signed_digits_value, digits_value}
-use Rattle.std.proofs.lemmas.Bool.{ltb-true, lt-ltb, leb-true, and_parts, cond-true, cond-false, cond_both, false≢true, false_from_ne_true}
+use Rattle.std.proofs.lemmas.Str.{IsUtf8-from_ascii}
+use Rattle.std.proofs.lemmas.Bool.{cases_Bool, eqb-true, ltb-true, lt-ltb, leb-true, and_parts, cond-true, cond-false, cond_both, false≢true, false_from_ne_true}
 use Rattle.std.proofs.lemmas.Bool.Decides.{Decides-ltb, Decides-and}
 use Rattle.std.proofs.lemmas.Str.Parse.{IsNumeralModel, numerals_by_value, tells_all_ascii_digits}
-use Rattle.std.proofs.lemmas.Fmt.{digits_decimal, parse-signed_decimal}
+use Rattle.std.proofs.lemmas.Fmt.{IsAscii-from_digits, digits_decimal, parse-signed_decimal}
 use Rattle.gp_syntax.specs.Reading.{fits_64_bits, is_number_text, number_of}
 
 -- the texts of decimal digits, in the words of the test for them
@@ -67,3 +68,31 @@ digits_high (d ∷ ds) h =
 pub signed_decimal_high : (number : ℤ) → FitsSigned w64 number → AllByRecursion (λ byte. 45 ≤ byte) (signed_decimal number)
 signed_decimal_high (pos n) fits = digits_high (decimal n) (digits_decimal digits_tested n (omega (arith, fits.sfits)))
 signed_decimal_high (negsuc n) fits = (lit≤ tt, digits_high (decimal (suc n)) (digits_decimal digits_tested (suc n) (omega (arith, fits.sfits))))
+
+-- digits behind an optional sign are ASCII
+ascii-first : (b : ℕ) (bytes : List ℕ) → b < 128 → IsAscii bytes → IsAscii (b ∷ bytes)
+ascii-first b bytes low ascii zero = low
+ascii-first b bytes low ascii (suc i) = ascii i
+
+ascii-signed : (bytes : List ℕ) → AllDigits 10 (without_leading_sign bytes) → IsAscii bytes
+ascii-signed [] digits = λ i. omega arith
+ascii-signed (b ∷ bytes) digits = elim (cases_Bool (eqb b 45)) [
+  | inl minus ↦
+    let rest : AllDigits 10 bytes = rw minus at digits in
+    ascii-first b bytes (omega (arith, eqb-true b 45 minus)) (IsAscii-from_digits bytes rest)
+  | inr other ↦ elim (cases_Bool (eqb b 43)) [
+    | inl plus ↦
+      let rest : AllDigits 10 bytes = rw (other, plus) at digits in
+      ascii-first b bytes (omega (arith, eqb-true b 43 plus)) (IsAscii-from_digits bytes rest)
+    | inr neither ↦
+      let all : AllDigits 10 (b ∷ bytes) = rw (other, neither) at digits in
+      IsAscii-from_digits (b ∷ bytes) all
+  ]
+]
+
+-- bytes that are no text write no number
+pub number_of-no_text : (bytes : List ℕ) → ¬ (IsUtf8 bytes) → number_of bytes ≡ pos 0
+number_of-no_text bytes wrong = elim (cases_Bool (is_number_text bytes)) [
+  | inl e ↦ absurd (wrong (IsUtf8-from_ascii bytes (ascii-signed bytes ((Decides-number_text bytes).0 e).0.1)))
+  | inr e ↦ rw e refl
+]

@@ -5,6 +5,7 @@ mod canonical;
 mod command;
 mod cutting;
 
+mod draft;
 mod names;
 mod scan;
 

@@ -1,0 +1,106 @@
+//! Drafts of commands: what a text would hold, told by its spaces, brackets and commas alone. Whether it does hold that is the
+//! reader's question.
+
+ghost use Rattle.std.specs.Prelude.{◌≡◌, ◌++◌, ◌∷◌, ◌==◌, [], Some, None, IfOk, map, drop, ℤ};
+ghost use Rattle.std.specs.List.{before_first, slice_split};
+ghost use Rattle.std.specs.Int.{w64};
+ghost use Rattle.std.specs.Str.Parse.{ParsesSigned};
+ghost use Rattle.gp_base.specs.Cells.{AreInRange};
+ghost use Rattle.gp_syntax.specs.Reading.{number_of, without_space, drafted_column, drafted_columns, drafted_cell, drafted_row, drafted_rows, drafted};
+
+use crate::command::Command;
+use crate::scan::{after, before, parts};
+use gp_base::{Cell, Column, Items, Kind, Name, NoMemory, Row, Table};
+use std::alloc::Global;
+
+/// The text without one space in front.
+fn without_space(text: &[u8]) -> &[u8]
+    ensures { result.now ≡ without_space text.now }
+{
+    match text {
+        [b' ', rest @ ..] => rest,
+        _ => text,
+    }
+}
+
+fn number_in(text: &str) -> i64
+    ensures { result ≡ number_of text.now }
+{
+    text.parse::<i64>().unwrap_or(0)
+}
+
+/// The number that a text writes, or 0 where it writes none.
+fn number_of(text: &[u8]) -> i64
+    ensures { result ≡ number_of text.now }
+{
+    match str::from_utf8(text) {
+        Ok(text) => number_in(text),
+        Err(_) => 0,
+    }
+}
+
+fn drafted_column(alloc: Global, part: &[u8]) -> Result<Column, NoMemory>
+    ensures { IfOk result (λ column. column ≡ drafted_column part.now) }
+{
+    Ok(Column {
+        name: Name::from_bytes(alloc, before(without_space(part), b' '))?,
+        kind: Kind::Int,
+    })
+}
+
+fn drafted_columns_of(alloc: Global, parts: &[&[u8]]) -> Result<Items<Column>, NoMemory>
+    ensures { IfOk result (λ columns. columns ≡ map drafted_column (map (λ part. part.now) parts.now)) }
+{
+    let mut columns = Items::new(alloc);
+    for part in parts {
+        columns.push(drafted_column(alloc, part)?)?;
+    }
+    Ok(columns)
+}
+
+/// The columns between the first brackets of a text.
+fn drafted_columns(alloc: Global, text: &[u8]) -> Result<Items<Column>, NoMemory>
+    ensures { IfOk result (λ columns. columns ≡ drafted_columns text.now) }
+{
+    let parts = parts(alloc, before(after(text, b'('), b')'), b',')?;
+    drafted_columns_of(alloc, &parts)
+}
+
+fn drafted_row_of(alloc: Global, parts: &[&[u8]]) -> Result<Row, NoMemory>
+    ensures { IfOk result (λ row. row ≡ map drafted_cell (map (λ part. part.now) parts.now)) }
+{
+    let mut row = Row::new(alloc);
+    for part in parts {
+        row.push(Cell::Int(number_of(without_space(part))))?;
+    }
+    Ok(row)
+}
+
+/// The numbers up to a closing bracket.
+fn drafted_row(alloc: Global, text: &[u8]) -> Result<Row, NoMemory>
+    ensures { IfOk result (λ row. row ≡ drafted_row text.now) }
+{
+    let parts = parts(alloc, before(text, b')'), b',')?;
+    drafted_row_of(alloc, &parts)
+}
+
+fn drafted_rows_of(alloc: Global, parts: &[&[u8]]) -> Result<Items<Row>, NoMemory>
+    ensures { IfOk result (λ rows. rows ≡ map drafted_row (map (λ part. part.now) parts.now)) }
+{
+    let mut rows = Items::new(alloc);
+    for part in parts {
+        rows.push(drafted_row(alloc, part)?)?;
+    }
+    Ok(rows)
+}
+
+/// A row behind each opening bracket.
+fn drafted_rows(alloc: Global, text: &[u8]) -> Result<Items<Row>, NoMemory>
+    ensures { IfOk result (λ rows. rows ≡ drafted_rows text.now) }
+{
+    let parts = parts(alloc, text, b'(')?;
+    match parts.as_slice() {
+        [] => Ok(Items::new(alloc)),
+        [_, behind @ ..] => drafted_rows_of(alloc, behind),
+    }
+}
