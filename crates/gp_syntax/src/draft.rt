@@ -1,12 +1,12 @@
 //! Drafts of commands: what a text would hold, told by its spaces, brackets and commas alone. Whether it does hold that is the
 //! reader's question.
 
-ghost use Rattle.std.specs.Prelude.{◌≡◌, ◌++◌, ◌∷◌, ◌==◌, [], Some, None, IfOk, map, drop, ℤ};
+ghost use Rattle.std.specs.Prelude.{◌≡◌, ◌++◌, ◌∷◌, ◌==◌, [], Some, None, IfOk, map, drop, length, true, false, MatchOption};
 ghost use Rattle.std.specs.List.{before_first, slice_split};
 ghost use Rattle.std.specs.Int.{w64};
 ghost use Rattle.std.specs.Str.Parse.{ParsesSigned};
 ghost use Rattle.gp_base.specs.Cells.{AreInRange};
-ghost use Rattle.gp_syntax.specs.Reading.{number_of, without_space, drafted_column, drafted_columns, drafted_cell, drafted_row, drafted_rows, drafted};
+ghost use Rattle.gp_syntax.specs.Reading.{number_of, without_space, drafted_column, drafted_columns, drafted_cell, drafted_row, drafted_rows, drafted, begins, is_space};
 
 use crate::command::Command;
 use crate::scan::{after, before, parts};
@@ -103,4 +103,60 @@ fn drafted_rows(alloc: Global, text: &[u8]) -> Result<Items<Row>, NoMemory>
         [] => Ok(Items::new(alloc)),
         [_, behind @ ..] => drafted_rows_of(alloc, behind),
     }
+}
+
+/// What stands behind these first words, where the text begins with them.
+fn behind<'a>(text: &'a [u8], words: &[u8]) -> Option<&'a [u8]>
+    ensures { MatchOption result (begins text.now words.now ≡ false)
+        (λ rest. (begins text.now words.now ≡ true) × (rest.now ≡ drop (length words.now) text.now)) }
+{
+    text.strip_prefix(words)
+}
+
+fn drafted_select(alloc: Global, text: &[u8]) -> Result<Command, NoMemory>
+    ensures { IfOk result (λ command. command ≡ Command.Select text.now) }
+{
+    let table = Name::from_bytes(alloc, text)?;
+    Ok(Command::Select { table })
+}
+
+fn drafted_create(alloc: Global, text: &[u8]) -> Result<Command, NoMemory>
+    ensures { IfOk result (λ command. command ≡ Command.Create (record { name = before_first is_space text.now; cols = drafted_columns text.now })) }
+{
+    let name = Name::from_bytes(alloc, before(text, b' '))?;
+    let cols = drafted_columns(alloc, text)?;
+    Ok(Command::Create {
+        table: Table { name, cols },
+    })
+}
+
+fn drafted_insert(alloc: Global, text: &[u8]) -> Result<Command, NoMemory>
+    ensures { IfOk result (λ command. command ≡ Command.Insert (before_first is_space text.now) (drafted_rows text.now)) }
+{
+    let table = Name::from_bytes(alloc, before(text, b' '))?;
+    let rows = drafted_rows(alloc, text)?;
+    Ok(Command::Insert { table, rows })
+}
+
+/// The draft of a text by its first words, or none where they are those of no command.
+#[tactic(auto, unfolding(crate::specs::Reading::drafted))]
+pub(crate) fn drafted(alloc: Global, text: &[u8]) -> Result<Option<Command>, NoMemory>
+    ensures { IfOk result (λ command. command ≡ drafted text.now) }
+{
+    if text == b"BEGIN".as_slice() {
+        return Ok(Some(Command::Begin));
+    }
+    if text == b"COMMIT".as_slice() {
+        return Ok(Some(Command::Commit));
+    }
+    if let Some(rest) = behind(text, b"SELECT * FROM ") {
+        return Ok(Some(drafted_select(alloc, rest)?));
+    }
+    if let Some(rest) = behind(text, b"CREATE TABLE ") {
+        return Ok(Some(drafted_create(alloc, rest)?));
+    }
+    if let Some(rest) = behind(text, b"INSERT INTO ") {
+        return Ok(Some(drafted_insert(alloc, rest)?));
+    }
+    Ok(None)
 }

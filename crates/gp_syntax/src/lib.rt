@@ -8,6 +8,7 @@ mod cutting;
 mod draft;
 mod names;
 mod scan;
+mod valid;
 
 pub use canonical::write_command;
 pub use cutting::{LONGEST_LINE, Line, LineIter, lines};

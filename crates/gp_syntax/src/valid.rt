@@ -1,0 +1,142 @@
+//! Which commands a script may hold, but for the tables that are there.
+
+ghost use Rattle.std.specs.Prelude.{◌≡◌, ◌==◌, ◌&&◌, not, map};
+ghost use Rattle.std.specs.List.{list_any, list_all};
+ghost use Rattle.std.specs.Str.{bytes_eq};
+ghost use Rattle.gp_base.specs.declared.table.Column.{Column};
+ghost use Rattle.gp_syntax.specs.Commands.{is_command, all_differ, is_column, is_number, is_tuple, is_int};
+
+use crate::command::Command;
+use crate::names::is_name;
+use gp_base::{Cell, Column, Kind, Row, Table};
+
+/// The greatest number of columns of a table.
+pub const MOST_COLUMNS: usize = 16;
+
+/// The greatest number of rows of one INSERT.
+pub const MOST_ROWS: usize = 100;
+
+fn is_int(kind: Kind) -> bool
+    ensures { result ≡ is_int kind }
+{
+    match kind {
+        Kind::Int => true,
+        Kind::Text => false,
+    }
+}
+
+fn are_columns(columns: &[Column]) -> bool
+    ensures { result ≡ list_all is_column columns.now }
+{
+    let mut rest = columns;
+    while let [first, others @ ..] = rest {
+        if !(is_name(first.name.as_bytes()) && is_int(first.kind)) {
+            return false;
+        }
+        rest = others;
+    }
+    true
+}
+
+/// Whether a column has this name.
+fn has_name(columns: &[Column], name: &[u8]) -> bool
+    ensures { result ≡ list_any (bytes_eq name.now) (map (λ (column : Column). column.name) columns.now) }
+{
+    let mut rest = columns;
+    while let [first, others @ ..] = rest {
+        if name == first.name.as_bytes() {
+            return true;
+        }
+        rest = others;
+    }
+    false
+}
+
+/// Whether each column has a name of its own.
+fn all_differ(columns: &[Column]) -> bool
+    ensures { result ≡ all_differ (map (λ (column : Column). column.name) columns.now) }
+{
+    let mut rest = columns;
+    while let [first, others @ ..] = rest {
+        if has_name(others, first.name.as_bytes()) {
+            return false;
+        }
+        rest = others;
+    }
+    true
+}
+
+fn is_number(cell: &Cell) -> bool
+    ensures { result ≡ is_number cell.now }
+{
+    match cell {
+        Cell::Null => false,
+        Cell::Int(_) => true,
+        Cell::Text(_) => false,
+    }
+}
+
+fn are_numbers(cells: &[Cell]) -> bool
+    ensures { result ≡ list_all is_number cells.now }
+{
+    let mut rest = cells;
+    while let [first, others @ ..] = rest {
+        if !is_number(first) {
+            return false;
+        }
+        rest = others;
+    }
+    true
+}
+
+fn is_tuple(row: &Row) -> bool
+    ensures { result ≡ is_tuple row.now }
+{
+    match row.cells() {
+        [] => false,
+        [first, others @ ..] => is_number(first) && are_numbers(others),
+    }
+}
+
+fn are_tuples(rows: &[Row]) -> bool
+    ensures { result ≡ list_all is_tuple rows.now }
+{
+    let mut rest = rows;
+    while let [first, others @ ..] = rest {
+        if !is_tuple(first) {
+            return false;
+        }
+        rest = others;
+    }
+    true
+}
+
+fn is_table(table: &Table) -> bool
+    ensures { result ≡ is_command (Command.Create table.now) }
+{
+    let columns = table.cols.as_slice();
+    is_name(table.name.as_bytes())
+        && 1 <= columns.len()
+        && columns.len() <= MOST_COLUMNS
+        && are_columns(columns)
+        && all_differ(columns)
+}
+
+/// Whether a script may hold the command, but for the tables that are there.
+pub(crate) fn is_command(command: &Command) -> bool
+    ensures { result ≡ is_command command.now }
+{
+    match command {
+        Command::Create { table } => is_table(table),
+        Command::Begin => true,
+        Command::Commit => true,
+        Command::Insert { table, rows } => {
+            let rows = rows.as_slice();
+            is_name(table.as_bytes())
+                && 1 <= rows.len()
+                && rows.len() <= MOST_ROWS
+                && are_tuples(rows)
+        }
+        Command::Select { table } => is_name(table.as_bytes()),
+    }
+}
