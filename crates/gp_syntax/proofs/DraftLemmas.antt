@@ -15,7 +15,7 @@ use Rattle.gp_base.specs.Texts.{cell_text, row_text}
 use Rattle.gp_base.specs.Writing.{joined}
 use Rattle.gp_syntax.specs.declared.command.Command.{Command}
 use Rattle.gp_syntax.specs.declared.command.Command.TheVariants.{Create, Begin, Commit, Insert, Select}
-use Rattle.gp_syntax.specs.Names.{is_lower_letter, is_name_byte, are_name_bytes, is_name, is_reserved, longest_name}
+use Rattle.gp_syntax.specs.Names.{is_lower_letter, is_name_byte, is_name, is_reserved, longest_name}
 use Rattle.gp_syntax.specs.Canonical.{column_text, tuple_text, canonical}
 use Rattle.gp_syntax.specs.Commands.{is_int, is_column, is_number, is_tuple, FitsCommand, IsCommand}
 use Rattle.gp_syntax.specs.Reading.{number_of, is_space, is_comma, is_open, is_close, without_space, drafted_column, drafted_columns, drafted_cell, drafted_row, drafted_rows, begins, drafted}
@@ -27,19 +27,19 @@ use Rattle.gp_syntax.proofs.PlaceLemmas.{IsFreeOf, IsFreeOf-append, IsFreeOf-hig
 name_byte_high : (byte : ℕ) → is_name_byte byte ≡ true → 45 ≤ byte
 name_byte_high byte h = grind (arith, nat_tests)
 
-name_bytes_high : (bytes : List ℕ) → are_name_bytes bytes ≡ true → AllByRecursion (λ byte. 45 ≤ byte) bytes
+name_bytes_high : (bytes : List ℕ) → list_all is_name_byte bytes ≡ true → AllByRecursion (λ byte. 45 ≤ byte) bytes
 name_bytes_high [] h = tt
 name_bytes_high (byte ∷ bytes) h =
-    let parts = and_parts (is_name_byte byte) (are_name_bytes bytes) h in
+    let parts = and_parts (is_name_byte byte) (list_all is_name_byte bytes) h in
     (name_byte_high byte parts.0, name_bytes_high bytes parts.1)
 
 -- the bytes of a name stand behind a hyphen
 pub name_high : (name : List ℕ) → is_name name ≡ true → AllByRecursion (λ byte. 45 ≤ byte) name
 name_high [] h = tt
 name_high (byte ∷ bytes) h =
-    let shown = and_parts (is_lower_letter byte && are_name_bytes bytes && nat_le (length (byte ∷ bytes)) longest_name) (not (is_reserved (byte ∷ bytes))) h in
-    let front = and_parts (is_lower_letter byte && are_name_bytes bytes) (nat_le (length (byte ∷ bytes)) longest_name) shown.0 in
-    let parts = and_parts (is_lower_letter byte) (are_name_bytes bytes) front.0 in
+    let shown = and_parts (is_lower_letter byte && list_all is_name_byte bytes && nat_le (length (byte ∷ bytes)) longest_name) (not (is_reserved (byte ∷ bytes))) h in
+    let front = and_parts (is_lower_letter byte && list_all is_name_byte bytes) (nat_le (length (byte ∷ bytes)) longest_name) shown.0 in
+    let parts = and_parts (is_lower_letter byte) (list_all is_name_byte bytes) front.0 in
     (le_trans (lit≤ tt) (leb-true 97 byte (and_parts (leb 97 byte) (leb byte 122) parts.0).0), name_bytes_high bytes parts.1)
 
 -- ---- columns

@@ -21,10 +21,10 @@ most_columns = 16
 abbrev pub most_rows : ℕ
 most_rows = 100
 
--- no name stands twice
-abbrev pub all_differ : List (List ℕ) → Bool
+-- no name of a column stands twice
+abbrev pub all_differ : List Column → Bool
 all_differ [] = true
-all_differ (name ∷ names) = not (list_any (bytes_eq name) names) && all_differ names
+all_differ (column ∷ columns) = not (list_any (λ (other : Column). bytes_eq column.name other.name) columns) && all_differ columns
 
 abbrev pub is_int : Kind → Bool
 is_int Int = true
@@ -47,7 +47,7 @@ is_tuple (first ∷ others) = is_number first && list_all is_number others
 -- what a command of a script has to be, but for the tables that are there
 abbrev pub is_command : Command → Bool
 is_command (Create table) = is_name table.name && nat_le 1 (length table.cols) && nat_le (length table.cols) most_columns
-    && list_all is_column table.cols && all_differ (map (λ (column : Column). column.name) table.cols)
+    && list_all is_column table.cols && all_differ table.cols
 is_command Begin = true
 is_command Commit = true
 is_command (Insert table rows) = is_name table && nat_le 1 (length rows) && nat_le (length rows) most_rows && list_all is_tuple rows

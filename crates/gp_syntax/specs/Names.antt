@@ -1,6 +1,6 @@
 -- Names of tables and columns.
 use Rattle.std.specs.Prelude.{ℕ, Bool, true, false, ◌&&◌, ◌||◌, not, List, [], ◌∷◌, length, nat_le, ◌==◌, codes}
-use Rattle.std.specs.List.{slice_split, list_any}
+use Rattle.std.specs.List.{slice_split, list_any, list_all}
 use Rattle.std.specs.Str.{bytes_eq}
 
 abbrev pub is_lower_letter : ℕ → Bool
@@ -9,10 +9,6 @@ is_lower_letter byte = nat_le 97 byte && nat_le byte 122
 -- a lower letter, a digit or an underscore
 abbrev pub is_name_byte : ℕ → Bool
 is_name_byte byte = is_lower_letter byte || (nat_le 48 byte && nat_le byte 57) || (byte == 95)
-
-abbrev pub are_name_bytes : List ℕ → Bool
-are_name_bytes [] = true
-are_name_bytes (byte ∷ bytes) = is_name_byte byte && are_name_bytes bytes
 
 -- the reserved words, in lower letters
 abbrev pub reserved_words : List (List ℕ)
@@ -28,4 +24,4 @@ longest_name = 30
 -- a lower letter, then lower letters, digits and underscores; no reserved word
 abbrev pub is_name : List ℕ → Bool
 is_name [] = false
-is_name (byte ∷ bytes) = is_lower_letter byte && are_name_bytes bytes && nat_le (length (byte ∷ bytes)) longest_name && not (is_reserved (byte ∷ bytes))
+is_name (byte ∷ bytes) = is_lower_letter byte && list_all is_name_byte bytes && nat_le (length (byte ∷ bytes)) longest_name && not (is_reserved (byte ∷ bytes))

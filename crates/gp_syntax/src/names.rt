@@ -1,9 +1,9 @@
 //! Names of tables and columns.
 
 ghost use Rattle.std.specs.Prelude.{◌≡◌, ◌==◌, ◌&&◌, not};
-ghost use Rattle.std.specs.List.{list_any, slice_split};
+ghost use Rattle.std.specs.List.{list_all, list_any, slice_split};
 ghost use Rattle.std.specs.Str.{bytes_eq};
-ghost use Rattle.gp_syntax.specs.Names.{is_name, is_name_byte, is_lower_letter, are_name_bytes, is_reserved, reserved_words};
+ghost use Rattle.gp_syntax.specs.Names.{is_name, is_name_byte, is_lower_letter, is_reserved, reserved_words};
 
 /// The greatest number of bytes of a name.
 pub const LONGEST_NAME: usize = 30;
@@ -24,16 +24,9 @@ fn is_name_byte(byte: u8) -> bool
 }
 
 fn are_name_bytes(bytes: &[u8]) -> bool
-    ensures { result ≡ are_name_bytes bytes.now }
+    ensures { result ≡ list_all is_name_byte bytes.now }
 {
-    let mut rest = bytes;
-    while let [first, others @ ..] = rest {
-        if !is_name_byte(*first) {
-            return false;
-        }
-        rest = others;
-    }
-    true
+    bytes.iter().all(|byte| is_name_byte(*byte))
 }
 
 /// Whether the word is among words with a space between each two.

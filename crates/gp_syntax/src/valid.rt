@@ -1,14 +1,13 @@
 //! Which commands a script may hold, but for the tables that are there.
 
-ghost use Rattle.std.specs.Prelude.{◌≡◌, ◌==◌, ◌&&◌, not, map};
+ghost use Rattle.std.specs.Prelude.{◌≡◌, ◌==◌, ◌&&◌, not};
 ghost use Rattle.std.specs.List.{list_any, list_all};
 ghost use Rattle.std.specs.Str.{bytes_eq};
-ghost use Rattle.gp_base.specs.declared.table.Column.{Column};
 ghost use Rattle.gp_syntax.specs.Commands.{is_command, all_differ, is_column, is_number, is_tuple, is_int};
 
 use crate::command::Command;
 use crate::names::is_name;
-use gp_base::{Cell, Column, Kind, Row, Table};
+use gp_base::{Cell, Column, Kind, Name, Row, Table};
 
 /// The greatest number of columns of a table.
 pub const MOST_COLUMNS: usize = 16;
@@ -28,37 +27,24 @@ fn is_int(kind: Kind) -> bool
 fn are_columns(columns: &[Column]) -> bool
     ensures { result ≡ list_all is_column columns.now }
 {
-    let mut rest = columns;
-    while let [first, others @ ..] = rest {
-        if !(is_name(first.name.as_bytes()) && is_int(first.kind)) {
-            return false;
-        }
-        rest = others;
-    }
-    true
+    columns
+        .iter()
+        .all(|column| is_name(column.name.as_bytes()) && is_int(column.kind))
 }
 
-/// Whether a column has this name.
-fn has_name(columns: &[Column], name: &[u8]) -> bool
-    ensures { result ≡ list_any (bytes_eq name.now) (map (λ (column : Column). column.name) columns.now) }
+fn has_name(columns: &[Column], name: &Name) -> bool
+    ensures { result ≡ list_any (λ other. bytes_eq name.now other.name) columns.now }
 {
-    let mut rest = columns;
-    while let [first, others @ ..] = rest {
-        if name == first.name.as_bytes() {
-            return true;
-        }
-        rest = others;
-    }
-    false
+    columns.iter().any(|other| *name == other.name)
 }
 
 /// Whether each column has a name of its own.
 fn all_differ(columns: &[Column]) -> bool
-    ensures { result ≡ all_differ (map (λ (column : Column). column.name) columns.now) }
+    ensures { result ≡ all_differ columns.now }
 {
     let mut rest = columns;
     while let [first, others @ ..] = rest {
-        if has_name(others, first.name.as_bytes()) {
+        if has_name(others, &first.name) {
             return false;
         }
         rest = others;
@@ -79,14 +65,7 @@ fn is_number(cell: &Cell) -> bool
 fn are_numbers(cells: &[Cell]) -> bool
     ensures { result ≡ list_all is_number cells.now }
 {
-    let mut rest = cells;
-    while let [first, others @ ..] = rest {
-        if !is_number(first) {
-            return false;
-        }
-        rest = others;
-    }
-    true
+    cells.iter().all(is_number)
 }
 
 fn is_tuple(row: &Row) -> bool
@@ -101,14 +80,7 @@ fn is_tuple(row: &Row) -> bool
 fn are_tuples(rows: &[Row]) -> bool
     ensures { result ≡ list_all is_tuple rows.now }
 {
-    let mut rest = rows;
-    while let [first, others @ ..] = rest {
-        if !is_tuple(first) {
-            return false;
-        }
-        rest = others;
-    }
-    true
+    rows.iter().all(is_tuple)
 }
 
 fn is_table(table: &Table) -> bool
