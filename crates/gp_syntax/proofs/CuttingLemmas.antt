@@ -78,8 +78,8 @@ first_line-open (b ∷ []) some far = elim (cases_Bool (is_feed b)) [
 first_line-open (b ∷ c ∷ bytes) some far = elim (cases_Bool (is_feed b)) [
   | inl e ↦ absurd (omega (arith, place-at b (c ∷ bytes) e, far))
   | inr e ↦
-    let later : length (c ∷ bytes) ≤ place (c ∷ bytes) = omega (arith, place-after b (c ∷ bytes) e, far) in
-    onto-front b (c ∷ bytes) e (and_right (eqb b carriage_return) (begins_with_feed (c ∷ bytes)) (begins-not (c ∷ bytes) later))
+      let later : length (c ∷ bytes) ≤ place (c ∷ bytes) = omega (arith, place-after b (c ∷ bytes) e, far) in
+      onto-front b (c ∷ bytes) e (and_right (eqb b carriage_return) (begins_with_feed (c ∷ bytes)) (begins-not (c ∷ bytes) later))
       ∙ ap (onto_line b) (first_line-open (c ∷ bytes) (omega arith) later)
 ]
 
@@ -90,27 +90,27 @@ IsCut bytes n = lines_of bytes ≡ strip_carriage_return (take n bytes) ∷ line
 cut-more : (b n : ℕ) (bytes : List ℕ) → is_feed b ≡ false → place bytes ≡ n → n < length bytes → IsCut bytes n → IsCut (b ∷ bytes) (suc n)
 cut-more b zero bytes e here within cut = elim (cases_Bool (eqb b 13)) [
   | inl return ↦
-    let feed = begins-here bytes here (omega (arith, here)) in
-    let skip : lines_of (b ∷ bytes) ≡ lines_of bytes = rw (e, return, feed) refl in
-    skip ∙ cut ∙ ap (λ (line : List ℕ). line ∷ lines_of (drop 1 bytes)) (sym (strip-return b return))
+      let feed = begins-here bytes here (omega (arith, here)) in
+      let skip : lines_of (b ∷ bytes) ≡ lines_of bytes = rw (e, return, feed) refl in
+      skip ∙ cut ∙ ap (λ (line : List ℕ). line ∷ lines_of (drop 1 bytes)) (sym (strip-return b return))
   | inr other ↦
-    onto-front b bytes e (and_left (eqb b carriage_return) (begins_with_feed bytes) other)
+      onto-front b bytes e (and_left (eqb b carriage_return) (begins_with_feed bytes) other)
       ∙ ap (onto_line b) cut ∙ ap (λ (line : List ℕ). line ∷ lines_of (drop 1 bytes)) (sym (strip-other b other))
 ]
 cut-more b (suc n) bytes e later within cut =
     let some : 0 < length (take (suc n) bytes) = omega (arith, length-take (suc n) bytes) in
     onto-front b bytes e (and_right (eqb b carriage_return) (begins_with_feed bytes) (begins-later bytes n later))
-      ∙ ap (onto_line b) cut ∙ ap (λ (line : List ℕ). line ∷ lines_of (drop (suc (suc n)) bytes)) (sym (strip-more b (take (suc n) bytes) some))
+    ∙ ap (onto_line b) cut ∙ ap (λ (line : List ℕ). line ∷ lines_of (drop (suc (suc n)) bytes)) (sym (strip-more b (take (suc n) bytes) some))
 
 ended : (bytes : List ℕ) → place bytes < length bytes → IsCut bytes (place bytes)
 ended [] within = absurd (omega (arith, within))
 ended (b ∷ bytes) within = elim (cases_Bool (is_feed b)) [
   | inl e ↦
-    let first : IsCut (b ∷ bytes) 0 = rw e refl in
-    subst (IsCut (b ∷ bytes)) (sym (place-at b bytes e)) first
+      let first : IsCut (b ∷ bytes) 0 = rw e refl in
+      subst (IsCut (b ∷ bytes)) (sym (place-at b bytes e)) first
   | inr e ↦
-    let inside : place bytes < length bytes = omega (arith, place-after b bytes e, within) in
-    subst (IsCut (b ∷ bytes)) (sym (place-after b bytes e)) (cut-more b (place bytes) bytes e refl inside (ended bytes inside))
+      let inside : place bytes < length bytes = omega (arith, place-after b bytes e, within) in
+      subst (IsCut (b ∷ bytes)) (sym (place-after b bytes e)) (cut-more b (place bytes) bytes e refl inside (ended bytes inside))
 ]
 
 pub first_line-ended : (bytes : List ℕ) → place bytes < length bytes → lines_of bytes ≡ strip_carriage_return (take (place bytes) bytes) ∷ lines_of (drop (place bytes + 1) bytes)

@@ -78,15 +78,15 @@ ascii-signed : (bytes : List ℕ) → AllDigits 10 (without_leading_sign bytes) 
 ascii-signed [] digits = λ i. omega arith
 ascii-signed (b ∷ bytes) digits = elim (cases_Bool (eqb b 45)) [
   | inl minus ↦
-    let rest : AllDigits 10 bytes = rw minus at digits in
-    ascii-first b bytes (omega (arith, eqb-true b 45 minus)) (IsAscii-from_digits bytes rest)
+      let rest : AllDigits 10 bytes = rw minus at digits in
+      ascii-first b bytes (omega (arith, eqb-true b 45 minus)) (IsAscii-from_digits bytes rest)
   | inr other ↦ elim (cases_Bool (eqb b 43)) [
     | inl plus ↦
-      let rest : AllDigits 10 bytes = rw (other, plus) at digits in
-      ascii-first b bytes (omega (arith, eqb-true b 43 plus)) (IsAscii-from_digits bytes rest)
+        let rest : AllDigits 10 bytes = rw (other, plus) at digits in
+        ascii-first b bytes (omega (arith, eqb-true b 43 plus)) (IsAscii-from_digits bytes rest)
     | inr neither ↦
-      let all : AllDigits 10 (b ∷ bytes) = rw (other, neither) at digits in
-      IsAscii-from_digits (b ∷ bytes) all
+        let all : AllDigits 10 (b ∷ bytes) = rw (other, neither) at digits in
+        IsAscii-from_digits (b ∷ bytes) all
   ]
 ]
 

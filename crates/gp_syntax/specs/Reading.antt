@@ -1,6 +1,6 @@
 -- Reading: what command a line holds. A draft is made from the places of blanks, brackets and commas alone, and it is what the line
 -- holds where it is a command and the line is its canonical text. So a line is read in exactly one way, or not at all.
-use Rattle.std.specs.Prelude.{◌≡◌, ℕ, ◌+◌, ◌^◌, Bool, true, false, ◌&&◌, List, [], ◌∷◌, ◌++◌, length, take, drop, map, Option, Some, None, option_and_then, nat_lt, nat_le, if◌then◌else◌, ◌==◌, codes, ℤ, pos, negsuc}
+use Rattle.std.specs.Prelude.{◌≡◌, ℕ, ◌+◌, ◌^◌, Bool, true, false, ◌&&◌, List, [], ◌∷◌, ◌++◌, length, take, drop, map, Option, Some, None, Result, Ok, Err, option_and_then, nat_lt, nat_le, if◌then◌else◌, ◌==◌, codes, ℤ, pos, negsuc}
 use Rattle.std.specs.Char.{is_ascii_digit}
 use Rattle.std.specs.List.{slice_split, before_first, after_first}
 use Rattle.std.specs.Str.{bytes_eq, all_ascii_digits}
@@ -12,6 +12,10 @@ use Rattle.gp_base.specs.declared.table.Column.{Column}
 use Rattle.gp_base.specs.declared.table.Table.{Table}
 use Rattle.gp_syntax.specs.declared.command.Command.{Command}
 use Rattle.gp_syntax.specs.declared.command.Command.TheVariants.{Create, Begin, Commit, Insert, Select}
+use Rattle.gp_syntax.specs.declared.command.ScriptLine.{ScriptLine}
+use Rattle.gp_syntax.specs.declared.stop.ReadStop.{ReadStop}
+use Rattle.gp_syntax.specs.declared.stop.ReadStop.TheVariants.{Refused, NoMemory}
+use Rattle.gp_base.specs.declared.refusal.Refusal.TheVariants.{NotBuilt}
 use Rattle.gp_syntax.specs.Lines.{longest_line}
 use Rattle.gp_syntax.specs.Canonical.{canonical}
 use Rattle.gp_syntax.specs.Commands.{is_command, IsCommand}
@@ -90,8 +94,20 @@ read_text text = option_and_then (confirmed text) (drafted text)
 unfoldable pub read_of : List ℕ → Option Command
 read_of line = if nat_le (length line) longest_line && begins line (codes "s1: ") then read_text (drop 4 line) else None
 
--- a text is read as a command exactly where it is the command's canonical text
+-- a line holds a command: it is not too long, and is the session and the command's canonical text
 pub record Reads (line : List ℕ) (command : Command) : Type 0 where
   pub valid : IsCommand command
   pub short : nat_le (length line) longest_line ≡ true
   pub text : line ≡ codes "s1: " ++ canonical command
+
+-- what a reader of commands answers is what reading gives: the command, the one refusal where there is none, or want of memory
+abbrev pub GivesCommand : Result Command ReadStop → Option Command → Type 0
+GivesCommand (Ok command) read = read ≡ Some command
+GivesCommand (Err (Refused refusal)) read = (refusal ≡ NotBuilt) × (read ≡ None)
+GivesCommand (Err NoMemory) read = Unit {0}
+
+-- the same of a reader of lines, whose one session is 1
+abbrev pub GivesLine : Result ScriptLine ReadStop → Option Command → Type 0
+GivesLine (Ok line) read = (line.session ≡ 1) × (read ≡ Some line.command)
+GivesLine (Err (Refused refusal)) read = (refusal ≡ NotBuilt) × (read ≡ None)
+GivesLine (Err NoMemory) read = Unit {0}

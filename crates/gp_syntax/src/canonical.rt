@@ -53,7 +53,13 @@ fn create_text(alloc: Global, table: &Table) -> Result<Vec<u8>, NoMemory>
     ensures { IfOk result (λ text. text.items ≡ canonical (Command.Create table.now)) }
 {
     let mut columns = Vec::new(alloc);
-    write_joined(alloc, table.cols.as_slice(), &ColumnText, b", ", &mut columns)?;
+    write_joined(
+        alloc,
+        table.cols.as_slice(),
+        &ColumnText,
+        b", ",
+        &mut columns,
+    )?;
     let name = table.name.as_bytes();
     text_of_pieces(alloc, &[b"CREATE TABLE ", name, b" (", &columns, b")"])
 }
@@ -63,7 +69,10 @@ fn insert_text(alloc: Global, table: &Name, rows: &Items<Row>) -> Result<Vec<u8>
 {
     let mut tuples = Vec::new(alloc);
     write_joined(alloc, rows.as_slice(), &TupleText, b", ", &mut tuples)?;
-    text_of_pieces(alloc, &[b"INSERT INTO ", table.as_bytes(), b" VALUES ", &tuples])
+    text_of_pieces(
+        alloc,
+        &[b"INSERT INTO ", table.as_bytes(), b" VALUES ", &tuples],
+    )
 }
 
 /// The one canonical text of a command: reserved words in capitals, names as they are, one space between tokens.

@@ -53,7 +53,6 @@ fn is_answered(line: &[u8]) -> bool
     !(line.len() <= LONGEST_LINE && says_nothing(line))
 }
 
-
 /// The bytes without the one carriage return at their end, if there is one.
 fn without_return(line: &[u8]) -> &[u8]
     ensures { result.now ≡ strip_carriage_return line.now }

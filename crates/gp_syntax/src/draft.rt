@@ -106,7 +106,7 @@ fn drafted_rows(alloc: Global, text: &[u8]) -> Result<Items<Row>, NoMemory>
 }
 
 /// What stands behind these first words, where the text begins with them.
-fn behind<'a>(text: &'a [u8], words: &[u8]) -> Option<&'a [u8]>
+pub(crate) fn behind<'a>(text: &'a [u8], words: &[u8]) -> Option<&'a [u8]>
     ensures { MatchOption result (begins text.now words.now ≡ false)
         (λ rest. (begins text.now words.now ≡ true) × (rest.now ≡ drop (length words.now) text.now)) }
 {

@@ -4,12 +4,17 @@
 mod canonical;
 mod command;
 mod cutting;
-
 mod draft;
 mod names;
+mod read;
 mod scan;
+mod stop;
 mod valid;
 
 pub use canonical::write_command;
-pub use cutting::{LONGEST_LINE, Line, LineIter, lines};
 pub use command::{Command, ScriptLine};
+pub use cutting::{LONGEST_LINE, Line, LineIter, lines};
+pub use names::{LONGEST_NAME, is_name};
+pub use read::{read_command, read_line};
+pub use stop::ReadStop;
+pub use valid::{MOST_COLUMNS, MOST_ROWS};

@@ -9,7 +9,8 @@ ghost use Rattle.gp_syntax.specs.Names.{is_name, is_name_byte, is_lower_letter, 
 pub const LONGEST_NAME: usize = 30;
 
 /// The reserved words, in lower letters.
-const RESERVED_WORDS: &[u8] = b"all and as begin case commit create delete else end from insert int into is not null or rollback select set table text then true union update values when where";
+const RESERVED_WORDS: &[u8] =
+    b"all and as begin case commit create delete else end from insert int into is not null or rollback select set table text then true union update values when where";
 
 fn is_lower_letter(byte: u8) -> bool
     ensures { result ≡ is_lower_letter byte }

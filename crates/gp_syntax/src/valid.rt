@@ -27,9 +27,7 @@ fn is_int(kind: Kind) -> bool
 fn are_columns(columns: &[Column]) -> bool
     ensures { result ≡ list_all is_column columns.now }
 {
-    columns
-        .iter()
-        .all(|column| is_name(column.name.as_bytes()) && is_int(column.kind))
+    columns.iter().all(|column| is_name(column.name.as_bytes()) && is_int(column.kind))
 }
 
 fn has_name(columns: &[Column], name: &Name) -> bool

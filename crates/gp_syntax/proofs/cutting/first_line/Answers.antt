@@ -11,7 +11,7 @@ returns-then-end-bytes-clause-lines c =
     let place = c.place_of-end.ensures.place in
     let whole = first_line-ended bytes (omega (arith, place, c.if-end-bytes.true)) in
     rw (take_rest bytes (c.place_of-end.result + 1), c.without_return.ensures)
-      (subst (λ (n : ℕ). lines_of bytes ≡ strip_carriage_return (take n bytes) ∷ lines_of (drop (n + 1) bytes)) (sym place) whole)
+    (subst (λ (n : ℕ). lines_of bytes ≡ strip_carriage_return (take n bytes) ∷ lines_of (drop (n + 1) bytes)) (sym place) whole)
 
 pub returns-else-end-bytes-clause-lines : goal.returns-else-end-bytes-clause-lines
 returns-else-end-bytes-clause-lines c = first_line-open c.args.bytes.now c.requires (omega (arith, c.place_of-end.ensures.place))

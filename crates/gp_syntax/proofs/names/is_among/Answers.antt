@@ -6,5 +6,5 @@ use Rattle.gp_syntax.proofs.names.is_among.Goals as goal
 
 pub returns : goal.returns
 returns c = any_from_yields_List (λ (other : List ℕ). bytes_eq other c.args.word.now) _ _ _ c.any.ensures.ran
-  (YieldsList-from_slice_split _ _ c.args.words.now c.split.ensures.rest c.split.ensures.done c.split.ensures.closure (λ x r q k. search (rules, tests)))
-  (λ x r q k. search (rules, tests))
+    (YieldsList-from_slice_split _ _ c.args.words.now c.split.ensures.rest c.split.ensures.done c.split.ensures.closure (λ x r q k. search (rules, tests)))
+    (λ x r q k. search (rules, tests))

@@ -1,0 +1,82 @@
+//! The reader of commands: a text is the command whose canonical text it is.
+
+ghost use Rattle.std.specs.Prelude.{◌≡◌, ◌++◌, Some, IfOk, codes};
+ghost use Rattle.gp_syntax.specs.declared.command.Command.{Command};
+ghost use Rattle.gp_syntax.specs.Canonical.{canonical};
+ghost use Rattle.gp_syntax.specs.Commands.{IsCommand};
+ghost use Rattle.gp_syntax.specs.Reading.{confirmed, read_text, read_of, Reads, GivesCommand, GivesLine};
+
+use crate::canonical::write_command;
+use crate::command::{Command, ScriptLine};
+use crate::cutting::LONGEST_LINE;
+use crate::draft::{behind, drafted};
+use crate::stop::ReadStop;
+use crate::valid::is_command;
+use gp_base::{NoMemory, Refusal};
+use std::alloc::Global;
+
+/// The command, where it is one of a script and the text is its canonical text.
+fn confirmed(alloc: Global, text: &[u8], command: Command) -> Result<Option<Command>, NoMemory>
+    ensures { IfOk result (λ found. found ≡ confirmed text.now command) }
+{
+    if !is_command(&command) {
+        return Ok(None);
+    }
+    let written = write_command(alloc, &command)?;
+    if written.as_slice() == text {
+        Ok(Some(command))
+    } else {
+        Ok(None)
+    }
+}
+
+#[tactic(auto, unfolding(crate::specs::Reading::read_text))]
+fn read_text(alloc: Global, text: &[u8]) -> Result<Option<Command>, NoMemory>
+    ensures { IfOk result (λ found. found ≡ read_text text.now) }
+{
+    match drafted(alloc, text)? {
+        Some(command) => confirmed(alloc, text, command),
+        None => Ok(None),
+    }
+}
+
+/// Reads a command without a session. Refused exactly where the text is the canonical text of no command.
+pub fn read_command(alloc: Global, text: &[u8]) -> Result<Command, ReadStop>
+    ensures exact { GivesCommand result (read_text text.now) }
+    ensures found { IfOk result (λ command. IsCommand command × (canonical command ≡ text.now)) }
+    ensures only { (command : Command) → IsCommand command → canonical command ≡ text.now → GivesCommand result (Some command) }
+{
+    match read_text(alloc, text)? {
+        Some(command) => Ok(command),
+        None => Err(ReadStop::Refused(Refusal::NotBuilt)),
+    }
+}
+
+/// What stands behind the session, where the line is not too long.
+#[tactic(auto, unfolding(crate::specs::Reading::read_of))]
+fn read_of(alloc: Global, line: &[u8]) -> Result<Option<Command>, NoMemory>
+    ensures { IfOk result (λ found. found ≡ read_of line.now) }
+{
+    if line.len() > LONGEST_LINE {
+        return Ok(None);
+    }
+    match behind(line, b"s1: ") {
+        Some(text) => read_text(alloc, text),
+        None => Ok(None),
+    }
+}
+
+/// Reads a line of a script. Refused exactly where it is too long, or is not `s1: ` and the canonical text of a command.
+pub fn read_line(alloc: Global, line: &[u8]) -> Result<ScriptLine, ReadStop>
+    ensures exact { GivesLine result (read_of line.now) }
+    ensures found { IfOk result (λ read. Reads line.now read.command) }
+    ensures only { (command : Command) → Reads line.now command → GivesLine result (Some command) }
+{
+    match read_of(alloc, line)? {
+        Some(command) => Ok(ScriptLine {
+            session: 1,
+            command,
+        }),
+        None => Err(ReadStop::Refused(Refusal::NotBuilt)),
+    }
+}
