@@ -75,6 +75,18 @@ impl<T> Items<T> {
     }
 }
 
+impl<T: Drop> Items<T> {
+    /// Moves all of the others to the end. An `Err` leaves the list as it was.
+    pub fn append(&mut self, others: Items<T>) -> Result<(), NoMemory>
+        ensures ok { OnOk result (self.new ≡ self.old ++ others) }
+        ensures err { OnErr result (self.new ≡ self.old) }
+    {
+        let mut others = others.items;
+        self.items.append(&mut others)?;
+        Ok(())
+    }
+}
+
 impl<T: TryCopy + Drop> TryCopy for Items<T> {
     fn try_copy(&self, alloc: Global) -> Result<Items<T>, NoMemory> {
         let mut items = Vec::with_capacity(alloc, self.items.len())?;

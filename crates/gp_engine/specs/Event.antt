@@ -1,0 +1,111 @@
+-- What one line does to a state, and its reply. A refused line leaves the state as it was.
+use Rattle.std.specs.Prelude.{ℕ, suc, ◌+◌, Bool, true, false, ◌&&◌, not, List, [], ◌∷◌, ◌++◌, length, Option, Some, None, if◌then◌else◌, ◌==◌}
+use Rattle.std.specs.List.{list_any, list_all, position_or_len}
+use Rattle.std.specs.Str.{bytes_eq}
+use Rattle.gp_base.specs.declared.cell.Cell.{Cell}
+use Rattle.gp_base.specs.declared.refusal.Refusal.{Refusal}
+use Rattle.gp_base.specs.declared.refusal.Refusal.TheVariants.{NotBuilt, E09, E10}
+use Rattle.gp_base.specs.declared.table.Table.{Table}
+use Rattle.gp_syntax.specs.declared.command.Command.{Command}
+use Rattle.gp_syntax.specs.declared.command.Command.TheVariants.{Create, Begin, Commit, Insert, Select}
+use Rattle.gp_engine.specs.declared.reply.Reply.{Reply}
+use Rattle.gp_engine.specs.declared.reply.Reply.TheVariants as reply
+use Rattle.gp_engine.specs.Replies.{is_refusal}
+use Rattle.gp_engine.specs.State.{State, Database, Running, Accepted, View, Active, Committed, rows_of, with_rows, running_of, without_session, newest}
+
+-- whether a table has this name
+abbrev pub is_named : List ℕ → Table → Bool
+is_named name table = bytes_eq table.name name
+
+-- whether each row has as many cells as the table has columns
+abbrev pub fits_rows : List (List Cell) → Table → Bool
+fits_rows rows table = list_all (λ (row : List Cell). length row == length table.cols) rows
+
+-- The commands that this version runs: one table in all, and rows that fit it.
+abbrev pub is_built : List Table → Command → Bool
+is_built [] (Create table) = true
+is_built (first ∷ others) (Create table) = false
+is_built tables Begin = true
+is_built tables Commit = true
+is_built tables (Insert name rows) = list_any (λ (table : Table). is_named name table && fits_rows rows table) tables
+is_built tables (Select name) = list_any (is_named name) tables
+
+-- the place of a table in the order of creation, from 0
+abbrev pub place_of : List ℕ → List Table → ℕ
+place_of name tables = position_or_len (is_named name) tables
+
+abbrev pub refused : State → Refusal → State × Reply
+refused state refusal = (state, reply.Refused refusal)
+
+-- CREATE TABLE: one more table, empty in every version
+abbrev pub created : State → Table → State × Reply
+created state table = (record state { catalogue = state.catalogue ++ table ∷ [] }, reply.Created (length state.catalogue))
+
+-- BEGIN: the session's next transaction, which sees the newest version
+abbrev pub began : State → ℕ → State × Reply
+began state session =
+    let number = length state.begun + 1 in
+    let version = length state.committed in
+    let view = newest state.committed in
+    (record state {
+      begun = version ∷ state.begun;
+      fates = (number, Active) ∷ state.fates;
+      views = record { transaction = number; statement = 0; database = view } ∷ state.views;
+      running = record { session = session; transaction = number; statements = 0; view = view } ∷ state.running;
+    }, reply.Began number version)
+
+-- COMMIT: what the transaction sees becomes the next version
+abbrev pub committed : State → ℕ → Running → State × Reply
+committed state session running =
+    let version = length state.committed + 1 in
+    (record state {
+      committed = running.view ∷ state.committed;
+      fates = (running.transaction, Committed version) ∷ state.fates;
+      running = without_session session state.running;
+    }, reply.Committed running.transaction version)
+
+-- a statement that was accepted, and what its transaction sees after it
+abbrev pub seen : State → ℕ → Running → Database → State
+seen state session running view =
+    let statements = running.statements + 1 in
+    record state {
+      views = record { transaction = running.transaction; statement = statements; database = view } ∷ state.views;
+      running = record { session = session; transaction = running.transaction; statements = statements; view = view } ∷ state.running;
+    }
+
+-- INSERT: the rows stand behind those that the transaction sees
+abbrev pub inserted : State → ℕ → Running → List ℕ → List (List Cell) → State × Reply
+inserted state session running name rows =
+    let place = place_of name state.catalogue in
+    (seen state session running (with_rows place (rows_of place running.view ++ rows) running.view), reply.Wrote (length rows))
+
+-- SELECT: the rows that the transaction sees
+abbrev pub selected : State → ℕ → Running → List ℕ → State × Reply
+selected state session running name =
+    (seen state session running running.view, reply.Rows (rows_of (place_of name state.catalogue) running.view))
+
+-- a command in a session that has no transaction, or has this one
+abbrev pub answered : State → ℕ → Option Running → Command → State × Reply
+answered state session None (Create table) = created state table
+answered state session None Begin = began state session
+answered state session None Commit = refused state E10
+answered state session None (Insert name rows) = refused state E10
+answered state session None (Select name) = refused state E10
+answered state session (Some running) (Create table) = refused state E09
+answered state session (Some running) Begin = refused state E09
+answered state session (Some running) Commit = committed state session running
+answered state session (Some running) (Insert name rows) = inserted state session running name rows
+answered state session (Some running) (Select name) = selected state session running name
+
+-- The outcome of a line with the line among those that were accepted, unless it was refused.
+abbrev pub recorded : ℕ → ℕ → Command → State × Reply → State × Reply
+recorded line session command (state, reply) =
+    if is_refusal reply then (state, reply)
+    else (record state { accepted = record { line = line; session = session; command = command } ∷ state.accepted }, reply)
+
+-- What a command does at a line in a session, and its reply. A command that is not built is refused first.
+abbrev pub event : State → ℕ → ℕ → Command → State × Reply
+event state line session command =
+    if (session == 1) && is_built state.catalogue command
+    then recorded line session command (answered state session (running_of session state.running) command)
+    else refused state NotBuilt

@@ -1,0 +1,61 @@
+-- The history of a script: its lines one after another, each answered from the state that the ones before it left.
+use Rattle.std.specs.Prelude.{ℕ, ◌+◌, Bool, true, false, List, [], ◌∷◌, Option, Some, None, nat_le, if◌then◌else◌}
+use Rattle.std.specs.List.{flat_map, list_any}
+use Rattle.gp_base.specs.declared.refusal.Refusal.TheVariants.{NotBuilt}
+use Rattle.gp_base.specs.declared.table.Table.{Table}
+use Rattle.gp_syntax.specs.declared.command.Command.{Command}
+use Rattle.gp_syntax.specs.Lines.{script_lines}
+use Rattle.gp_syntax.specs.Reading.{read_of}
+use Rattle.gp_engine.specs.declared.reply.Reply.{Reply}
+use Rattle.gp_engine.specs.State.{State, empty_state}
+use Rattle.gp_engine.specs.Event.{event, refused}
+use Rattle.gp_engine.specs.Replies.{is_refusal, line_text}
+
+-- at most this many lines that are answered stand before a line that is run
+abbrev pub most_before : ℕ
+most_before = 98
+
+-- a reply, the number of its line, and the tables that were there after it
+pub record Told : Type 0 where
+  pub number : ℕ
+  pub tables : List Table
+  pub reply : Reply
+
+-- a line that holds this command, or none, in the one session
+abbrev pub outcome : State → ℕ → Option Command → State × Reply
+outcome state number None = refused state NotBuilt
+outcome state number (Some command) = event state number 1 command
+
+-- what a line does, when so many answered lines stand before it
+abbrev pub line_outcome : ℕ → State → ℕ × List ℕ → State × Reply
+line_outcome before state line = if nat_le before most_before then outcome state line.0 (read_of line.1) else refused state NotBuilt
+
+-- the replies to lines, when so many stand before them
+abbrev pub replies_from : ℕ → State → List (ℕ × List ℕ) → List Told
+replies_from before state [] = []
+replies_from before state (line ∷ lines) =
+    let next = line_outcome before state line in
+    record { number = line.0; tables = next.0.catalogue; reply = next.1 } ∷ replies_from (before + 1) next.0 lines
+
+-- the state after lines
+abbrev pub state_from : ℕ → State → List (ℕ × List ℕ) → State
+state_from before state [] = state
+state_from before state (line ∷ lines) = state_from (before + 1) (line_outcome before state line).0 lines
+
+-- the history of a script: its replies, and its last state
+abbrev pub replies_of : List ℕ → List Told
+replies_of script = replies_from 0 empty_state (script_lines script)
+
+abbrev pub state_of : List ℕ → State
+state_of script = state_from 0 empty_state (script_lines script)
+
+-- the text of replies
+abbrev pub told_text : Told → List ℕ
+told_text told = line_text told.number told.tables told.reply
+
+abbrev pub replies_text : List Told → List ℕ
+replies_text replies = flat_map told_text replies
+
+-- whether some line was refused
+abbrev pub has_refusal : List Told → Bool
+has_refusal replies = list_any (λ (told : Told). is_refusal told.reply) replies

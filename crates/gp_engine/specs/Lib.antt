@@ -1,0 +1,4 @@
+pub mod State
+pub mod Replies
+pub mod Event
+pub mod History

@@ -1,0 +1,44 @@
+-- The texts of replies.
+use Rattle.std.specs.Prelude.{ℕ, zero, suc, Bool, true, false, List, [], ◌∷◌, ◌++◌, length, codes}
+use Rattle.std.specs.List.{concat, flat_map}
+use Rattle.std.specs.Fmt.{decimal}
+use Rattle.gp_base.specs.declared.cell.Cell.{Cell}
+use Rattle.gp_base.specs.declared.table.Table.{Table}
+use Rattle.gp_base.specs.Order.{in_order, row_cmp}
+use Rattle.gp_base.specs.Texts.{row_text, refusal_text}
+use Rattle.gp_engine.specs.declared.reply.Reply.{Reply}
+use Rattle.gp_engine.specs.declared.reply.Reply.TheVariants.{Created, Began, Wrote, Rows, Committed, Refused}
+
+abbrev pub is_refusal : Reply → Bool
+is_refusal (Created table) = false
+is_refusal (Began t version) = false
+is_refusal (Wrote rows) = false
+is_refusal (Rows rows) = false
+is_refusal (Committed t version) = false
+is_refusal (Refused refusal) = true
+
+abbrev pub newline : List ℕ
+newline = 10 ∷ []
+
+-- the name of the table at a place, or nothing where there is none
+abbrev pub name_at : ℕ → List Table → List ℕ
+name_at place [] = []
+name_at zero (table ∷ tables) = table.name
+name_at (suc place) (table ∷ tables) = name_at place tables
+
+-- a row of an answer, on a line of its own behind two spaces
+abbrev pub row_line : List Cell → List ℕ
+row_line row = concat (codes "  " ∷ row_text row ∷ newline ∷ [])
+
+-- A reply as text, after its line number; rows stand in row order, each as often as it occurs.
+abbrev pub reply_text : List Table → Reply → List ℕ
+reply_text tables (Created table) = concat (codes "created " ∷ name_at table tables ∷ newline ∷ [])
+reply_text tables (Began t version) = concat (codes "begin " ∷ decimal t ∷ codes " at " ∷ decimal version ∷ newline ∷ [])
+reply_text tables (Wrote rows) = concat (codes "wrote " ∷ decimal rows ∷ newline ∷ [])
+reply_text tables (Rows rows) = concat (codes "rows " ∷ decimal (length rows) ∷ newline ∷ flat_map row_line (in_order row_cmp rows) ∷ [])
+reply_text tables (Committed t version) = concat (codes "committed " ∷ decimal t ∷ codes " as " ∷ decimal version ∷ newline ∷ [])
+reply_text tables (Refused refusal) = concat (refusal_text refusal ∷ newline ∷ [])
+
+-- the reply to a line, behind the line's number
+abbrev pub line_text : ℕ → List Table → Reply → List ℕ
+line_text number tables reply = concat (decimal number ∷ codes " " ∷ reply_text tables reply ∷ [])
