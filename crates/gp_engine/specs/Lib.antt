@@ -2,3 +2,4 @@ pub mod State
 pub mod Replies
 pub mod Event
 pub mod History
+pub mod Kept

@@ -1,6 +1,9 @@
 //! The engine: it runs the commands of a script, one line at a time.
 #![tactic(auto)]
 
+mod engine;
 mod reply;
+mod reply_text;
 
+pub use engine::Engine;
 pub use reply::Reply;

@@ -1,0 +1,103 @@
+-- What is kept of an event's state is what the event does to what is kept.
+use Rattle.std.proofs.Common.{◌≡◌, ℕ, suc, ◌+◌, ◌≤◌, ◌<◌, ◌^◌, nat_le, Bool, true, false, cond, not, eqb, ◌&&◌, List, [], ◌∷◌, ◌++◌, length, Option, Some, None, refl, sym, ap, ◌∙◌, subst, arith, add-one, filter, inl, inr}
+use Rattle.std.specs.List.{list_all, list_any, position_or_len}
+use Rattle.std.specs.Str.{bytes_eq}
+use Rattle.std.proofs.lemmas.Bool.{cases_Bool, and_parts, eqb-true, leb-true, or_cases, or_left, or_right}
+use Rattle.gp_base.specs.declared.cell.Cell.{Cell}
+use Rattle.gp_base.specs.declared.table.Table.{Table}
+use Rattle.gp_syntax.specs.declared.command.Command.{Command}
+use Rattle.gp_syntax.specs.declared.command.Command.TheVariants.{Create, Begin, Commit, Insert, Select}
+use Rattle.gp_engine.specs.declared.reply.Reply.{Reply}
+use Rattle.gp_engine.specs.declared.reply.Reply.TheVariants as reply
+use Rattle.gp_engine.specs.State.{State, Running, Accepted, Database, rows_of, with_rows, running_of, without_session, newest}
+use Rattle.gp_engine.specs.Event.{event, answered, recorded, is_built, is_named, fits_rows, place_of, refused}
+use Rattle.gp_syntax.specs.Commands.{is_command, is_tuple, most_rows}
+use Rattle.gp_syntax.specs.Names.{is_name}
+use Rattle.gp_engine.specs.Kept.{Follows, Kept, kept, kept_answer, kept_line, kept_event, last_line, sees, transaction_of}
+
+-- what is kept of an outcome
+abbrev pub kept_outcome : State × Reply → Kept × Reply
+kept_outcome outcome = (kept outcome.0, outcome.1)
+
+-- the transaction of a session has ended
+running_of-without : (session : ℕ) (running : List Running) → running_of session (without_session session running) ≡ None
+running_of-without session [] = refl
+running_of-without session (first ∷ others) = elim (cases_Bool (eqb first.session session)) [
+  | inl same ↦ rw same (running_of-without session others)
+  | inr other ↦ rw (other, other) (running_of-without session others)
+]
+
+-- a command that is built stands in the one table that is there
+place-first : (name : List ℕ) (tables : List Table) → length tables ≤ 1 → list_any (is_named name) tables ≡ true → place_of name tables ≡ 0
+place-first name [] few named = absurd cc
+place-first name (table ∷ []) few found = elim (or_cases (is_named name table) false found) [
+  | inl named ↦ rw named refl
+  | inr other ↦ absurd cc
+]
+place-first name (table ∷ other ∷ tables) few named = absurd (omega (arith, few))
+
+any-weaker : (name : List ℕ) (rows : List (List Cell)) (tables : List Table) → list_any (λ (table : Table). is_named name table && fits_rows rows table) tables ≡ true → list_any (is_named name) tables ≡ true
+any-weaker name rows [] any = absurd cc
+any-weaker name rows (table ∷ tables) any = elim (or_cases (is_named name table && fits_rows rows table) (list_any (λ (other : Table). is_named name other && fits_rows rows other) tables) any) [
+  | inl here ↦ or_left _ _ (and_parts (is_named name table) (fits_rows rows table) here).0
+  | inr later ↦ or_right _ _ (any-weaker name rows tables later)
+]
+
+-- a row of the first table, after one more write of it
+rows_of-first : (place : ℕ) (rows : List (List Cell)) (database : Database) → place ≡ 0 → rows_of 0 (with_rows place rows database) ≡ rows
+rows_of-first place rows database first = rw first refl
+
+abbrev IsKept : ℕ → State → Command → Option Running → Type 0
+IsKept line state command running =
+    kept_outcome (recorded line 1 command (answered state 1 running command)) ≡ kept_line line (kept_answer (kept state) (transaction_of running) command)
+
+answer-outside : (line : ℕ) (state : State) (command : Command) → running_of 1 state.running ≡ None → IsKept line state command None
+answer-outside line state (Create table) idle = refl
+answer-outside line state Begin idle = rw (idle, add-one) refl
+answer-outside line state Commit idle = refl
+answer-outside line state (Insert name rows) idle = refl
+answer-outside line state (Select name) idle = refl
+
+answer-inside : (line : ℕ) (state : State) (command : Command) (running : Running) → running_of 1 state.running ≡ Some running → length state.catalogue ≤ 1 → is_built state.catalogue command ≡ true → IsKept line state command (Some running)
+answer-inside line state (Create table) running busy few built = refl
+answer-inside line state Begin running busy few built = refl
+answer-inside line state Commit running busy few built = rw (running_of-without 1 state.running, busy, add-one) refl
+answer-inside line state (Insert name rows) running busy few built =
+    let first = place-first name state.catalogue few (any-weaker name rows state.catalogue built) in
+    rw (busy, first) refl
+answer-inside line state (Select name) running busy few built =
+    let first = place-first name state.catalogue few built in
+    rw (busy, first) refl
+
+answer : (line : ℕ) (state : State) (command : Command) (running : Option Running) → running_of 1 state.running ≡ running → length state.catalogue ≤ 1 → is_built state.catalogue command ≡ true → IsKept line state command running
+answer line state command None idle few built = answer-outside line state command idle
+answer line state command (Some running) busy few built = answer-inside line state command running busy few built
+
+first-session : (line session : ℕ) (state : State) (command : Command) → session ≡ 1 → length state.catalogue ≤ 1 → is_built state.catalogue command ≡ true
+    → kept_outcome (recorded line session command (answered state session (running_of session state.running) command)) ≡ kept_line line (kept_answer (kept state) (transaction_of (running_of 1 state.running)) command)
+first-session line session state command first few built =
+    rw first (answer line state command (running_of 1 state.running) refl few built)
+
+pub kept-event : (line session : ℕ) (state : State) (command : Command) → length state.catalogue ≤ 1 → kept_outcome (event state line session command) ≡ kept_event (kept state) line session command
+kept-event line session state command few = elim (cases_Bool (eqb session 1 && is_built state.catalogue command)) [
+  | inl runs ↦
+    let parts = and_parts (eqb session 1) (is_built state.catalogue command) runs in
+    rw runs (first-session line session state command (eqb-true session 1 parts.0) few parts.1)
+  | inr fails ↦ rw fails refl
+]
+
+pub follows-from : (old new : Kept) (line session : ℕ) (command : Command) (answer : Reply) → length old.tables ≤ 1 → (new, answer) ≡ kept_event old line session command → Follows old new line session command answer
+follows-from old new line session command answer few is =
+    let whole = λ (state : State) (e : old ≡ kept state).
+      let small : length state.catalogue ≤ 1 = subst (λ (k : Kept). length k.tables ≤ 1) e few in
+      is ∙ ap (λ (k : Kept). kept_event k line session command) e ∙ sym (kept-event line session state command small) in
+    record {
+      reply = λ state e. ap (λ (x : Kept × Reply). x.1) (whole state e);
+      state = λ state e. ap (λ (x : Kept × Reply). x.0) (whole state e);
+    }
+
+-- an INSERT has few rows
+pub few-rows : (name : List ℕ) (rows : List (List Cell)) → is_command (Insert name rows) ≡ true → length rows < 2 ^ 32
+few-rows name rows valid =
+    let most = (and_parts (is_name name && nat_le 1 (length rows)) (nat_le (length rows) most_rows) (and_parts (is_name name && nat_le 1 (length rows) && nat_le (length rows) most_rows) (list_all is_tuple rows) valid).0).1 in
+    omega (arith, leb-true (length rows) most_rows most)

@@ -1,0 +1,226 @@
+//! The engine: what it keeps of the history so far, and what a line does.
+
+ghost use Rattle.std.specs.Prelude.{◌≡◌, ◌<◌, ◌≤◌, ◌+◌, ◌^◌, ◌++◌, ◌∷◌, [], ◌&&◌, ◌==◌, IfOk, OnErr, length, Some, None, true};
+ghost use Rattle.std.specs.List.{list_all, list_any};
+ghost use Rattle.gp_syntax.specs.Commands.{IsCommand};
+ghost use Rattle.gp_engine.specs.Event.{is_built, is_named, fits_rows};
+ghost use Rattle.gp_engine.specs.Kept.{Follows, Kept, kept, kept_answer, kept_line, kept_event};
+ghost use Rattle.gp_engine.specs.State.{empty_state};
+
+use crate::reply::Reply;
+use gp_base::{Items, Name, NoMemory, Refusal, Row, Table, TryCopy};
+use gp_syntax::Command;
+use std::alloc::Global;
+use std::marker::Model;
+
+/// An engine in the middle of a script.
+#[derive(Debug, Drop)]
+pub struct Engine {
+    alloc: Global,
+    tables: Items<Table>,
+    line: u32,
+    versions: u32,
+    transactions: u32,
+    running: Option<u32>,
+    rows: Items<Row>,
+}
+
+impl Model for Engine {
+    ghost use Rattle.std.specs.Prelude.{◌≤◌, length};
+    ghost use Rattle.gp_engine.specs.Kept.{Kept};
+
+    ghost Value = { Kept };
+
+    ghost view = { λ a. record { tables = a.tables; line = a.line; versions = a.versions; transactions = a.transactions; running = a.running; rows = a.rows } };
+
+    ghost invariant = { λ a. (length a.tables ≤ 1) × (a.versions ≤ a.line) × (a.transactions ≤ a.line) };
+}
+
+fn is_named(name: &Name, table: &Table) -> bool
+    ensures { result ≡ is_named name.now table.now }
+{
+    table.name == *name
+}
+
+fn fits_rows(rows: &Items<Row>, table: &Table) -> bool
+    ensures { result ≡ fits_rows rows.now table.now }
+{
+    let width = table.cols.as_slice().len();
+    rows.as_slice().iter().all(|row| row.cells().len() == width)
+}
+
+fn takes_rows(tables: &[Table], name: &Name, rows: &Items<Row>) -> bool
+    ensures { result ≡ list_any (λ table. is_named name.now table && fits_rows rows.now table) tables.now }
+{
+    tables
+        .iter()
+        .any(|table| is_named(name, table) && fits_rows(rows, table))
+}
+
+fn is_there(tables: &[Table], name: &Name) -> bool
+    ensures { result ≡ list_any (is_named name.now) tables.now }
+{
+    tables.iter().any(|table| is_named(name, table))
+}
+
+/// Whether this version runs the command over these tables.
+fn is_built(tables: &[Table], command: &Command) -> bool
+    ensures { result ≡ is_built tables.now command.now }
+{
+    match command {
+        Command::Create { table: _ } => tables.is_empty(),
+        Command::Begin => true,
+        Command::Commit => true,
+        Command::Insert { table, rows } => takes_rows(tables, table, rows),
+        Command::Select { table } => is_there(tables, table),
+    }
+}
+
+impl Engine {
+    /// An engine before the first line.
+    pub fn new(alloc: Global) -> Engine
+        ensures { result ≡ kept empty_state }
+    {
+        Engine {
+            alloc,
+            tables: Items::new(alloc),
+            line: 0,
+            versions: 0,
+            transactions: 0,
+            running: None,
+            rows: Items::new(alloc),
+        }
+    }
+
+    /// The tables, in order of creation.
+    pub fn tables(&self) -> &[Table]
+        ensures tables { result.now ≡ self.now.tables }
+    {
+        self.tables.as_slice()
+    }
+}
+
+impl Engine {
+    fn create(&mut self, line: u32, table: Table) -> Result<Reply, NoMemory>
+        requires first { self.old.tables ≡ [] }
+        requires above { self.old.line < line }
+        ensures ok { IfOk result (λ reply. (self.new ≡ record self.old { tables = self.old.tables ++ table ∷ []; line = line })
+            × (reply ≡ Reply.Created (length self.old.tables))) }
+        ensures err { OnErr result (self.new ≡ self.old) }
+    {
+        self.tables.push(table)?;
+        self.line = line;
+        Ok(Reply::Created { table: 0 })
+    }
+
+    fn begin(&mut self, line: u32) -> Reply
+        requires { self.old.line < line }
+        ensures kept { self.new ≡ record self.old { transactions = self.old.transactions + 1; running = Some (self.old.transactions + 1); line = line } }
+        ensures reply { result ≡ Reply.Began (self.old.transactions + 1) self.old.versions }
+    {
+        self.line = line;
+        self.transactions += 1;
+        self.running = Some(self.transactions);
+        Reply::Began {
+            t: self.transactions,
+            version: self.versions,
+        }
+    }
+
+    fn commit(&mut self, line: u32, t: u32) -> Reply
+        requires { self.old.line < line }
+        ensures kept { self.new ≡ record self.old { versions = self.old.versions + 1; running = None; line = line } }
+        ensures reply { result ≡ Reply.Committed t (self.old.versions + 1) }
+    {
+        self.line = line;
+        self.versions += 1;
+        self.running = None;
+        Reply::Committed {
+            t,
+            version: self.versions,
+        }
+    }
+
+    fn insert(&mut self, line: u32, rows: Items<Row>) -> Result<Reply, NoMemory>
+        requires few { length rows < 2 ^ 32 }
+        requires above { self.old.line < line }
+        ensures ok { IfOk result (λ reply. (self.new ≡ record self.old { rows = self.old.rows ++ rows; line = line })
+            × (reply ≡ Reply.Wrote (length rows))) }
+        ensures err { OnErr result (self.new ≡ self.old) }
+    {
+        let count = rows.as_slice().len() as u32;
+        self.rows.append(rows)?;
+        self.line = line;
+        Ok(Reply::Wrote { rows: count })
+    }
+
+    fn select(&mut self, line: u32) -> Result<Reply, NoMemory>
+        requires { self.old.line < line }
+        ensures ok { IfOk result (λ reply. (self.new ≡ record self.old { line = line }) × (reply ≡ Reply.Rows self.old.rows)) }
+        ensures err { OnErr result (self.new ≡ self.old) }
+    {
+        let rows = self.rows.try_copy(self.alloc)?;
+        self.line = line;
+        Ok(Reply::Rows(rows))
+    }
+
+    /// A command of a session that has no transaction.
+    fn outside(&mut self, line: u32, command: Command) -> Result<Reply, NoMemory>
+        requires built { is_built self.old.tables command ≡ true }
+        requires above { self.old.line < line }
+        ensures ok { IfOk result (λ reply. (self.new, reply) ≡ kept_line line (kept_answer self.old None command)) }
+        ensures err { OnErr result (self.new ≡ self.old) }
+    {
+        match command {
+            Command::Create { table } => self.create(line, table),
+            Command::Begin => Ok(self.begin(line)),
+            Command::Commit => Ok(Reply::Refused(Refusal::E10)),
+            Command::Insert { .. } => Ok(Reply::Refused(Refusal::E10)),
+            Command::Select { .. } => Ok(Reply::Refused(Refusal::E10)),
+        }
+    }
+
+    /// A command of the session whose transaction is this one.
+    fn inside(&mut self, line: u32, t: u32, command: Command) -> Result<Reply, NoMemory>
+        requires read { IsCommand command }
+        requires above { self.old.line < line }
+        ensures ok { IfOk result (λ reply. (self.new, reply) ≡ kept_line line (kept_answer self.old (Some t) command)) }
+        ensures err { OnErr result (self.new ≡ self.old) }
+    {
+        match command {
+            Command::Create { .. } => Ok(Reply::Refused(Refusal::E09)),
+            Command::Begin => Ok(Reply::Refused(Refusal::E09)),
+            Command::Commit => Ok(self.commit(line, t)),
+            Command::Insert { rows, .. } => self.insert(line, rows),
+            Command::Select { .. } => self.select(line),
+        }
+    }
+
+    fn step(&mut self, line: u32, session: u32, command: Command) -> Result<Reply, NoMemory>
+        requires read { IsCommand command }
+        requires above { self.old.line < line }
+        ensures ok { IfOk result (λ reply. (self.new, reply) ≡ kept_event self.old line session command) }
+        ensures few { length self.old.tables ≤ 1 }
+        ensures err { OnErr result (self.new ≡ self.old) }
+    {
+        if session != 1 || !is_built(self.tables.as_slice(), &command) {
+            return Ok(Reply::Refused(Refusal::NotBuilt));
+        }
+        match self.running {
+            None => self.outside(line, command),
+            Some(t) => self.inside(line, t, command),
+        }
+    }
+
+    /// Runs the command of a line in a session, and gives its reply. The line is above all lines before it, and the command was read.
+    pub fn line(&mut self, line: u32, session: u32, command: Command) -> Result<Reply, NoMemory>
+        requires read { IsCommand command }
+        requires above { self.old.line < line }
+
+        // The reply and the next state are those of the event.
+        ensures follows { IfOk result (Follows self.old self.new line session command) }
+        ensures err { OnErr result (self.new ≡ self.old) }
+    {
+        self.step(line, session, command)
+    }
+}
