@@ -4,6 +4,7 @@
 mod cell;
 mod items;
 mod memory;
+mod order;
 mod refusal;
 mod row;
 mod row_text;
@@ -14,6 +15,7 @@ mod writing;
 pub use cell::Cell;
 pub use items::{Items, TryCopy};
 pub use memory::NoMemory;
+pub use order::sort_rows;
 pub use refusal::{Refusal, write_refusal};
 pub use row::Row;
 pub use row_text::write_row;

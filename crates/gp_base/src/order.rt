@@ -1,0 +1,17 @@
+//! Rows in order.
+
+ghost use Rattle.std.specs.Prelude.{◌≡◌, OnOk, OnErr};
+ghost use Rattle.gp_base.specs.Order.{row_cmp, in_order};
+
+use crate::memory::NoMemory;
+use crate::row::Row;
+
+#[tactic(auto, using(crate::proofs::OrderLemmas::rows_in_order))]
+/// Puts the rows in order, each as often as it occurs. An `Err` leaves them as they were.
+pub fn sort_rows(rows: &mut Vec<Row>) -> Result<(), NoMemory>
+    ensures ok { OnOk result (rows.new.items ≡ in_order row_cmp rows.old.items) }
+    ensures err { OnErr result (rows.new.items ≡ rows.old.items) }
+{
+    rows.sort()?;
+    Ok(())
+}
