@@ -15,7 +15,7 @@ use Rattle.std.proofs.lemmas.List.Sums.{sum_by-cons}
 use Rattle.std.proofs.lemmas.List.Sorted.{sum_by-IsPermutation, IsPermutation-refl, IsPermutation-cons, IsPermutation-sym, IsPermutation-trans, IsPermutation-middle}
 use Rattle.gp_base.specs.declared.cell.Cell.{Cell}
 use Rattle.gp_base.specs.declared.cell.Cell.TheVariants.{Null, Int, Text}
-use Rattle.gp_base.specs.Order.{cell_cmp, row_cmp, placed, in_order}
+use Rattle.gp_base.specs.Order.{cell_cmp, row_cmp, placed, in_order, InOrderKeepsRows, InOrderIsSorted, OnlyInOrder}
 
 -- ---- answers of a comparison
 
@@ -118,6 +118,9 @@ module _ {T : Type 0} (cmp : T → T → Ordering) (total : IsTotalOrder cmp) (e
   sorted_at (x ∷ []) rises k d within = absurd (omega arith)
   sorted_at (x ∷ y ∷ ys) rises zero d within = subst (λ o. is_lt o ≡ false) (sym (total.antisymm y x)) (lt_from_le_turned (cmp x y) rises.0.0)
   sorted_at (x ∷ y ∷ ys) rises (suc k) d within = rw add-one (simp add-one at (sorted_at (y ∷ ys) rises.1 k d (omega arith)))
+
+  sorted_in_order : (xs : List T) → IsSorted cmp (in_order cmp xs)
+  sorted_in_order xs k d low high = sorted_at (in_order cmp xs) (Rises-in_order xs) k d high
 
   -- ---- how often each item occurs
 
@@ -246,8 +249,14 @@ row_cmp_total = lists_total cell_cmp_total
 exact_rows : CmpEqualImpliesEq row_cmp
 exact_rows = slice_cmp-IsAntisymmetric exact_cells
 
--- sorted rows are the rows in order
-pub rows_in_order_from_sorted : (old new : List (List Cell)) → IsPermutation old new → IsSorted row_cmp new → new ≡ in_order row_cmp old
-rows_in_order_from_sorted = in_order_from_sorted row_cmp row_cmp_total exact_rows
+pub rows_are_kept : InOrderKeepsRows
+rows_are_kept = IsPermutation-in_order row_cmp
 
-pub ruleset rows_in_order = (rows_in_order_from_sorted)
+pub rows_are_sorted : InOrderIsSorted
+rows_are_sorted = sorted_in_order row_cmp row_cmp_total exact_rows
+
+-- sorted rows are the rows in order
+pub only_in_order : OnlyInOrder
+only_in_order = in_order_from_sorted row_cmp row_cmp_total exact_rows
+
+pub ruleset rows_in_order = (only_in_order)

@@ -15,7 +15,7 @@ mod writing;
 pub use cell::Cell;
 pub use items::{Items, TryCopy};
 pub use memory::NoMemory;
-pub use order::sort_rows;
+pub use order::{in_order_keeps_rows, sort_rows};
 pub use refusal::{Refusal, write_refusal};
 pub use row::Row;
 pub use row_text::write_row;

@@ -2,6 +2,7 @@
 
 ghost use Rattle.std.specs.Prelude.{◌≡◌, OnOk, OnErr};
 ghost use Rattle.gp_base.specs.Order.{row_cmp, in_order};
+ghost use Rattle.gp_base.specs.Order.{InOrderKeepsRows, InOrderIsSorted, OnlyInOrder};
 
 use crate::memory::NoMemory;
 use crate::row::Row;
@@ -15,3 +16,11 @@ pub fn sort_rows(rows: &mut Vec<Row>) -> Result<(), NoMemory>
     rows.sort()?;
     Ok(())
 }
+
+/// The laws of rows in order: they are the same rows, they are sorted, and no other list is both. It does nothing, and
+/// its contract holds the laws.
+pub fn in_order_keeps_rows()
+    ensures same_rows { InOrderKeepsRows }
+    ensures sorted { InOrderIsSorted }
+    ensures only_one { OnlyInOrder }
+{}
