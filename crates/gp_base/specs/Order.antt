@@ -24,12 +24,12 @@ cell_cmp (Text t) (Text s) = slice_cmp nat_cmp t s
 abbrev pub row_cmp : List Cell → List Cell → Ordering
 row_cmp = slice_cmp cell_cmp
 
--- the item before the first that is not below it
+-- the item put before the first of the list that is not below it
 abbrev pub placed : {T : Type 0} → (T → T → Ordering) → T → List T → List T
 placed cmp item [] = item ∷ []
 placed cmp item (other ∷ others) = if is_le (cmp item other) then item ∷ other ∷ others else other ∷ placed cmp item others
 
--- the items in order, each as often as it occurs
+-- the items in order, each as often as it occurs: the first is put into the others in order
 abbrev pub in_order : {T : Type 0} → (T → T → Ordering) → List T → List T
 in_order cmp [] = []
 in_order cmp (item ∷ items) = placed cmp item (in_order cmp items)

@@ -22,3 +22,6 @@ pub use row_text::write_row;
 pub use table::{Column, Kind, Table};
 pub use text::{Name, Text};
 pub use writing::{WriteText, push_all, write_joined};
+
+#[cfg(test)]
+mod tests;

@@ -1,4 +1,4 @@
-//! Rows in order.
+//! Lists of rows, put in order.
 
 ghost use Rattle.std.specs.Prelude.{◌≡◌, OnOk, OnErr};
 ghost use Rattle.gp_base.specs.Order.{row_cmp, in_order};
@@ -7,8 +7,8 @@ ghost use Rattle.gp_base.specs.Order.{InOrderKeepsRows, InOrderIsSorted, OnlyInO
 use crate::memory::NoMemory;
 use crate::row::Row;
 
+/// Puts the rows in order, each as often as it occurs. An `Err`, where memory runs out, leaves them as they were.
 #[tactic(auto, using(crate::proofs::OrderLemmas::rows_in_order))]
-/// Puts the rows in order, each as often as it occurs. An `Err` leaves them as they were.
 pub fn sort_rows(rows: &mut Vec<Row>) -> Result<(), NoMemory>
     ensures ok { OnOk result (rows.new.items ≡ in_order row_cmp rows.old.items) }
     ensures err { OnErr result (rows.new.items ≡ rows.old.items) }

@@ -1,4 +1,4 @@
-//! Writers of texts. Where memory runs out, a writer leaves some front of its text behind what was there.
+//! Writers, which append a text to bytes. Where memory runs out, a writer has appended some front of its text.
 
 ghost use Rattle.std.specs.Prelude.{◌≡◌, ◌++◌, OnOk, OnErr, List, ℕ, ◌∷◌};
 ghost use Rattle.std.specs.List.{flat_map};
@@ -7,7 +7,7 @@ ghost use Rattle.gp_base.specs.Writing.{HasFront, joined};
 use crate::memory::NoMemory;
 use std::alloc::Global;
 
-/// Appends the pieces in order.
+/// Appends the pieces in order. Where memory runs out, some front of them was appended.
 pub fn push_all(out: &mut Vec<u8>, pieces: &[&[u8]]) -> Result<(), NoMemory>
     ensures ok { OnOk result (out.new.items ≡ out.old.items ++ flat_map (λ piece. piece.now) pieces.now) }
     ensures err { OnErr result (HasFront out.old.items out.new.items (flat_map (λ piece. piece.now) pieces.now)) }
@@ -18,7 +18,7 @@ pub fn push_all(out: &mut Vec<u8>, pieces: &[&[u8]]) -> Result<(), NoMemory>
     Ok(())
 }
 
-/// A value with one text.
+/// A value that is written as one text.
 pub trait WriteText {
     /// The text of the value.
     ghost text: { Self → List ℕ };
@@ -29,6 +29,7 @@ pub trait WriteText {
         ensures err { OnErr result (HasFront out.old.items out.new.items (text self.now)) };
 }
 
+/// Appends the text of each item with the separator before it.
 fn write_others<T: WriteText>(
     alloc: Global,
     items: &[T],
@@ -45,6 +46,7 @@ fn write_others<T: WriteText>(
     Ok(())
 }
 
+/// Appends the texts of the first item and the others, with the separator between each two.
 #[tactic(auto, using(crate::proofs::WritingLemmas::fronts))]
 fn write_from<T: WriteText>(
     alloc: Global,
@@ -61,7 +63,8 @@ fn write_from<T: WriteText>(
     Ok(())
 }
 
-/// Appends the texts of the items with the separator between each two.
+/// Appends the texts of the items, with the separator between each two. Where memory runs out, some front of that text
+/// was appended.
 pub fn write_joined<T: WriteText>(
     alloc: Global,
     items: &[T],
