@@ -19,6 +19,7 @@ use Rattle.gp_base.specs.Order.{cell_cmp, row_cmp, placed, in_order, InOrderKeep
 
 -- ---- answers of a comparison
 
+-- not above, in two forms
 gt_from_le : (o : Ordering) → is_le o ≡ true → is_gt o ≡ false
 gt_from_le Less e = refl
 gt_from_le Equal e = refl
@@ -29,21 +30,25 @@ le_from_gt Less e = refl
 le_from_gt Equal e = refl
 le_from_gt Greater e = sym e
 
+-- an item that is above another has that one not above itself
 le_turned : (o : Ordering) → is_le o ≡ false → is_le (ordering_reverse o) ≡ true
 le_turned Less e = sym e
 le_turned Equal e = refl
 le_turned Greater e = refl
 
+-- the second is not below the first, so the first is not above the second
 le_from_lt_turned : (o : Ordering) → is_lt o ≡ false → is_le (ordering_reverse o) ≡ true
 le_from_lt_turned Less e = sym e
 le_from_lt_turned Equal e = refl
 le_from_lt_turned Greater e = refl
 
+-- the same, back
 lt_from_le_turned : (o : Ordering) → is_le o ≡ true → is_lt (ordering_reverse o) ≡ false
 lt_from_le_turned Less e = refl
 lt_from_le_turned Equal e = refl
 lt_from_le_turned Greater e = sym e
 
+-- neither is above the other
 equal_from_both : (o : Ordering) → is_le o ≡ true → is_le (ordering_reverse o) ≡ true → o ≡ Equal
 equal_from_both Less e f = absurd (false≢true f)
 equal_from_both Equal e f = refl
@@ -54,6 +59,7 @@ equal_from_is_eq Less e = absurd (false≢true e)
 equal_from_is_eq Equal e = refl
 equal_from_is_eq Greater e = absurd (false≢true e)
 
+-- a second comparison that ties changes nothing
 then_equal : (o : Ordering) → o ≡ ordering_then o Equal
 then_equal Less = refl
 then_equal Equal = refl
@@ -77,6 +83,7 @@ times cmp item [] = 0
 times cmp item (other ∷ others) = cond (is_eq (cmp item other)) 1 0 + times cmp item others
 
 module _ {T : Type 0} (cmp : T → T → Ordering) (total : IsTotalOrder cmp) (exact : CmpEqualImpliesEq cmp) where
+  -- not above, through an item between
   le_through : (x y z : T) → is_le (cmp x y) ≡ true → is_le (cmp y z) ≡ true → is_le (cmp x z) ≡ true
   le_through x y z first second = le_from_gt (cmp x z) (upto total x y z (gt_from_le (cmp x y) first) (gt_from_le (cmp y z) second))
 
@@ -84,6 +91,7 @@ module _ {T : Type 0} (cmp : T → T → Ordering) (total : IsTotalOrder cmp) (e
   IsBelowAll-through x y [] first all = tt
   IsBelowAll-through x y (z ∷ zs) first all = (le_through x y z first all.0, IsBelowAll-through x y zs first all.1)
 
+  -- what is not above an item nor any of a list is not above any of the list with the item in it
   IsBelowAll-placed : (x item : T) (ys : List T) → is_le (cmp x item) ≡ true → IsBelowAll cmp x ys → IsBelowAll cmp x (placed cmp item ys)
   IsBelowAll-placed x item [] below all = (below, tt)
   IsBelowAll-placed x item (y ∷ ys) below all =
@@ -92,6 +100,7 @@ module _ {T : Type 0} (cmp : T → T → Ordering) (total : IsTotalOrder cmp) (e
         | false ↦ (all.0, IsBelowAll-placed x item ys below all.1)
       ]
 
+  -- an item placed in a list that rises leaves it rising
   Rises-placed : (item : T) (ys : List T) → Rises cmp ys → Rises cmp (placed cmp item ys)
   Rises-placed item [] rises = (tt, tt)
   Rises-placed item (y ∷ ys) rises =
@@ -104,6 +113,7 @@ module _ {T : Type 0} (cmp : T → T → Ordering) (total : IsTotalOrder cmp) (e
   Rises-in_order [] = tt
   Rises-in_order (x ∷ xs) = Rises-placed x (in_order cmp xs) (Rises-in_order xs)
 
+  -- a list that is sorted by its places rises
   Rises-from_sorted : (xs : List T) → IsSorted cmp xs → Rises cmp xs
   Rises-from_sorted [] sorted = tt
   Rises-from_sorted (x ∷ []) sorted = (tt, tt)
@@ -113,6 +123,7 @@ module _ {T : Type 0} (cmp : T → T → Ordering) (total : IsTotalOrder cmp) (e
       let rest : Rises cmp (y ∷ ys) = Rises-from_sorted (y ∷ ys) (λ k d low high. rw add-one (simp add-one at (sorted (suc k) d (omega arith) (omega arith)))) in
       ((first, IsBelowAll-through x y ys first rest.0), rest)
 
+  -- a list that rises is sorted by its places
   sorted_at : (xs : List T) → Rises cmp xs → (k : ℕ) (d : T) → k + 1 < length xs → is_lt (cmp (get_or xs (k + 1) d) (get_or xs k d)) ≡ false
   sorted_at [] rises k d within = absurd (omega arith)
   sorted_at (x ∷ []) rises k d within = absurd (omega arith)
@@ -124,6 +135,7 @@ module _ {T : Type 0} (cmp : T → T → Ordering) (total : IsTotalOrder cmp) (e
 
   -- ---- how often each item occurs
 
+  -- placing an item counts it once, and the others as before
   times-placed : (item x : T) (ys : List T) → times cmp item (placed cmp x ys) ≡ times cmp item (x ∷ ys)
   times-placed item x [] = refl
   times-placed item x (y ∷ ys) =
@@ -136,6 +148,7 @@ module _ {T : Type 0} (cmp : T → T → Ordering) (total : IsTotalOrder cmp) (e
   times-in_order item [] = refl
   times-in_order item (x ∷ xs) = times-placed item x (in_order cmp xs) ∙ ap (λ n. cond (is_eq (cmp item x)) 1 0 + n) (times-in_order item xs)
 
+  -- as a sum, which a permutation keeps
   times-is : (item : T) (xs : List T) → times cmp item xs ≡ sum_by (λ other. cond (is_eq (cmp item other)) 1 0) xs
   times-is item [] = refl
   times-is item (x ∷ xs) = ap (λ n. cond (is_eq (cmp item x)) 1 0 + n) (times-is item xs) ∙ sym (sum_by-cons (λ other. cond (is_eq (cmp item other)) 1 0) x xs)
@@ -218,6 +231,7 @@ bytes_in (Text text) = text
 abbrev parts_cmp : Cell → Cell → Ordering
 parts_cmp = then_cmp (on kind_rank nat_cmp) (then_cmp (on number_in int_cmp) (on bytes_in (slice_cmp nat_cmp)))
 
+-- this is the order of cells, whose laws follow from those of its parts
 parts_cmp-is : (x y : Cell) → cell_cmp x y ≡ parts_cmp x y
 parts_cmp-is Null Null = refl
 parts_cmp-is Null (Int m) = refl
@@ -232,6 +246,7 @@ parts_cmp-is (Text t) (Text s) = refl
 cell_cmp_total : IsTotalOrder cell_cmp
 cell_cmp_total = subst IsTotalOrder (λ i x y. sym (parts_cmp-is x y) i) (then_total (on_total kind_rank nat_cmp_total) (then_total (on_total number_in int_cmp_total) (on_total bytes_in nat_list_cmp_total)))
 
+-- only equal cells tie
 exact_cells : CmpEqualImpliesEq cell_cmp
 exact_cells Null Null e = refl
 exact_cells Null (Int m) e = cc
@@ -246,6 +261,7 @@ exact_cells (Text t) (Text s) e = ap Text (exact_bytes t s e)
 row_cmp_total : IsTotalOrder row_cmp
 row_cmp_total = lists_total cell_cmp_total
 
+-- only equal rows tie
 exact_rows : CmpEqualImpliesEq row_cmp
 exact_rows = slice_cmp-IsAntisymmetric exact_cells
 
@@ -259,4 +275,5 @@ rows_are_sorted = sorted_in_order row_cmp row_cmp_total exact_rows
 pub only_in_order : OnlyInOrder
 only_in_order = in_order_from_sorted row_cmp row_cmp_total exact_rows
 
+-- what `sort_rows` needs
 pub ruleset rows_in_order = (only_in_order)
