@@ -7,4 +7,5 @@ pub AreInRange-push : (cells : List Cell) (cell : Cell) → AreInRange cells →
 AreInRange-push [] cell all one = (one, tt)
 AreInRange-push (c ∷ cells) cell all one = (all.0, AreInRange-push cells cell all.1 one)
 
+-- what `Row::push` needs
 pub ruleset rows_in_range = (AreInRange-push)

@@ -1,10 +1,10 @@
 -- How the front of a text grows, piece by piece.
-use Rattle.std.proofs.Common.{◌≡◌, ℕ, ◌+◌, ◌<◌, ◌≤◌, min, List, [], ◌∷◌, ◌++◌, length, take, drop, map, get_or, refl, sym, ap, ◌∙◌, append_assoc, arith}
+use Rattle.std.proofs.Common.{◌≡◌, ℕ, ◌+◌, ◌<◌, min, List, [], ◌++◌, length, take, drop, get_or, refl, sym, ap, ◌∙◌, append_assoc, arith}
 use Rattle.std.specs.List.{flat_map}
 use Rattle.std.proofs.Math.Seq.{take-append-add}
-use Rattle.std.proofs.lemmas.List.{append-nil, take_at, take-append-le, take-take, take_min, length-take, take-append-drop, at_drop_more}
+use Rattle.std.proofs.lemmas.List.{append-nil, take_at, take-append-le, take_min, take-append-drop, at_drop_more}
 use Rattle.std.proofs.lemmas.Grind.{flat_map-append}
-use Rattle.gp_base.specs.Writing.{HasFront, joined}
+use Rattle.gp_base.specs.Writing.{HasFront}
 
 -- all of a first part was written
 pub HasFront-part : (old new text part rest : List ℕ) → new ≡ old ++ part → text ≡ part ++ rest → HasFront old new text

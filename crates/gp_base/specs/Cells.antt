@@ -1,7 +1,6 @@
--- Cells and rows: which numbers a cell may hold, and the order of cells and rows.
-use Rattle.std.specs.Prelude.{List, [], ◌∷◌}
+-- Which numbers the cells of a row may hold.
+use Rattle.std.specs.Prelude.{List, [], ◌∷◌, FitsSigned}
 use Rattle.std.specs.Int.{w64}
-use Rattle.std.specs.Prelude.{FitsSigned}
 use Rattle.gp_base.specs.declared.cell.Cell.{Cell}
 use Rattle.gp_base.specs.declared.cell.Cell.TheVariants.{Null, Int, Text}
 
@@ -11,7 +10,7 @@ IsInRange Null = Unit {0}
 IsInRange (Int number) = FitsSigned w64 number
 IsInRange (Text text) = Unit {0}
 
--- so does each number of a row
+-- each number of a row does
 abbrev pub AreInRange : List Cell → Type 0
 AreInRange [] = Unit {0}
 AreInRange (cell ∷ cells) = IsInRange cell × AreInRange cells

@@ -1,9 +1,10 @@
 -- The order of cells and rows, and lists put in order.
-use Rattle.std.specs.Prelude.{ℕ, List, [], ◌∷◌, if◌then◌else◌}
+use Rattle.std.specs.Prelude.{◌≡◌, List, [], ◌∷◌, if◌then◌else◌}
 use Rattle.std.specs.declared.cmp.Ordering.{Ordering}
 use Rattle.std.specs.declared.cmp.Ordering.TheVariants.{Less, Equal, Greater}
 use Rattle.std.specs.Ordering.{nat_cmp, int_cmp, is_le}
 use Rattle.std.specs.Cmp.Lexicographic.{slice_cmp}
+use Rattle.std.specs.List.Sorted.{IsPermutation, IsSorted}
 use Rattle.gp_base.specs.declared.cell.Cell.{Cell}
 use Rattle.gp_base.specs.declared.cell.Cell.TheVariants.{Null, Int, Text}
 
@@ -23,12 +24,24 @@ cell_cmp (Text t) (Text s) = slice_cmp nat_cmp t s
 abbrev pub row_cmp : List Cell → List Cell → Ordering
 row_cmp = slice_cmp cell_cmp
 
--- the item before the first that is not below it
+-- the item put before the first of the list that is not below it
 abbrev pub placed : {T : Type 0} → (T → T → Ordering) → T → List T → List T
 placed cmp item [] = item ∷ []
 placed cmp item (other ∷ others) = if is_le (cmp item other) then item ∷ other ∷ others else other ∷ placed cmp item others
 
--- the items in order, each as often as it occurs
+-- the items in order, each as often as it occurs: the first is put into the others in order
 abbrev pub in_order : {T : Type 0} → (T → T → Ordering) → List T → List T
 in_order cmp [] = []
 in_order cmp (item ∷ items) = placed cmp item (in_order cmp items)
+
+-- rows in order are the rows themselves, each as often
+abbrev pub InOrderKeepsRows : Type 0
+InOrderKeepsRows = (rows : List (List Cell)) → IsPermutation rows (in_order row_cmp rows)
+
+-- no row of the rows in order is above the one behind it
+abbrev pub InOrderIsSorted : Type 0
+InOrderIsSorted = (rows : List (List Cell)) → IsSorted row_cmp (in_order row_cmp rows)
+
+-- rows that are sorted and the same, each as often, are the rows in order
+abbrev pub OnlyInOrder : Type 0
+OnlyInOrder = (rows sorted : List (List Cell)) → IsPermutation rows sorted → IsSorted row_cmp sorted → sorted ≡ in_order row_cmp rows

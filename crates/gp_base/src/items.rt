@@ -7,9 +7,9 @@ use std::alloc::Global;
 use std::cmp::Ordering;
 use std::marker::Model;
 
-/// A value that can be copied where memory allows.
+/// A value that can be copied, where there is memory for it.
 pub trait TryCopy: Sized {
-    /// An equal value, in memory of its own.
+    /// An equal value in memory of its own, or an `Err` where memory runs out.
     fn try_copy(&self, alloc: Global) -> Result<Self, NoMemory>
         ensures { IfOk result (λ copy. copy ≡ self.now) };
 }
@@ -45,7 +45,7 @@ impl<T> Items<T> {
         Items { items }
     }
 
-    /// The values of a slice, each as it is.
+    /// The values of a slice, or an `Err` where memory runs out.
     pub fn from_slice(alloc: Global, items: &[T]) -> Result<Items<T>, NoMemory>
     where
         T: Copy,
@@ -63,7 +63,7 @@ impl<T> Items<T> {
         self.items.as_slice()
     }
 
-    /// Adds a value at the end.
+    /// Adds a value at the end. An `Err` leaves the list as it was.
     pub fn push(&mut self, item: T) -> Result<(), NoMemory>
     where
         T: Drop,

@@ -4,6 +4,7 @@
 mod cell;
 mod items;
 mod memory;
+mod order;
 mod refusal;
 mod row;
 mod row_text;
@@ -14,9 +15,13 @@ mod writing;
 pub use cell::Cell;
 pub use items::{Items, TryCopy};
 pub use memory::NoMemory;
+pub use order::{in_order_keeps_rows, sort_rows};
 pub use refusal::{Refusal, write_refusal};
 pub use row::Row;
 pub use row_text::{CellText, write_row};
 pub use table::{Column, Kind, Table};
 pub use text::{Name, Text};
 pub use writing::{TextOf, push_all, write_joined};
+
+#[cfg(test)]
+mod tests;

@@ -7,10 +7,10 @@ ghost use Rattle.gp_base.specs.Writing.{HasFront};
 use crate::memory::NoMemory;
 use crate::writing::push_all;
 
-/// Why a line is refused. The number in a variant's name is the one that its text begins with.
+/// Why a line is refused. Its text begins with a code, E and two digits, and a variant named by a code has that one.
 #[derive(Clone, Copy, Debug, PartialEq, Eq)]
 pub enum Refusal {
-    /// The line is of a kind that this version does not run.
+    /// The line is of a kind that this version does not run. Its code is E29.
     NotBuilt,
     /// The session has a transaction, and the command may stand only outside of one.
     E09,
@@ -18,6 +18,7 @@ pub enum Refusal {
     E10,
 }
 
+/// The text of a refusal, as a constant.
 fn refusal_words(refusal: Refusal) -> &'static [u8]
     ensures { result.now ≡ refusal_text refusal }
 {

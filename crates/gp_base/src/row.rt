@@ -9,7 +9,8 @@ use crate::memory::NoMemory;
 use std::alloc::Global;
 use std::marker::Model;
 
-/// The cells of a row in the order of its columns. Rows are ordered cell by cell, and a row that ends first is before.
+/// The cells of a row, in the order of its columns. Each number lies within 64 bits, which contracts can rely on. Rows
+/// are compared cell by cell, and a row that ends first is before.
 #[derive(Debug, Drop, PartialEq, Eq, PartialOrd, Ord)]
 pub struct Row {
     cells: Items<Cell>,
@@ -47,8 +48,8 @@ impl Row {
         self.cells.as_slice()
     }
 
-    #[tactic(auto, using(crate::proofs::CellLemmas::rows_in_range))]
     /// Adds a cell at the end. An `Err` leaves the row as it was.
+    #[tactic(auto, using(crate::proofs::CellLemmas::rows_in_range))]
     pub fn push(&mut self, cell: Cell) -> Result<(), NoMemory>
         requires { IsInRange cell }
         ensures ok { OnOk result (self.new ≡ self.old ++ cell ∷ []) }

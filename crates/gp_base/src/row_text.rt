@@ -1,4 +1,4 @@
-//! The texts of cells and rows.
+//! The texts of cells and rows, as replies and dumps print them.
 
 ghost use Rattle.std.specs.Prelude.{◌≡◌, ◌++◌, OnOk, OnErr, IfOk};
 ghost use Rattle.std.specs.Fmt.{signed_decimal};
@@ -29,6 +29,7 @@ fn quoted(alloc: Global, text: &[u8]) -> Result<Vec<u8>, NoMemory>
     Ok(bytes)
 }
 
+/// Appends a number in decimal digits.
 fn write_number(alloc: Global, number: i64, out: &mut Vec<u8>) -> Result<(), NoMemory>
     ensures ok { OnOk result (out.new.items ≡ out.old.items ++ signed_decimal number) }
     ensures err { OnErr result (HasFront out.old.items out.new.items (signed_decimal number)) }
@@ -38,6 +39,7 @@ fn write_number(alloc: Global, number: i64, out: &mut Vec<u8>) -> Result<(), NoM
     Ok(())
 }
 
+/// Appends a text in quotes. The part between them is made first, since it may be longer than the text.
 fn write_quoted(alloc: Global, text: &Text, out: &mut Vec<u8>) -> Result<(), NoMemory>
     ensures ok { OnOk result (out.new.items ≡ out.old.items ++ cell_text (Cell.Text text.now)) }
     ensures err { OnErr result (HasFront out.old.items out.new.items (cell_text (Cell.Text text.now))) }

@@ -1,4 +1,5 @@
-//! Tables: their names and the names and kinds of their columns.
+//! Tables: their names, and the names and kinds of their columns. That names differ is kept by whoever creates a table,
+//! and is no rule of these types.
 
 use crate::items::{Items, TryCopy};
 use crate::memory::NoMemory;
@@ -17,7 +18,7 @@ pub enum Kind {
 /// A column of a table.
 #[derive(Debug, Drop, PartialEq, Eq)]
 pub struct Column {
-    /// Its name, which no other column of the table has.
+    /// Its name.
     pub name: Name,
     /// What it holds beside NULL.
     pub kind: Kind,
@@ -26,9 +27,9 @@ pub struct Column {
 /// A table: its name, and its columns in order.
 #[derive(Debug, Drop, PartialEq, Eq)]
 pub struct Table {
-    /// Its name, which no other table has.
+    /// Its name.
     pub name: Name,
-    /// Its columns, each under a name of its own.
+    /// Its columns, from left to right.
     pub cols: Items<Column>,
 }
 

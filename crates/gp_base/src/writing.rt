@@ -29,6 +29,7 @@ pub trait TextOf<T> {
         ensures err { OnErr result (HasFront out.old.items out.new.items (text item.now)) };
 }
 
+/// Appends the text of each item with the separator before it.
 fn write_others<T, W: TextOf<T>>(
     alloc: Global,
     items: &[T],
@@ -46,6 +47,7 @@ fn write_others<T, W: TextOf<T>>(
     Ok(())
 }
 
+/// Appends the texts of the first item and the others, with the separator between each two.
 #[tactic(auto, using(crate::proofs::WritingLemmas::fronts))]
 fn write_from<T, W: TextOf<T>>(
     alloc: Global,

@@ -1,0 +1,279 @@
+-- Lists in order: what rises and holds each item as often is the list put in order. Cells and rows have such an order.
+use Rattle.std.proofs.Common.{◌≡◌, ℕ, zero, suc, ◌+◌, ◌<◌, ℤ, pos, true, false, cond, List, [], ◌∷◌, length, get_or, refl, sym, ap, ◌∙◌, subst, arith, add-one}
+use Rattle.std.specs.declared.cmp.Ordering.{Ordering}
+use Rattle.std.specs.declared.cmp.Ordering.TheVariants.{Less, Equal, Greater}
+use Rattle.std.specs.List.{sum_by}
+use Rattle.std.specs.List.Sorted.{IsPermutation, IsSorted}
+use Rattle.std.specs.Ordering.{is_le, is_gt, is_lt, is_eq, ordering_reverse, ordering_then, nat_cmp, int_cmp, on, then_cmp}
+use Rattle.std.specs.Cmp.{IsTotalOrder}
+use Rattle.std.specs.Cmp.Lexicographic.{slice_cmp}
+use Rattle.std.specs.FinMap.{slice_cmp-IsAntisymmetric}
+use Rattle.std.proofs.lemmas.Bool.{false≢true}
+use Rattle.std.proofs.lemmas.Cmp.{upto, tied_itself, on_total, then_total, lists_total, nat_cmp_total, int_cmp_total, nat_list_cmp_total}
+use Rattle.std.proofs.lemmas.Map.Lookups.{CmpEqualImpliesEq, exact_signed, exact_bytes}
+use Rattle.std.proofs.lemmas.List.Sums.{sum_by-cons}
+use Rattle.std.proofs.lemmas.List.Sorted.{sum_by-IsPermutation, IsPermutation-refl, IsPermutation-cons, IsPermutation-sym, IsPermutation-trans, IsPermutation-middle}
+use Rattle.gp_base.specs.declared.cell.Cell.{Cell}
+use Rattle.gp_base.specs.declared.cell.Cell.TheVariants.{Null, Int, Text}
+use Rattle.gp_base.specs.Order.{cell_cmp, row_cmp, placed, in_order, InOrderKeepsRows, InOrderIsSorted, OnlyInOrder}
+
+-- ---- answers of a comparison
+
+-- not above, in two forms
+gt_from_le : (o : Ordering) → is_le o ≡ true → is_gt o ≡ false
+gt_from_le Less e = refl
+gt_from_le Equal e = refl
+gt_from_le Greater e = sym e
+
+le_from_gt : (o : Ordering) → is_gt o ≡ false → is_le o ≡ true
+le_from_gt Less e = refl
+le_from_gt Equal e = refl
+le_from_gt Greater e = sym e
+
+-- an item that is above another has that one not above itself
+le_turned : (o : Ordering) → is_le o ≡ false → is_le (ordering_reverse o) ≡ true
+le_turned Less e = sym e
+le_turned Equal e = refl
+le_turned Greater e = refl
+
+-- the second is not below the first, so the first is not above the second
+le_from_lt_turned : (o : Ordering) → is_lt o ≡ false → is_le (ordering_reverse o) ≡ true
+le_from_lt_turned Less e = sym e
+le_from_lt_turned Equal e = refl
+le_from_lt_turned Greater e = refl
+
+-- the same, back
+lt_from_le_turned : (o : Ordering) → is_le o ≡ true → is_lt (ordering_reverse o) ≡ false
+lt_from_le_turned Less e = refl
+lt_from_le_turned Equal e = refl
+lt_from_le_turned Greater e = sym e
+
+-- neither is above the other
+equal_from_both : (o : Ordering) → is_le o ≡ true → is_le (ordering_reverse o) ≡ true → o ≡ Equal
+equal_from_both Less e f = absurd (false≢true f)
+equal_from_both Equal e f = refl
+equal_from_both Greater e f = absurd (false≢true e)
+
+equal_from_is_eq : (o : Ordering) → is_eq o ≡ true → o ≡ Equal
+equal_from_is_eq Less e = absurd (false≢true e)
+equal_from_is_eq Equal e = refl
+equal_from_is_eq Greater e = absurd (false≢true e)
+
+-- a second comparison that ties changes nothing
+then_equal : (o : Ordering) → o ≡ ordering_then o Equal
+then_equal Less = refl
+then_equal Equal = refl
+then_equal Greater = refl
+
+-- ---- lists that rise
+
+-- the item is not above any of the list
+abbrev IsBelowAll : {T : Type 0} → (T → T → Ordering) → T → List T → Type 0
+IsBelowAll cmp item [] = Unit {0}
+IsBelowAll cmp item (other ∷ others) = (is_le (cmp item other) ≡ true) × IsBelowAll cmp item others
+
+-- no item is above one behind it
+abbrev Rises : {T : Type 0} → (T → T → Ordering) → List T → Type 0
+Rises cmp [] = Unit {0}
+Rises cmp (item ∷ items) = IsBelowAll cmp item items × Rises cmp items
+
+-- how often the item occurs
+abbrev times : {T : Type 0} → (T → T → Ordering) → T → List T → ℕ
+times cmp item [] = 0
+times cmp item (other ∷ others) = cond (is_eq (cmp item other)) 1 0 + times cmp item others
+
+module _ {T : Type 0} (cmp : T → T → Ordering) (total : IsTotalOrder cmp) (exact : CmpEqualImpliesEq cmp) where
+  -- not above, through an item between
+  le_through : (x y z : T) → is_le (cmp x y) ≡ true → is_le (cmp y z) ≡ true → is_le (cmp x z) ≡ true
+  le_through x y z first second = le_from_gt (cmp x z) (upto total x y z (gt_from_le (cmp x y) first) (gt_from_le (cmp y z) second))
+
+  IsBelowAll-through : (x y : T) (zs : List T) → is_le (cmp x y) ≡ true → IsBelowAll cmp y zs → IsBelowAll cmp x zs
+  IsBelowAll-through x y [] first all = tt
+  IsBelowAll-through x y (z ∷ zs) first all = (le_through x y z first all.0, IsBelowAll-through x y zs first all.1)
+
+  -- what is not above an item nor any of a list is not above any of the list with the item in it
+  IsBelowAll-placed : (x item : T) (ys : List T) → is_le (cmp x item) ≡ true → IsBelowAll cmp x ys → IsBelowAll cmp x (placed cmp item ys)
+  IsBelowAll-placed x item [] below all = (below, tt)
+  IsBelowAll-placed x item (y ∷ ys) below all =
+      elim (is_le (cmp item y)) as (λ b. IsBelowAll cmp x (cond b (item ∷ y ∷ ys) (y ∷ placed cmp item ys))) [
+        | true ↦ (below, all)
+        | false ↦ (all.0, IsBelowAll-placed x item ys below all.1)
+      ]
+
+  -- an item placed in a list that rises leaves it rising
+  Rises-placed : (item : T) (ys : List T) → Rises cmp ys → Rises cmp (placed cmp item ys)
+  Rises-placed item [] rises = (tt, tt)
+  Rises-placed item (y ∷ ys) rises =
+      elim (is_le (cmp item y)) as (λ b. is_le (cmp item y) ≡ b → Rises cmp (cond b (item ∷ y ∷ ys) (y ∷ placed cmp item ys))) [
+        | true ↦ λ is. ((is, IsBelowAll-through item y ys is rises.0), rises)
+        | false ↦ λ is. (IsBelowAll-placed y item ys (subst (λ o. is_le o ≡ true) (sym (total.antisymm y item)) (le_turned (cmp item y) is)) rises.0, Rises-placed item ys rises.1)
+      ] refl
+
+  Rises-in_order : (xs : List T) → Rises cmp (in_order cmp xs)
+  Rises-in_order [] = tt
+  Rises-in_order (x ∷ xs) = Rises-placed x (in_order cmp xs) (Rises-in_order xs)
+
+  -- a list that is sorted by its places rises
+  Rises-from_sorted : (xs : List T) → IsSorted cmp xs → Rises cmp xs
+  Rises-from_sorted [] sorted = tt
+  Rises-from_sorted (x ∷ []) sorted = (tt, tt)
+  Rises-from_sorted (x ∷ y ∷ ys) sorted =
+      let first : is_le (cmp x y) ≡ true =
+      subst (λ o. is_le o ≡ true) (sym (total.antisymm x y)) (le_from_lt_turned (cmp y x) (sorted 0 x (omega arith) (omega arith))) in
+      let rest : Rises cmp (y ∷ ys) = Rises-from_sorted (y ∷ ys) (λ k d low high. rw add-one (simp add-one at (sorted (suc k) d (omega arith) (omega arith)))) in
+      ((first, IsBelowAll-through x y ys first rest.0), rest)
+
+  -- a list that rises is sorted by its places
+  sorted_at : (xs : List T) → Rises cmp xs → (k : ℕ) (d : T) → k + 1 < length xs → is_lt (cmp (get_or xs (k + 1) d) (get_or xs k d)) ≡ false
+  sorted_at [] rises k d within = absurd (omega arith)
+  sorted_at (x ∷ []) rises k d within = absurd (omega arith)
+  sorted_at (x ∷ y ∷ ys) rises zero d within = subst (λ o. is_lt o ≡ false) (sym (total.antisymm y x)) (lt_from_le_turned (cmp x y) rises.0.0)
+  sorted_at (x ∷ y ∷ ys) rises (suc k) d within = rw add-one (simp add-one at (sorted_at (y ∷ ys) rises.1 k d (omega arith)))
+
+  sorted_in_order : (xs : List T) → IsSorted cmp (in_order cmp xs)
+  sorted_in_order xs k d low high = sorted_at (in_order cmp xs) (Rises-in_order xs) k d high
+
+  -- ---- how often each item occurs
+
+  -- placing an item counts it once, and the others as before
+  times-placed : (item x : T) (ys : List T) → times cmp item (placed cmp x ys) ≡ times cmp item (x ∷ ys)
+  times-placed item x [] = refl
+  times-placed item x (y ∷ ys) =
+      elim (is_le (cmp x y)) as (λ b. times cmp item (cond b (x ∷ y ∷ ys) (y ∷ placed cmp x ys)) ≡ times cmp item (x ∷ y ∷ ys)) [
+        | true ↦ refl
+        | false ↦ omega (arith, times-placed item x ys)
+      ]
+
+  times-in_order : (item : T) (xs : List T) → times cmp item (in_order cmp xs) ≡ times cmp item xs
+  times-in_order item [] = refl
+  times-in_order item (x ∷ xs) = times-placed item x (in_order cmp xs) ∙ ap (λ n. cond (is_eq (cmp item x)) 1 0 + n) (times-in_order item xs)
+
+  -- as a sum, which a permutation keeps
+  times-is : (item : T) (xs : List T) → times cmp item xs ≡ sum_by (λ other. cond (is_eq (cmp item other)) 1 0) xs
+  times-is item [] = refl
+  times-is item (x ∷ xs) = ap (λ n. cond (is_eq (cmp item x)) 1 0 + n) (times-is item xs) ∙ sym (sum_by-cons (λ other. cond (is_eq (cmp item other)) 1 0) x xs)
+
+  times-IsPermutation : (item : T) (xs ys : List T) → IsPermutation xs ys → times cmp item ys ≡ times cmp item xs
+  times-IsPermutation item xs ys moved = times-is item ys ∙ sum_by-IsPermutation (λ other. cond (is_eq (cmp item other)) 1 0) xs ys moved ∙ sym (times-is item xs)
+
+  times_itself : (x : T) (xs : List T) → 0 < times cmp x (x ∷ xs)
+  times_itself x xs = rw (tied_itself total x) (omega arith)
+
+  -- what is below all of a list is below each item that occurs in it
+  below_occurring : (x item : T) (ys : List T) → IsBelowAll cmp x ys → 0 < times cmp item ys → is_le (cmp x item) ≡ true
+  below_occurring x item [] all occurs = absurd (omega arith)
+  below_occurring x item (y ∷ ys) all occurs =
+      elim (is_eq (cmp item y)) as (λ b. is_eq (cmp item y) ≡ b → 0 < cond b 1 0 + times cmp item ys → is_le (cmp x item) ≡ true) [
+        | true ↦ λ is some. subst (λ z. is_le (cmp x z) ≡ true) (sym (exact item y (equal_from_is_eq (cmp item y) is))) all.0
+        | false ↦ λ is some. below_occurring x item ys all.1 (omega arith)
+      ] refl occurs
+
+  le_itself : (x : T) → is_le (cmp x x) ≡ true
+  le_itself x = ap is_le (tied_itself total x)
+
+  -- two lists that rise and hold each item as often are equal
+  same_rising : (xs ys : List T) → Rises cmp xs → Rises cmp ys → ((item : T) → times cmp item xs ≡ times cmp item ys) → xs ≡ ys
+  same_rising [] [] up up' same = refl
+  same_rising [] (y ∷ ys) up up' same = absurd (omega (arith, same y, times_itself y ys))
+  same_rising (x ∷ xs) [] up up' same = absurd (omega (arith, same x, times_itself x xs))
+  same_rising (x ∷ xs) (y ∷ ys) up up' same =
+      let left : is_le (cmp x y) ≡ true = below_occurring x y (x ∷ xs) (le_itself x, up.0) (omega (arith, same y, times_itself y ys)) in
+      let right : is_le (cmp y x) ≡ true = below_occurring y x (y ∷ ys) (le_itself y, up'.0) (omega (arith, same x, times_itself x xs)) in
+      let first : x ≡ y = exact x y (equal_from_both (cmp x y) left (subst (λ o. is_le o ≡ true) (total.antisymm y x) right)) in
+      let rest : xs ≡ ys =
+      same_rising xs ys up.1 up'.1 (λ item.
+      let counts : cond (is_eq (cmp item y)) 1 0 + times cmp item xs ≡ cond (is_eq (cmp item y)) 1 0 + times cmp item ys =
+      subst (λ z. cond (is_eq (cmp item z)) 1 0 + times cmp item xs ≡ cond (is_eq (cmp item y)) 1 0 + times cmp item ys) first (same item) in
+      omega arith) in
+      cc
+
+  -- a sorted permutation is the list in order
+  in_order_from_sorted : (xs ys : List T) → IsPermutation xs ys → IsSorted cmp ys → ys ≡ in_order cmp xs
+  in_order_from_sorted xs ys moved sorted =
+      same_rising ys (in_order cmp xs) (Rises-from_sorted ys sorted) (Rises-in_order xs) (λ item. times-IsPermutation item xs ys moved ∙ sym (times-in_order item xs))
+
+-- ---- the list in order holds what the list holds
+
+IsPermutation-placed : {T : Type 0} (cmp : T → T → Ordering) (x : T) (ys : List T) → IsPermutation (x ∷ ys) (placed cmp x ys)
+IsPermutation-placed cmp x [] = IsPermutation-refl (x ∷ [])
+IsPermutation-placed cmp x (y ∷ ys) =
+    elim (is_le (cmp x y)) as (λ b. IsPermutation (x ∷ y ∷ ys) (cond b (x ∷ y ∷ ys) (y ∷ placed cmp x ys))) [
+      | true ↦ IsPermutation-refl (x ∷ y ∷ ys)
+      | false ↦ IsPermutation-trans (x ∷ y ∷ ys) (y ∷ x ∷ ys) (y ∷ placed cmp x ys) (IsPermutation-sym (y ∷ x ∷ ys) (x ∷ y ∷ ys) (IsPermutation-middle (y ∷ []) x ys)) (IsPermutation-cons y (x ∷ ys) (placed cmp x ys) (IsPermutation-placed cmp x ys))
+    ]
+
+IsPermutation-in_order : {T : Type 0} (cmp : T → T → Ordering) (xs : List T) → IsPermutation xs (in_order cmp xs)
+IsPermutation-in_order cmp [] = IsPermutation-refl []
+IsPermutation-in_order cmp (x ∷ xs) =
+    IsPermutation-trans (x ∷ xs) (x ∷ in_order cmp xs) (in_order cmp (x ∷ xs)) (IsPermutation-cons x xs (in_order cmp xs) (IsPermutation-in_order cmp xs)) (IsPermutation-placed cmp x (in_order cmp xs))
+
+-- ---- cells and rows
+
+-- which kind of cell comes first
+abbrev kind_rank : Cell → ℕ
+kind_rank Null = 0
+kind_rank (Int number) = 1
+kind_rank (Text text) = 2
+
+-- the number of a cell, where it has one
+abbrev number_in : Cell → ℤ
+number_in Null = pos 0
+number_in (Int number) = number
+number_in (Text text) = pos 0
+
+-- the bytes of a cell, where it has some
+abbrev bytes_in : Cell → List ℕ
+bytes_in Null = []
+bytes_in (Int number) = []
+bytes_in (Text text) = text
+
+-- cells go by their kind, then by their number, then by their bytes
+abbrev parts_cmp : Cell → Cell → Ordering
+parts_cmp = then_cmp (on kind_rank nat_cmp) (then_cmp (on number_in int_cmp) (on bytes_in (slice_cmp nat_cmp)))
+
+-- this is the order of cells, whose laws follow from those of its parts
+parts_cmp-is : (x y : Cell) → cell_cmp x y ≡ parts_cmp x y
+parts_cmp-is Null Null = refl
+parts_cmp-is Null (Int m) = refl
+parts_cmp-is Null (Text s) = refl
+parts_cmp-is (Int n) Null = refl
+parts_cmp-is (Int n) (Int m) = then_equal (int_cmp n m)
+parts_cmp-is (Int n) (Text s) = refl
+parts_cmp-is (Text t) Null = refl
+parts_cmp-is (Text t) (Int m) = refl
+parts_cmp-is (Text t) (Text s) = refl
+
+cell_cmp_total : IsTotalOrder cell_cmp
+cell_cmp_total = subst IsTotalOrder (λ i x y. sym (parts_cmp-is x y) i) (then_total (on_total kind_rank nat_cmp_total) (then_total (on_total number_in int_cmp_total) (on_total bytes_in nat_list_cmp_total)))
+
+-- only equal cells tie
+exact_cells : CmpEqualImpliesEq cell_cmp
+exact_cells Null Null e = refl
+exact_cells Null (Int m) e = cc
+exact_cells Null (Text s) e = cc
+exact_cells (Int n) Null e = cc
+exact_cells (Int n) (Int m) e = ap Int (exact_signed n m e)
+exact_cells (Int n) (Text s) e = cc
+exact_cells (Text t) Null e = cc
+exact_cells (Text t) (Int m) e = cc
+exact_cells (Text t) (Text s) e = ap Text (exact_bytes t s e)
+
+row_cmp_total : IsTotalOrder row_cmp
+row_cmp_total = lists_total cell_cmp_total
+
+-- only equal rows tie
+exact_rows : CmpEqualImpliesEq row_cmp
+exact_rows = slice_cmp-IsAntisymmetric exact_cells
+
+pub rows_are_kept : InOrderKeepsRows
+rows_are_kept = IsPermutation-in_order row_cmp
+
+pub rows_are_sorted : InOrderIsSorted
+rows_are_sorted = sorted_in_order row_cmp row_cmp_total exact_rows
+
+-- sorted rows are the rows in order
+pub only_in_order : OnlyInOrder
+only_in_order = in_order_from_sorted row_cmp row_cmp_total exact_rows
+
+-- what `sort_rows` needs
+pub ruleset rows_in_order = (only_in_order)
