@@ -1,0 +1,4 @@
+pub mod Bytes
+pub mod Files
+pub mod NamedFile
+pub mod Notes
