@@ -89,6 +89,7 @@ impl Sink for CalmSink {
 
     ghost faults = { λ _. 0 };
 
+    #[tactic(auto, using(crate::proofs::BytesLemmas::one_call))]
     fn write_all(&mut self, bytes: &[u8]) -> Result<(), SinkStop> {
         self.bytes.extend_from_slice(bytes)?;
         Ok(())

@@ -1,5 +1,6 @@
 //! The files of the system as a shelf.
-ghost use Rattle.std.specs.Prelude.{◌≡◌, ◌≤◌, [], None, IfOk, vec_len};
+ghost use Rattle.std.specs.Prelude.{◌≡◌, ◌≢◌, ◌≤◌, ◌↔◌, [], None, IfOk, vec_len};
+ghost use Rattle.std.specs.IoError.{error_kind};
 ghost use Rattle.gp_io.specs.Notes.{names_of};
 
 use crate::notes::{note_prepared, prepare};
@@ -84,7 +85,10 @@ impl<R: Files + Drop> Shelf for DiskShelf<R> {
 }
 
 /// Why a file was not opened for reading.
-fn open_stop(error: &io::Error) -> ShelfStop {
+fn open_stop(error: &io::Error) -> ShelfStop
+    ensures absent { (result ≡ ShelfStop.Absent) ↔ (error_kind error.now ≡ ErrorKind.NotFound) }
+    ensures failed { (result ≡ ShelfStop.Failed) ↔ (error_kind error.now ≢ ErrorKind.NotFound) }
+{
     if error.kind() == ErrorKind::NotFound {
         ShelfStop::Absent
     } else {

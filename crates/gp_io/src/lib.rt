@@ -27,3 +27,6 @@ pub use out::OutSink;
 pub use shelf::Shelf;
 pub use sink::Sink;
 pub use stop::{ShelfStop, SinkStop};
+
+#[cfg(test)]
+mod tests;

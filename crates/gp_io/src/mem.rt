@@ -114,7 +114,7 @@ impl Sink for MemSink {
 
     ghost faults = { λ sink. sink.faults };
 
-    #[tactic(auto, using(crate::proofs::BytesLemmas::took_nothing))]
+    #[tactic(auto, using(crate::proofs::BytesLemmas::one_call))]
     fn write_all(&mut self, bytes: &[u8]) -> Result<(), SinkStop> {
         if self.calls.next_fails() {
             self.faults = self.faults.saturating_add(1);

@@ -30,6 +30,7 @@ impl<R: Print + Drop> Sink for OutSink<R> {
 
     ghost faults = { λ sink. sink.faults };
 
+    #[tactic(auto, using(crate::proofs::BytesLemmas::one_call))]
     fn write_all(&mut self, bytes: &[u8]) -> Result<(), SinkStop> {
         match write_whole(&mut io::writer(&self.rt), bytes) {
             Ok(()) => Ok(()),

@@ -1,5 +1,6 @@
 //! The front of a reader, and all bytes to a writer, whatever the reader and the writer are.
-ghost use Rattle.std.specs.Prelude.{◌≡◌, ◌≤◌, IfOk, OnOk, IfSome, take, vec_len};
+ghost use Rattle.std.specs.Prelude.{◌≡◌, ◌≢◌, ◌≤◌, ◌↔◌, IfOk, OnOk, IfSome, take, vec_len};
+ghost use Rattle.std.specs.IoError.{error_kind};
 ghost use Rattle.std.specs.Io.KnownBytes.{Appends};
 
 use crate::stop::ShelfStop;
@@ -17,6 +18,7 @@ pub(crate) fn read_front<R: Read + Drop>(
 ) -> Result<Vec<u8>, ShelfStop>
     ensures at_most { IfOk result (λ bytes. vec_len bytes ≤ most) }
     ensures bytes { IfOk result (λ bytes. IfSome (R.remaining from) (λ left. bytes.items ≡ take most left)) }
+    ensures not_absent { result ≢ Err ShelfStop.Absent }
 {
     let mut bytes = Vec::new(alloc);
     match from.take(most as u64).read_to_end(&mut bytes) {
@@ -29,7 +31,10 @@ pub(crate) fn read_front<R: Read + Drop>(
     }
 }
 
-fn read_stop(error: &io::Error) -> ShelfStop {
+fn read_stop(error: &io::Error) -> ShelfStop
+    ensures no_memory { (result ≡ ShelfStop.NoMemory) ↔ (error_kind error.now ≡ ErrorKind.OutOfMemory) }
+    ensures failed { (result ≡ ShelfStop.Failed) ↔ (error_kind error.now ≢ ErrorKind.OutOfMemory) }
+{
     if error.kind() == ErrorKind::OutOfMemory {
         ShelfStop::NoMemory
     } else {
