@@ -1,5 +1,5 @@
 -- How calls of a sink in a row compose: the bytes that it took, and its count of faults.
-use Rattle.std.proofs.Common.{◌≡◌, ℕ, ◌+◌, ◌-◌, ◌^◌, ◌<◌, ◌≤◌, ◌⊎◌, inl, inr, List, [], ◌++◌, length, take, drop, slice_index_or, min, Option, None, Some, refl, sym, ◌∙◌, ap, append_assoc, append-nil, arith}
+use Rattle.std.proofs.Common.{◌≡◌, ℕ, ◌+◌, ◌<◌, ◌≤◌, inl, inr, List, [], ◌++◌, length, take, drop, slice_index_or, min, Option, None, Some, refl, sym, ◌∙◌, ap, append_assoc, append-nil, arith}
 use Rattle.std.proofs.Math.Seq.{take-append-add}
 use Rattle.std.proofs.lemmas.Bool.{cases_lt}
 use Rattle.std.proofs.lemmas.Grind.{common_steps}
@@ -72,9 +72,9 @@ flat_map-through text_of items place item within is =
 pub took_in_loop : {X : Type 0} (text_of : X → List ℕ) (items : List X) (place : ℕ) (item : X) (old middle new : Option (List ℕ)) → place < length items → item ≡ slice_index_or items place item → middle ≡ followed_by old (flat_map text_of (take place items)) → TookFront (text_of item) middle new → TookFront (flat_map text_of items) old new
 took_in_loop text_of items place item old middle new within is all next =
     let split : flat_map text_of items ≡ flat_map text_of (take place items) ++ text_of item ++ flat_map text_of (drop (place + 1) items) =
-        ap (flat_map text_of) (sym (take-append-drop (place + 1) items))
-        ∙ flat_map-append text_of (take (place + 1) items) (drop (place + 1) items)
-        ∙ ap (λ front. front ++ flat_map text_of (drop (place + 1) items)) (flat_map-through text_of items place item within is) in
+    ap (flat_map text_of) (sym (take-append-drop (place + 1) items))
+    ∙ flat_map-append text_of (take (place + 1) items) (drop (place + 1) items)
+    ∙ ap (λ front. front ++ flat_map text_of (drop (place + 1) items)) (flat_map-through text_of items place item within is) in
     rw split (took_of_longer _ _ old new (took_then _ _ old middle new all next))
 
 -- what `grind` needs for one call

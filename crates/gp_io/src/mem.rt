@@ -26,12 +26,16 @@ pub struct MemShelf {
 }
 
 impl MemShelf {
+    ghost use Rattle.gp_io.specs.Mem.{shelf_calls, shelf_fails_at};
+
     /// A shelf of these files, of which the first of a name counts, and with no name noted.
     pub fn new(alloc: Global, files: Vec<NamedFile>, fail_at: Vec<u64>) -> MemShelf
         ensures holds { ⟦<MemShelf as Shelf>⟧.holds result ≡ Some (files_of files.items) }
         ensures misses { ⟦<MemShelf as Shelf>⟧.misses result ≡ [] }
         ensures read_faults { ⟦<MemShelf as Shelf>⟧.read_faults result ≡ [] }
         ensures replace_faults { ⟦<MemShelf as Shelf>⟧.replace_faults result ≡ [] }
+        ensures calls { shelf_calls result ≡ 0 }
+        ensures fails_at { shelf_fails_at result ≡ fail_at.items }
     {
         MemShelf {
             alloc,
@@ -89,10 +93,14 @@ pub struct MemSink {
 }
 
 impl MemSink {
+    ghost use Rattle.gp_io.specs.Mem.{sink_calls, sink_fails_at};
+
     /// A sink that has taken nothing yet, with no fault counted.
     pub fn new(alloc: Global, fail_at: Vec<u64>) -> MemSink
         ensures taken { ⟦<MemSink as Sink>⟧.taken result ≡ Some [] }
         ensures faults { ⟦<MemSink as Sink>⟧.faults result ≡ 0 }
+        ensures calls { sink_calls result ≡ 0 }
+        ensures fails_at { sink_fails_at result ≡ fail_at.items }
     {
         MemSink {
             bytes: Vec::new(alloc),

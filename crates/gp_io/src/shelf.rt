@@ -44,7 +44,8 @@ pub trait Shelf {
     /// `Failed` comes where it could not be replaced: its name is noted in the replace faults, and
     /// nothing is known of its bytes. After `NoMemory` all files are as before. `Absent` never comes.
     fn replace(&mut self, name: &str, bytes: &[u8]) -> Result<(), ShelfStop>
-        ensures ok { OnOk result (IfTold (holds self.old) (holds self.new) (Replaced name.now bytes.now)) }
+        ensures ok { OnOk result
+            (IfTold (holds self.old) (holds self.new) (Replaced name.now bytes.now)) }
         ensures failed { result ≡ Err ShelfStop.Failed →
             IfTold (holds self.old) (holds self.new) (OthersStay name.now) }
         ensures no_memory { result ≡ Err ShelfStop.NoMemory → holds self.new ≡ holds self.old }

@@ -17,7 +17,8 @@ pub(crate) fn read_front<R: Read + Drop>(
     most: usize,
 ) -> Result<Vec<u8>, ShelfStop>
     ensures at_most { IfOk result (λ bytes. vec_len bytes ≤ most) }
-    ensures bytes { IfOk result (λ bytes. IfSome (R.remaining from) (λ left. bytes.items ≡ take most left)) }
+    ensures bytes { IfOk result
+        (λ bytes. IfSome (R.remaining from) (λ left. bytes.items ≡ take most left)) }
     ensures not_absent { result ≢ Err ShelfStop.Absent }
 {
     let mut bytes = Vec::new(alloc);
@@ -32,8 +33,10 @@ pub(crate) fn read_front<R: Read + Drop>(
 }
 
 fn read_stop(error: &io::Error) -> ShelfStop
-    ensures no_memory { (result ≡ ShelfStop.NoMemory) ↔ (error_kind error.now ≡ ErrorKind.OutOfMemory) }
-    ensures failed { (result ≡ ShelfStop.Failed) ↔ (error_kind error.now ≢ ErrorKind.OutOfMemory) }
+    ensures no_memory { (result ≡ ShelfStop.NoMemory)
+        ↔ (error_kind error.now ≡ ErrorKind.OutOfMemory) }
+    ensures failed { (result ≡ ShelfStop.Failed)
+        ↔ (error_kind error.now ≢ ErrorKind.OutOfMemory) }
 {
     if error.kind() == ErrorKind::OutOfMemory {
         ShelfStop::NoMemory

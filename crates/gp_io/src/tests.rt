@@ -1,14 +1,13 @@
 //! What the calls give on real and made up files, with values worked out by hand.
+use crate::stream::read_front;
 use crate::{
     CalmShelf, CalmSink, DiskShelf, MemShelf, MemSink, NamedFile, OutSink, Shelf, ShelfStop, Sink,
     SinkStop,
 };
-use crate::stream::read_front;
 use std::alloc::{AllocError, Global};
-use std::fs;
-use std::io;
 use std::io::{ErrorKind, Read};
 use std::test::Fail;
+use std::{fs, io};
 
 const FOLDER: &str = "gp_io_test_folder";
 
@@ -100,7 +99,10 @@ fn disk_shelf_reads_and_replaces_real_files(rt: HostRuntime) -> Result<(), Fail>
     // Neither a folder nor a path through a file is 'no such file'.
     assert_eq!(rt; stop_of_read(&mut shelf, FOLDER), Some(ShelfStop::Failed));
     let through_file = "gp_io_test_folder/a.txt/b";
-    assert_eq!(rt; stop_of_read(&mut shelf, through_file), Some(ShelfStop::Failed));
+    assert_eq!(rt;
+        stop_of_read(&mut shelf, through_file),
+        Some(ShelfStop::Failed)
+    );
     assert_eq!(rt; shelf.replace(FOLDER, b""), Err(ShelfStop::Failed));
     let no_folder = "gp_io_test_folder/none/b";
     assert_eq!(rt; shelf.replace(no_folder, b""), Err(ShelfStop::Failed));
@@ -155,6 +157,9 @@ impl Print for Closed {
 #[test]
 fn out_sink_writes_and_tells_a_fault(rt: HostRuntime) -> Result<(), Fail> {
     written(&mut OutSink::new(rt), b"taken by the standard output\n")?;
-    assert_eq!(rt; written(&mut OutSink::new(Closed), b"x"), Err(SinkStop::Failed));
+    assert_eq!(rt;
+        written(&mut OutSink::new(Closed), b"x"),
+        Err(SinkStop::Failed)
+    );
     Ok(())
 }

@@ -51,7 +51,8 @@ pub(crate) fn put(
     name: &str,
     bytes: &[u8],
 ) -> Result<(), AllocError>
-    ensures ok { OnOk result (Replaced name.now bytes.now (files_of files.old.items) (files_of files.new.items)) }
+    ensures ok { OnOk result
+        (Replaced name.now bytes.now (files_of files.old.items) (files_of files.new.items)) }
     ensures err { OnErr result (files.new.items ≡ files.old.items) }
 {
     let bytes = Vec::from_slice(alloc, bytes)?;
