@@ -1,0 +1,5 @@
+pub mod Bytes
+pub mod Files
+pub mod Mem
+pub mod NamedFile
+pub mod Notes

@@ -1,0 +1,58 @@
+//! Named files that can be read and replaced.
+ghost use Rattle.std.specs.Prelude.{◌≡◌, ◌≢◌, ◌≤◌, ℕ, List, Option, is_some, IfOk, OnOk, IfSome, vec_len};
+ghost use Rattle.gp_io.specs.Files.{Files, content, front_of, IfTold, OthersStay, Replaced};
+ghost use Rattle.gp_io.specs.Notes.{NotesIfAbsent, NotesIfFailed, IsAbsentOrNoMemory};
+
+use crate::stop::ShelfStop;
+
+/// Named files, of which a contract may know the bytes, and three lists of names that were noted.
+///
+/// `holds` is the files, where the shelf tells them. `misses`, `read_faults` and `replace_faults`
+/// are lists of names. A call notes no name but its own, at the end of a list.
+pub trait Shelf {
+    ghost holds: { Self → Option Files };
+
+    ghost misses: { Self → List (List ℕ) };
+
+    ghost read_faults: { Self → List (List ℕ) };
+
+    ghost replace_faults: { Self → List (List ℕ) };
+
+    /// The first `most` bytes of the file `name`.
+    ///
+    /// `Absent` comes where there is no such file, and its name is noted in the misses. `Failed`
+    /// comes where it could not be read, and its name is noted in the read faults. No file changes.
+    fn read(&mut self, name: &str, most: usize) -> Result<Vec<u8>, ShelfStop>
+        ensures at_most { IfOk result (λ bytes. vec_len bytes ≤ most) }
+        ensures bytes { IfOk result (λ bytes. IfSome (holds self.old)
+            (λ files. front_of name.now most files ≡ Some bytes.items)) }
+        ensures files { holds self.new ≡ holds self.old }
+
+        // Where the files are told, `Absent` comes exactly where the name is not there and no read
+        // fault was noted: want of memory alone may come in its place.
+        ensures absent { result ≡ Err ShelfStop.Absent →
+            IfSome (holds self.old) (λ files. content name.now files ≡ None) }
+        ensures not_there { IfSome (holds self.old) (λ files. content name.now files ≡ None →
+            read_faults self.new ≡ read_faults self.old → IsAbsentOrNoMemory result) }
+
+        ensures notes_miss { NotesIfAbsent result name.now (misses self.old) (misses self.new) }
+        ensures notes_fault { NotesIfFailed result name.now (read_faults self.old) (read_faults self.new) }
+        ensures replace_faults { replace_faults self.new ≡ replace_faults self.old };
+
+    /// Makes `bytes` the whole of the file `name`, which need not be there before.
+    ///
+    /// `Failed` comes where it could not be replaced: its name is noted in the replace faults, and
+    /// nothing is known of its bytes. After `NoMemory` all files are as before. `Absent` never comes.
+    fn replace(&mut self, name: &str, bytes: &[u8]) -> Result<(), ShelfStop>
+        ensures ok { OnOk result
+            (IfTold (holds self.old) (holds self.new) (Replaced name.now bytes.now)) }
+        ensures failed { result ≡ Err ShelfStop.Failed →
+            IfTold (holds self.old) (holds self.new) (OthersStay name.now) }
+        ensures no_memory { result ≡ Err ShelfStop.NoMemory → holds self.new ≡ holds self.old }
+        ensures never_absent { result ≢ Err ShelfStop.Absent }
+        ensures told { is_some (holds self.new) ≡ is_some (holds self.old) }
+
+        ensures notes_fault { NotesIfFailed result name.now (replace_faults self.old) (replace_faults self.new) }
+        ensures misses { misses self.new ≡ misses self.old }
+        ensures read_faults { read_faults self.new ≡ read_faults self.old };
+}
