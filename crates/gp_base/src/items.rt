@@ -56,6 +56,13 @@ impl<T> Items<T> {
         })
     }
 
+    /// The values as a vector, in their order.
+    pub fn into_vec(self) -> Vec<T>
+        ensures { result.items ≡ self }
+    {
+        self.items
+    }
+
     /// The values as a slice.
     pub fn as_slice(&self) -> &[T]
         ensures { result.now ≡ self.now }

@@ -1,7 +1,7 @@
 //! Rows, which are lists of cells.
 
 ghost use Rattle.std.specs.Prelude.{◌≡◌, ◌++◌, ◌∷◌, [], IfOk, OnOk, OnErr};
-ghost use Rattle.gp_base.specs.Cells.{IsInRange, AreInRange};
+ghost use Rattle.gp_base.specs.Cells.{AreInRange};
 
 use crate::cell::Cell;
 use crate::items::{Items, TryCopy};
@@ -51,7 +51,6 @@ impl Row {
     /// Adds a cell at the end. An `Err` leaves the row as it was.
     #[tactic(auto, using(crate::proofs::CellLemmas::rows_in_range))]
     pub fn push(&mut self, cell: Cell) -> Result<(), NoMemory>
-        requires { IsInRange cell }
         ensures ok { OnOk result (self.new ≡ self.old ++ cell ∷ []) }
         ensures err { OnErr result (self.new ≡ self.old) }
     {

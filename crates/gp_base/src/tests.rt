@@ -1,30 +1,20 @@
 //! Examples with values from outside: the texts of rows and refusals, the order of rows, and each public call once.
 
-ghost use Rattle.std.specs.Prelude.{IfOk};
-ghost use Rattle.gp_base.specs.Cells.{IsInRange};
-
 use super::*;
 use std::alloc::Global;
 use std::test::Fail;
 
-fn text_cell(alloc: Global, text: &str) -> Result<Cell, NoMemory>
-    ensures { IfOk result IsInRange }
-{
+fn text_cell(alloc: Global, text: &str) -> Result<Cell, NoMemory> {
     Ok(Cell::Text(Text::from_bytes(alloc, text.as_bytes())?))
 }
 
-fn row_of_one(alloc: Global, cell: Cell) -> Result<Row, NoMemory>
-    requires { IsInRange cell }
-{
+fn row_of_one(alloc: Global, cell: Cell) -> Result<Row, NoMemory> {
     let mut row = Row::new(alloc);
     row.push(cell)?;
     Ok(row)
 }
 
-fn row_of_two(alloc: Global, first: Cell, second: Cell) -> Result<Row, NoMemory>
-    requires first { IsInRange first }
-    requires second { IsInRange second }
-{
+fn row_of_two(alloc: Global, first: Cell, second: Cell) -> Result<Row, NoMemory> {
     let mut row = row_of_one(alloc, first)?;
     row.push(second)?;
     Ok(row)

@@ -1,5 +1,5 @@
 -- The texts of replies.
-use Rattle.std.specs.Prelude.{ℕ, zero, suc, Bool, true, false, List, [], ◌∷◌, ◌++◌, length, codes}
+use Rattle.std.specs.Prelude.{ℕ, Bool, true, false, List, [], ◌∷◌, ◌++◌, length, codes, Option, Some, None, slice_get}
 use Rattle.std.specs.List.{concat, flat_map}
 use Rattle.std.specs.Fmt.{decimal}
 use Rattle.gp_base.specs.declared.cell.Cell.{Cell}
@@ -20,11 +20,13 @@ is_refusal (Refused refusal) = true
 abbrev pub newline : List ℕ
 newline = 10 ∷ []
 
+abbrev pub name_of : Option Table → List ℕ
+name_of None = []
+name_of (Some table) = table.name
+
 -- the name of the table at a place, or nothing where there is none
 abbrev pub name_at : ℕ → List Table → List ℕ
-name_at place [] = []
-name_at zero (table ∷ tables) = table.name
-name_at (suc place) (table ∷ tables) = name_at place tables
+name_at place tables = name_of (slice_get tables place)
 
 -- a row of an answer, on a line of its own behind two spaces
 abbrev pub row_line : List Cell → List ℕ

@@ -7,3 +7,4 @@ mod reply_text;
 
 pub use engine::Engine;
 pub use reply::Reply;
+pub use reply_text::write_reply;
