@@ -1,11 +1,11 @@
 -- The first line of a text, found by the place of its first line feed.
-use Rattle.std.proofs.Common.{◌≡◌, ℕ, zero, suc, ◌+◌, ◌-◌, ◌<◌, ◌≤◌, Bool, true, false, cond, not, eqb, ◌&&◌, List, [], ◌∷◌, length, get_or, take, drop, refl, sym, ap, ◌∙◌, subst, arith, add-one, inl, inr}
+use Rattle.std.proofs.Common.{◌≡◌, ℕ, zero, suc, ◌+◌, ◌-◌, ◌<◌, ◌≤◌, Bool, true, false, cond, not, eqb, ◌&&◌, List, [], ◌∷◌, length, get_or, take, drop, filter, refl, sym, ap, ◌∙◌, subst, arith, add-one, inl, inr}
 use Rattle.std.specs.List.{position_or_len}
 use Rattle.std.specs.Str.Lines.{strip_carriage_return}
 use Rattle.std.proofs.lemmas.Bool.{cases_Bool, and_right, and_left, and_parts, and_cases}
 use Rattle.std.proofs.Math.Numerals.{one-add}
 use Rattle.std.proofs.lemmas.List.{length-take}
-use Rattle.gp_syntax.specs.Lines.{line_feed, carriage_return, onto_line, begins_with_feed, lines_of}
+use Rattle.gp_syntax.specs.Lines.{line_feed, carriage_return, onto_line, begins_with_feed, lines_of, numbered, is_answered, script_lines, RiseFrom}
 
 abbrev is_feed : ℕ → Bool
 is_feed byte = eqb byte line_feed
@@ -115,3 +115,19 @@ ended (b ∷ bytes) within = elim (cases_Bool (is_feed b)) [
 
 pub first_line-ended : (bytes : List ℕ) → place bytes < length bytes → lines_of bytes ≡ strip_carriage_return (take (place bytes) bytes) ∷ lines_of (drop (place bytes + 1) bytes)
 first_line-ended bytes within = rw add-one (ended bytes within)
+
+-- ---- the numbers of lines rise
+
+rise-next : (answered : Bool) (below number : ℕ) (line : List ℕ) (lines : List (ℕ × List ℕ)) → below < number → RiseFrom number lines → RiseFrom below lines
+    → RiseFrom below (cond answered ((number, line) ∷ lines) lines)
+rise-next true below number line lines lt above all = (lt, above)
+rise-next false below number line lines lt above all = all
+
+rise-filter : (below number : ℕ) (lines : List (List ℕ)) → below < number → RiseFrom below (filter (λ (line : ℕ × List ℕ). is_answered line.1) (numbered number lines))
+rise-filter below number [] lt = tt
+rise-filter below number (line ∷ lines) lt =
+    rise-next (is_answered line) below number line (filter (λ (other : ℕ × List ℕ). is_answered other.1) (numbered (number + 1) lines)) lt
+    (rise-filter number (number + 1) lines (omega arith)) (rise-filter below (number + 1) lines (omega arith))
+
+pub rise-script : (bytes : List ℕ) → RiseFrom 0 (script_lines bytes)
+rise-script bytes = rise-filter 0 1 (lines_of bytes) (omega arith)

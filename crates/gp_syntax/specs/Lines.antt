@@ -1,5 +1,5 @@
 -- How a script is cut into lines, and which lines are skipped.
-use Rattle.std.specs.Prelude.{ℕ, ◌+◌, Bool, true, false, ◌&&◌, ◌||◌, not, List, [], ◌∷◌, length, nat_le, if◌then◌else◌, ◌==◌, filter}
+use Rattle.std.specs.Prelude.{ℕ, ◌+◌, ◌<◌, Bool, true, false, ◌&&◌, ◌||◌, not, List, [], ◌∷◌, length, nat_le, if◌then◌else◌, ◌==◌, filter}
 
 abbrev pub line_feed : ℕ
 line_feed = 10
@@ -58,3 +58,8 @@ answered_from number bytes = filter (λ line. is_answered line.1) (numbered numb
 -- the lines of a script that are answered, under their numbers
 abbrev pub script_lines : List ℕ → List (ℕ × List ℕ)
 script_lines bytes = answered_from 1 bytes
+
+-- the numbers of the lines rise from above this one
+abbrev pub RiseFrom : ℕ → List (ℕ × List ℕ) → Type 0
+RiseFrom number [] = Unit {0}
+RiseFrom number (line ∷ lines) = (number < line.0) × RiseFrom line.0 lines

@@ -4,7 +4,7 @@ ghost use Rattle.std.specs.Prelude.{◌≡◌, ◌+◌, ◌^◌, ◌<◌, ◌&&�
 ghost use Rattle.std.specs.Prelude.{◌-◌, ◌∷◌};
 ghost use Rattle.std.specs.Iterator.{YieldsFirstBy, item_count};
 ghost use Rattle.std.specs.Str.Lines.{strip_carriage_return};
-ghost use Rattle.gp_syntax.specs.Lines.{lines_of, script_lines, says_nothing, is_answered, longest_line, begins_comment, is_blank, line_feed};
+ghost use Rattle.gp_syntax.specs.Lines.{lines_of, script_lines, RiseFrom, says_nothing, is_answered, longest_line, begins_comment, is_blank, line_feed};
 ghost use Rattle.std.specs.List.{position_or_len};
 
 use crate::scan::place_of;
@@ -128,7 +128,8 @@ impl<'a> Iterator for LineIter<'a> {
 /// The lines of a script that are answered, in order. The script has fewer than 2^32 - 1 bytes.
 pub fn lines(bytes: &[u8]) -> LineIter<'_>
     requires { length bytes.now < 2 ^ 32 - 1 }
-    ensures { result ≡ script_lines bytes.now }
+    ensures lines { result ≡ script_lines bytes.now }
+    ensures rise { RiseFrom 0 result }
 {
     LineIter {
         rest: bytes,
