@@ -2,8 +2,10 @@
 use Rattle.std.proofs.Common.{◌≡◌, ℕ, suc, ◌+◌, ◌≤◌, ◌<◌, ◌^◌, nat_le, Bool, true, false, cond, not, eqb, ◌&&◌, List, [], ◌∷◌, ◌++◌, length, Option, Some, None, refl, sym, ap, ◌∙◌, subst, arith, add-one, filter, inl, inr}
 use Rattle.std.specs.List.{list_all, list_any, position_or_len}
 use Rattle.std.specs.Str.{bytes_eq}
-use Rattle.std.proofs.lemmas.Bool.{cases_Bool, and_parts, eqb-true, leb-true, or_cases, or_left, or_right}
+use Rattle.std.proofs.lemmas.Bool.{cases_Bool, and_parts, eqb-true, both_ways, leb-true, or_cases, or_left, or_right}
 use Rattle.gp_base.specs.declared.cell.Cell.{Cell}
+use Rattle.gp_base.specs.declared.refusal.Refusal.{Refusal}
+use Rattle.gp_base.specs.declared.refusal.Refusal.TheVariants.{NotBuilt, E09, E10}
 use Rattle.gp_base.specs.declared.table.Table.{Table}
 use Rattle.gp_syntax.specs.declared.command.Command.{Command}
 use Rattle.gp_syntax.specs.declared.command.Command.TheVariants.{Create, Begin, Commit, Insert, Select}
@@ -13,6 +15,7 @@ use Rattle.gp_engine.specs.State.{State, Running, Accepted, Database, rows_of, w
 use Rattle.gp_engine.specs.Event.{event, answered, recorded, is_built, is_named, fits_rows, place_of, refused}
 use Rattle.gp_syntax.specs.Commands.{is_command, is_tuple, most_rows}
 use Rattle.gp_syntax.specs.Names.{is_name}
+use Rattle.gp_engine.specs.Replies.{is_refusal}
 use Rattle.gp_engine.specs.Kept.{Follows, Kept, kept, kept_answer, kept_line, kept_event, last_line, sees, transaction_of}
 
 -- what is kept of an outcome
@@ -81,16 +84,16 @@ first-session line session state command first few built =
 pub kept-event : (line session : ℕ) (state : State) (command : Command) → length state.catalogue ≤ 1 → kept_outcome (event state line session command) ≡ kept_event (kept state) line session command
 kept-event line session state command few = elim (cases_Bool (eqb session 1 && is_built state.catalogue command)) [
   | inl runs ↦
-    let parts = and_parts (eqb session 1) (is_built state.catalogue command) runs in
-    rw runs (first-session line session state command (eqb-true session 1 parts.0) few parts.1)
+      let parts = and_parts (eqb session 1) (is_built state.catalogue command) runs in
+      rw runs (first-session line session state command (eqb-true session 1 parts.0) few parts.1)
   | inr fails ↦ rw fails refl
 ]
 
 pub follows-from : (old new : Kept) (line session : ℕ) (command : Command) (answer : Reply) → length old.tables ≤ 1 → (new, answer) ≡ kept_event old line session command → Follows old new line session command answer
 follows-from old new line session command answer few is =
     let whole = λ (state : State) (e : old ≡ kept state).
-      let small : length state.catalogue ≤ 1 = subst (λ (k : Kept). length k.tables ≤ 1) e few in
-      is ∙ ap (λ (k : Kept). kept_event k line session command) e ∙ sym (kept-event line session state command small) in
+    let small : length state.catalogue ≤ 1 = subst (λ (k : Kept). length k.tables ≤ 1) e few in
+    is ∙ ap (λ (k : Kept). kept_event k line session command) e ∙ sym (kept-event line session state command small) in
     record {
       reply = λ state e. ap (λ (x : Kept × Reply). x.1) (whole state e);
       state = λ state e. ap (λ (x : Kept × Reply). x.0) (whole state e);
@@ -101,3 +104,32 @@ pub few-rows : (name : List ℕ) (rows : List (List Cell)) → is_command (Inser
 few-rows name rows valid =
     let most = (and_parts (is_name name && nat_le 1 (length rows)) (nat_le (length rows) most_rows) (and_parts (is_name name && nat_le 1 (length rows) && nat_le (length rows) most_rows) (list_all is_tuple rows) valid).0).1 in
     omega (arith, leb-true (length rows) most_rows most)
+
+-- what a line may leave: as it was where it is refused, and never a line above it
+pub record Leaves (line : ℕ) (old : Kept) (outcome : Kept × Reply) : Type 0 where
+  pub refused : is_refusal outcome.1 ≡ true → outcome.0 ≡ old
+  pub up_to : outcome.0.line ≤ line
+
+left-same : (line : ℕ) (k : Kept) (refusal : Refusal) → k.line < line → Leaves line k (k, reply.Refused refusal)
+left-same line k refusal below = record { refused = λ _. refl; up_to = omega arith }
+
+left-by : (line : ℕ) (old new : Kept) (answer : Reply) → is_refusal answer ≡ false → new.line ≡ line → Leaves line old (new, answer)
+left-by line old new answer accepted at = record { refused = λ refusal. absurd (both_ways (is_refusal answer) accepted refusal); up_to = omega (arith, at) }
+
+answer-leaves : (line : ℕ) (k : Kept) (running : Option ℕ) (command : Command) → k.line < line → Leaves line k (kept_line line (kept_answer k running command))
+answer-leaves line k None (Create table) below = left-by line k _ (reply.Created (length k.tables)) refl refl
+answer-leaves line k None Begin below = left-by line k _ (reply.Began (k.transactions + 1) k.versions) refl refl
+answer-leaves line k None Commit below = left-same line k E10 below
+answer-leaves line k None (Insert name rows) below = left-same line k E10 below
+answer-leaves line k None (Select name) below = left-same line k E10 below
+answer-leaves line k (Some t) (Create table) below = left-same line k E09 below
+answer-leaves line k (Some t) Begin below = left-same line k E09 below
+answer-leaves line k (Some t) Commit below = left-by line k _ (reply.Committed t (k.versions + 1)) refl refl
+answer-leaves line k (Some t) (Insert name rows) below = left-by line k _ (reply.Wrote (length rows)) refl refl
+answer-leaves line k (Some t) (Select name) below = left-by line k _ (reply.Rows k.rows) refl refl
+
+pub event-leaves : (line session : ℕ) (k : Kept) (command : Command) → k.line < line → Leaves line k (kept_event k line session command)
+event-leaves line session k command below = elim (cases_Bool (eqb session 1 && is_built k.tables command)) [
+  | inl runs ↦ rw runs (answer-leaves line k k.running command below)
+  | inr fails ↦ rw fails (left-same line k NotBuilt below)
+]

@@ -46,23 +46,27 @@ abbrev pub began : State → ℕ → State × Reply
 began state session =
     let number = length state.begun + 1 in
     let version = length state.committed in
-    let view = newest state.committed in
-    (record state {
-      begun = version ∷ state.begun;
-      fates = (number, Active) ∷ state.fates;
-      views = record { transaction = number; statement = 0; database = view } ∷ state.views;
-      running = record { session = session; transaction = number; statements = 0; view = view } ∷ state.running;
-    }, reply.Began number version)
+    let view = newest state.committed in (
+      record state {
+        begun = version ∷ state.begun;
+        fates = (number, Active) ∷ state.fates;
+        views = record { transaction = number; statement = 0; database = view } ∷ state.views;
+        running = record { session = session; transaction = number; statements = 0; view = view } ∷ state.running;
+      },
+      reply.Began number version,
+    )
 
 -- COMMIT: what the transaction sees becomes the next version
 abbrev pub committed : State → ℕ → Running → State × Reply
 committed state session running =
-    let version = length state.committed + 1 in
-    (record state {
-      committed = running.view ∷ state.committed;
-      fates = (running.transaction, Committed version) ∷ state.fates;
-      running = without_session session state.running;
-    }, reply.Committed running.transaction version)
+    let version = length state.committed + 1 in (
+      record state {
+        committed = running.view ∷ state.committed;
+        fates = (running.transaction, Committed version) ∷ state.fates;
+        running = without_session session state.running;
+      },
+      reply.Committed running.transaction version,
+    )
 
 -- a statement that was accepted, and what its transaction sees after it
 abbrev pub seen : State → ℕ → Running → Database → State

@@ -26,9 +26,13 @@ abbrev pub outcome : State → ℕ → Option Command → State × Reply
 outcome state number None = refused state NotBuilt
 outcome state number (Some command) = event state number 1 command
 
+-- what a line does that may be run, or may not
+abbrev pub outcome_if : Bool → State → ℕ × List ℕ → State × Reply
+outcome_if runs state line = if runs then outcome state line.0 (read_of line.1) else refused state NotBuilt
+
 -- what a line does, when so many answered lines stand before it
 abbrev pub line_outcome : ℕ → State → ℕ × List ℕ → State × Reply
-line_outcome before state line = if nat_le before most_before then outcome state line.0 (read_of line.1) else refused state NotBuilt
+line_outcome before state line = outcome_if (nat_le before most_before) state line
 
 -- the replies to lines, when so many stand before them
 abbrev pub replies_from : ℕ → State → List (ℕ × List ℕ) → List Told

@@ -1,10 +1,11 @@
 //! The engine: what it keeps of the history so far, and what a line does.
 
-ghost use Rattle.std.specs.Prelude.{◌≡◌, ◌<◌, ◌≤◌, ◌+◌, ◌^◌, ◌++◌, ◌∷◌, [], ◌&&◌, ◌==◌, IfOk, OnErr, length, Some, None, true};
+ghost use Rattle.std.specs.Prelude.{◌≡◌, ◌<◌, ◌≤◌, ◌+◌, ◌^◌, ◌++◌, ◌∷◌, [], ◌&&◌, ◌==◌, IfOk, OnOk, OnErr, length, Some, None, true};
 ghost use Rattle.std.specs.List.{list_all, list_any};
 ghost use Rattle.gp_syntax.specs.Commands.{IsCommand};
 ghost use Rattle.gp_engine.specs.Event.{is_built, is_named, fits_rows};
 ghost use Rattle.gp_engine.specs.Kept.{Follows, Kept, kept, kept_answer, kept_line, kept_event};
+ghost use Rattle.gp_engine.specs.Replies.{is_refusal};
 ghost use Rattle.gp_engine.specs.State.{empty_state};
 
 use crate::reply::Reply;
@@ -219,7 +220,11 @@ impl Engine {
 
         // The reply and the next state are those of the event.
         ensures follows { IfOk result (Follows self.old self.new line session command) }
+
+        // A refused line leaves the state, and want of memory leaves it too.
+        ensures refused { IfOk result (λ reply. is_refusal reply ≡ true → self.new ≡ self.old) }
         ensures err { OnErr result (self.new ≡ self.old) }
+        ensures up_to { OnOk result (self.new.line ≤ line) }
     {
         self.step(line, session, command)
     }

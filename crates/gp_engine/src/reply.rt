@@ -1,5 +1,7 @@
 //! Replies to the lines of a script.
 
+ghost use Rattle.std.specs.Prelude.{◌≡◌};
+
 use gp_base::{Items, Refusal, Row};
 
 /// The answer to one line.
@@ -33,4 +35,15 @@ pub enum Reply {
     },
     /// The line was refused, and changed nothing.
     Refused(Refusal),
+}
+
+impl Reply {
+    ghost use Rattle.gp_engine.specs.Replies.{is_refusal};
+
+    /// Whether the line was refused.
+    pub fn is_refusal(&self) -> bool
+        ensures { result ≡ is_refusal self.now }
+    {
+        matches!(self, Reply::Refused(_))
+    }
 }

@@ -8,7 +8,9 @@ ghost use Rattle.gp_base.specs.Writing.{HasFront};
 ghost use Rattle.gp_engine.specs.Replies.{reply_text, line_text, row_line, name_at, is_refusal};
 
 use crate::reply::Reply;
-use gp_base::{Items, NoMemory, Refusal, Row, Table, push_all, sort_rows, write_refusal, write_row};
+use gp_base::{
+    Items, NoMemory, Refusal, Row, Table, push_all, sort_rows, write_refusal, write_row,
+};
 use std::alloc::Global;
 
 /// The name of the table at a place, or nothing where there is none.
@@ -41,7 +43,10 @@ fn began_text(alloc: Global, tables: &[Table], t: u32, version: u32) -> Result<V
 {
     let t = t.to_string(alloc)?;
     let version = version.to_string(alloc)?;
-    text_of(alloc, &[b"begin ", t.as_bytes(), b" at ", version.as_bytes(), b"\n"])
+    text_of(
+        alloc,
+        &[b"begin ", t.as_bytes(), b" at ", version.as_bytes(), b"\n"],
+    )
 }
 
 fn wrote_text(alloc: Global, tables: &[Table], rows: u32) -> Result<Vec<u8>, NoMemory>
@@ -51,12 +56,26 @@ fn wrote_text(alloc: Global, tables: &[Table], rows: u32) -> Result<Vec<u8>, NoM
     text_of(alloc, &[b"wrote ", rows.as_bytes(), b"\n"])
 }
 
-fn committed_text(alloc: Global, tables: &[Table], t: u32, version: u32) -> Result<Vec<u8>, NoMemory>
+fn committed_text(
+    alloc: Global,
+    tables: &[Table],
+    t: u32,
+    version: u32,
+) -> Result<Vec<u8>, NoMemory>
     ensures { IfOk result (λ text. text.items ≡ reply_text tables.now (Reply.Committed t version)) }
 {
     let t = t.to_string(alloc)?;
     let version = version.to_string(alloc)?;
-    text_of(alloc, &[b"committed ", t.as_bytes(), b" as ", version.as_bytes(), b"\n"])
+    text_of(
+        alloc,
+        &[
+            b"committed ",
+            t.as_bytes(),
+            b" as ",
+            version.as_bytes(),
+            b"\n",
+        ],
+    )
 }
 
 /// The rows, each on a line of its own.

@@ -1,9 +1,22 @@
+use Rattle.std.proofs.Common.{◌≤◌, subst, sym}
 use Rattle.std.proofs.lemmas.Result.{IfOk-weaker}
-use Rattle.gp_engine.proofs.KeptLemmas.{follows-from}
+use Rattle.gp_engine.proofs.KeptLemmas.{Leaves, follows-from, event-leaves}
 use Rattle.gp_engine.proofs.engine.Engine.line.Goals as goal
 
 pub returns-clause-follows : goal.returns-clause-follows
 returns-clause-follows c =
     IfOk-weaker c.step.result _ _
-      (λ reply is. follows-from c.args.self.now c.step.new.self c.args.line c.args.session c.args.command reply c.step.ensures.few is)
-      c.step.ensures.ok
+    (λ reply is. follows-from c.args.self.now c.step.new.self c.args.line c.args.session c.args.command reply c.step.ensures.few is)
+    c.step.ensures.ok
+
+pub returns-clause-refused : goal.returns-clause-refused
+returns-clause-refused c =
+    IfOk-weaker c.step.result _ _
+    (λ reply is refusal. (subst (Leaves c.args.line c.args.self.now) (sym is) (event-leaves c.args.line c.args.session c.args.self.now c.args.command c.requires.above)).refused refusal)
+    c.step.ensures.ok
+
+pub returns-clause-up_to : goal.returns-clause-up_to
+returns-clause-up_to c =
+    IfOk-weaker c.step.result _ (λ reply. c.step.new.self.line ≤ c.args.line)
+    (λ reply is. (subst (Leaves c.args.line c.args.self.now) (sym is) (event-leaves c.args.line c.args.session c.args.self.now c.args.command c.requires.above)).up_to)
+    c.step.ensures.ok
