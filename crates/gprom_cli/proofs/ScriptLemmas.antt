@@ -56,7 +56,7 @@ goes_on script engine new left line lines text refused reply way follows up_to =
     let rest = replies_from (way.before + 1) outcome.0 lines in
     let tables : new.tables ≡ outcome.0.catalogue = ap (λ (k : Kept). k.tables) next in
     let line-is : line_text line.0 new.tables reply ≡ line_text line.0 outcome.0.catalogue outcome.1 =
-      ap (λ (t : List Table). line_text line.0 t reply) tables ∙ ap (λ (r : Reply). line_text line.0 outcome.0.catalogue r) told_reply in
+    ap (λ (t : List Table). line_text line.0 t reply) tables ∙ ap (λ (r : Reply). line_text line.0 outcome.0.catalogue r) told_reply in
     record {
       state = outcome.0;
       before = way.before + 1;

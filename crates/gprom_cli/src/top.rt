@@ -1,0 +1,126 @@
+//! The whole call: from the words of the command line to the bytes written and the status.
+
+ghost use Rattle.std.specs.Prelude.{◌≡◌, ◌⊎◌, ◌∷◌, [], ◌<◌, ◌≤◌, IfOk, length, map, string_bytes, codes, if◌then◌else◌};
+ghost use Rattle.std.specs.List.{concat, flat_map};
+ghost use Rattle.gp_engine.specs.History.{replies_of, replies_text, has_refusal};
+ghost use Rattle.gprom_cli.specs.Forms.{form_of, message, usage_text};
+ghost use Rattle.gprom_cli.specs.Outcome.{Ends, EndsFor, Said};
+
+use crate::form::form_of;
+use crate::script::{LONGEST_SCRIPT, run_script};
+use gp_base::{NoMemory, push_all};
+use gp_io::{Shelf, ShelfStop, Sink, SinkStop};
+use std::alloc::Global;
+
+/// The line that tells the forms.
+const USAGE: &[u8] = b"usage: gprom run SCRIPT DUMP, gprom ask DUMP QUESTIONS, gprom gen N\n";
+
+/// No line was refused.
+const DONE: u8 = 0;
+
+/// Some line was refused.
+const REFUSED: u8 = 1;
+
+/// The words are no form.
+const NO_FORM: u8 = 2;
+
+/// A file is not there.
+const ABSENT: u8 = 3;
+
+/// A file cannot be read.
+const UNREADABLE: u8 = 4;
+
+/// The sink failed.
+const UNWRITTEN: u8 = 5;
+
+/// A file is too long.
+const TOO_LONG: u8 = 6;
+
+/// Memory ran out.
+pub const NO_MEMORY: u8 = 8;
+
+/// Writes a text that is due under a status.
+fn say<K: Sink>(out: &mut K, text: &[u8], status: u8) -> u8
+    requires { status < 5 ⊎ (status ≡ 6) }
+    ensures { Said text.now status (K.taken out.old) (K.taken out.new) (K.faults out.old) (K.faults out.new) result }
+{
+    match out.write_all(text) {
+        Ok(()) => status,
+        Err(SinkStop::Failed) => UNWRITTEN,
+        Err(SinkStop::NoMemory) => NO_MEMORY,
+    }
+}
+
+/// A message that names a file.
+fn message(alloc: Global, words: &[u8], name: &str) -> Result<Vec<u8>, NoMemory>
+    ensures { IfOk result (λ text. text.items ≡ message words.now name.now) }
+{
+    let mut text = Vec::new(alloc);
+    push_all(&mut text, &[words, name.as_bytes(), b"\n"])?;
+    Ok(text)
+}
+
+/// Writes a message that names a file, and that is due under a status.
+fn say_name<K: Sink>(alloc: Global, words: &[u8], name: &str, status: u8, out: &mut K) -> u8
+    requires { status < 5 ⊎ (status ≡ 6) }
+    ensures { Said (message words.now name.now) status (K.taken out.old) (K.taken out.new) (K.faults out.old) (K.faults out.new) result }
+{
+    match message(alloc, words, name) {
+        Ok(text) => say(out, &text, status),
+        Err(NoMemory) => NO_MEMORY,
+    }
+}
+
+/// Answers a script.
+fn answer<K: Sink>(alloc: Global, script: &[u8], out: &mut K) -> u8
+    requires { length script.now ≤ 16777216 }
+    ensures { Said (replies_text (replies_of script.now)) (if has_refusal (replies_of script.now) then 1 else 0)
+        (K.taken out.old) (K.taken out.new) (K.faults out.old) (K.faults out.new) result }
+{
+    match run_script(alloc, script) {
+        Ok(output) => say(
+            out,
+            &output.text,
+            if output.refused { REFUSED } else { DONE },
+        ),
+        Err(NoMemory) => NO_MEMORY,
+    }
+}
+
+/// `run`: reads the script, and writes the reply to each of its lines.
+fn run<H: Shelf, K: Sink>(alloc: Global, name: &str, shelf: &mut H, out: &mut K) -> u8
+    ensures end { EndsFor name.now (H.holds shelf.old)
+        (record { before = H.misses shelf.old; after = H.misses shelf.new })
+        (record { before = H.read_faults shelf.old; after = H.read_faults shelf.new })
+        (K.taken out.old) (K.taken out.new) (K.faults out.old) (K.faults out.new) result }
+    ensures files { H.holds shelf.new ≡ H.holds shelf.old }
+    ensures replaces { H.replace_faults shelf.new ≡ H.replace_faults shelf.old }
+{
+    match shelf.read(name, LONGEST_SCRIPT + 1) {
+        Ok(script) => {
+            if script.len() > LONGEST_SCRIPT {
+                say_name(alloc, b"too long ", name, TOO_LONG, out)
+            } else {
+                answer(alloc, &script, out)
+            }
+        }
+        Err(ShelfStop::Absent) => say_name(alloc, b"absent ", name, ABSENT, out),
+        Err(ShelfStop::Failed) => say_name(alloc, b"cannot read ", name, UNREADABLE, out),
+        Err(ShelfStop::NoMemory) => NO_MEMORY,
+    }
+}
+
+/// All that the program does: reads the words, does what they ask for and gives the status.
+pub fn gprom<H: Shelf, K: Sink>(alloc: Global, words: &[String], shelf: &mut H, out: &mut K) -> u8
+    ensures end { Ends (form_of (map string_bytes words.now)) (H.holds shelf.old)
+        (record { before = H.misses shelf.old; after = H.misses shelf.new })
+        (record { before = H.read_faults shelf.old; after = H.read_faults shelf.new })
+        (K.taken out.old) (K.taken out.new) (K.faults out.old) (K.faults out.new) result }
+    ensures files { H.holds shelf.new ≡ H.holds shelf.old }
+    ensures replaces { H.replace_faults shelf.new ≡ H.replace_faults shelf.old }
+{
+    match form_of(words) {
+        Some(form) => run(alloc, form.script, shelf, out),
+        None => say(out, USAGE, NO_FORM),
+    }
+}
