@@ -1,4 +1,4 @@
--- Which commands a script may hold.
+-- Which commands a script may hold, whatever tables are there: the limits on names, columns, tuples and numbers.
 use Rattle.std.specs.Prelude.{◌≡◌, ℕ, Bool, true, false, ◌&&◌, not, List, [], ◌∷◌, length, nat_le, map}
 use Rattle.std.specs.List.{list_all, list_any, AllByRecursion}
 use Rattle.std.specs.Str.{bytes_eq}
@@ -26,6 +26,7 @@ abbrev pub all_differ : List Column → Bool
 all_differ [] = true
 all_differ (column ∷ columns) = not (list_any (λ (other : Column). bytes_eq column.name other.name) columns) && all_differ columns
 
+-- the kind of whole numbers
 abbrev pub is_int : Kind → Bool
 is_int Int = true
 is_int Text = false
@@ -34,17 +35,18 @@ is_int Text = false
 abbrev pub is_column : Column → Bool
 is_column column = is_name column.name && is_int column.kind
 
+-- a whole number, and neither NULL nor a text
 abbrev pub is_number : Cell → Bool
 is_number cell.Null = false
 is_number (cell.Int number) = true
 is_number (cell.Text text) = false
 
--- one whole number or more
+-- a tuple: one whole number or more, and nothing else
 abbrev pub is_tuple : List Cell → Bool
 is_tuple [] = false
 is_tuple (first ∷ others) = is_number first && list_all is_number others
 
--- what a command of a script has to be, but for the tables that are there
+-- the shape of a command of a script: its names are names, a table has 1 to 16 different columns, all INT, and an INSERT has 1 to 100 tuples
 abbrev pub is_command : Command → Bool
 is_command (Create table) = is_name table.name && nat_le 1 (length table.cols) && nat_le (length table.cols) most_columns
     && list_all is_column table.cols && all_differ table.cols
@@ -61,7 +63,7 @@ FitsCommand Begin = Unit {0}
 FitsCommand Commit = Unit {0}
 FitsCommand (Select table) = Unit {0}
 
--- a command of a script
+-- a command that a script may hold: it has the shape, and each of its numbers has 64 bits with sign
 pub record IsCommand (command : Command) : Type 0 where
   pub shape : is_command command ≡ true
   pub numbers : FitsCommand command

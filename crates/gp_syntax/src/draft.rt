@@ -1,5 +1,5 @@
-//! Drafts of commands: what a text would hold, told by its spaces, brackets and commas alone. Whether it does hold that is the
-//! reader's question.
+//! Drafts of commands: what a text would hold, found by its spaces, brackets and commas alone. The reader decides whether the text
+//! does hold it.
 
 ghost use Rattle.std.specs.Prelude.{◌≡◌, ◌++◌, ◌∷◌, ◌==◌, [], Some, None, IfOk, map, drop, length, true, false, MatchOption};
 ghost use Rattle.std.specs.List.{before_first, slice_split};
@@ -23,6 +23,7 @@ fn without_space(text: &[u8]) -> &[u8]
     }
 }
 
+/// The same of a text in UTF-8.
 fn number_in(text: &str) -> i64
     ensures { result ≡ number_of text.now }
 {
@@ -39,6 +40,7 @@ fn number_of(text: &[u8]) -> i64
     }
 }
 
+/// The first word of a part between commas, as a column of whole numbers.
 fn drafted_column(alloc: Global, part: &[u8]) -> Result<Column, NoMemory>
     ensures { IfOk result (λ column. column ≡ drafted_column part.now) }
 {

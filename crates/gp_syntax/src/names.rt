@@ -1,4 +1,4 @@
-//! Names of tables and columns.
+//! Which bytes are a name of a table or a column.
 
 ghost use Rattle.std.specs.Prelude.{◌≡◌, ◌==◌, ◌&&◌, not};
 ghost use Rattle.std.specs.List.{list_all, list_any, slice_split};
