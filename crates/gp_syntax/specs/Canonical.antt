@@ -6,7 +6,6 @@ use Rattle.gp_base.specs.declared.cell.Cell.{Cell}
 use Rattle.gp_base.specs.declared.table.Kind.{Kind}
 use Rattle.gp_base.specs.declared.table.Kind.TheVariants.{Int, Text}
 use Rattle.gp_base.specs.declared.table.Column.{Column}
-use Rattle.gp_base.specs.declared.table.Table.{Table}
 use Rattle.gp_base.specs.Texts.{row_text}
 use Rattle.gp_base.specs.Writing.{joined}
 use Rattle.gp_syntax.specs.declared.command.Command.{Command}

@@ -23,7 +23,8 @@ abbrev pub begins_with_feed : List ℕ → Bool
 begins_with_feed [] = false
 begins_with_feed (byte ∷ bytes) = byte == line_feed
 
--- The lines of a text. Each ends at a line feed, which the last may lack; one carriage return directly before a line feed belongs to the end of its line.
+-- the lines of a text: each ends at a line feed, which the last may lack, and one carriage return directly before a line feed
+-- belongs to the end of its line
 abbrev pub lines_of : List ℕ → List (List ℕ)
 lines_of [] = []
 lines_of (byte ∷ bytes) =

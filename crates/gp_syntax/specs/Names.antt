@@ -1,5 +1,5 @@
 -- Names of tables and columns: a lower letter, then lower letters, digits and underscores, at most 30 bytes, and no reserved word.
-use Rattle.std.specs.Prelude.{ℕ, Bool, true, false, ◌&&◌, ◌||◌, not, List, [], ◌∷◌, length, nat_le, ◌==◌, codes}
+use Rattle.std.specs.Prelude.{ℕ, Bool, false, ◌&&◌, ◌||◌, not, List, [], ◌∷◌, length, nat_le, ◌==◌, codes}
 use Rattle.std.specs.List.{slice_split, list_any, list_all}
 use Rattle.std.specs.Str.{bytes_eq}
 
@@ -26,4 +26,5 @@ longest_name = 30
 -- a name: a lower letter, then lower letters, digits and underscores; not too long, and no reserved word
 abbrev pub is_name : List ℕ → Bool
 is_name [] = false
-is_name (byte ∷ bytes) = is_lower_letter byte && list_all is_name_byte bytes && nat_le (length (byte ∷ bytes)) longest_name && not (is_reserved (byte ∷ bytes))
+is_name (byte ∷ bytes) = is_lower_letter byte && list_all is_name_byte bytes
+    && nat_le (length (byte ∷ bytes)) longest_name && not (is_reserved (byte ∷ bytes))

@@ -1,8 +1,7 @@
 //! The writer of commands: each command has one canonical text.
 
-ghost use Rattle.std.specs.Prelude.{◌≡◌, ◌++◌, IfOk, OnOk, OnErr};
+ghost use Rattle.std.specs.Prelude.{◌≡◌, IfOk};
 ghost use Rattle.std.specs.List.{flat_map};
-ghost use Rattle.gp_base.specs.Writing.{HasFront, joined};
 ghost use Rattle.gp_syntax.specs.Canonical.{canonical, column_text, tuple_text};
 
 use crate::command::Command;

@@ -1,11 +1,9 @@
 //! How a script is cut into lines, and which of them are answered.
 
-ghost use Rattle.std.specs.Prelude.{◌≡◌, ◌+◌, ◌^◌, ◌<◌, ◌&&◌, ◌==◌, not, length, nat_le, option_copied};
-ghost use Rattle.std.specs.Prelude.{◌-◌, ◌∷◌};
+ghost use Rattle.std.specs.Prelude.{◌≡◌, ◌-◌, ◌^◌, ◌<◌, ◌∷◌, length};
 ghost use Rattle.std.specs.Iterator.{YieldsFirstBy, item_count};
 ghost use Rattle.std.specs.Str.Lines.{strip_carriage_return};
-ghost use Rattle.gp_syntax.specs.Lines.{lines_of, script_lines, says_nothing, is_answered, longest_line, begins_comment, is_blank, line_feed};
-ghost use Rattle.std.specs.List.{position_or_len};
+ghost use Rattle.gp_syntax.specs.Lines.{lines_of, script_lines, says_nothing, is_answered, begins_comment, is_blank};
 
 use crate::scan::place_of;
 use std::marker::Model;

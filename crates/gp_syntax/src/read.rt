@@ -1,6 +1,6 @@
 //! The reader of commands: a text is the command whose canonical text it is.
 
-ghost use Rattle.std.specs.Prelude.{◌≡◌, ◌++◌, Some, IfOk, codes};
+ghost use Rattle.std.specs.Prelude.{◌≡◌, Some, IfOk};
 ghost use Rattle.gp_syntax.specs.declared.command.Command.{Command};
 ghost use Rattle.gp_syntax.specs.Canonical.{canonical};
 ghost use Rattle.gp_syntax.specs.Commands.{IsCommand};
@@ -46,7 +46,8 @@ fn read_text(alloc: Global, text: &[u8]) -> Result<Option<Command>, NoMemory>
 pub fn read_command(alloc: Global, text: &[u8]) -> Result<Command, ReadStop>
     ensures exact { GivesCommand result (read_text text.now) }
     ensures found { IfOk result (λ command. IsCommand command × (canonical command ≡ text.now)) }
-    ensures only { (command : Command) → IsCommand command → canonical command ≡ text.now → GivesCommand result (Some command) }
+    ensures only { (command : Command) → IsCommand command → canonical command ≡ text.now
+        → GivesCommand result (Some command) }
 {
     match read_text(alloc, text)? {
         Some(command) => Ok(command),

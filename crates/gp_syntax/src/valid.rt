@@ -1,6 +1,6 @@
 //! Which commands a script may hold, whatever tables are there.
 
-ghost use Rattle.std.specs.Prelude.{◌≡◌, ◌==◌, ◌&&◌, not};
+ghost use Rattle.std.specs.Prelude.{◌≡◌};
 ghost use Rattle.std.specs.List.{list_any, list_all};
 ghost use Rattle.std.specs.Str.{bytes_eq};
 ghost use Rattle.gp_syntax.specs.Commands.{is_command, all_differ, is_column, is_number, is_tuple, is_int};
