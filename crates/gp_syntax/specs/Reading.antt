@@ -33,17 +33,18 @@ fits_64_bits (negsuc n) = nat_lt n (2 ^ 63)
 
 -- digits behind an optional sign, whose number has 64 bits
 abbrev pub is_number_text : List ℕ → Bool
-is_number_text text = nat_lt 0 (length (without_leading_sign text)) && all_ascii_digits (without_leading_sign text) && fits_64_bits (signed_digits_value 10 text)
+is_number_text text = nat_lt 0 (length (without_leading_sign text)) && all_ascii_digits (without_leading_sign text)
+    && fits_64_bits (signed_digits_value 10 text)
 
 -- the number that a text writes, or 0 where it writes none
 abbrev pub number_of : List ℕ → ℤ
 number_of text = if is_number_text text then signed_digits_value 10 text else pos 0
 
--- the byte before a word
+-- a space
 abbrev pub is_space : ℕ → Bool
 is_space byte = byte == 32
 
--- the byte between two parts
+-- a comma, which stands between two parts
 abbrev pub is_comma : ℕ → Bool
 is_comma byte = byte == 44
 
@@ -55,7 +56,7 @@ is_open byte = byte == 40
 abbrev pub is_close : ℕ → Bool
 is_close byte = byte == 41
 
--- the text without one space in front
+-- the text without the one space in front, where there is one
 abbrev pub without_space : List ℕ → List ℕ
 without_space [] = []
 without_space (byte ∷ bytes) = if is_space byte then bytes else byte ∷ bytes
@@ -90,8 +91,10 @@ drafted text =
     if bytes_eq text (codes "BEGIN") then Some Begin
     else (if bytes_eq text (codes "COMMIT") then Some Commit
     else (if begins text (codes "SELECT * FROM ") then Some (Select (drop 14 text))
-    else (if begins text (codes "CREATE TABLE ") then Some (Create (record { name = before_first is_space (drop 13 text); cols = drafted_columns (drop 13 text) }))
-    else (if begins text (codes "INSERT INTO ") then Some (Insert (before_first is_space (drop 12 text)) (drafted_rows (drop 12 text)))
+    else (if begins text (codes "CREATE TABLE ")
+    then Some (Create (record { name = before_first is_space (drop 13 text); cols = drafted_columns (drop 13 text) }))
+    else (if begins text (codes "INSERT INTO ")
+    then Some (Insert (before_first is_space (drop 12 text)) (drafted_rows (drop 12 text)))
     else None))))
 
 -- the draft, where it is a command of a script and the text is its canonical text
