@@ -1,29 +1,30 @@
--- The canonical text of a command.
+-- The canonical text of a command, the one spelling in which a script may hold it: reserved words in capitals, names as they are,
+-- numbers in decimal, one space between tokens, and none behind an opening bracket or before a closing bracket or a comma.
 use Rattle.std.specs.Prelude.{ℕ, List, [], ◌∷◌, codes}
 use Rattle.std.specs.List.{concat}
 use Rattle.gp_base.specs.declared.cell.Cell.{Cell}
 use Rattle.gp_base.specs.declared.table.Kind.{Kind}
 use Rattle.gp_base.specs.declared.table.Kind.TheVariants.{Int, Text}
 use Rattle.gp_base.specs.declared.table.Column.{Column}
-use Rattle.gp_base.specs.declared.table.Table.{Table}
 use Rattle.gp_base.specs.Texts.{row_text}
 use Rattle.gp_base.specs.Writing.{joined}
 use Rattle.gp_syntax.specs.declared.command.Command.{Command}
 use Rattle.gp_syntax.specs.declared.command.Command.TheVariants.{Create, Begin, Commit, Insert, Select}
 
+-- the reserved word of a kind
 abbrev pub kind_text : Kind → List ℕ
 kind_text Int = codes "INT"
 kind_text Text = codes "TEXT"
 
--- a column: its name and its kind
+-- a column: its name, a space and its kind
 abbrev pub column_text : Column → List ℕ
 column_text column = concat (column.name ∷ codes " " ∷ kind_text column.kind ∷ [])
 
--- the literals of a row in brackets
+-- a tuple: the literals of a row in brackets, with a comma and a space between each two
 abbrev pub tuple_text : List Cell → List ℕ
 tuple_text row = concat (codes "(" ∷ row_text row ∷ codes ")" ∷ [])
 
--- the one canonical text of a command: reserved words in capitals, one space between tokens, none inside brackets
+-- the one canonical text of a command
 abbrev pub canonical : Command → List ℕ
 canonical (Create table) = concat (codes "CREATE TABLE " ∷ table.name ∷ codes " (" ∷ joined column_text (codes ", ") table.cols ∷ codes ")" ∷ [])
 canonical Begin = codes "BEGIN"

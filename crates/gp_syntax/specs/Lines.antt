@@ -1,9 +1,11 @@
--- How a script is cut into lines, and which lines are skipped.
+-- How a script is cut into numbered lines, and which of them are answered. All other lines are skipped.
 use Rattle.std.specs.Prelude.{ℕ, ◌+◌, ◌<◌, Bool, true, false, ◌&&◌, ◌||◌, not, List, [], ◌∷◌, length, nat_le, if◌then◌else◌, ◌==◌, filter}
 
+-- the byte that ends a line
 abbrev pub line_feed : ℕ
 line_feed = 10
 
+-- the byte that belongs to the end of its line where a line feed follows
 abbrev pub carriage_return : ℕ
 carriage_return = 13
 
@@ -21,18 +23,20 @@ abbrev pub begins_with_feed : List ℕ → Bool
 begins_with_feed [] = false
 begins_with_feed (byte ∷ bytes) = byte == line_feed
 
--- The lines of a text. Each ends at a line feed, which the last may lack; one carriage return directly before a line feed belongs to the end of its line.
+-- the lines of a text: each ends at a line feed, which the last may lack, and one carriage return directly before a line feed
+-- belongs to the end of its line
 abbrev pub lines_of : List ℕ → List (List ℕ)
 lines_of [] = []
 lines_of (byte ∷ bytes) =
     if byte == line_feed then [] ∷ lines_of bytes
     else (if (byte == carriage_return) && begins_with_feed bytes then lines_of bytes else onto_line byte (lines_of bytes))
 
--- the lines under their numbers
+-- the lines under their numbers, where the first has this number
 abbrev pub numbered : ℕ → List (List ℕ) → List (ℕ × List ℕ)
 numbered number [] = []
 numbered number (line ∷ lines) = (number, line) ∷ numbered (number + 1) lines
 
+-- a space or a tab
 abbrev pub is_blank : ℕ → Bool
 is_blank byte = (byte == 32) || (byte == 9)
 
@@ -55,7 +59,7 @@ is_answered line = not (nat_le (length line) longest_line && says_nothing line)
 abbrev pub answered_from : ℕ → List ℕ → List (ℕ × List ℕ)
 answered_from number bytes = filter (λ line. is_answered line.1) (numbered number (lines_of bytes))
 
--- the lines of a script that are answered, under their numbers
+-- the lines of a script that are answered, in order and under their numbers; all lines are counted, from 1
 abbrev pub script_lines : List ℕ → List (ℕ × List ℕ)
 script_lines bytes = answered_from 1 bytes
 

@@ -1,7 +1,8 @@
--- Reading: what command a line holds. A draft is made from the places of blanks, brackets and commas alone, and it is what the line
--- holds where it is a command and the line is its canonical text. So a line is read in exactly one way, or not at all.
-use Rattle.std.specs.Prelude.{◌≡◌, ℕ, ◌+◌, ◌^◌, Bool, true, false, ◌&&◌, List, [], ◌∷◌, ◌++◌, length, take, drop, map, Option, Some, None, Result, Ok, Err, option_and_then, nat_lt, nat_le, if◌then◌else◌, ◌==◌, codes, ℤ, pos, negsuc}
-use Rattle.std.specs.Char.{is_ascii_digit}
+-- Reading: what command a line holds. `Reads` says it as a relation: the line is short enough, and is the session and then the
+-- canonical text of a command. `read_of` says it as a function: a draft is made from the places of spaces, brackets and commas alone,
+-- and it is what the line holds where it is a command and the line is its canonical text. The contracts of the readers tie the two,
+-- so a line is read in exactly one way, or not at all.
+use Rattle.std.specs.Prelude.{◌≡◌, ℕ, ◌^◌, Bool, true, ◌&&◌, List, [], ◌∷◌, ◌++◌, length, take, drop, map, Option, Some, None, Result, Ok, Err, option_and_then, nat_lt, nat_le, if◌then◌else◌, ◌==◌, codes, ℤ, pos, negsuc}
 use Rattle.std.specs.List.{slice_split, before_first, after_first}
 use Rattle.std.specs.Str.{bytes_eq, all_ascii_digits}
 use Rattle.std.specs.Str.Parse.{without_leading_sign, signed_digits_value}
@@ -9,7 +10,6 @@ use Rattle.gp_base.specs.declared.cell.Cell.{Cell}
 use Rattle.gp_base.specs.declared.cell.Cell.TheVariants as cell
 use Rattle.gp_base.specs.declared.table.Kind.TheVariants.{Int}
 use Rattle.gp_base.specs.declared.table.Column.{Column}
-use Rattle.gp_base.specs.declared.table.Table.{Table}
 use Rattle.gp_syntax.specs.declared.command.Command.{Command}
 use Rattle.gp_syntax.specs.declared.command.Command.TheVariants.{Create, Begin, Commit, Insert, Select}
 use Rattle.gp_syntax.specs.declared.command.ScriptLine.{ScriptLine}
@@ -20,6 +20,12 @@ use Rattle.gp_syntax.specs.Lines.{longest_line}
 use Rattle.gp_syntax.specs.Canonical.{canonical}
 use Rattle.gp_syntax.specs.Commands.{is_command, IsCommand}
 
+-- a line holds a command: it is not too long, and is the session and the command's canonical text
+pub record Reads (line : List ℕ) (command : Command) : Type 0 where
+  pub valid : IsCommand command
+  pub short : nat_le (length line) longest_line ≡ true
+  pub text : line ≡ codes "s1: " ++ canonical command
+
 -- a number of 64 bits with sign
 abbrev pub fits_64_bits : ℤ → Bool
 fits_64_bits (pos n) = nat_lt n (2 ^ 63)
@@ -27,25 +33,30 @@ fits_64_bits (negsuc n) = nat_lt n (2 ^ 63)
 
 -- digits behind an optional sign, whose number has 64 bits
 abbrev pub is_number_text : List ℕ → Bool
-is_number_text text = nat_lt 0 (length (without_leading_sign text)) && all_ascii_digits (without_leading_sign text) && fits_64_bits (signed_digits_value 10 text)
+is_number_text text = nat_lt 0 (length (without_leading_sign text)) && all_ascii_digits (without_leading_sign text)
+    && fits_64_bits (signed_digits_value 10 text)
 
 -- the number that a text writes, or 0 where it writes none
 abbrev pub number_of : List ℕ → ℤ
 number_of text = if is_number_text text then signed_digits_value 10 text else pos 0
 
+-- a space
 abbrev pub is_space : ℕ → Bool
 is_space byte = byte == 32
 
+-- a comma, which stands between two parts
 abbrev pub is_comma : ℕ → Bool
 is_comma byte = byte == 44
 
+-- an opening bracket
 abbrev pub is_open : ℕ → Bool
 is_open byte = byte == 40
 
+-- a closing bracket
 abbrev pub is_close : ℕ → Bool
 is_close byte = byte == 41
 
--- the text without one space in front
+-- the text without the one space in front, where there is one
 abbrev pub without_space : List ℕ → List ℕ
 without_space [] = []
 without_space (byte ∷ bytes) = if is_space byte then bytes else byte ∷ bytes
@@ -58,6 +69,7 @@ drafted_column part = record { name = before_first is_space (without_space part)
 abbrev pub drafted_columns : List ℕ → List Column
 drafted_columns text = map drafted_column (slice_split is_comma (before_first is_close (after_first is_open text)))
 
+-- a part between commas, as a number
 abbrev pub drafted_cell : List ℕ → Cell
 drafted_cell part = cell.Int (number_of (without_space part))
 
@@ -65,40 +77,37 @@ drafted_cell part = cell.Int (number_of (without_space part))
 abbrev pub drafted_row : List ℕ → List Cell
 drafted_row text = map drafted_cell (slice_split is_comma (before_first is_close text))
 
--- a row behind each opening bracket
+-- a row behind each opening bracket, whatever stands before the first
 abbrev pub drafted_rows : List ℕ → List (List Cell)
 drafted_rows text = map drafted_row (drop 1 (slice_split is_open text))
 
--- the command that a text would hold, by its first words
+-- the text begins with these words
 abbrev pub begins : List ℕ → List ℕ → Bool
 begins text words = bytes_eq (take (length words) text) words
 
+-- the command that a text would hold, by its first words
 unfoldable pub drafted : List ℕ → Option Command
 drafted text =
     if bytes_eq text (codes "BEGIN") then Some Begin
     else (if bytes_eq text (codes "COMMIT") then Some Commit
     else (if begins text (codes "SELECT * FROM ") then Some (Select (drop 14 text))
-    else (if begins text (codes "CREATE TABLE ") then Some (Create (record { name = before_first is_space (drop 13 text); cols = drafted_columns (drop 13 text) }))
-    else (if begins text (codes "INSERT INTO ") then Some (Insert (before_first is_space (drop 12 text)) (drafted_rows (drop 12 text)))
+    else (if begins text (codes "CREATE TABLE ")
+    then Some (Create (record { name = before_first is_space (drop 13 text); cols = drafted_columns (drop 13 text) }))
+    else (if begins text (codes "INSERT INTO ")
+    then Some (Insert (before_first is_space (drop 12 text)) (drafted_rows (drop 12 text)))
     else None))))
 
--- the draft, where it is a command and the text is its canonical text
+-- the draft, where it is a command of a script and the text is its canonical text
 abbrev pub confirmed : List ℕ → Command → Option Command
 confirmed text command = if is_command command && bytes_eq (canonical command) text then Some command else None
 
--- the command of a text
+-- the command of a text, or none where the text is the canonical text of no command
 unfoldable pub read_text : List ℕ → Option Command
 read_text text = option_and_then (confirmed text) (drafted text)
 
--- the command of a line of the one session: not too long, the session first
+-- the command of a line, or none: the line is not too long, and the command's text stands behind the session
 unfoldable pub read_of : List ℕ → Option Command
 read_of line = if nat_le (length line) longest_line && begins line (codes "s1: ") then read_text (drop 4 line) else None
-
--- a line holds a command: it is not too long, and is the session and the command's canonical text
-pub record Reads (line : List ℕ) (command : Command) : Type 0 where
-  pub valid : IsCommand command
-  pub short : nat_le (length line) longest_line ≡ true
-  pub text : line ≡ codes "s1: " ++ canonical command
 
 -- what a reader of commands answers is what reading gives: the command, the one refusal where there is none, or want of memory
 abbrev pub GivesCommand : Result Command ReadStop → Option Command → Type 0

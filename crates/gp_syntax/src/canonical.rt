@@ -1,8 +1,7 @@
-//! The canonical text of a command.
+//! The writer of commands: each command has one canonical text.
 
-ghost use Rattle.std.specs.Prelude.{◌≡◌, ◌++◌, IfOk, OnOk, OnErr};
+ghost use Rattle.std.specs.Prelude.{◌≡◌, IfOk};
 ghost use Rattle.std.specs.List.{flat_map};
-ghost use Rattle.gp_base.specs.Writing.{HasFront, joined};
 ghost use Rattle.gp_syntax.specs.Canonical.{canonical, column_text, tuple_text};
 
 use crate::command::Command;
@@ -41,6 +40,7 @@ impl TextOf<Row> for TupleText {
     }
 }
 
+/// The pieces one after the other.
 fn text_of_pieces(alloc: Global, pieces: &[&[u8]]) -> Result<Vec<u8>, NoMemory>
     ensures { IfOk result (λ text. text.items ≡ flat_map (λ piece. piece.now) pieces.now) }
 {
@@ -75,7 +75,9 @@ fn insert_text(alloc: Global, table: &Name, rows: &Items<Row>) -> Result<Vec<u8>
     )
 }
 
-/// The one canonical text of a command: reserved words in capitals, names as they are, one space between tokens.
+/// The one canonical text of a command: reserved words in capitals, names as they are, numbers in decimal, one space between
+/// tokens, and none behind an opening bracket or before a closing bracket or a comma. Any command has one, also a command that no
+/// script may hold. The only error is want of memory.
 pub fn write_command(alloc: Global, command: &Command) -> Result<Vec<u8>, NoMemory>
     ensures { IfOk result (λ text. text.items ≡ canonical command.now) }
 {

@@ -1,28 +1,28 @@
-//! The lines of a script.
+//! How a script is cut into lines, and which of them are answered.
 
-ghost use Rattle.std.specs.Prelude.{◌≡◌, ◌+◌, ◌^◌, ◌<◌, ◌&&◌, ◌==◌, not, length, nat_le, option_copied};
-ghost use Rattle.std.specs.Prelude.{◌-◌, ◌∷◌};
+ghost use Rattle.std.specs.Prelude.{◌≡◌, ◌-◌, ◌^◌, ◌<◌, ◌∷◌, length};
 ghost use Rattle.std.specs.Iterator.{YieldsFirstBy, item_count};
 ghost use Rattle.std.specs.Str.Lines.{strip_carriage_return};
-ghost use Rattle.gp_syntax.specs.Lines.{lines_of, script_lines, RiseFrom, says_nothing, is_answered, longest_line, begins_comment, is_blank, line_feed};
-ghost use Rattle.std.specs.List.{position_or_len};
+ghost use Rattle.gp_syntax.specs.Lines.{lines_of, script_lines, RiseFrom, says_nothing, is_answered, begins_comment, is_blank};
 
 use crate::scan::place_of;
 use std::marker::Model;
 
-/// The greatest number of bytes of a line, without its end.
+/// The greatest number of bytes of a line that is looked into, without its end. A longer line is answered, and always refused.
 pub const LONGEST_LINE: usize = 4096;
 
 const LINE_FEED: u8 = b'\n';
 
 const CARRIAGE_RETURN: u8 = b'\r';
 
+/// Whether the byte is a space or a tab.
 fn is_blank(byte: u8) -> bool
     ensures { result ≡ is_blank byte }
 {
     byte == b' ' || byte == b'\t'
 }
 
+/// Whether two hyphens stand first.
 fn begins_comment(bytes: &[u8]) -> bool
     ensures { result ≡ begins_comment bytes.now }
 {
@@ -82,7 +82,7 @@ fn first_line(bytes: &[u8]) -> (&[u8], &[u8])
 pub struct Line<'a> {
     /// Its number in the script, from 1.
     pub number: u32,
-    /// Its bytes, without its end.
+    /// Its bytes, without its line feed and the carriage return before that.
     pub bytes: &'a [u8],
 }
 
@@ -125,7 +125,10 @@ impl<'a> Iterator for LineIter<'a> {
     }
 }
 
-/// The lines of a script that are answered, in order. The script has fewer than 2^32 - 1 bytes.
+/// The lines of a script that are answered, in order and under their numbers. A script is cut at each line feed, and one carriage
+/// return directly before a line feed is dropped with it; the last line may lack its line feed, and then keeps a carriage return.
+/// Every line is counted, from 1. A line of at most [`LONGEST_LINE`] bytes is not answered where it holds spaces and tabs alone, or
+/// where `--` stands first or behind spaces and tabs. The script has fewer than 2^32 - 1 bytes, so that each number fits.
 pub fn lines(bytes: &[u8]) -> LineIter<'_>
     requires { length bytes.now < 2 ^ 32 - 1 }
     ensures lines { result ≡ script_lines bytes.now }

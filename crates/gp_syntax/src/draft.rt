@@ -1,12 +1,10 @@
-//! Drafts of commands: what a text would hold, told by its spaces, brackets and commas alone. Whether it does hold that is the
-//! reader's question.
+//! Drafts of commands: what a text would hold, found by its spaces, brackets and commas alone. The reader decides whether the text
+//! does hold it.
 
-ghost use Rattle.std.specs.Prelude.{◌≡◌, ◌++◌, ◌∷◌, ◌==◌, [], Some, None, IfOk, map, drop, length, true, false, MatchOption};
-ghost use Rattle.std.specs.List.{before_first, slice_split};
-ghost use Rattle.std.specs.Int.{w64};
-ghost use Rattle.std.specs.Str.Parse.{ParsesSigned};
-ghost use Rattle.gp_base.specs.Cells.{AreInRange};
-ghost use Rattle.gp_syntax.specs.Reading.{number_of, without_space, drafted_column, drafted_columns, drafted_cell, drafted_row, drafted_rows, drafted, begins, is_space};
+ghost use Rattle.std.specs.Prelude.{◌≡◌, IfOk, map, drop, length, true, false, MatchOption};
+ghost use Rattle.std.specs.List.{before_first};
+ghost use Rattle.gp_syntax.specs.Reading.{number_of, without_space, begins, is_space, drafted};
+ghost use Rattle.gp_syntax.specs.Reading.{drafted_column, drafted_columns, drafted_cell, drafted_row, drafted_rows};
 
 use crate::command::Command;
 use crate::scan::{after, before, parts};
@@ -23,6 +21,7 @@ fn without_space(text: &[u8]) -> &[u8]
     }
 }
 
+/// The same of a text in UTF-8.
 fn number_in(text: &str) -> i64
     ensures { result ≡ number_of text.now }
 {
@@ -39,6 +38,7 @@ fn number_of(text: &[u8]) -> i64
     }
 }
 
+/// The first word of a part between commas, as a column of whole numbers.
 fn drafted_column(alloc: Global, part: &[u8]) -> Result<Column, NoMemory>
     ensures { IfOk result (λ column. column ≡ drafted_column part.now) }
 {
@@ -49,7 +49,8 @@ fn drafted_column(alloc: Global, part: &[u8]) -> Result<Column, NoMemory>
 }
 
 fn drafted_columns_of(alloc: Global, parts: &[&[u8]]) -> Result<Items<Column>, NoMemory>
-    ensures { IfOk result (λ columns. columns ≡ map drafted_column (map (λ part. part.now) parts.now)) }
+    ensures { IfOk result (λ columns.
+        columns ≡ map drafted_column (map (λ part. part.now) parts.now)) }
 {
     let mut columns = Items::new(alloc);
     for part in parts {
@@ -121,7 +122,8 @@ fn drafted_select(alloc: Global, text: &[u8]) -> Result<Command, NoMemory>
 }
 
 fn drafted_create(alloc: Global, text: &[u8]) -> Result<Command, NoMemory>
-    ensures { IfOk result (λ command. command ≡ Command.Create (record { name = before_first is_space text.now; cols = drafted_columns text.now })) }
+    ensures { IfOk result (λ command. command ≡ Command.Create
+        (record { name = before_first is_space text.now; cols = drafted_columns text.now })) }
 {
     let name = Name::from_bytes(alloc, before(text, b' '))?;
     let cols = drafted_columns(alloc, text)?;
@@ -131,7 +133,8 @@ fn drafted_create(alloc: Global, text: &[u8]) -> Result<Command, NoMemory>
 }
 
 fn drafted_insert(alloc: Global, text: &[u8]) -> Result<Command, NoMemory>
-    ensures { IfOk result (λ command. command ≡ Command.Insert (before_first is_space text.now) (drafted_rows text.now)) }
+    ensures { IfOk result (λ command.
+        command ≡ Command.Insert (before_first is_space text.now) (drafted_rows text.now)) }
 {
     let table = Name::from_bytes(alloc, before(text, b' '))?;
     let rows = drafted_rows(alloc, text)?;

@@ -18,3 +18,6 @@ pub use names::{LONGEST_NAME, is_name};
 pub use read::{read_command, read_line};
 pub use stop::ReadStop;
 pub use valid::{MOST_COLUMNS, MOST_ROWS};
+
+#[cfg(test)]
+mod tests;

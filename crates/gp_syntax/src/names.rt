@@ -1,9 +1,9 @@
-//! Names of tables and columns.
+//! Which bytes are a name of a table or a column.
 
-ghost use Rattle.std.specs.Prelude.{◌≡◌, ◌==◌, ◌&&◌, not};
+ghost use Rattle.std.specs.Prelude.{◌≡◌, ◌==◌};
 ghost use Rattle.std.specs.List.{list_all, list_any, slice_split};
 ghost use Rattle.std.specs.Str.{bytes_eq};
-ghost use Rattle.gp_syntax.specs.Names.{is_name, is_name_byte, is_lower_letter, is_reserved, reserved_words};
+ghost use Rattle.gp_syntax.specs.Names.{is_name, is_name_byte, is_lower_letter, is_reserved};
 
 /// The greatest number of bytes of a name.
 pub const LONGEST_NAME: usize = 30;
@@ -32,7 +32,8 @@ fn are_name_bytes(bytes: &[u8]) -> bool
 
 /// Whether the word is among words with a space between each two.
 fn is_among(words: &[u8], word: &[u8]) -> bool
-    ensures { result ≡ list_any (λ other. bytes_eq other word.now) (slice_split (λ byte. byte == 32) words.now) }
+    ensures { result ≡ list_any (λ other. bytes_eq other word.now)
+        (slice_split (λ byte. byte == 32) words.now) }
 {
     words.split(|byte| *byte == b' ').any(|other| other == word)
 }

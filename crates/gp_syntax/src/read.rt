@@ -1,6 +1,6 @@
 //! The reader of commands: a text is the command whose canonical text it is.
 
-ghost use Rattle.std.specs.Prelude.{◌≡◌, ◌++◌, Some, IfOk, codes};
+ghost use Rattle.std.specs.Prelude.{◌≡◌, Some, IfOk};
 ghost use Rattle.gp_syntax.specs.declared.command.Command.{Command};
 ghost use Rattle.gp_syntax.specs.Canonical.{canonical};
 ghost use Rattle.gp_syntax.specs.Commands.{IsCommand};
@@ -30,6 +30,7 @@ fn confirmed(alloc: Global, text: &[u8], command: Command) -> Result<Option<Comm
     }
 }
 
+/// The command of a text, or none.
 #[tactic(auto, unfolding(crate::specs::Reading::read_text))]
 fn read_text(alloc: Global, text: &[u8]) -> Result<Option<Command>, NoMemory>
     ensures { IfOk result (λ found. found ≡ read_text text.now) }
@@ -40,11 +41,13 @@ fn read_text(alloc: Global, text: &[u8]) -> Result<Option<Command>, NoMemory>
     }
 }
 
-/// Reads a command without a session. Refused exactly where the text is the canonical text of no command.
+/// Reads a command without a session, of any length. Refused, as not built, exactly where the text is the canonical text of no
+/// command that a script may hold. The only other error is want of memory, which says nothing of the text.
 pub fn read_command(alloc: Global, text: &[u8]) -> Result<Command, ReadStop>
     ensures exact { GivesCommand result (read_text text.now) }
     ensures found { IfOk result (λ command. IsCommand command × (canonical command ≡ text.now)) }
-    ensures only { (command : Command) → IsCommand command → canonical command ≡ text.now → GivesCommand result (Some command) }
+    ensures only { (command : Command) → IsCommand command → canonical command ≡ text.now
+        → GivesCommand result (Some command) }
 {
     match read_text(alloc, text)? {
         Some(command) => Ok(command),
@@ -66,7 +69,9 @@ fn read_of(alloc: Global, line: &[u8]) -> Result<Option<Command>, NoMemory>
     }
 }
 
-/// Reads a line of a script. Refused exactly where it is too long, or is not `s1: ` and the canonical text of a command.
+/// Reads a line of a script, without its end. Refused, as not built, exactly where it has more than
+/// [`LONGEST_LINE`](crate::LONGEST_LINE) bytes, or is not `s1: ` and then the canonical text of a command that a script may hold.
+/// The only other error is want of memory, which says nothing of the line.
 pub fn read_line(alloc: Global, line: &[u8]) -> Result<ScriptLine, ReadStop>
     ensures exact { GivesLine result (read_of line.now) }
     ensures found { IfOk result (λ read. Reads line.now read.command) }

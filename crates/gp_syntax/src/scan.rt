@@ -43,7 +43,8 @@ pub(crate) fn after(bytes: &[u8], byte: u8) -> &[u8]
 
 /// The parts between such bytes.
 pub(crate) fn parts(alloc: Global, bytes: &[u8], byte: u8) -> Result<Vec<&[u8]>, AllocError>
-    ensures { IfOk result (λ parts. map (λ part. part.now) parts.items ≡ slice_split (λ other. other == byte) bytes.now) }
+    ensures { IfOk result (λ parts.
+        map (λ part. part.now) parts.items ≡ slice_split (λ other. other == byte) bytes.now) }
 {
     bytes.split(|other| *other == byte).collect(alloc)
 }

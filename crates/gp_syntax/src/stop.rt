@@ -10,7 +10,7 @@ use gp_base::{NoMemory, Refusal};
 pub enum ReadStop {
     /// It is refused, for this reason.
     Refused(Refusal),
-    /// Memory ran out.
+    /// Memory ran out. This says nothing of the line.
     NoMemory,
 }
 

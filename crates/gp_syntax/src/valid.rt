@@ -1,6 +1,6 @@
-//! Which commands a script may hold, but for the tables that are there.
+//! Which commands a script may hold, whatever tables are there.
 
-ghost use Rattle.std.specs.Prelude.{◌≡◌, ◌==◌, ◌&&◌, not};
+ghost use Rattle.std.specs.Prelude.{◌≡◌};
 ghost use Rattle.std.specs.List.{list_any, list_all};
 ghost use Rattle.std.specs.Str.{bytes_eq};
 ghost use Rattle.gp_syntax.specs.Commands.{is_command, all_differ, is_column, is_number, is_tuple, is_int};
@@ -12,7 +12,7 @@ use gp_base::{Cell, Column, Kind, Name, Row, Table};
 /// The greatest number of columns of a table.
 pub const MOST_COLUMNS: usize = 16;
 
-/// The greatest number of rows of one INSERT.
+/// The greatest number of rows of one `INSERT`.
 pub const MOST_ROWS: usize = 100;
 
 fn is_int(kind: Kind) -> bool
@@ -92,7 +92,7 @@ fn is_table(table: &Table) -> bool
         && all_differ(columns)
 }
 
-/// Whether a script may hold the command, but for the tables that are there.
+/// Whether a script may hold the command, whatever tables are there.
 pub(crate) fn is_command(command: &Command) -> bool
     ensures { result ≡ is_command command.now }
 {
