@@ -8,3 +8,6 @@ mod reply_text;
 pub use engine::Engine;
 pub use reply::Reply;
 pub use reply_text::write_reply;
+
+#[cfg(test)]
+mod tests;
