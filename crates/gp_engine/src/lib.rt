@@ -1,6 +1,7 @@
 //! The engine: it runs the commands of a script, one line at a time.
 #![tactic(auto)]
 
+mod built;
 mod engine;
 mod reply;
 mod reply_text;

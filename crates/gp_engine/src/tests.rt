@@ -153,7 +153,8 @@ fn replies_are_appended(rt: HostRuntime) -> Result<(), Fail> {
     let refusal = Reply::Refused(Refusal::E10);
     assert!(rt; refusal.is_refusal());
     write_reply(alloc, 40, &[], refusal, &mut out)?;
-    let due = b"before\n3 rows 5\n  NULL\n  NULL\n  -9223372036854775808\n  9223372036854775807\n  '-1'\n40 E10 no transaction\n";
+    let due =
+        b"before\n3 rows 5\n  NULL\n  NULL\n  -9223372036854775808\n  9223372036854775807\n  '-1'\n40 E10 no transaction\n";
     assert_eq!(rt; out.as_slice(), due.as_slice());
     Ok(())
 }
