@@ -1,4 +1,4 @@
--- What one line does to a state, and its reply. A refused line leaves the state as it was.
+-- What the command of one line does to a state, and the reply to it. A refused line leaves the state as it was.
 use Rattle.std.specs.Prelude.{ℕ, suc, ◌+◌, Bool, true, false, ◌&&◌, not, List, [], ◌∷◌, ◌++◌, length, Option, Some, None, if◌then◌else◌, ◌==◌}
 use Rattle.std.specs.List.{list_any, list_all, position_or_len}
 use Rattle.std.specs.Str.{bytes_eq}
@@ -21,7 +21,8 @@ is_named name table = bytes_eq table.name name
 abbrev pub fits_rows : List (List Cell) → Table → Bool
 fits_rows rows table = list_all (λ (row : List Cell). length row == length table.cols) rows
 
--- The commands that this version runs: one table in all, and rows that fit it.
+-- Which commands are built, in session 1: a CREATE TABLE while there is no table, an INSERT of rows that fit into a table that is
+-- there, a SELECT from a table that is there, and each BEGIN and COMMIT.
 abbrev pub is_built : List Table → Command → Bool
 is_built [] (Create table) = true
 is_built (first ∷ others) (Create table) = false
@@ -34,6 +35,7 @@ is_built tables (Select name) = list_any (is_named name) tables
 abbrev pub place_of : List ℕ → List Table → ℕ
 place_of name tables = position_or_len (is_named name) tables
 
+-- a refusal
 abbrev pub refused : State → Refusal → State × Reply
 refused state refusal = (state, reply.Refused refusal)
 
@@ -41,7 +43,7 @@ refused state refusal = (state, reply.Refused refusal)
 abbrev pub created : State → Table → State × Reply
 created state table = (record state { catalogue = state.catalogue ++ table ∷ [] }, reply.Created (length state.catalogue))
 
--- BEGIN: the session's next transaction, which sees the newest version
+-- BEGIN: the next transaction, counted from 1 over all sessions, which sees the newest version
 abbrev pub began : State → ℕ → State × Reply
 began state session =
     let number = length state.begun + 1 in
@@ -56,7 +58,7 @@ began state session =
       reply.Began number version,
     )
 
--- COMMIT: what the transaction sees becomes the next version
+-- COMMIT: what the transaction sees becomes the next version, also where it wrote nothing
 abbrev pub committed : State → ℕ → Running → State × Reply
 committed state session running =
     let version = length state.committed + 1 in (
@@ -68,7 +70,7 @@ committed state session running =
       reply.Committed running.transaction version,
     )
 
--- a statement that was accepted, and what its transaction sees after it
+-- the state after a statement that was accepted, where its transaction sees this from now on
 abbrev pub seen : State → ℕ → Running → Database → State
 seen state session running view =
     let statements = running.statements + 1 in
@@ -77,18 +79,19 @@ seen state session running view =
       running = record { session = session; transaction = running.transaction; statements = statements; view = view } ∷ state.running;
     }
 
--- INSERT: the rows stand behind those that the transaction sees
+-- INSERT: from now on the transaction sees these rows too, behind those that it saw in the table
 abbrev pub inserted : State → ℕ → Running → List ℕ → List (List Cell) → State × Reply
 inserted state session running name rows =
     let place = place_of name state.catalogue in
     (seen state session running (with_rows place (rows_of place running.view ++ rows) running.view), reply.Wrote (length rows))
 
--- SELECT: the rows that the transaction sees
+-- SELECT: the rows of the table as the transaction sees it
 abbrev pub selected : State → ℕ → Running → List ℕ → State × Reply
 selected state session running name =
     (seen state session running running.view, reply.Rows (rows_of (place_of name state.catalogue) running.view))
 
--- a command in a session that has no transaction, or has this one
+-- What a command that is built does in a session that has no transaction, or has this one. CREATE TABLE and BEGIN want a session with
+-- none, the other commands a session with one.
 abbrev pub answered : State → ℕ → Option Running → Command → State × Reply
 answered state session None (Create table) = created state table
 answered state session None Begin = began state session
@@ -101,13 +104,14 @@ answered state session (Some running) Commit = committed state session running
 answered state session (Some running) (Insert name rows) = inserted state session running name rows
 answered state session (Some running) (Select name) = selected state session running name
 
--- The outcome of a line with the line among those that were accepted, unless it was refused.
+-- the outcome of a line, with the line among those that were accepted unless it was refused
 abbrev pub recorded : ℕ → ℕ → Command → State × Reply → State × Reply
 recorded line session command (state, reply) =
     if is_refusal reply then (state, reply)
     else (record state { accepted = record { line = line; session = session; command = command } ∷ state.accepted }, reply)
 
--- What a command does at a line in a session, and its reply. A command that is not built is refused first.
+-- What a command does at a line in a session, and the reply to it. A command that is not built is refused as such, whether or not the
+-- session has a transaction.
 abbrev pub event : State → ℕ → ℕ → Command → State × Reply
 event state line session command =
     if (session == 1) && is_built state.catalogue command

@@ -11,7 +11,7 @@ use Rattle.gp_engine.specs.State.{State, empty_state}
 use Rattle.gp_engine.specs.Event.{event, refused}
 use Rattle.gp_engine.specs.Replies.{is_refusal, line_text}
 
--- at most this many lines that are answered stand before a line that is run
+-- A line is run where at most this many lines were answered before it. Each later line is refused as not built.
 abbrev pub most_before : ℕ
 most_before = 98
 
@@ -21,42 +21,44 @@ pub record Told : Type 0 where
   pub tables : List Table
   pub reply : Reply
 
--- a line that holds this command, or none, in the one session
+-- what a line does that holds this command of session 1, or that holds none
 abbrev pub outcome : State → ℕ → Option Command → State × Reply
 outcome state number None = refused state NotBuilt
 outcome state number (Some command) = event state number 1 command
 
--- what a line does that may be run, or may not
+-- what a line does that is run, or that stands too late to be run
 abbrev pub outcome_if : Bool → State → ℕ × List ℕ → State × Reply
 outcome_if runs state line = if runs then outcome state line.0 (read_of line.1) else refused state NotBuilt
 
--- what a line does, when so many answered lines stand before it
+-- what a line does where so many lines were answered before it
 abbrev pub line_outcome : ℕ → State → ℕ × List ℕ → State × Reply
 line_outcome before state line = outcome_if (nat_le before most_before) state line
 
--- the replies to lines, when so many stand before them
+-- the replies to these lines in order, where so many lines were answered before them
 abbrev pub replies_from : ℕ → State → List (ℕ × List ℕ) → List Told
 replies_from before state [] = []
 replies_from before state (line ∷ lines) =
     let next = line_outcome before state line in
     record { number = line.0; tables = next.0.catalogue; reply = next.1 } ∷ replies_from (before + 1) next.0 lines
 
--- the state after lines
+-- the state after these lines, where so many lines were answered before them
 abbrev pub state_from : ℕ → State → List (ℕ × List ℕ) → State
 state_from before state [] = state
 state_from before state (line ∷ lines) = state_from (before + 1) (line_outcome before state line).0 lines
 
--- the history of a script: its replies, and its last state
+-- the replies to the lines of a script
 abbrev pub replies_of : List ℕ → List Told
 replies_of script = replies_from 0 empty_state (script_lines script)
 
+-- the state after the last line of a script
 abbrev pub state_of : List ℕ → State
 state_of script = state_from 0 empty_state (script_lines script)
 
--- the text of replies
+-- the text of one reply, with the number of its line
 abbrev pub told_text : Told → List ℕ
 told_text told = line_text told.number told.tables told.reply
 
+-- the texts of replies, one after another
 abbrev pub replies_text : List Told → List ℕ
 replies_text replies = flat_map told_text replies
 

@@ -1,6 +1,6 @@
--- What the engine keeps of a state: the tables, how many versions and transactions there are, the one session's transaction, and the
--- rows of the one table that it sees, or that the newest version has where there is no transaction. The rest of a state follows from
--- its lines and is kept nowhere.
+-- What the engine keeps of a state: the tables, how many versions and transactions there are, the transaction of session 1, and the
+-- rows of the one table, as that transaction sees them, or as the newest version has them where there is none. The engine keeps
+-- nothing else of a state: no older version, and nothing that a transaction saw before.
 use Rattle.std.specs.Prelude.{◌≡◌, ℕ, ◌+◌, ◌<◌, Bool, true, false, ◌&&◌, List, [], ◌∷◌, ◌++◌, length, Option, Some, None, option_map, Result, Ok, Err, if◌then◌else◌, ◌==◌}
 use Rattle.gp_base.specs.declared.cell.Cell.{Cell}
 use Rattle.gp_base.specs.declared.refusal.Refusal.TheVariants.{NotBuilt, E09, E10}
@@ -13,6 +13,7 @@ use Rattle.gp_engine.specs.State.{State, Running, Accepted, Database, rows_of, r
 use Rattle.gp_engine.specs.Replies.{is_refusal}
 use Rattle.gp_engine.specs.Event.{event, is_built}
 
+-- what the engine keeps
 pub record Kept : Type 0 where
   -- the tables, in order of creation
   pub tables : List Table
@@ -22,25 +23,27 @@ pub record Kept : Type 0 where
   pub versions : ℕ
   -- how many transactions began
   pub transactions : ℕ
-  -- the transaction of session 1
+  -- the number of the transaction of session 1, where it has one
   pub running : Option ℕ
-  -- the rows of the first table
+  -- the rows of the first table, as session 1 sees them
   pub rows : List (List Cell)
 
--- the line that was accepted last
+-- the number of the line that was accepted last, or 0
 abbrev pub last_line : List Accepted → ℕ
 last_line [] = 0
 last_line (accepted ∷ older) = accepted.line
 
--- what session 1 sees: its transaction's view, or the newest version
+-- what a session sees: what its transaction sees, or the newest version where it has none
 abbrev pub sees : Option Running → List Database → Database
 sees None committed = newest committed
 sees (Some running) committed = running.view
 
+-- the number of a transaction, where there is one
 abbrev pub transaction_of : Option Running → Option ℕ
 transaction_of None = None
 transaction_of (Some running) = Some running.transaction
 
+-- what the engine keeps of a state
 abbrev pub kept : State → Kept
 kept state = record {
   tables = state.catalogue;
@@ -51,12 +54,13 @@ kept state = record {
   rows = rows_of 0 (sees (running_of 1 state.running) state.committed);
 }
 
--- The reply to a line is that of its event, and what is kept after it is kept of the event's state, whatever state the engine stood for.
+-- The engine follows the event of a line: whatever state the engine kept before the line, the answer is the event's reply, and after
+-- the line it keeps the event's state.
 pub record Follows (old new : Kept) (line session : ℕ) (command : Command) (answer : Reply) : Type 0 where
   pub reply : (state : State) → old ≡ kept state → answer ≡ (event state line session command).1
   pub state : (state : State) → old ≡ kept state → new ≡ kept (event state line session command).0
 
--- what a command does to what is kept
+-- what a command that is built does to what is kept, but for the number of the line, where there is no transaction or this one
 abbrev pub kept_answer : Kept → Option ℕ → Command → Kept × Reply
 kept_answer k None (Create table) = (record k { tables = k.tables ++ table ∷ [] }, reply.Created (length k.tables))
 kept_answer k None Begin = (record k { transactions = k.transactions + 1; running = Some (k.transactions + 1) }, reply.Began (k.transactions + 1) k.versions)
@@ -69,10 +73,11 @@ kept_answer k (Some t) Commit = (record k { versions = k.versions + 1; running =
 kept_answer k (Some t) (Insert name rows) = (record k { rows = k.rows ++ rows }, reply.Wrote (length rows))
 kept_answer k (Some t) (Select name) = (k, reply.Rows k.rows)
 
--- with the line, unless it was refused
+-- the same, with the number of the line unless it was refused
 abbrev pub kept_line : ℕ → Kept × Reply → Kept × Reply
 kept_line line (k, answer) = if is_refusal answer then (k, answer) else (record k { line = line }, answer)
 
+-- what a command at a line in a session does to what is kept, and the reply to it
 abbrev pub kept_event : Kept → ℕ → ℕ → Command → Kept × Reply
 kept_event k line session command =
     if (session == 1) && is_built k.tables command then kept_line line (kept_answer k k.running command) else (k, reply.Refused NotBuilt)

@@ -1,4 +1,4 @@
--- The texts of replies.
+-- Which replies are refusals, and the texts of replies: each is one line, an answer of rows one more for each row.
 use Rattle.std.specs.Prelude.{ℕ, Bool, true, false, List, [], ◌∷◌, ◌++◌, length, codes, Option, Some, None, slice_get}
 use Rattle.std.specs.List.{concat, flat_map}
 use Rattle.std.specs.Fmt.{decimal}
@@ -9,6 +9,7 @@ use Rattle.gp_base.specs.Texts.{row_text, refusal_text}
 use Rattle.gp_engine.specs.declared.reply.Reply.{Reply}
 use Rattle.gp_engine.specs.declared.reply.Reply.TheVariants.{Created, Began, Wrote, Rows, Committed, Refused}
 
+-- whether a reply refuses its line
 abbrev pub is_refusal : Reply → Bool
 is_refusal (Created table) = false
 is_refusal (Began t version) = false
@@ -17,14 +18,16 @@ is_refusal (Rows rows) = false
 is_refusal (Committed t version) = false
 is_refusal (Refused refusal) = true
 
+-- the end of a line: a line feed
 abbrev pub newline : List ℕ
 newline = 10 ∷ []
 
+-- the name of a table, or nothing where there is none
 abbrev pub name_of : Option Table → List ℕ
 name_of None = []
 name_of (Some table) = table.name
 
--- the name of the table at a place, or nothing where there is none
+-- the name of the table at a place, counted from 0, or nothing where there is none
 abbrev pub name_at : ℕ → List Table → List ℕ
 name_at place tables = name_of (slice_get tables place)
 
@@ -32,7 +35,7 @@ name_at place tables = name_of (slice_get tables place)
 abbrev pub row_line : List Cell → List ℕ
 row_line row = concat (codes "  " ∷ row_text row ∷ newline ∷ [])
 
--- A reply as text, after its line number; rows stand in row order, each as often as it occurs.
+-- The text of a reply without the number of its line, where these tables are there. Rows stand in row order, each as often as it occurs.
 abbrev pub reply_text : List Table → Reply → List ℕ
 reply_text tables (Created table) = concat (codes "created " ∷ name_at table tables ∷ newline ∷ [])
 reply_text tables (Began t version) = concat (codes "begin " ∷ decimal t ∷ codes " at " ∷ decimal version ∷ newline ∷ [])

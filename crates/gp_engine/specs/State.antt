@@ -1,5 +1,6 @@
 -- The state of a history of transactions under snapshot isolation (Berenson and others, SIGMOD 1995): what was accepted, what each
--- version holds, and what each transaction sees. Lists that grow have their newest entry first, and the newest entry of a key counts.
+-- version holds, and what each transaction sees. A list that grows with the script has its newest entry first; where several entries
+-- have the same table, transaction or session, the first of them counts. Tables alone stand in the order of creation.
 use Rattle.std.specs.Prelude.{ℕ, Bool, not, List, [], ◌∷◌, Option, Some, None, if◌then◌else◌, ◌==◌, filter}
 use Rattle.gp_base.specs.declared.cell.Cell.{Cell}
 use Rattle.gp_base.specs.declared.table.Table.{Table}
@@ -14,40 +15,40 @@ abbrev pub rows_of : ℕ → Database → List (List Cell)
 rows_of place [] = []
 rows_of place (entry ∷ entries) = if entry.0 == place then entry.1 else rows_of place entries
 
--- the database with these rows in a table
+-- the database with these rows in a table, in place of those that it had there
 abbrev pub with_rows : ℕ → List (List Cell) → Database → Database
 with_rows place rows database = (place, rows) ∷ database
 
--- a line that was accepted
+-- a line that was accepted: its number, its session and its command
 pub record Accepted : Type 0 where
   pub line : ℕ
   pub session : ℕ
   pub command : Command
 
--- how a transaction stands
+-- how a transaction stands: active, or committed as a version
 pub data Fate : Type 0 where
   Active : Fate
   Committed : ℕ → Fate
 
--- what a transaction saw after its accepted statement of this number, or at its beginning for number 0
+-- What a transaction saw after one of its statements. Its INSERTs and SELECTs that were accepted are numbered from 1; number 0 is its BEGIN.
 pub record View : Type 0 where
   pub transaction : ℕ
   pub statement : ℕ
   pub database : Database
 
--- a session with a transaction: how many statements were accepted in it, and what it sees
+-- the transaction of a session, while it is active: how many statements of it were accepted, and what it sees
 pub record Running : Type 0 where
   pub session : ℕ
   pub transaction : ℕ
   pub statements : ℕ
   pub view : Database
 
--- The transaction of a session, where it has one.
+-- the transaction of a session, where it has one
 abbrev pub running_of : ℕ → List Running → Option Running
 running_of session [] = None
 running_of session (running ∷ others) = if running.session == session then Some running else running_of session others
 
--- the others, when the transaction of a session ends
+-- the transactions of the other sessions
 abbrev pub without_session : ℕ → List Running → List Running
 without_session session running = filter (λ (other : Running). not (other.session == session)) running
 
@@ -57,7 +58,7 @@ pub record State : Type 0 where
   pub catalogue : List Table
   -- the lines that were accepted
   pub accepted : List Accepted
-  -- the databases of the versions from 1 on; version 0 is empty
+  -- the database of each version from 1 on; version 0 is empty
   pub committed : List Database
   -- the begin version of each transaction from number 1 on
   pub begun : List ℕ
@@ -65,14 +66,14 @@ pub record State : Type 0 where
   pub fates : List (ℕ × Fate)
   -- what each transaction saw
   pub views : List View
-  -- the sessions that have a transaction
+  -- the transactions of the sessions that have one
   pub running : List Running
 
--- before the first line
+-- the state before the first line
 abbrev pub empty_state : State
 empty_state = record { catalogue = []; accepted = []; committed = []; begun = []; fates = []; views = []; running = [] }
 
--- the database of the newest version
+-- the database of the newest version, which is version 0 where there is no other
 abbrev pub newest : List Database → Database
 newest [] = []
 newest (database ∷ older) = database

@@ -1,15 +1,15 @@
-//! The engine: what it keeps of the history so far, and what a line does.
+//! The engine: what it keeps of the history so far, and what a line does to it.
 
-ghost use Rattle.std.specs.Prelude.{◌≡◌, ◌<◌, ◌≤◌, ◌+◌, ◌^◌, ◌++◌, ◌∷◌, [], ◌&&◌, ◌==◌, IfOk, OnOk, OnErr, length, Some, None, true};
-ghost use Rattle.std.specs.List.{list_all, list_any};
+ghost use Rattle.std.specs.Prelude.{◌≡◌, ◌<◌, ◌≤◌, ◌+◌, ◌^◌, ◌++◌, ◌∷◌, [], IfOk, OnOk, OnErr, length, Some, None, true};
 ghost use Rattle.gp_syntax.specs.Commands.{IsCommand};
-ghost use Rattle.gp_engine.specs.Event.{is_built, is_named, fits_rows};
+ghost use Rattle.gp_engine.specs.Event.{is_built};
 ghost use Rattle.gp_engine.specs.Kept.{Follows, Kept, kept, kept_answer, kept_line, kept_event};
 ghost use Rattle.gp_engine.specs.Replies.{is_refusal};
 ghost use Rattle.gp_engine.specs.State.{empty_state};
 
+use crate::built::is_built;
 use crate::reply::Reply;
-use gp_base::{Items, Name, NoMemory, Refusal, Row, Table, TryCopy};
+use gp_base::{Items, NoMemory, Refusal, Row, Table, TryCopy};
 use gp_syntax::Command;
 use std::alloc::Global;
 use std::marker::Model;
@@ -37,46 +37,6 @@ impl Model for Engine {
     ghost invariant = { λ a. (length a.tables ≤ 1) × (a.versions ≤ a.line) × (a.transactions ≤ a.line) };
 }
 
-fn is_named(name: &Name, table: &Table) -> bool
-    ensures { result ≡ is_named name.now table.now }
-{
-    table.name == *name
-}
-
-fn fits_rows(rows: &Items<Row>, table: &Table) -> bool
-    ensures { result ≡ fits_rows rows.now table.now }
-{
-    let width = table.cols.as_slice().len();
-    rows.as_slice().iter().all(|row| row.cells().len() == width)
-}
-
-fn takes_rows(tables: &[Table], name: &Name, rows: &Items<Row>) -> bool
-    ensures { result ≡ list_any (λ table. is_named name.now table && fits_rows rows.now table) tables.now }
-{
-    tables
-        .iter()
-        .any(|table| is_named(name, table) && fits_rows(rows, table))
-}
-
-fn is_there(tables: &[Table], name: &Name) -> bool
-    ensures { result ≡ list_any (is_named name.now) tables.now }
-{
-    tables.iter().any(|table| is_named(name, table))
-}
-
-/// Whether this version runs the command over these tables.
-fn is_built(tables: &[Table], command: &Command) -> bool
-    ensures { result ≡ is_built tables.now command.now }
-{
-    match command {
-        Command::Create { table: _ } => tables.is_empty(),
-        Command::Begin => true,
-        Command::Commit => true,
-        Command::Insert { table, rows } => takes_rows(tables, table, rows),
-        Command::Select { table } => is_there(tables, table),
-    }
-}
-
 impl Engine {
     /// An engine before the first line.
     pub fn new(alloc: Global) -> Engine
@@ -101,7 +61,9 @@ impl Engine {
     }
 }
 
+// One function for each command that is accepted.
 impl Engine {
+    /// CREATE TABLE: the one table.
     fn create(&mut self, line: u32, table: Table) -> Result<Reply, NoMemory>
         requires first { self.old.tables ≡ [] }
         requires above { self.old.line < line }
@@ -114,34 +76,34 @@ impl Engine {
         Ok(Reply::Created { table: 0 })
     }
 
+    /// BEGIN: the next transaction, at the newest version.
     fn begin(&mut self, line: u32) -> Reply
         requires { self.old.line < line }
         ensures kept { self.new ≡ record self.old { transactions = self.old.transactions + 1; running = Some (self.old.transactions + 1); line = line } }
         ensures reply { result ≡ Reply.Began (self.old.transactions + 1) self.old.versions }
     {
+        let t = self.transactions + 1;
+        let version = self.versions;
         self.line = line;
-        self.transactions += 1;
-        self.running = Some(self.transactions);
-        Reply::Began {
-            t: self.transactions,
-            version: self.versions,
-        }
+        self.transactions = t;
+        self.running = Some(t);
+        Reply::Began { t, version }
     }
 
+    /// COMMIT: the next version.
     fn commit(&mut self, line: u32, t: u32) -> Reply
         requires { self.old.line < line }
         ensures kept { self.new ≡ record self.old { versions = self.old.versions + 1; running = None; line = line } }
         ensures reply { result ≡ Reply.Committed t (self.old.versions + 1) }
     {
+        let version = self.versions + 1;
         self.line = line;
-        self.versions += 1;
+        self.versions = version;
         self.running = None;
-        Reply::Committed {
-            t,
-            version: self.versions,
-        }
+        Reply::Committed { t, version }
     }
 
+    /// INSERT: the rows stand behind those that are there.
     fn insert(&mut self, line: u32, rows: Items<Row>) -> Result<Reply, NoMemory>
         requires few { length rows < 2 ^ 32 }
         requires above { self.old.line < line }
@@ -155,6 +117,7 @@ impl Engine {
         Ok(Reply::Wrote { rows: count })
     }
 
+    /// SELECT: the rows that are there.
     fn select(&mut self, line: u32) -> Result<Reply, NoMemory>
         requires { self.old.line < line }
         ensures ok { IfOk result (λ reply. (self.new ≡ record self.old { line = line }) × (reply ≡ Reply.Rows self.old.rows)) }
@@ -164,7 +127,10 @@ impl Engine {
         self.line = line;
         Ok(Reply::Rows(rows))
     }
+}
 
+// A line, by whether its session has a transaction.
+impl Engine {
     /// A command of a session that has no transaction.
     fn outside(&mut self, line: u32, command: Command) -> Result<Reply, NoMemory>
         requires built { is_built self.old.tables command ≡ true }
@@ -197,6 +163,7 @@ impl Engine {
         }
     }
 
+    /// The command of a line, where it is built.
     fn step(&mut self, line: u32, session: u32, command: Command) -> Result<Reply, NoMemory>
         requires read { IsCommand command }
         requires above { self.old.line < line }
@@ -213,7 +180,9 @@ impl Engine {
         }
     }
 
-    /// Runs the command of a line in a session, and gives its reply. The line is above all lines before it, and the command was read.
+    /// Runs the command of a line in a session, and gives its reply. The number of the line is above those of all lines that were
+    /// accepted before it, and the command is one of a script, as the reader of commands gives them. A line that is refused, and one
+    /// that finds no memory, leaves the engine as it was.
     pub fn line(&mut self, line: u32, session: u32, command: Command) -> Result<Reply, NoMemory>
         requires read { IsCommand command }
         requires above { self.old.line < line }
