@@ -1,7 +1,6 @@
 -- What is kept of an event's state is what the event does to what is kept.
-use Rattle.std.proofs.Common.{◌≡◌, ℕ, suc, ◌+◌, ◌≤◌, ◌<◌, ◌^◌, nat_le, Bool, true, false, cond, not, eqb, ◌&&◌, List, [], ◌∷◌, ◌++◌, length, Option, Some, None, refl, sym, ap, ◌∙◌, subst, arith, add-one, filter, inl, inr}
-use Rattle.std.specs.List.{list_all, list_any, position_or_len}
-use Rattle.std.specs.Str.{bytes_eq}
+use Rattle.std.proofs.Common.{◌≡◌, ℕ, ◌+◌, ◌≤◌, ◌<◌, ◌^◌, nat_le, true, false, eqb, ◌&&◌, List, [], ◌∷◌, length, Option, Some, None, refl, sym, ap, ◌∙◌, subst, arith, add-one, inl, inr}
+use Rattle.std.specs.List.{list_all, list_any}
 use Rattle.std.proofs.lemmas.Bool.{cases_Bool, and_parts, eqb-true, both_ways, leb-true, or_cases, or_left, or_right}
 use Rattle.gp_base.specs.declared.cell.Cell.{Cell}
 use Rattle.gp_base.specs.declared.refusal.Refusal.{Refusal}
@@ -11,12 +10,12 @@ use Rattle.gp_syntax.specs.declared.command.Command.{Command}
 use Rattle.gp_syntax.specs.declared.command.Command.TheVariants.{Create, Begin, Commit, Insert, Select}
 use Rattle.gp_engine.specs.declared.reply.Reply.{Reply}
 use Rattle.gp_engine.specs.declared.reply.Reply.TheVariants as reply
-use Rattle.gp_engine.specs.State.{State, Running, Accepted, Database, rows_of, with_rows, running_of, without_session, newest}
-use Rattle.gp_engine.specs.Event.{event, answered, recorded, is_built, is_named, fits_rows, place_of, refused}
+use Rattle.gp_engine.specs.State.{State, Running, Database, rows_of, with_rows, running_of, without_session}
+use Rattle.gp_engine.specs.Event.{event, answered, recorded, is_built, is_named, fits_rows, place_of}
 use Rattle.gp_syntax.specs.Commands.{is_command, is_tuple, most_rows}
 use Rattle.gp_syntax.specs.Names.{is_name}
 use Rattle.gp_engine.specs.Replies.{is_refusal}
-use Rattle.gp_engine.specs.Kept.{Follows, Kept, kept, kept_answer, kept_line, kept_event, last_line, sees, transaction_of}
+use Rattle.gp_engine.specs.Kept.{Follows, Kept, kept, kept_answer, kept_line, kept_event, transaction_of}
 
 -- what is kept of an outcome
 abbrev pub kept_outcome : State × Reply → Kept × Reply

@@ -1,5 +1,5 @@
 -- What the command of one line does to a state, and the reply to it. A refused line leaves the state as it was.
-use Rattle.std.specs.Prelude.{ℕ, suc, ◌+◌, Bool, true, false, ◌&&◌, not, List, [], ◌∷◌, ◌++◌, length, Option, Some, None, if◌then◌else◌, ◌==◌}
+use Rattle.std.specs.Prelude.{ℕ, ◌+◌, Bool, true, false, ◌&&◌, List, [], ◌∷◌, ◌++◌, length, Option, Some, None, if◌then◌else◌, ◌==◌}
 use Rattle.std.specs.List.{list_any, list_all, position_or_len}
 use Rattle.std.specs.Str.{bytes_eq}
 use Rattle.gp_base.specs.declared.cell.Cell.{Cell}
@@ -11,7 +11,7 @@ use Rattle.gp_syntax.specs.declared.command.Command.TheVariants.{Create, Begin, 
 use Rattle.gp_engine.specs.declared.reply.Reply.{Reply}
 use Rattle.gp_engine.specs.declared.reply.Reply.TheVariants as reply
 use Rattle.gp_engine.specs.Replies.{is_refusal}
-use Rattle.gp_engine.specs.State.{State, Database, Running, Accepted, View, Active, Committed, rows_of, with_rows, running_of, without_session, newest}
+use Rattle.gp_engine.specs.State.{State, Database, Running, Active, Committed, rows_of, with_rows, running_of, without_session, newest}
 
 -- whether a table has this name
 abbrev pub is_named : List ℕ → Table → Bool

@@ -1,7 +1,7 @@
 -- What the engine keeps of a state: the tables, how many versions and transactions there are, the transaction of session 1, and the
 -- rows of the one table, as that transaction sees them, or as the newest version has them where there is none. The engine keeps
 -- nothing else of a state: no older version, and nothing that a transaction saw before.
-use Rattle.std.specs.Prelude.{◌≡◌, ℕ, ◌+◌, ◌<◌, Bool, true, false, ◌&&◌, List, [], ◌∷◌, ◌++◌, length, Option, Some, None, option_map, Result, Ok, Err, if◌then◌else◌, ◌==◌}
+use Rattle.std.specs.Prelude.{◌≡◌, ℕ, ◌+◌, ◌&&◌, List, [], ◌∷◌, ◌++◌, length, Option, Some, None, if◌then◌else◌, ◌==◌}
 use Rattle.gp_base.specs.declared.cell.Cell.{Cell}
 use Rattle.gp_base.specs.declared.refusal.Refusal.TheVariants.{NotBuilt, E09, E10}
 use Rattle.gp_base.specs.declared.table.Table.{Table}

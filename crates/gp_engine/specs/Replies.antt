@@ -1,5 +1,5 @@
 -- Which replies are refusals, and the texts of replies: each is one line, an answer of rows one more for each row.
-use Rattle.std.specs.Prelude.{ℕ, Bool, true, false, List, [], ◌∷◌, ◌++◌, length, codes, Option, Some, None, slice_get}
+use Rattle.std.specs.Prelude.{ℕ, Bool, true, false, List, [], ◌∷◌, length, codes, Option, Some, None, slice_get}
 use Rattle.std.specs.List.{concat, flat_map}
 use Rattle.std.specs.Fmt.{decimal}
 use Rattle.gp_base.specs.declared.cell.Cell.{Cell}

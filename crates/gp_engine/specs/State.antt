@@ -1,7 +1,7 @@
 -- The state of a history of transactions under snapshot isolation (Berenson and others, SIGMOD 1995): what was accepted, what each
 -- version holds, and what each transaction sees. A list that grows with the script has its newest entry first; where several entries
 -- have the same table, transaction or session, the first of them counts. Tables alone stand in the order of creation.
-use Rattle.std.specs.Prelude.{ℕ, Bool, not, List, [], ◌∷◌, Option, Some, None, if◌then◌else◌, ◌==◌, filter}
+use Rattle.std.specs.Prelude.{ℕ, not, List, [], ◌∷◌, Option, Some, None, if◌then◌else◌, ◌==◌, filter}
 use Rattle.gp_base.specs.declared.cell.Cell.{Cell}
 use Rattle.gp_base.specs.declared.table.Table.{Table}
 use Rattle.gp_syntax.specs.declared.command.Command.{Command}
