@@ -29,10 +29,14 @@ IsDueFor script holds misses faults (Replies bytes) =
     IsQuiet misses × IsQuiet faults × (length bytes ≤ longest_script) × IfSome holds (λ files. content script files ≡ Some bytes)
 IsDueFor script holds misses faults Nothing = IsQuiet misses × IsQuiet faults
 
+-- the status that is due, or 5 where the sink failed, or 8 where memory ran out
+abbrev pub IsOrStops : ℕ → ℕ → Type 0
+IsOrStops status result = (result ≡ status) ⊎ ((result ≡ 5) ⊎ (result ≡ 8))
+
 -- How a text was said that is due under a status: all of it was taken under that status; under 5, where the count of faults rose or
 -- stands at its greatest, and under 8, where memory ran out, some front of it was.
 pub record Said (text : List ℕ) (status : ℕ) (taken taken' : Option (List ℕ)) (faults faults' result : ℕ) : Type 0 where
-  pub which : (result ≡ status) ⊎ ((result ≡ 5) ⊎ (result ≡ 8))
+  pub which : IsOrStops status result
   pub front : TookFront text taken taken'
   pub all : result ≡ status → taken' ≡ followed_by taken text
   pub calm : result ≡ status → faults' ≡ faults
@@ -50,3 +54,11 @@ abbrev pub Ends : Option Form → Option Files → Noted → Noted → Option (L
 Ends None holds misses faults taken taken' count count' result =
     IsQuiet misses × IsQuiet faults × Said (due_text Usage) (due_status Usage) taken taken' count count' result
 Ends (Some form) holds misses faults taken taken' count count' result = EndsFor form.script holds misses faults taken taken' count count' result
+
+-- a fact about the name of the script and the files, where the words have a form and the shelf tells its files
+abbrev pub IfTold : Option Form → Option Files → (List ℕ → Files → Type 0) → Type 0
+IfTold form holds P = IfSome form (λ (f : Form). IfSome holds (λ files. P f.script files))
+
+-- nothing was noted of a script that is read
+abbrev pub AllQuiet : Noted → Noted → ℕ → ℕ → Type 0
+AllQuiet misses faults count count' = IsQuiet misses × IsQuiet faults × (count' ≡ count)

@@ -1,10 +1,12 @@
 //! The whole call: from the words of the command line to the bytes written and the status.
 
-ghost use Rattle.std.specs.Prelude.{◌≡◌, ◌⊎◌, ◌∷◌, [], ◌<◌, ◌≤◌, IfOk, length, map, string_bytes, codes, if◌then◌else◌};
-ghost use Rattle.std.specs.List.{concat, flat_map};
+ghost use Rattle.std.specs.Prelude.{◌≡◌, ◌⊎◌, List, ℕ, ◌<◌, ◌≤◌, IfOk, length, map, string_bytes, Some, None, IsSomeAnd, if◌then◌else◌};
+ghost use Rattle.gp_io.specs.Bytes.{Rose};
+ghost use Rattle.gp_io.specs.Files.{content};
+ghost use Rattle.gp_io.specs.Notes.{Notes};
 ghost use Rattle.gp_engine.specs.History.{replies_of, replies_text, has_refusal};
-ghost use Rattle.gprom_cli.specs.Forms.{form_of, message, usage_text};
-ghost use Rattle.gprom_cli.specs.Outcome.{Ends, EndsFor, Said};
+ghost use Rattle.gprom_cli.specs.Forms.{form_of, message, longest_script};
+ghost use Rattle.gprom_cli.specs.Outcome.{Ends, EndsFor, Said, IsOrStops, IfTold};
 
 use crate::form::form_of;
 use crate::script::{LONGEST_SCRIPT, run_script};
@@ -110,8 +112,8 @@ fn run<H: Shelf, K: Sink>(alloc: Global, name: &str, shelf: &mut H, out: &mut K)
     }
 }
 
-/// All that the program does: reads the words, does what they ask for and gives the status.
-pub fn gprom<H: Shelf, K: Sink>(alloc: Global, words: &[String], shelf: &mut H, out: &mut K) -> u8
+/// Does what the words ask for.
+fn work<H: Shelf, K: Sink>(alloc: Global, words: &[String], shelf: &mut H, out: &mut K) -> u8
     ensures end { Ends (form_of (map string_bytes words.now)) (H.holds shelf.old)
         (record { before = H.misses shelf.old; after = H.misses shelf.new })
         (record { before = H.read_faults shelf.old; after = H.read_faults shelf.new })
@@ -123,4 +125,44 @@ pub fn gprom<H: Shelf, K: Sink>(alloc: Global, words: &[String], shelf: &mut H, 
         Some(form) => run(alloc, form.script, shelf, out),
         None => say(out, USAGE, NO_FORM),
     }
+}
+
+/// All that the program does: reads the words, does what they ask for and gives the status.
+///
+/// 0: each line was answered. 1: so it was, and some line was refused. 2: the words are no form. 3: the script is not there. 4: it
+/// cannot be read. 5: the sink failed. 6: the script is too long. 8: memory ran out, which alone may come at any place.
+pub fn gprom<H: Shelf, K: Sink>(alloc: Global, words: &[String], shelf: &mut H, out: &mut K) -> u8
+    // The whole: what was due, and what the sink took of it.
+    ensures end { Ends (form_of (map string_bytes words.now)) (H.holds shelf.old)
+        (record { before = H.misses shelf.old; after = H.misses shelf.new })
+        (record { before = H.read_faults shelf.old; after = H.read_faults shelf.new })
+        (K.taken out.old) (K.taken out.new) (K.faults out.old) (K.faults out.new) result }
+
+    // Over a shelf that tells its files: the replies of the history of the script, and exactly when the script is missing or too long.
+    ensures answered { IfTold (form_of (map string_bytes words.now)) (H.holds shelf.old) (λ script files. (bytes : List ℕ) →
+        content script files ≡ Some bytes → length bytes ≤ longest_script → H.read_faults shelf.new ≡ H.read_faults shelf.old →
+        Said (replies_text (replies_of bytes)) (if has_refusal (replies_of bytes) then 1 else 0)
+        (K.taken out.old) (K.taken out.new) (K.faults out.old) (K.faults out.new) result) }
+    ensures not_there { IfTold (form_of (map string_bytes words.now)) (H.holds shelf.old) (λ script files.
+        content script files ≡ None → H.read_faults shelf.new ≡ H.read_faults shelf.old → IsOrStops 3 result) }
+    ensures too_long { IfTold (form_of (map string_bytes words.now)) (H.holds shelf.old) (λ script files. (bytes : List ℕ) →
+        content script files ≡ Some bytes → longest_script < length bytes → H.read_faults shelf.new ≡ H.read_faults shelf.old →
+        IsOrStops 6 result) }
+
+    // The cause of each other status, over any shelf and sink.
+    ensures usage { result ≡ 2 → form_of (map string_bytes words.now) ≡ None }
+    ensures no_form { form_of (map string_bytes words.now) ≡ None → IsOrStops 2 result }
+    ensures absent { result ≡ 3 → IsSomeAnd (form_of (map string_bytes words.now))
+        (λ form. Notes form.script (H.misses shelf.old) (H.misses shelf.new)) }
+    ensures unreadable { result ≡ 4 → IsSomeAnd (form_of (map string_bytes words.now))
+        (λ form. Notes form.script (H.read_faults shelf.old) (H.read_faults shelf.new)) }
+    ensures unwritten { result ≡ 5 → Rose (K.faults out.old) (K.faults out.new) }
+    ensures quiet { (result < 3) ⊎ (result ≡ 6) → (H.misses shelf.new ≡ H.misses shelf.old)
+        × (H.read_faults shelf.new ≡ H.read_faults shelf.old) × (K.faults out.new ≡ K.faults out.old) }
+
+    // No file is changed, and none is tried to be.
+    ensures files { H.holds shelf.new ≡ H.holds shelf.old }
+    ensures replaces { H.replace_faults shelf.new ≡ H.replace_faults shelf.old }
+{
+    work(alloc, words, shelf, out)
 }
