@@ -21,7 +21,7 @@ pub use row::Row;
 pub use row_text::{CellText, write_row};
 pub use table::{Column, Kind, Table};
 pub use text::{Name, Text};
-pub use writing::{TextOf, push_all, write_joined};
+pub use writing::{TextOf, push_all, text_of_pieces, write_joined};
 
 #[cfg(test)]
 mod tests;

@@ -1,6 +1,6 @@
 //! Rows, which are lists of cells.
 
-ghost use Rattle.std.specs.Prelude.{◌≡◌, ◌++◌, ◌∷◌, [], IfOk, OnOk, OnErr};
+ghost use Rattle.std.specs.Prelude.{◌≡◌, ◌++◌, ◌∷◌, [], OnOk, OnErr};
 ghost use Rattle.gp_base.specs.Cells.{AreInRange};
 
 use crate::cell::Cell;

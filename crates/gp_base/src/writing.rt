@@ -1,6 +1,6 @@
 //! Writers of texts. Where memory runs out, a writer leaves some front of its text behind what was there.
 
-ghost use Rattle.std.specs.Prelude.{◌≡◌, ◌++◌, OnOk, OnErr, List, ℕ, ◌∷◌};
+ghost use Rattle.std.specs.Prelude.{◌≡◌, ◌++◌, IfOk, OnOk, OnErr, List, ℕ, ◌∷◌};
 ghost use Rattle.std.specs.List.{flat_map};
 ghost use Rattle.gp_base.specs.Writing.{HasFront, joined};
 
@@ -16,6 +16,15 @@ pub fn push_all(out: &mut Vec<u8>, pieces: &[&[u8]]) -> Result<(), NoMemory>
         out.extend_from_slice(piece)?;
     }
     Ok(())
+}
+
+/// One text of the pieces in order.
+pub fn text_of_pieces(alloc: Global, pieces: &[&[u8]]) -> Result<Vec<u8>, NoMemory>
+    ensures { IfOk result (λ text. text.items ≡ flat_map (λ piece. piece.now) pieces.now) }
+{
+    let mut text = Vec::new(alloc);
+    push_all(&mut text, pieces)?;
+    Ok(text)
 }
 
 /// A way to write values of a type, each as one text.

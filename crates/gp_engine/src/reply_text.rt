@@ -1,15 +1,14 @@
 //! The texts of replies.
 
-ghost use Rattle.std.specs.Prelude.{◌≡◌, ◌++◌, ◌∷◌, [], IfOk, OnOk, OnErr, length, codes};
-ghost use Rattle.std.specs.List.{flat_map, concat};
-ghost use Rattle.std.specs.Fmt.{decimal};
-ghost use Rattle.gp_base.specs.Order.{in_order, row_cmp};
+ghost use Rattle.std.specs.Prelude.{◌≡◌, ◌++◌, IfOk, OnOk, OnErr};
+ghost use Rattle.std.specs.List.{flat_map};
 ghost use Rattle.gp_base.specs.Writing.{HasFront};
-ghost use Rattle.gp_engine.specs.Replies.{reply_text, line_text, row_line, name_at, is_refusal};
+ghost use Rattle.gp_engine.specs.Replies.{reply_text, line_text, row_line, name_at};
 
 use crate::reply::Reply;
 use gp_base::{
-    Items, NoMemory, Refusal, Row, Table, push_all, sort_rows, write_refusal, write_row,
+    Items, NoMemory, Refusal, Row, Table, push_all, sort_rows, text_of_pieces, write_refusal,
+    write_row,
 };
 use std::alloc::Global;
 
@@ -23,19 +22,10 @@ fn name_at(tables: &[Table], place: u32) -> &[u8]
     }
 }
 
-/// One text of pieces.
-fn text_of(alloc: Global, pieces: &[&[u8]]) -> Result<Vec<u8>, NoMemory>
-    ensures { IfOk result (λ text. text.items ≡ flat_map (λ piece. piece.now) pieces.now) }
-{
-    let mut text = Vec::new(alloc);
-    push_all(&mut text, pieces)?;
-    Ok(text)
-}
-
 fn created_text(alloc: Global, tables: &[Table], table: u32) -> Result<Vec<u8>, NoMemory>
     ensures { IfOk result (λ text. text.items ≡ reply_text tables.now (Reply.Created table)) }
 {
-    text_of(alloc, &[b"created ", name_at(tables, table), b"\n"])
+    text_of_pieces(alloc, &[b"created ", name_at(tables, table), b"\n"])
 }
 
 fn began_text(alloc: Global, tables: &[Table], t: u32, version: u32) -> Result<Vec<u8>, NoMemory>
@@ -43,7 +33,7 @@ fn began_text(alloc: Global, tables: &[Table], t: u32, version: u32) -> Result<V
 {
     let t = t.to_string(alloc)?;
     let version = version.to_string(alloc)?;
-    text_of(
+    text_of_pieces(
         alloc,
         &[b"begin ", t.as_bytes(), b" at ", version.as_bytes(), b"\n"],
     )
@@ -53,7 +43,7 @@ fn wrote_text(alloc: Global, tables: &[Table], rows: u32) -> Result<Vec<u8>, NoM
     ensures { IfOk result (λ text. text.items ≡ reply_text tables.now (Reply.Wrote rows)) }
 {
     let rows = rows.to_string(alloc)?;
-    text_of(alloc, &[b"wrote ", rows.as_bytes(), b"\n"])
+    text_of_pieces(alloc, &[b"wrote ", rows.as_bytes(), b"\n"])
 }
 
 fn committed_text(
@@ -66,7 +56,7 @@ fn committed_text(
 {
     let t = t.to_string(alloc)?;
     let version = version.to_string(alloc)?;
-    text_of(
+    text_of_pieces(
         alloc,
         &[
             b"committed ",
@@ -98,7 +88,7 @@ fn rows_text(alloc: Global, tables: &[Table], rows: Items<Row>) -> Result<Vec<u8
     let count = rows.len().to_string(alloc)?;
     sort_rows(&mut rows)?;
     let lines = row_lines(alloc, &rows)?;
-    text_of(alloc, &[b"rows ", count.as_bytes(), b"\n", &lines])
+    text_of_pieces(alloc, &[b"rows ", count.as_bytes(), b"\n", &lines])
 }
 
 fn refused_text(alloc: Global, tables: &[Table], refusal: Refusal) -> Result<Vec<u8>, NoMemory>

@@ -1,5 +1,5 @@
 //! A shelf and a sink in memory that never fail.
-ghost use Rattle.std.specs.Prelude.{◌≡◌, [], Some, slice_get};
+ghost use Rattle.std.specs.Prelude.{◌≡◌, [], Some};
 ghost use Rattle.gp_io.specs.NamedFile.{files_of};
 ghost use Rattle.gp_io.specs.Notes.{names_of};
 

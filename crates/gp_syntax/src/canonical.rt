@@ -1,12 +1,12 @@
 //! The writer of commands: each command has one canonical text.
 
 ghost use Rattle.std.specs.Prelude.{◌≡◌, IfOk};
-ghost use Rattle.std.specs.List.{flat_map};
 ghost use Rattle.gp_syntax.specs.Canonical.{canonical, column_text, tuple_text};
 
 use crate::command::Command;
 use gp_base::{
-    Column, Items, Kind, Name, NoMemory, Row, Table, TextOf, push_all, write_joined, write_row,
+    Column, Items, Kind, Name, NoMemory, Row, Table, TextOf, push_all, text_of_pieces,
+    write_joined, write_row,
 };
 use std::alloc::Global;
 
@@ -38,15 +38,6 @@ impl TextOf<Row> for TupleText {
         push_all(out, &[b"(", &cells, b")"])?;
         Ok(())
     }
-}
-
-/// The pieces one after the other.
-fn text_of_pieces(alloc: Global, pieces: &[&[u8]]) -> Result<Vec<u8>, NoMemory>
-    ensures { IfOk result (λ text. text.items ≡ flat_map (λ piece. piece.now) pieces.now) }
-{
-    let mut text = Vec::new(alloc);
-    push_all(&mut text, pieces)?;
-    Ok(text)
 }
 
 fn create_text(alloc: Global, table: &Table) -> Result<Vec<u8>, NoMemory>

@@ -10,7 +10,7 @@ ghost use Rattle.gprom_cli.specs.Outcome.{Ends, EndsFor, Said, IsOrStops, IfTold
 
 use crate::form::form_of;
 use crate::script::{LONGEST_SCRIPT, run_script};
-use gp_base::{NoMemory, push_all};
+use gp_base::{NoMemory, text_of_pieces};
 use gp_io::{Shelf, ShelfStop, Sink, SinkStop};
 use std::alloc::Global;
 
@@ -57,9 +57,7 @@ fn say<K: Sink>(out: &mut K, text: &[u8], status: u8) -> u8
 fn message(alloc: Global, words: &[u8], name: &str) -> Result<Vec<u8>, NoMemory>
     ensures { IfOk result (λ text. text.items ≡ message words.now name.now) }
 {
-    let mut text = Vec::new(alloc);
-    push_all(&mut text, &[words, name.as_bytes(), b"\n"])?;
-    Ok(text)
+    text_of_pieces(alloc, &[words, name.as_bytes(), b"\n"])
 }
 
 /// Writes a message that names a file, and that is due under a status.
