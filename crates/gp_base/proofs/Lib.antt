@@ -1,3 +1,4 @@
 pub mod CellLemmas
 pub mod OrderLemmas
+pub mod TextLemmas
 pub mod WritingLemmas

@@ -18,7 +18,7 @@ pub use memory::NoMemory;
 pub use order::{in_order_keeps_rows, sort_rows};
 pub use refusal::{Refusal, write_refusal};
 pub use row::Row;
-pub use row_text::{CellText, write_row};
+pub use row_text::{CellText, row_texts_differ, write_row};
 pub use table::{Column, Kind, Table};
 pub use text::{Name, Text};
 pub use writing::{TextOf, push_all, text_of_pieces, write_joined};

@@ -3,10 +3,12 @@
 
 mod built;
 mod engine;
+mod laws;
 mod reply;
 mod reply_text;
 
 pub use engine::Engine;
+pub use laws::each_answered_line_has_a_reply;
 pub use reply::Reply;
 pub use reply_text::write_reply;
 

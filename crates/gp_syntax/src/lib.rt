@@ -15,7 +15,7 @@ pub use canonical::write_command;
 pub use command::{Command, ScriptLine};
 pub use cutting::{LONGEST_LINE, Line, LineIter, lines};
 pub use names::{LONGEST_NAME, is_name};
-pub use read::{read_command, read_line};
+pub use read::{line_is_read_in_one_way, read_command, read_line};
 pub use stop::ReadStop;
 pub use valid::{MOST_COLUMNS, MOST_ROWS};
 

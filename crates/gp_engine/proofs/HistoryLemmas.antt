@@ -1,0 +1,40 @@
+-- A history has one reply for each line, under its number, and a command that is refused leaves the state as it was.
+use Rattle.std.proofs.Common.{◌≡◌, ℕ, ◌+◌, true, eqb, ◌&&◌, List, [], ◌∷◌, map, Option, Some, None, refl, ap, inl, inr}
+use Rattle.std.proofs.lemmas.Bool.{cases_Bool}
+use Rattle.gp_syntax.specs.declared.command.Command.{Command}
+use Rattle.gp_syntax.specs.declared.command.Command.TheVariants.{Create, Begin, Commit, Insert, Select}
+use Rattle.gp_engine.specs.declared.reply.Reply.{Reply}
+use Rattle.gp_engine.specs.State.{State, Running, running_of}
+use Rattle.gp_engine.specs.Replies.{is_refusal}
+use Rattle.gp_engine.specs.Event.{event, answered, recorded, is_built}
+use Rattle.gp_engine.specs.History.{Told, replies_from, line_outcome}
+
+-- the replies to lines have the numbers of the lines
+pub numbers-kept : (before : ℕ) (state : State) (lines : List (ℕ × List ℕ)) → map (λ (told : Told). told.number) (replies_from before state lines) ≡ map (λ (line : ℕ × List ℕ). line.0) lines
+numbers-kept before state [] = refl
+numbers-kept before state (line ∷ lines) =
+    ap (λ (numbers : List ℕ). line.0 ∷ numbers) (numbers-kept (before + 1) (line_outcome before state line).0 lines)
+
+-- the outcome has this state where its reply is a refusal
+abbrev LeavesRefused : State → State × Reply → Type 0
+LeavesRefused state outcome = is_refusal outcome.1 ≡ true → outcome.0 ≡ state
+
+-- what a command that is built does where it is refused
+answered-leaves : (line session : ℕ) (state : State) (running : Option Running) (command : Command) → LeavesRefused state (recorded line session command (answered state session running command))
+answered-leaves line session state None (Create table) refusal = absurd cc
+answered-leaves line session state None Begin refusal = absurd cc
+answered-leaves line session state None Commit refusal = refl
+answered-leaves line session state None (Insert name rows) refusal = refl
+answered-leaves line session state None (Select name) refusal = refl
+answered-leaves line session state (Some running) (Create table) refusal = refl
+answered-leaves line session state (Some running) Begin refusal = refl
+answered-leaves line session state (Some running) Commit refusal = absurd cc
+answered-leaves line session state (Some running) (Insert name rows) refusal = absurd cc
+answered-leaves line session state (Some running) (Select name) refusal = absurd cc
+
+-- a command that is refused leaves the state as it was
+pub refused-leaves : (state : State) (line session : ℕ) (command : Command) → LeavesRefused state (event state line session command)
+refused-leaves state line session command = elim (cases_Bool (eqb session 1 && is_built state.catalogue command)) [
+  | inl runs ↦ rw runs (answered-leaves line session state (running_of session state.running) command)
+  | inr fails ↦ rw fails (λ refusal. refl)
+]
