@@ -47,6 +47,7 @@ fn is_before<T: Ord>(first: &T, second: &T) -> bool {
 #[test]
 fn rows_have_texts(rt: HostRuntime) -> Result<(), Fail> {
     let alloc = rt.alloc();
+    row_texts_differ();
     let mut mixed = row_of_two(alloc, Cell::Null, Cell::Int(-5))?;
     mixed.push(text_cell(alloc, "it's")?)?;
     let mut rows = Vec::new(alloc);
@@ -133,5 +134,7 @@ fn lists_are_compared_and_written(rt: HostRuntime) -> Result<(), Fail> {
         &mut joined,
     )?;
     assert_eq!(rt; joined.as_slice(), b"1 and NULL".as_slice());
+    let pieces = text_of_pieces(alloc, &[b"a", b"", b" bc"])?;
+    assert_eq!(rt; pieces.as_slice(), b"a bc".as_slice());
     Ok(())
 }

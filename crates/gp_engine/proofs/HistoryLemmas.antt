@@ -1,13 +1,14 @@
--- A history has one reply for each line, under its number, and a command that is refused leaves the state as it was.
-use Rattle.std.proofs.Common.{◌≡◌, ℕ, ◌+◌, true, eqb, ◌&&◌, List, [], ◌∷◌, map, Option, Some, None, refl, ap, inl, inr}
+-- A history has one reply for each line, under its number, and a line that is refused leaves the state as it was.
+use Rattle.std.proofs.Common.{◌≡◌, ℕ, ◌+◌, true, eqb, ◌&&◌, List, [], ◌∷◌, map, Option, Some, None, nat_le, refl, ap, inl, inr}
 use Rattle.std.proofs.lemmas.Bool.{cases_Bool}
 use Rattle.gp_syntax.specs.declared.command.Command.{Command}
 use Rattle.gp_syntax.specs.declared.command.Command.TheVariants.{Create, Begin, Commit, Insert, Select}
+use Rattle.gp_syntax.specs.Reading.{read_of}
 use Rattle.gp_engine.specs.declared.reply.Reply.{Reply}
 use Rattle.gp_engine.specs.State.{State, Running, running_of}
 use Rattle.gp_engine.specs.Replies.{is_refusal}
 use Rattle.gp_engine.specs.Event.{event, answered, recorded, is_built}
-use Rattle.gp_engine.specs.History.{Told, replies_from, line_outcome}
+use Rattle.gp_engine.specs.History.{Told, replies_from, line_outcome, outcome, most_before}
 
 -- the replies to lines have the numbers of the lines
 pub numbers-kept : (before : ℕ) (state : State) (lines : List (ℕ × List ℕ)) → map (λ (told : Told). told.number) (replies_from before state lines) ≡ map (λ (line : ℕ × List ℕ). line.0) lines
@@ -33,8 +34,20 @@ answered-leaves line session state (Some running) (Insert name rows) refusal = a
 answered-leaves line session state (Some running) (Select name) refusal = absurd cc
 
 -- a command that is refused leaves the state as it was
-pub refused-leaves : (state : State) (line session : ℕ) (command : Command) → LeavesRefused state (event state line session command)
+refused-leaves : (state : State) (line session : ℕ) (command : Command) → LeavesRefused state (event state line session command)
 refused-leaves state line session command = elim (cases_Bool (eqb session 1 && is_built state.catalogue command)) [
   | inl runs ↦ rw runs (answered-leaves line session state (running_of session state.running) command)
+  | inr fails ↦ rw fails (λ refusal. refl)
+]
+
+-- a line that is run, whether it holds a command or none
+outcome-leaves : (state : State) (number : ℕ) (command : Option Command) → LeavesRefused state (outcome state number command)
+outcome-leaves state number None refusal = refl
+outcome-leaves state number (Some command) refusal = refused-leaves state number 1 command refusal
+
+-- a line that is refused leaves the state as it was
+pub line-leaves : (before : ℕ) (state : State) (line : ℕ × List ℕ) → LeavesRefused state (line_outcome before state line)
+line-leaves before state line = elim (cases_Bool (nat_le before most_before)) [
+  | inl runs ↦ rw runs (outcome-leaves state line.0 (read_of line.1))
   | inr fails ↦ rw fails (λ refusal. refl)
 ]

@@ -132,6 +132,7 @@ const REFUSED_LINES: &[(u32, u32, &str, &str)] = &[
 
 #[test]
 fn refused_lines_change_nothing(rt: HostRuntime) -> Result<(), Fail> {
+    each_answered_line_has_a_reply();
     run_script(&rt, rt.alloc(), REFUSED_LINES)
 }
 
