@@ -1,4 +1,4 @@
--- Which numbers the cells of a row may hold.
+-- Which numbers the cells of a row may hold: those of 64 bits with sign, as BIGINT of SQL (ISO/IEC 9075-2) in most systems.
 use Rattle.std.specs.Prelude.{List, [], ◌∷◌, FitsSigned}
 use Rattle.std.specs.Int.{w64}
 use Rattle.gp_base.specs.declared.cell.Cell.{Cell}

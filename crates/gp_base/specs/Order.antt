@@ -1,4 +1,5 @@
--- The order of cells and rows, and lists put in order.
+-- The order of cells and rows, and lists put in order. Rows are compared cell by cell, as SQL compares row values (ISO/IEC 9075-2).
+-- Where SQL leaves open whether NULL comes first, here it does, and texts stand in the order of their bytes.
 use Rattle.std.specs.Prelude.{◌≡◌, List, [], ◌∷◌, if◌then◌else◌}
 use Rattle.std.specs.declared.cmp.Ordering.{Ordering}
 use Rattle.std.specs.declared.cmp.Ordering.TheVariants.{Less, Equal, Greater}

@@ -1,4 +1,5 @@
--- The texts of cells, rows and refusals, as replies and dumps print them.
+-- The texts of cells, rows and refusals, as replies and dumps print them. A text in a cell is written as a character string literal of
+-- SQL (ISO/IEC 9075-2): between quotes, with each quote in it twice.
 use Rattle.std.specs.Prelude.{ℕ, List, [], ◌∷◌, ◌++◌, codes, if◌then◌else◌, ◌==◌}
 use Rattle.std.specs.List.{flat_map}
 use Rattle.std.specs.Fmt.{signed_decimal}

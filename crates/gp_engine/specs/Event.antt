@@ -1,4 +1,6 @@
--- What the command of one line does to a state, and the reply to it. A refused line leaves the state as it was.
+-- What the command of one line does to a state, and the reply to it. A refused line leaves the state as it was. Under snapshot isolation
+-- (Berenson and others, SIGMOD 1995) a transaction sees the version that was the newest at its beginning and what it wrote itself, and
+-- its commit makes the next version.
 use Rattle.std.specs.Prelude.{ℕ, ◌+◌, Bool, true, false, ◌&&◌, List, [], ◌∷◌, ◌++◌, length, Option, Some, None, if◌then◌else◌, ◌==◌}
 use Rattle.std.specs.List.{list_any, list_all, position_or_len}
 use Rattle.std.specs.Str.{bytes_eq}

@@ -1,4 +1,5 @@
--- The history of a script: its lines one after another, each answered from the state that the ones before it left.
+-- The history of a script: its lines one after another, each answered from the state that the ones before it left. Such a history is
+-- what past transactions are later replayed over (Arab and others, A Generic Provenance Middleware, TaPP 2014).
 use Rattle.std.specs.Prelude.{ℕ, ◌+◌, Bool, List, [], ◌∷◌, Option, Some, None, nat_le, if◌then◌else◌}
 use Rattle.std.specs.List.{flat_map, list_any}
 use Rattle.gp_base.specs.declared.refusal.Refusal.TheVariants.{NotBuilt}

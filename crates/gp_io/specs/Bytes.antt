@@ -1,4 +1,5 @@
--- The bytes that a sink took, where it tells them, and its count of faults, which never falls.
+-- The bytes that a sink took, where it tells them, and its count of faults, which never falls. A sink that fails took some front, since
+-- a write may take a part of its bytes (IEEE Std 1003.1, write).
 use Rattle.std.specs.Prelude.{◌≡◌, ℕ, ◌-◌, ◌^◌, ◌<◌, ◌⊎◌, List, ◌++◌, take, Option, Result, Ok, Err}
 use Rattle.std.specs.Option.{option_map}
 use Rattle.gp_io.specs.declared.stop.SinkStop.{SinkStop}

@@ -1,5 +1,6 @@
--- The files of a shelf that tells them: names with bytes, where the first pair of a name gives the
--- bytes that the name holds. What a replacement does is said of every name by that look-up.
+-- The files of a shelf that tells them: names with bytes, where the first pair of a name gives the bytes that the name holds. What a
+-- replacement does is said of every name by that look-up. Where it fails nothing is known of that one name, as after an open that
+-- truncates and a write that fails (IEEE Std 1003.1, open and write).
 use Rattle.std.specs.Prelude.{◌≡◌, ◌≢◌, ℕ, List, [], ◌∷◌, Option, None, Some, IfSome, take, bytes_eq, if◌then◌else◌}
 use Rattle.std.specs.Option.{option_map}
 

@@ -1,4 +1,5 @@
--- How a script is cut into numbered lines, and which of them are answered. All other lines are skipped.
+-- How a script is cut into numbered lines, and which of them are answered. All other lines are skipped. Two hyphens begin a comment, as
+-- in SQL (ISO/IEC 9075-2), here at the beginning of a line alone.
 use Rattle.std.specs.Prelude.{ℕ, ◌+◌, ◌<◌, Bool, true, false, ◌&&◌, ◌||◌, not, List, [], ◌∷◌, length, nat_le, if◌then◌else◌, ◌==◌, filter}
 
 -- the byte that ends a line

@@ -1,4 +1,5 @@
--- Names of tables and columns: a lower letter, then lower letters, digits and underscores, at most 30 bytes, and no reserved word.
+-- Names of tables and columns: a lower letter, then lower letters, digits and underscores, at most 30 bytes, and no reserved word. They
+-- are regular identifiers of SQL (ISO/IEC 9075-2) in lower case alone.
 use Rattle.std.specs.Prelude.{ℕ, Bool, false, ◌&&◌, ◌||◌, not, List, [], ◌∷◌, length, nat_le, ◌==◌, codes}
 use Rattle.std.specs.List.{slice_split, list_any, list_all}
 use Rattle.std.specs.Str.{bytes_eq}

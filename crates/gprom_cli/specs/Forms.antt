@@ -1,4 +1,5 @@
--- The words of the command line, and the texts that are due under each status.
+-- The words of the command line, and the texts that are due under each status. A word that begins with a hyphen is an option in the
+-- utility conventions of POSIX (IEEE Std 1003.1), so it names no file here, and a status above 0 tells that something was not done.
 use Rattle.std.specs.Prelude.{◌≡◌, ℕ, ◌<◌, ◌≤◌, Bool, true, false, ◌&&◌, not, List, [], ◌∷◌, length, Option, Some, None, IfSome, IsSomeAnd, if◌then◌else◌, ◌==◌, codes}
 use Rattle.std.specs.List.{concat}
 use Rattle.std.specs.Str.{bytes_eq}
