@@ -16,7 +16,7 @@ pub use cell::Cell;
 pub use items::{Items, TryCopy};
 pub use memory::NoMemory;
 pub use order::{in_order_keeps_rows, sort_rows};
-pub use refusal::{Refusal, write_refusal};
+pub use refusal::{Refusal, refusal_words, write_refusal};
 pub use row::Row;
 pub use row_text::{CellText, row_texts_differ, write_row};
 pub use table::{Column, Kind, Table};

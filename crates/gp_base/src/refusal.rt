@@ -18,8 +18,8 @@ pub enum Refusal {
     E10,
 }
 
-/// The text of a refusal, as a constant.
-fn refusal_words(refusal: Refusal) -> &'static [u8]
+/// The refusal's text: its code, a space and what it says.
+pub fn refusal_words(refusal: Refusal) -> &'static [u8]
     ensures { result.now ≡ refusal_text refusal }
 {
     match refusal {

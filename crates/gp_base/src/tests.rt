@@ -122,6 +122,9 @@ fn lists_are_compared_and_written(rt: HostRuntime) -> Result<(), Fail> {
     assert!(rt; is_before(&short, &long));
     assert!(rt; short != long);
     assert_eq!(rt; long.as_slice(), b"abc".as_slice());
+    let mut both = short;
+    both.append(long)?;
+    assert_eq!(rt; both.into_vec().as_slice(), b"ababc".as_slice());
     let cell = text_cell(alloc, "''")?;
     let text = text_of(alloc, &CellText, &cell)?;
     assert_eq!(rt; text.as_slice(), b"''''''".as_slice());

@@ -7,7 +7,7 @@ ghost use Rattle.gp_engine.specs.Replies.{reply_text, line_text, row_line, name_
 
 use crate::reply::Reply;
 use gp_base::{
-    Items, NoMemory, Refusal, Row, Table, push_all, sort_rows, text_of_pieces, write_refusal,
+    Items, NoMemory, Refusal, Row, Table, push_all, refusal_words, sort_rows, text_of_pieces,
     write_row,
 };
 use std::alloc::Global;
@@ -94,10 +94,7 @@ fn rows_text(alloc: Global, tables: &[Table], rows: Items<Row>) -> Result<Vec<u8
 fn refused_text(alloc: Global, tables: &[Table], refusal: Refusal) -> Result<Vec<u8>, NoMemory>
     ensures { IfOk result (λ text. text.items ≡ reply_text tables.now (Reply.Refused refusal)) }
 {
-    let mut text = Vec::new(alloc);
-    write_refusal(refusal, &mut text)?;
-    text.push(b'\n')?;
-    Ok(text)
+    text_of_pieces(alloc, &[refusal_words(refusal), b"\n"])
 }
 
 fn reply_text(alloc: Global, tables: &[Table], reply: Reply) -> Result<Vec<u8>, NoMemory>
@@ -126,7 +123,13 @@ pub fn write_reply(
     ensures err { OnErr result (HasFront out.old.items out.new.items (line_text number tables.now reply)) }
 {
     let digits = number.to_string(alloc)?;
+    // A script may have millions of refused lines, so a refusal is written without a text of its own.
+    if let Reply::Refused(refusal) = reply {
+        return push_all(
+            out,
+            &[digits.as_bytes(), b" ", refusal_words(refusal), b"\n"],
+        );
+    }
     let text = reply_text(alloc, tables, reply)?;
-    push_all(out, &[digits.as_bytes(), b" ", &text])?;
-    Ok(())
+    push_all(out, &[digits.as_bytes(), b" ", &text])
 }
