@@ -46,5 +46,10 @@ pub(crate) fn parts(alloc: Global, bytes: &[u8], byte: u8) -> Result<Vec<&[u8]>,
     ensures { IfOk result (λ parts.
         map (λ part. part.now) parts.items ≡ slice_split (λ other. other == byte) bytes.now) }
 {
-    bytes.split(|other| *other == byte).collect(alloc)
+    let mut parts = Vec::new(alloc);
+    // One by one, since `collect` would ask for less where its first growth is refused, and each refusal is to be told.
+    for part in bytes.split(|other| *other == byte) {
+        parts.push(part)?;
+    }
+    Ok(parts)
 }
