@@ -1,5 +1,5 @@
 -- The lists in which a shelf notes the names of files that were not there or could not be read or
--- replaced. A list grows at its end alone, and a call notes no name but its own.
+-- replaced. A list grows at its end alone, and by the name of the call alone.
 use Rattle.std.specs.Prelude.{◌≡◌, ℕ, ◌+◌, List, ◌++◌, map, replicate, Result, Ok, Err, String, string_bytes}
 use Rattle.gp_io.specs.declared.stop.ShelfStop.{ShelfStop}
 use Rattle.gp_io.specs.declared.stop.ShelfStop.TheVariants.{Absent, Failed, NoMemory}

@@ -14,8 +14,8 @@ use std::{fs, io};
 
 /// The files of the system, by their paths.
 ///
-/// It tells nothing of what they hold, since others may change them at any time. It keeps the names
-/// that it noted, and takes the memory for a note before it touches a file.
+/// It tells nothing of what they hold, since others may change them at any time. The room for a note is made first and the
+/// file is opened afterwards, so that no fault goes without its note.
 #[derive(Drop)]
 pub struct DiskShelf<R: Files + Drop> {
     rt: R,
@@ -52,8 +52,8 @@ impl<R: Files + Drop> Shelf for DiskShelf<R> {
 
     ghost replace_faults = { λ shelf. names_of shelf.replace_faults.items };
 
-    /// `Absent` comes only where the system says that no such file exists. A folder, a path through
-    /// a file, or a missing permission is a fault.
+    /// `Absent` comes only where the system answers that there is none. Every other answer is a fault, such as that to a
+    /// folder, to a path that leads through a file, and where reading is not permitted.
     fn read(&mut self, name: &str, most: usize) -> Result<Vec<u8>, ShelfStop> {
         let kept = prepare(self.alloc, &mut self.misses, name)?;
         self.read_faults.reserve(1)?;

@@ -7,8 +7,9 @@ use crate::stop::ShelfStop;
 
 /// Named files, of which a contract may know the bytes, and three lists of names that were noted.
 ///
-/// `holds` is the files, where the shelf tells them. `misses`, `read_faults` and `replace_faults`
-/// are lists of names. A call notes no name but its own, at the end of a list.
+/// `holds` is the files, where the shelf tells them. The three lists hold the names that were missing (`misses`), that could
+/// not be read (`read_faults`) and that could not be replaced (`replace_faults`), the latest last; a call adds to them the name
+/// that it was given and no other.
 pub trait Shelf {
     ghost holds: { Self → Option Files };
 
@@ -28,8 +29,8 @@ pub trait Shelf {
             (λ files. front_of name.now most files ≡ Some bytes.items)) }
         ensures files { holds self.new ≡ holds self.old }
 
-        // Where the files are told, `Absent` comes exactly where the name is not there and no read
-        // fault was noted: want of memory alone may come in its place.
+        // Where the files are told: an absent name is told as absent unless a read fault was noted or memory ran out, and no
+        // other name ever is.
         ensures absent { result ≡ Err ShelfStop.Absent →
             IfSome (holds self.old) (λ files. content name.now files ≡ None) }
         ensures not_there { IfSome (holds self.old) (λ files. content name.now files ≡ None →
@@ -42,7 +43,7 @@ pub trait Shelf {
     /// Makes `bytes` the whole of the file `name`, which need not be there before.
     ///
     /// `Failed` comes where it could not be replaced: its name is noted in the replace faults, and
-    /// nothing is known of its bytes. After `NoMemory` all files are as before. `Absent` never comes.
+    /// nothing is known of its bytes. `NoMemory` leaves every file alone. `Absent` never comes.
     fn replace(&mut self, name: &str, bytes: &[u8]) -> Result<(), ShelfStop>
         ensures ok { OnOk result
             (IfTold (holds self.old) (holds self.new) (Replaced name.now bytes.now)) }
