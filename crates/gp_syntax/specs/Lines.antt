@@ -10,7 +10,7 @@ line_feed = 10
 abbrev pub carriage_return : ℕ
 carriage_return = 13
 
--- a line has at most this many bytes, without its end
+-- a line of more bytes than this, without its end, is answered whatever it holds, and is never read
 abbrev pub longest_line : ℕ
 longest_line = 4096
 

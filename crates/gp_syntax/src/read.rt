@@ -1,6 +1,6 @@
 //! The reader of commands: a text is the command whose canonical text it is.
 
-ghost use Rattle.std.specs.Prelude.{◌≡◌, ℕ, List, Some, IfOk};
+ghost use Rattle.std.specs.Prelude.{◌≡◌, ◌↔◌, ℕ, List, Some, IfOk};
 ghost use Rattle.gp_syntax.specs.declared.command.Command.{Command};
 ghost use Rattle.gp_syntax.specs.Canonical.{canonical};
 ghost use Rattle.gp_syntax.specs.Commands.{IsCommand};
@@ -86,7 +86,9 @@ pub fn read_line(alloc: Global, line: &[u8]) -> Result<ScriptLine, ReadStop>
     }
 }
 
-/// The law of lines: a line is read in one way. No line holds two commands. It does nothing, and its contract holds the law.
+/// The laws of reading, whether memory is found or not: the function by which histories are told (`read_of`) gives a
+/// command exactly where the line holds it, and no line holds two commands. It does nothing, and its contract holds the laws.
 pub fn line_is_read_in_one_way()
-    ensures { (line : List ℕ) (one other : Command) → Reads line one → Reads line other → one ≡ other }
+    ensures exact { (line : List ℕ) (command : Command) → (read_of line ≡ Some command) ↔ Reads line command }
+    ensures one { (line : List ℕ) (one other : Command) → Reads line one → Reads line other → one ≡ other }
 {}
