@@ -15,7 +15,7 @@ use Rattle.std.proofs.lemmas.List.Sums.{sum_by-cons}
 use Rattle.std.proofs.lemmas.List.Sorted.{sum_by-IsPermutation, IsPermutation-refl, IsPermutation-cons, IsPermutation-sym, IsPermutation-trans, IsPermutation-middle}
 use Rattle.gp_base.specs.declared.cell.Cell.{Cell}
 use Rattle.gp_base.specs.declared.cell.Cell.TheVariants.{Null, Int, Text}
-use Rattle.gp_base.specs.Order.{cell_cmp, row_cmp, placed, in_order, InOrderKeepsRows, InOrderIsSorted, OnlyInOrder}
+use Rattle.gp_base.specs.Order.{cell_cmp, row_cmp, insert_sorted, sorted_by, SortingKeepsRows, SortingSorts, SortedRowsAreUnique}
 
 -- ---- answers of a comparison
 
@@ -92,26 +92,26 @@ module _ {T : Type 0} (cmp : T → T → Ordering) (total : IsTotalOrder cmp) (e
   IsBelowAll-through x y (z ∷ zs) first all = (le_through x y z first all.0, IsBelowAll-through x y zs first all.1)
 
   -- what is not above an item nor any of a list is not above any of the list with the item in it
-  IsBelowAll-placed : (x item : T) (ys : List T) → is_le (cmp x item) ≡ true → IsBelowAll cmp x ys → IsBelowAll cmp x (placed cmp item ys)
-  IsBelowAll-placed x item [] below all = (below, tt)
-  IsBelowAll-placed x item (y ∷ ys) below all =
-      elim (is_le (cmp item y)) as (λ b. IsBelowAll cmp x (cond b (item ∷ y ∷ ys) (y ∷ placed cmp item ys))) [
+  IsBelowAll-insert_sorted : (x item : T) (ys : List T) → is_le (cmp x item) ≡ true → IsBelowAll cmp x ys → IsBelowAll cmp x (insert_sorted cmp item ys)
+  IsBelowAll-insert_sorted x item [] below all = (below, tt)
+  IsBelowAll-insert_sorted x item (y ∷ ys) below all =
+      elim (is_le (cmp item y)) as (λ b. IsBelowAll cmp x (cond b (item ∷ y ∷ ys) (y ∷ insert_sorted cmp item ys))) [
         | true ↦ (below, all)
-        | false ↦ (all.0, IsBelowAll-placed x item ys below all.1)
+        | false ↦ (all.0, IsBelowAll-insert_sorted x item ys below all.1)
       ]
 
-  -- an item placed in a list that rises leaves it rising
-  Rises-placed : (item : T) (ys : List T) → Rises cmp ys → Rises cmp (placed cmp item ys)
-  Rises-placed item [] rises = (tt, tt)
-  Rises-placed item (y ∷ ys) rises =
-      elim (is_le (cmp item y)) as (λ b. is_le (cmp item y) ≡ b → Rises cmp (cond b (item ∷ y ∷ ys) (y ∷ placed cmp item ys))) [
+  -- an item insert_sorted in a list that rises leaves it rising
+  Rises-insert_sorted : (item : T) (ys : List T) → Rises cmp ys → Rises cmp (insert_sorted cmp item ys)
+  Rises-insert_sorted item [] rises = (tt, tt)
+  Rises-insert_sorted item (y ∷ ys) rises =
+      elim (is_le (cmp item y)) as (λ b. is_le (cmp item y) ≡ b → Rises cmp (cond b (item ∷ y ∷ ys) (y ∷ insert_sorted cmp item ys))) [
         | true ↦ λ is. ((is, IsBelowAll-through item y ys is rises.0), rises)
-        | false ↦ λ is. (IsBelowAll-placed y item ys (subst (λ o. is_le o ≡ true) (sym (total.antisymm y item)) (le_turned (cmp item y) is)) rises.0, Rises-placed item ys rises.1)
+        | false ↦ λ is. (IsBelowAll-insert_sorted y item ys (subst (λ o. is_le o ≡ true) (sym (total.antisymm y item)) (le_turned (cmp item y) is)) rises.0, Rises-insert_sorted item ys rises.1)
       ] refl
 
-  Rises-in_order : (xs : List T) → Rises cmp (in_order cmp xs)
-  Rises-in_order [] = tt
-  Rises-in_order (x ∷ xs) = Rises-placed x (in_order cmp xs) (Rises-in_order xs)
+  Rises-sorted_by : (xs : List T) → Rises cmp (sorted_by cmp xs)
+  Rises-sorted_by [] = tt
+  Rises-sorted_by (x ∷ xs) = Rises-insert_sorted x (sorted_by cmp xs) (Rises-sorted_by xs)
 
   -- a list that is sorted by its places rises
   Rises-from_sorted : (xs : List T) → IsSorted cmp xs → Rises cmp xs
@@ -130,23 +130,23 @@ module _ {T : Type 0} (cmp : T → T → Ordering) (total : IsTotalOrder cmp) (e
   sorted_at (x ∷ y ∷ ys) rises zero d within = subst (λ o. is_lt o ≡ false) (sym (total.antisymm y x)) (lt_from_le_turned (cmp x y) rises.0.0)
   sorted_at (x ∷ y ∷ ys) rises (suc k) d within = rw add-one (simp add-one at (sorted_at (y ∷ ys) rises.1 k d (omega arith)))
 
-  sorted_in_order : (xs : List T) → IsSorted cmp (in_order cmp xs)
-  sorted_in_order xs k d low high = sorted_at (in_order cmp xs) (Rises-in_order xs) k d high
+  sorted_in_order : (xs : List T) → IsSorted cmp (sorted_by cmp xs)
+  sorted_in_order xs k d low high = sorted_at (sorted_by cmp xs) (Rises-sorted_by xs) k d high
 
   -- ---- how often each item occurs
 
   -- placing an item counts it once, and the others as before
-  times-placed : (item x : T) (ys : List T) → times cmp item (placed cmp x ys) ≡ times cmp item (x ∷ ys)
-  times-placed item x [] = refl
-  times-placed item x (y ∷ ys) =
-      elim (is_le (cmp x y)) as (λ b. times cmp item (cond b (x ∷ y ∷ ys) (y ∷ placed cmp x ys)) ≡ times cmp item (x ∷ y ∷ ys)) [
+  times-insert_sorted : (item x : T) (ys : List T) → times cmp item (insert_sorted cmp x ys) ≡ times cmp item (x ∷ ys)
+  times-insert_sorted item x [] = refl
+  times-insert_sorted item x (y ∷ ys) =
+      elim (is_le (cmp x y)) as (λ b. times cmp item (cond b (x ∷ y ∷ ys) (y ∷ insert_sorted cmp x ys)) ≡ times cmp item (x ∷ y ∷ ys)) [
         | true ↦ refl
-        | false ↦ omega (arith, times-placed item x ys)
+        | false ↦ omega (arith, times-insert_sorted item x ys)
       ]
 
-  times-in_order : (item : T) (xs : List T) → times cmp item (in_order cmp xs) ≡ times cmp item xs
-  times-in_order item [] = refl
-  times-in_order item (x ∷ xs) = times-placed item x (in_order cmp xs) ∙ ap (λ n. cond (is_eq (cmp item x)) 1 0 + n) (times-in_order item xs)
+  times-sorted_by : (item : T) (xs : List T) → times cmp item (sorted_by cmp xs) ≡ times cmp item xs
+  times-sorted_by item [] = refl
+  times-sorted_by item (x ∷ xs) = times-insert_sorted item x (sorted_by cmp xs) ∙ ap (λ n. cond (is_eq (cmp item x)) 1 0 + n) (times-sorted_by item xs)
 
   -- as a sum, which a permutation keeps
   times-is : (item : T) (xs : List T) → times cmp item xs ≡ sum_by (λ other. cond (is_eq (cmp item other)) 1 0) xs
@@ -188,24 +188,24 @@ module _ {T : Type 0} (cmp : T → T → Ordering) (total : IsTotalOrder cmp) (e
       cc
 
   -- a sorted permutation is the list in order
-  in_order_from_sorted : (xs ys : List T) → IsPermutation xs ys → IsSorted cmp ys → ys ≡ in_order cmp xs
+  in_order_from_sorted : (xs ys : List T) → IsPermutation xs ys → IsSorted cmp ys → ys ≡ sorted_by cmp xs
   in_order_from_sorted xs ys moved sorted =
-      same_rising ys (in_order cmp xs) (Rises-from_sorted ys sorted) (Rises-in_order xs) (λ item. times-IsPermutation item xs ys moved ∙ sym (times-in_order item xs))
+      same_rising ys (sorted_by cmp xs) (Rises-from_sorted ys sorted) (Rises-sorted_by xs) (λ item. times-IsPermutation item xs ys moved ∙ sym (times-sorted_by item xs))
 
 -- ---- the list in order holds what the list holds
 
-IsPermutation-placed : {T : Type 0} (cmp : T → T → Ordering) (x : T) (ys : List T) → IsPermutation (x ∷ ys) (placed cmp x ys)
-IsPermutation-placed cmp x [] = IsPermutation-refl (x ∷ [])
-IsPermutation-placed cmp x (y ∷ ys) =
-    elim (is_le (cmp x y)) as (λ b. IsPermutation (x ∷ y ∷ ys) (cond b (x ∷ y ∷ ys) (y ∷ placed cmp x ys))) [
+IsPermutation-insert_sorted : {T : Type 0} (cmp : T → T → Ordering) (x : T) (ys : List T) → IsPermutation (x ∷ ys) (insert_sorted cmp x ys)
+IsPermutation-insert_sorted cmp x [] = IsPermutation-refl (x ∷ [])
+IsPermutation-insert_sorted cmp x (y ∷ ys) =
+    elim (is_le (cmp x y)) as (λ b. IsPermutation (x ∷ y ∷ ys) (cond b (x ∷ y ∷ ys) (y ∷ insert_sorted cmp x ys))) [
       | true ↦ IsPermutation-refl (x ∷ y ∷ ys)
-      | false ↦ IsPermutation-trans (x ∷ y ∷ ys) (y ∷ x ∷ ys) (y ∷ placed cmp x ys) (IsPermutation-sym (y ∷ x ∷ ys) (x ∷ y ∷ ys) (IsPermutation-middle (y ∷ []) x ys)) (IsPermutation-cons y (x ∷ ys) (placed cmp x ys) (IsPermutation-placed cmp x ys))
+      | false ↦ IsPermutation-trans (x ∷ y ∷ ys) (y ∷ x ∷ ys) (y ∷ insert_sorted cmp x ys) (IsPermutation-sym (y ∷ x ∷ ys) (x ∷ y ∷ ys) (IsPermutation-middle (y ∷ []) x ys)) (IsPermutation-cons y (x ∷ ys) (insert_sorted cmp x ys) (IsPermutation-insert_sorted cmp x ys))
     ]
 
-IsPermutation-in_order : {T : Type 0} (cmp : T → T → Ordering) (xs : List T) → IsPermutation xs (in_order cmp xs)
-IsPermutation-in_order cmp [] = IsPermutation-refl []
-IsPermutation-in_order cmp (x ∷ xs) =
-    IsPermutation-trans (x ∷ xs) (x ∷ in_order cmp xs) (in_order cmp (x ∷ xs)) (IsPermutation-cons x xs (in_order cmp xs) (IsPermutation-in_order cmp xs)) (IsPermutation-placed cmp x (in_order cmp xs))
+IsPermutation-sorted_by : {T : Type 0} (cmp : T → T → Ordering) (xs : List T) → IsPermutation xs (sorted_by cmp xs)
+IsPermutation-sorted_by cmp [] = IsPermutation-refl []
+IsPermutation-sorted_by cmp (x ∷ xs) =
+    IsPermutation-trans (x ∷ xs) (x ∷ sorted_by cmp xs) (sorted_by cmp (x ∷ xs)) (IsPermutation-cons x xs (sorted_by cmp xs) (IsPermutation-sorted_by cmp xs)) (IsPermutation-insert_sorted cmp x (sorted_by cmp xs))
 
 -- ---- cells and rows
 
@@ -265,14 +265,14 @@ row_cmp_total = lists_total cell_cmp_total
 exact_rows : CmpEqualImpliesEq row_cmp
 exact_rows = slice_cmp-IsAntisymmetric exact_cells
 
-pub rows_are_kept : InOrderKeepsRows
-rows_are_kept = IsPermutation-in_order row_cmp
+pub rows_are_kept : SortingKeepsRows
+rows_are_kept = IsPermutation-sorted_by row_cmp
 
-pub rows_are_sorted : InOrderIsSorted
+pub rows_are_sorted : SortingSorts
 rows_are_sorted = sorted_in_order row_cmp row_cmp_total exact_rows
 
 -- sorted rows are the rows in order
-pub only_in_order : OnlyInOrder
+pub only_in_order : SortedRowsAreUnique
 only_in_order = in_order_from_sorted row_cmp row_cmp_total exact_rows
 
 -- what `sort_rows` needs

@@ -4,18 +4,18 @@ use Rattle.std.specs.List.{flat_map}
 use Rattle.std.proofs.Math.Seq.{take-append-add}
 use Rattle.std.proofs.lemmas.List.{append-nil, take_at, take-append-le, take_min, take-append-drop, at_drop_more}
 use Rattle.std.proofs.lemmas.Grind.{flat_map-append}
-use Rattle.gp_base.specs.Writing.{HasFront}
+use Rattle.gp_base.specs.Writing.{AppendsPrefix}
 
 -- all of a first part was written
-pub HasFront-part : (old new text part rest : List ℕ) → new ≡ old ++ part → text ≡ part ++ rest → HasFront old new text
-HasFront-part old new text part rest written parts = record {
+pub AppendsPrefix-part : (old new text part rest : List ℕ) → new ≡ old ++ part → text ≡ part ++ rest → AppendsPrefix old new text
+AppendsPrefix-part old new text part rest written parts = record {
   count = length part;
   is = written ∙ ap (λ (t : List ℕ). old ++ t) (sym (ap (take (length part)) parts ∙ take_at part rest (length part) refl));
 }
 
 -- all of a first part, and some front of a second
-pub HasFront-after : (old mid new text part next rest : List ℕ) → mid ≡ old ++ part → HasFront mid new next → text ≡ part ++ (next ++ rest) → HasFront old new text
-HasFront-after old mid new text part next rest written front parts =
+pub AppendsPrefix-after : (old mid new text part next rest : List ℕ) → mid ≡ old ++ part → AppendsPrefix mid new next → text ≡ part ++ (next ++ rest) → AppendsPrefix old new text
+AppendsPrefix-after old mid new text part next rest written front parts =
     let n = min front.count (length next) in
     let short : take n (next ++ rest) ≡ take front.count next = take-append-le n next rest (omega arith) ∙ take_min front.count next in
     let whole : take (length part + n) text ≡ part ++ take front.count next =
@@ -34,12 +34,12 @@ pub flat_map-around : {X : Type 0} (f : X → List ℕ) (xs : List X) (i : ℕ) 
 flat_map-around f xs i x lt at = flat_map-parts f xs i ∙ ap (λ (t : List ℕ). flat_map f (take i xs) ++ t) (at_drop_more (flat_map f) xs i x lt ∙ ap (λ (y : _). f y ++ flat_map f (drop (i + 1) xs)) (sym at))
 
 -- a front of a first part is a front of the whole
-pub HasFront-first : (old new part rest : List ℕ) → HasFront old new part → HasFront old new (part ++ rest)
-HasFront-first old new part rest front = HasFront-after old old new (part ++ rest) [] part rest (sym (append-nil old)) front refl
+pub AppendsPrefix-first : (old new part rest : List ℕ) → AppendsPrefix old new part → AppendsPrefix old new (part ++ rest)
+AppendsPrefix-first old new part rest front = AppendsPrefix-after old old new (part ++ rest) [] part rest (sym (append-nil old)) front refl
 
 -- all of a first part, and some front of what is left
-pub HasFront-second : (old mid new part rest : List ℕ) → mid ≡ old ++ part → HasFront mid new rest → HasFront old new (part ++ rest)
-HasFront-second old mid new part rest written front = HasFront-after old mid new (part ++ rest) part rest [] written front (ap (λ (t : List ℕ). part ++ t) (sym (append-nil rest)))
+pub AppendsPrefix-second : (old mid new part rest : List ℕ) → mid ≡ old ++ part → AppendsPrefix mid new rest → AppendsPrefix old new (part ++ rest)
+AppendsPrefix-second old mid new part rest written front = AppendsPrefix-after old mid new (part ++ rest) part rest [] written front (ap (λ (t : List ℕ). part ++ t) (sym (append-nil rest)))
 
 -- the lemmas for the exits of a function that writes one part after another
-pub ruleset fronts = (HasFront-first, HasFront-second)
+pub ruleset fronts = (AppendsPrefix-first, AppendsPrefix-second)

@@ -26,23 +26,23 @@ abbrev pub row_cmp : List Cell → List Cell → Ordering
 row_cmp = slice_cmp cell_cmp
 
 -- the item put before the first of the list that is not below it
-abbrev pub placed : {T : Type 0} → (T → T → Ordering) → T → List T → List T
-placed cmp item [] = item ∷ []
-placed cmp item (other ∷ others) = if is_le (cmp item other) then item ∷ other ∷ others else other ∷ placed cmp item others
+abbrev pub insert_sorted : {T : Type 0} → (T → T → Ordering) → T → List T → List T
+insert_sorted cmp item [] = item ∷ []
+insert_sorted cmp item (other ∷ others) = if is_le (cmp item other) then item ∷ other ∷ others else other ∷ insert_sorted cmp item others
 
 -- the items in order, each as often as it occurs: the first is put into the others in order
-abbrev pub in_order : {T : Type 0} → (T → T → Ordering) → List T → List T
-in_order cmp [] = []
-in_order cmp (item ∷ items) = placed cmp item (in_order cmp items)
+abbrev pub sorted_by : {T : Type 0} → (T → T → Ordering) → List T → List T
+sorted_by cmp [] = []
+sorted_by cmp (item ∷ items) = insert_sorted cmp item (sorted_by cmp items)
 
 -- rows in order are the rows themselves, each as often
-abbrev pub InOrderKeepsRows : Type 0
-InOrderKeepsRows = (rows : List (List Cell)) → IsPermutation rows (in_order row_cmp rows)
+abbrev pub SortingKeepsRows : Type 0
+SortingKeepsRows = (rows : List (List Cell)) → IsPermutation rows (sorted_by row_cmp rows)
 
 -- no row of the rows in order is above the one behind it
-abbrev pub InOrderIsSorted : Type 0
-InOrderIsSorted = (rows : List (List Cell)) → IsSorted row_cmp (in_order row_cmp rows)
+abbrev pub SortingSorts : Type 0
+SortingSorts = (rows : List (List Cell)) → IsSorted row_cmp (sorted_by row_cmp rows)
 
 -- rows that are sorted and the same, each as often, are the rows in order
-abbrev pub OnlyInOrder : Type 0
-OnlyInOrder = (rows sorted : List (List Cell)) → IsPermutation rows sorted → IsSorted row_cmp sorted → sorted ≡ in_order row_cmp rows
+abbrev pub SortedRowsAreUnique : Type 0
+SortedRowsAreUnique = (rows sorted : List (List Cell)) → IsPermutation rows sorted → IsSorted row_cmp sorted → sorted ≡ sorted_by row_cmp rows

@@ -3,7 +3,7 @@ use Rattle.std.specs.Prelude.{◌≡◌, ℕ, List, [], ◌∷◌, ◌++◌, tak
 use Rattle.std.specs.List.{flat_map}
 
 -- new is old and after it some front of the text
-pub record HasFront (old new text : List ℕ) : Type 0 where
+pub record AppendsPrefix (old new text : List ℕ) : Type 0 where
   pub count : ℕ
   pub is : new ≡ old ++ take count text
 

@@ -1,7 +1,7 @@
 //! The values that a table holds, with their order.
 
-use crate::items::TryCopy;
-use crate::memory::NoMemory;
+use crate::error::NoMemory;
+use crate::sequence::TryClone;
 use crate::text::Text;
 use std::alloc::Global;
 
@@ -16,12 +16,12 @@ pub enum Cell {
     Text(Text),
 }
 
-impl TryCopy for Cell {
-    fn try_copy(&self, alloc: Global) -> Result<Cell, NoMemory> {
+impl TryClone for Cell {
+    fn try_clone(&self, alloc: Global) -> Result<Cell, NoMemory> {
         match self {
             Cell::Null => Ok(Cell::Null),
             Cell::Int(number) => Ok(Cell::Int(*number)),
-            Cell::Text(text) => Ok(Cell::Text(text.try_copy(alloc)?)),
+            Cell::Text(text) => Ok(Cell::Text(text.try_clone(alloc)?)),
         }
     }
 }

@@ -2,10 +2,10 @@
 
 ghost use Rattle.std.specs.Prelude.{◌≡◌, ◌++◌, OnOk, OnErr};
 ghost use Rattle.gp_base.specs.Texts.{refusal_text};
-ghost use Rattle.gp_base.specs.Writing.{HasFront};
+ghost use Rattle.gp_base.specs.Writing.{AppendsPrefix};
 
-use crate::memory::NoMemory;
-use crate::writing::push_all;
+use crate::error::NoMemory;
+use crate::join::append_all;
 
 /// Why a line is refused. Its text begins with a code, E and two digits, and a variant named by a code has that one.
 #[derive(Clone, Copy, Debug, PartialEq, Eq)]
@@ -32,7 +32,7 @@ pub fn refusal_words(refusal: Refusal) -> &'static [u8]
 /// Appends the refusal's text. Where memory runs out, some front of it was appended.
 pub fn write_refusal(refusal: Refusal, out: &mut Vec<u8>) -> Result<(), NoMemory>
     ensures ok { OnOk result (out.new.items ≡ out.old.items ++ refusal_text refusal) }
-    ensures err { OnErr result (HasFront out.old.items out.new.items (refusal_text refusal)) }
+    ensures err { OnErr result (AppendsPrefix out.old.items out.new.items (refusal_text refusal)) }
 {
-    push_all(out, &[refusal_words(refusal)])
+    append_all(out, &[refusal_words(refusal)])
 }

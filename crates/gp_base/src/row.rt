@@ -4,8 +4,8 @@ ghost use Rattle.std.specs.Prelude.{◌≡◌, ◌++◌, ◌∷◌, [], OnOk, On
 ghost use Rattle.gp_base.specs.Cells.{AreInRange};
 
 use crate::cell::Cell;
-use crate::items::{Items, TryCopy};
-use crate::memory::NoMemory;
+use crate::error::NoMemory;
+use crate::sequence::{Sequence, TryClone};
 use std::alloc::Global;
 use std::marker::Model;
 
@@ -13,7 +13,7 @@ use std::marker::Model;
 /// are compared cell by cell, and a row that ends first is before.
 #[derive(Debug, Drop, PartialEq, Eq, PartialOrd, Ord)]
 pub struct Row {
-    cells: Items<Cell>,
+    cells: Sequence<Cell>,
 }
 
 impl Model for Row {
@@ -36,7 +36,7 @@ impl Row {
         ensures { result ≡ [] }
     {
         Row {
-            cells: Items::new(alloc),
+            cells: Sequence::new(alloc),
         }
     }
 
@@ -59,10 +59,10 @@ impl Row {
     }
 }
 
-impl TryCopy for Row {
-    fn try_copy(&self, alloc: Global) -> Result<Row, NoMemory> {
+impl TryClone for Row {
+    fn try_clone(&self, alloc: Global) -> Result<Row, NoMemory> {
         Ok(Row {
-            cells: self.cells.try_copy(alloc)?,
+            cells: self.cells.try_clone(alloc)?,
         })
     }
 }

@@ -1,8 +1,8 @@
 //! Tables: their names, and the names and kinds of their columns. That names differ is kept by whoever creates a table,
 //! and is no rule of these types.
 
-use crate::items::{Items, TryCopy};
-use crate::memory::NoMemory;
+use crate::error::NoMemory;
+use crate::sequence::{Sequence, TryClone};
 use crate::text::Name;
 use std::alloc::Global;
 
@@ -30,23 +30,23 @@ pub struct Table {
     /// Its name.
     pub name: Name,
     /// Its columns, from left to right.
-    pub cols: Items<Column>,
+    pub cols: Sequence<Column>,
 }
 
-impl TryCopy for Column {
-    fn try_copy(&self, alloc: Global) -> Result<Column, NoMemory> {
+impl TryClone for Column {
+    fn try_clone(&self, alloc: Global) -> Result<Column, NoMemory> {
         Ok(Column {
-            name: self.name.try_copy(alloc)?,
+            name: self.name.try_clone(alloc)?,
             kind: self.kind,
         })
     }
 }
 
-impl TryCopy for Table {
-    fn try_copy(&self, alloc: Global) -> Result<Table, NoMemory> {
+impl TryClone for Table {
+    fn try_clone(&self, alloc: Global) -> Result<Table, NoMemory> {
         Ok(Table {
-            name: self.name.try_copy(alloc)?,
-            cols: self.cols.try_copy(alloc)?,
+            name: self.name.try_clone(alloc)?,
+            cols: self.cols.try_clone(alloc)?,
         })
     }
 }

@@ -30,11 +30,11 @@ fn lines_of(alloc: Global, rows: &[Row]) -> Result<Vec<u8>, NoMemory> {
     Ok(out)
 }
 
-fn copy_of<T: TryCopy>(alloc: Global, value: &T) -> Result<T, NoMemory> {
-    value.try_copy(alloc)
+fn copy_of<T: TryClone>(alloc: Global, value: &T) -> Result<T, NoMemory> {
+    value.try_clone(alloc)
 }
 
-fn text_of<T, W: TextOf<T>>(alloc: Global, texts: &W, value: &T) -> Result<Vec<u8>, NoMemory> {
+fn text_of<T, W: TextFormat<T>>(alloc: Global, texts: &W, value: &T) -> Result<Vec<u8>, NoMemory> {
     let mut out = Vec::new(alloc);
     texts.write(alloc, value, &mut out)?;
     Ok(out)
@@ -47,7 +47,7 @@ fn is_before<T: Ord>(first: &T, second: &T) -> bool {
 #[test]
 fn rows_have_texts(rt: HostRuntime) -> Result<(), Fail> {
     let alloc = rt.alloc();
-    row_texts_differ();
+    row_text_is_injective();
     let mut mixed = row_of_two(alloc, Cell::Null, Cell::Int(-5))?;
     mixed.push(text_cell(alloc, "it's")?)?;
     let mut rows = Vec::new(alloc);
@@ -67,7 +67,7 @@ fn refusals_have_texts(rt: HostRuntime) -> Result<(), Fail> {
     let mut out = Vec::new(alloc);
     for refusal in [Refusal::NotBuilt, Refusal::E09, Refusal::E10] {
         write_refusal(refusal, &mut out)?;
-        push_all(&mut out, &[b" ", b"at 7\n"])?;
+        append_all(&mut out, &[b" ", b"at 7\n"])?;
     }
     let expected = b"E29 not built at 7\nE09 transaction active at 7\nE10 no transaction at 7\n";
     assert_eq!(rt; out.as_slice(), expected.as_slice());
@@ -87,7 +87,7 @@ fn rows_are_put_in_order(rt: HostRuntime) -> Result<(), Fail> {
     rows.push(row_of_one(alloc, Cell::Null)?)?;
     rows.push(row_of_one(alloc, Cell::Int(2))?)?;
     sort_rows(&mut rows)?;
-    in_order_keeps_rows();
+    sorting_is_unique();
     let lines = lines_of(alloc, &rows)?;
     let expected = b"NULL\n-1\n2\n2\n2, NULL\n10\n'ab'\n'b'\n";
     assert_eq!(rt; lines.as_slice(), expected.as_slice());
@@ -97,7 +97,7 @@ fn rows_are_put_in_order(rt: HostRuntime) -> Result<(), Fail> {
 #[test]
 fn copies_are_equal(rt: HostRuntime) -> Result<(), Fail> {
     let alloc = rt.alloc();
-    let mut cols = Items::new(alloc);
+    let mut cols = Sequence::new(alloc);
     cols.push(Column {
         name: Name::from_bytes(alloc, b"balance")?,
         kind: Kind::Int,
@@ -117,8 +117,8 @@ fn copies_are_equal(rt: HostRuntime) -> Result<(), Fail> {
 #[test]
 fn lists_are_compared_and_written(rt: HostRuntime) -> Result<(), Fail> {
     let alloc = rt.alloc();
-    let short = Items::from_slice(alloc, b"ab")?;
-    let long = Items::from_vec(b"abc".to_vec(alloc)?);
+    let short = Sequence::from_slice(alloc, b"ab")?;
+    let long = Sequence::from_vec(b"abc".to_vec(alloc)?);
     assert!(rt; is_before(&short, &long));
     assert!(rt; short != long);
     assert_eq!(rt; long.as_slice(), b"abc".as_slice());
@@ -126,13 +126,13 @@ fn lists_are_compared_and_written(rt: HostRuntime) -> Result<(), Fail> {
     both.append(long)?;
     assert_eq!(rt; both.into_vec().as_slice(), b"ababc".as_slice());
     let cell = text_cell(alloc, "''")?;
-    let text = text_of(alloc, &CellText, &cell)?;
+    let text = text_of(alloc, &CellFormat, &cell)?;
     assert_eq!(rt; text.as_slice(), b"''''''".as_slice());
     let mut joined = Vec::new(alloc);
     write_joined(
         alloc,
         &[Cell::Int(1), Cell::Null],
-        &CellText,
+        &CellFormat,
         b" and ",
         &mut joined,
     )?;

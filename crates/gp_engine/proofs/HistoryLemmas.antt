@@ -7,11 +7,11 @@ use Rattle.gp_syntax.specs.Reading.{read_of}
 use Rattle.gp_engine.specs.declared.reply.Reply.{Reply}
 use Rattle.gp_engine.specs.State.{State, Running, running_of}
 use Rattle.gp_engine.specs.Replies.{is_refusal}
-use Rattle.gp_engine.specs.Event.{event, answered, recorded, is_built}
-use Rattle.gp_engine.specs.History.{Told, replies_from, line_outcome, outcome, most_before}
+use Rattle.gp_engine.specs.Event.{event, answered, recorded, is_supported}
+use Rattle.gp_engine.specs.History.{NumberedReply, replies_from, line_outcome, outcome, most_before}
 
 -- the replies to lines have the numbers of the lines
-pub numbers-kept : (before : ℕ) (state : State) (lines : List (ℕ × List ℕ)) → map (λ (told : Told). told.number) (replies_from before state lines) ≡ map (λ (line : ℕ × List ℕ). line.0) lines
+pub numbers-kept : (before : ℕ) (state : State) (lines : List (ℕ × List ℕ)) → map (λ (told : NumberedReply). told.number) (replies_from before state lines) ≡ map (λ (line : ℕ × List ℕ). line.0) lines
 numbers-kept before state [] = refl
 numbers-kept before state (line ∷ lines) =
     ap (λ (numbers : List ℕ). line.0 ∷ numbers) (numbers-kept (before + 1) (line_outcome before state line).0 lines)
@@ -35,7 +35,7 @@ answered-leaves line session state (Some running) (Select name) refusal = absurd
 
 -- a command that is refused leaves the state as it was
 refused-leaves : (state : State) (line session : ℕ) (command : Command) → LeavesRefused state (event state line session command)
-refused-leaves state line session command = elim (cases_Bool (eqb session 1 && is_built state.catalogue command)) [
+refused-leaves state line session command = elim (cases_Bool (eqb session 1 && is_supported state.catalogue command)) [
   | inl runs ↦ rw runs (answered-leaves line session state (running_of session state.running) command)
   | inr fails ↦ rw fails (λ refusal. refl)
 ]

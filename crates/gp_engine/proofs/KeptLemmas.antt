@@ -11,7 +11,7 @@ use Rattle.gp_syntax.specs.declared.command.Command.TheVariants.{Create, Begin, 
 use Rattle.gp_engine.specs.declared.reply.Reply.{Reply}
 use Rattle.gp_engine.specs.declared.reply.Reply.TheVariants as reply
 use Rattle.gp_engine.specs.State.{State, Running, Database, rows_of, with_rows, running_of, without_session}
-use Rattle.gp_engine.specs.Event.{event, answered, recorded, is_built, is_named, fits_rows, place_of}
+use Rattle.gp_engine.specs.Event.{event, answered, recorded, is_supported, is_named, fits_rows, place_of}
 use Rattle.gp_syntax.specs.Commands.{is_command, is_tuple, most_rows}
 use Rattle.gp_syntax.specs.Names.{is_name}
 use Rattle.gp_engine.specs.Replies.{is_refusal}
@@ -60,7 +60,7 @@ answer-outside line state Commit idle = refl
 answer-outside line state (Insert name rows) idle = refl
 answer-outside line state (Select name) idle = refl
 
-answer-inside : (line : ℕ) (state : State) (command : Command) (running : Running) → running_of 1 state.running ≡ Some running → length state.catalogue ≤ 1 → is_built state.catalogue command ≡ true → IsKept line state command (Some running)
+answer-inside : (line : ℕ) (state : State) (command : Command) (running : Running) → running_of 1 state.running ≡ Some running → length state.catalogue ≤ 1 → is_supported state.catalogue command ≡ true → IsKept line state command (Some running)
 answer-inside line state (Create table) running busy few built = refl
 answer-inside line state Begin running busy few built = refl
 answer-inside line state Commit running busy few built = rw (running_of-without 1 state.running, busy, add-one) refl
@@ -71,19 +71,19 @@ answer-inside line state (Select name) running busy few built =
     let first = place-first name state.catalogue few built in
     rw (busy, first) refl
 
-answer : (line : ℕ) (state : State) (command : Command) (running : Option Running) → running_of 1 state.running ≡ running → length state.catalogue ≤ 1 → is_built state.catalogue command ≡ true → IsKept line state command running
+answer : (line : ℕ) (state : State) (command : Command) (running : Option Running) → running_of 1 state.running ≡ running → length state.catalogue ≤ 1 → is_supported state.catalogue command ≡ true → IsKept line state command running
 answer line state command None idle few built = answer-outside line state command idle
 answer line state command (Some running) busy few built = answer-inside line state command running busy few built
 
-first-session : (line session : ℕ) (state : State) (command : Command) → session ≡ 1 → length state.catalogue ≤ 1 → is_built state.catalogue command ≡ true
+first-session : (line session : ℕ) (state : State) (command : Command) → session ≡ 1 → length state.catalogue ≤ 1 → is_supported state.catalogue command ≡ true
     → kept_outcome (recorded line session command (answered state session (running_of session state.running) command)) ≡ kept_line line (kept_answer (kept state) (transaction_of (running_of 1 state.running)) command)
 first-session line session state command first few built =
     rw first (answer line state command (running_of 1 state.running) refl few built)
 
 pub kept-event : (line session : ℕ) (state : State) (command : Command) → length state.catalogue ≤ 1 → kept_outcome (event state line session command) ≡ kept_event (kept state) line session command
-kept-event line session state command few = elim (cases_Bool (eqb session 1 && is_built state.catalogue command)) [
+kept-event line session state command few = elim (cases_Bool (eqb session 1 && is_supported state.catalogue command)) [
   | inl runs ↦
-      let parts = and_parts (eqb session 1) (is_built state.catalogue command) runs in
+      let parts = and_parts (eqb session 1) (is_supported state.catalogue command) runs in
       rw runs (first-session line session state command (eqb-true session 1 parts.0) few parts.1)
   | inr fails ↦ rw fails refl
 ]
@@ -128,7 +128,7 @@ answer-leaves line k (Some t) (Insert name rows) below = left-by line k _ (reply
 answer-leaves line k (Some t) (Select name) below = left-by line k _ (reply.Rows k.rows) refl refl
 
 pub event-leaves : (line session : ℕ) (k : Kept) (command : Command) → k.line < line → Leaves line k (kept_event k line session command)
-event-leaves line session k command below = elim (cases_Bool (eqb session 1 && is_built k.tables command)) [
+event-leaves line session k command below = elim (cases_Bool (eqb session 1 && is_supported k.tables command)) [
   | inl runs ↦ rw runs (answer-leaves line k k.running command below)
   | inr fails ↦ rw fails (left-same line k NotBuilt below)
 ]

@@ -25,13 +25,13 @@ fits_rows rows table = list_all (λ (row : List Cell). length row == length tabl
 
 -- Which commands are built, in session 1: a CREATE TABLE while there is no table, an INSERT of rows that fit into a table that is
 -- there, a SELECT from a table that is there, and each BEGIN and COMMIT.
-abbrev pub is_built : List Table → Command → Bool
-is_built [] (Create table) = true
-is_built (first ∷ others) (Create table) = false
-is_built tables Begin = true
-is_built tables Commit = true
-is_built tables (Insert name rows) = list_any (λ (table : Table). is_named name table && fits_rows rows table) tables
-is_built tables (Select name) = list_any (is_named name) tables
+abbrev pub is_supported : List Table → Command → Bool
+is_supported [] (Create table) = true
+is_supported (first ∷ others) (Create table) = false
+is_supported tables Begin = true
+is_supported tables Commit = true
+is_supported tables (Insert name rows) = list_any (λ (table : Table). is_named name table && fits_rows rows table) tables
+is_supported tables (Select name) = list_any (is_named name) tables
 
 -- the place of a table in the order of creation, from 0
 abbrev pub place_of : List ℕ → List Table → ℕ
@@ -116,6 +116,6 @@ recorded line session command (state, reply) =
 -- session has a transaction.
 abbrev pub event : State → ℕ → ℕ → Command → State × Reply
 event state line session command =
-    if (session == 1) && is_built state.catalogue command
+    if (session == 1) && is_supported state.catalogue command
     then recorded line session command (answered state session (running_of session state.running) command)
     else refused state NotBuilt

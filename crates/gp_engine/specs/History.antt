@@ -17,7 +17,7 @@ abbrev pub most_before : ℕ
 most_before = 98
 
 -- a reply, the number of its line, and the tables that were there after it
-pub record Told : Type 0 where
+pub record NumberedReply : Type 0 where
   pub number : ℕ
   pub tables : List Table
   pub reply : Reply
@@ -36,7 +36,7 @@ abbrev pub line_outcome : ℕ → State → ℕ × List ℕ → State × Reply
 line_outcome before state line = outcome_if (nat_le before most_before) state line
 
 -- the replies to these lines in order, where so many lines were answered before them
-abbrev pub replies_from : ℕ → State → List (ℕ × List ℕ) → List Told
+abbrev pub replies_from : ℕ → State → List (ℕ × List ℕ) → List NumberedReply
 replies_from before state [] = []
 replies_from before state (line ∷ lines) =
     let next = line_outcome before state line in
@@ -48,7 +48,7 @@ state_from before state [] = state
 state_from before state (line ∷ lines) = state_from (before + 1) (line_outcome before state line).0 lines
 
 -- the replies to the lines of a script
-abbrev pub replies_of : List ℕ → List Told
+abbrev pub replies_of : List ℕ → List NumberedReply
 replies_of script = replies_from 0 empty_state (script_lines script)
 
 -- the state after the last line of a script
@@ -56,13 +56,13 @@ abbrev pub state_of : List ℕ → State
 state_of script = state_from 0 empty_state (script_lines script)
 
 -- the text of one reply, with the number of its line
-abbrev pub told_text : Told → List ℕ
-told_text told = line_text told.number told.tables told.reply
+abbrev pub numbered_text : NumberedReply → List ℕ
+numbered_text told = line_text told.number told.tables told.reply
 
 -- the texts of replies, one after another
-abbrev pub replies_text : List Told → List ℕ
-replies_text replies = flat_map told_text replies
+abbrev pub replies_text : List NumberedReply → List ℕ
+replies_text replies = flat_map numbered_text replies
 
 -- whether some line was refused
-abbrev pub has_refusal : List Told → Bool
-has_refusal replies = list_any (λ (told : Told). is_refusal told.reply) replies
+abbrev pub has_refusal : List NumberedReply → Bool
+has_refusal replies = list_any (λ (told : NumberedReply). is_refusal told.reply) replies

@@ -11,7 +11,7 @@ use Rattle.gp_engine.specs.declared.reply.Reply.{Reply}
 use Rattle.gp_engine.specs.declared.reply.Reply.TheVariants as reply
 use Rattle.gp_engine.specs.State.{State, Running, Accepted, Database, rows_of, running_of, newest}
 use Rattle.gp_engine.specs.Replies.{is_refusal}
-use Rattle.gp_engine.specs.Event.{event, is_built}
+use Rattle.gp_engine.specs.Event.{event, is_supported}
 
 -- what the engine keeps
 pub record Kept : Type 0 where
@@ -80,4 +80,4 @@ kept_line line (k, answer) = if is_refusal answer then (k, answer) else (record 
 -- what a command at a line in a session does to what is kept, and the reply to it
 abbrev pub kept_event : Kept → ℕ → ℕ → Command → Kept × Reply
 kept_event k line session command =
-    if (session == 1) && is_built k.tables command then kept_line line (kept_answer k k.running command) else (k, reply.Refused NotBuilt)
+    if (session == 1) && is_supported k.tables command then kept_line line (kept_answer k k.running command) else (k, reply.Refused NotBuilt)

@@ -4,7 +4,7 @@ use Rattle.std.specs.List.{concat, flat_map}
 use Rattle.std.specs.Fmt.{decimal}
 use Rattle.gp_base.specs.declared.cell.Cell.{Cell}
 use Rattle.gp_base.specs.declared.table.Table.{Table}
-use Rattle.gp_base.specs.Order.{in_order, row_cmp}
+use Rattle.gp_base.specs.Order.{sorted_by, row_cmp}
 use Rattle.gp_base.specs.Texts.{row_text, refusal_text}
 use Rattle.gp_engine.specs.declared.reply.Reply.{Reply}
 use Rattle.gp_engine.specs.declared.reply.Reply.TheVariants.{Created, Began, Wrote, Rows, Committed, Refused}
@@ -40,7 +40,7 @@ abbrev pub reply_text : List Table → Reply → List ℕ
 reply_text tables (Created table) = concat (codes "created " ∷ name_at table tables ∷ newline ∷ [])
 reply_text tables (Began t version) = concat (codes "begin " ∷ decimal t ∷ codes " at " ∷ decimal version ∷ newline ∷ [])
 reply_text tables (Wrote rows) = concat (codes "wrote " ∷ decimal rows ∷ newline ∷ [])
-reply_text tables (Rows rows) = concat (codes "rows " ∷ decimal (length rows) ∷ newline ∷ flat_map row_line (in_order row_cmp rows) ∷ [])
+reply_text tables (Rows rows) = concat (codes "rows " ∷ decimal (length rows) ∷ newline ∷ flat_map row_line (sorted_by row_cmp rows) ∷ [])
 reply_text tables (Committed t version) = concat (codes "committed " ∷ decimal t ∷ codes " as " ∷ decimal version ∷ newline ∷ [])
 reply_text tables (Refused refusal) = concat (refusal_text refusal ∷ newline ∷ [])
 

@@ -2,14 +2,14 @@
 
 ghost use Rattle.std.specs.Prelude.{◌≡◌, ◌<◌, ◌≤◌, ◌+◌, ◌^◌, ◌++◌, ◌∷◌, [], IfOk, OnOk, OnErr, length, Some, None, true};
 ghost use Rattle.gp_syntax.specs.Commands.{IsCommand};
-ghost use Rattle.gp_engine.specs.Event.{is_built};
+ghost use Rattle.gp_engine.specs.Event.{is_supported};
 ghost use Rattle.gp_engine.specs.Kept.{Follows, Kept, kept, kept_answer, kept_line, kept_event};
 ghost use Rattle.gp_engine.specs.Replies.{is_refusal};
 ghost use Rattle.gp_engine.specs.State.{empty_state};
 
-use crate::built::is_built;
 use crate::reply::Reply;
-use gp_base::{Items, NoMemory, Refusal, Row, Table, TryCopy};
+use crate::supported::is_supported;
+use gp_base::{NoMemory, Refusal, Row, Sequence, Table, TryClone};
 use gp_syntax::Command;
 use std::alloc::Global;
 use std::marker::Model;
@@ -18,12 +18,12 @@ use std::marker::Model;
 #[derive(Debug, Drop)]
 pub struct Engine {
     alloc: Global,
-    tables: Items<Table>,
+    tables: Sequence<Table>,
     line: u32,
     versions: u32,
     transactions: u32,
     running: Option<u32>,
-    rows: Items<Row>,
+    rows: Sequence<Row>,
 }
 
 impl Model for Engine {
@@ -44,12 +44,12 @@ impl Engine {
     {
         Engine {
             alloc,
-            tables: Items::new(alloc),
+            tables: Sequence::new(alloc),
             line: 0,
             versions: 0,
             transactions: 0,
             running: None,
-            rows: Items::new(alloc),
+            rows: Sequence::new(alloc),
         }
     }
 
@@ -104,7 +104,7 @@ impl Engine {
     }
 
     /// INSERT: the rows stand behind those that are there.
-    fn insert(&mut self, line: u32, rows: Items<Row>) -> Result<Reply, NoMemory>
+    fn insert(&mut self, line: u32, rows: Sequence<Row>) -> Result<Reply, NoMemory>
         requires few { length rows < 2 ^ 32 }
         requires above { self.old.line < line }
         ensures ok { IfOk result (λ reply. (self.new ≡ record self.old { rows = self.old.rows ++ rows; line = line })
@@ -123,7 +123,7 @@ impl Engine {
         ensures ok { IfOk result (λ reply. (self.new ≡ record self.old { line = line }) × (reply ≡ Reply.Rows self.old.rows)) }
         ensures err { OnErr result (self.new ≡ self.old) }
     {
-        let rows = self.rows.try_copy(self.alloc)?;
+        let rows = self.rows.try_clone(self.alloc)?;
         self.line = line;
         Ok(Reply::Rows(rows))
     }
@@ -133,7 +133,7 @@ impl Engine {
 impl Engine {
     /// A command of a session that has no transaction.
     fn outside(&mut self, line: u32, command: Command) -> Result<Reply, NoMemory>
-        requires built { is_built self.old.tables command ≡ true }
+        requires built { is_supported self.old.tables command ≡ true }
         requires above { self.old.line < line }
         ensures ok { IfOk result (λ reply. (self.new, reply) ≡ kept_line line (kept_answer self.old None command)) }
         ensures err { OnErr result (self.new ≡ self.old) }
@@ -171,7 +171,7 @@ impl Engine {
         ensures few { length self.old.tables ≤ 1 }
         ensures err { OnErr result (self.new ≡ self.old) }
     {
-        if session != 1 || !is_built(self.tables.as_slice(), &command) {
+        if session != 1 || !is_supported(self.tables.as_slice(), &command) {
             return Ok(Reply::Refused(Refusal::NotBuilt));
         }
         match self.running {

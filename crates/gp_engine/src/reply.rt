@@ -2,7 +2,7 @@
 
 ghost use Rattle.std.specs.Prelude.{◌≡◌};
 
-use gp_base::{Items, Refusal, Row};
+use gp_base::{Refusal, Row, Sequence};
 
 /// The answer to one line.
 #[derive(Debug, Drop)]
@@ -25,7 +25,7 @@ pub enum Reply {
         rows: u32,
     },
     /// The rows that a SELECT gives, in no promised order.
-    Rows(Items<Row>),
+    Rows(Sequence<Row>),
     /// A transaction committed.
     Committed {
         /// Its number.

@@ -3,7 +3,7 @@
 ghost use Rattle.std.specs.Prelude.{◌<◌, ◌≤◌, OnOk};
 
 use super::*;
-use gp_base::{Cell, Items, NoMemory, Refusal, Row, Text};
+use gp_base::{Cell, NoMemory, Refusal, Row, Sequence, Text};
 use gp_syntax::read_command;
 use std::alloc::Global;
 use std::process::Abort;
@@ -132,7 +132,7 @@ const REFUSED_LINES: &[(u32, u32, &str, &str)] = &[
 
 #[test]
 fn refused_lines_change_nothing(rt: HostRuntime) -> Result<(), Fail> {
-    each_answered_line_has_a_reply();
+    every_line_has_one_reply();
     run_script(&rt, rt.alloc(), REFUSED_LINES)
 }
 
@@ -145,7 +145,7 @@ fn row_of(alloc: Global, cell: Cell) -> Result<Row, NoMemory> {
 #[test]
 fn replies_are_appended(rt: HostRuntime) -> Result<(), Fail> {
     let alloc = rt.alloc();
-    let mut rows = Items::new(alloc);
+    let mut rows = Sequence::new(alloc);
     rows.push(row_of(alloc, Cell::Text(Text::from_bytes(alloc, b"-1")?))?)?;
     rows.push(row_of(alloc, Cell::Int(i64::MAX))?)?;
     rows.push(row_of(alloc, Cell::Null)?)?;

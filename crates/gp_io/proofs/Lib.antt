@@ -1,3 +1,3 @@
 pub mod BytesLemmas
 pub mod FilesLemmas
-pub mod NotesLemmas
+pub mod ReportsLemmas

@@ -14,8 +14,8 @@ content name [] = None
 content name (file ∷ files) = if bytes_eq file.0 name then Some file.1 else content name files
 
 -- the first `most` bytes that a name holds, where it is there
-abbrev pub front_of : List ℕ → ℕ → Files → Option (List ℕ)
-front_of name most files = option_map (take most) (content name files)
+abbrev pub prefix_of : List ℕ → ℕ → Files → Option (List ℕ)
+prefix_of name most files = option_map (take most) (content name files)
 
 -- every name but this one is as before
 pub record OthersStay (name : List ℕ) (old new : Files) : Type 0 where
@@ -27,5 +27,5 @@ pub record Replaced (name bytes : List ℕ) (old new : Files) : Type 0 where
   pub others : (other : List ℕ) → other ≢ name → content other new ≡ content other old
 
 -- a fact about the files before and after, where the shelf tells them
-abbrev pub IfTold : Option Files → Option Files → (Files → Files → Type 0) → Type 0
-IfTold old new P = IfSome old (λ before. IfSome new (λ after. P before after))
+abbrev pub IfKnown : Option Files → Option Files → (Files → Files → Type 0) → Type 0
+IfKnown old new P = IfSome old (λ before. IfSome new (λ after. P before after))

@@ -2,4 +2,4 @@ pub mod Bytes
 pub mod Files
 pub mod Mem
 pub mod NamedFile
-pub mod Notes
+pub mod Reports

@@ -1,11 +1,11 @@
 //! The files of the system as a shelf.
 ghost use Rattle.std.specs.Prelude.{◌≡◌, ◌≢◌, ◌≤◌, ◌↔◌, [], None, IfOk, vec_len};
 ghost use Rattle.std.specs.IoError.{error_kind};
-ghost use Rattle.gp_io.specs.Notes.{names_of};
+ghost use Rattle.gp_io.specs.Reports.{names_of};
 
-use crate::notes::{note_prepared, prepare};
+use crate::error::ShelfStop;
+use crate::reports::{note_prepared, prepare};
 use crate::shelf::Shelf;
-use crate::stop::ShelfStop;
 use crate::stream::{read_front, write_whole};
 use std::alloc::Global;
 use std::io::ErrorKind;

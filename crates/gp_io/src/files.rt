@@ -2,7 +2,7 @@
 
 mod places;
 
-pub(crate) use places::{front_of, put};
+pub(crate) use places::{prefix_of, put};
 
 /// A file that is kept in memory: its name, and the bytes that it holds.
 #[derive(Debug, Drop)]

@@ -7,26 +7,26 @@
 //! files of the system and its standard output.
 #![tactic(auto)]
 
-mod calls;
 mod calm;
 mod disk;
+mod error;
+mod faults;
 mod files;
 mod mem;
-mod notes;
 mod out;
+mod reports;
 mod shelf;
 mod sink;
-mod stop;
 mod stream;
 
 pub use calm::{CalmShelf, CalmSink};
 pub use disk::DiskShelf;
+pub use error::{ShelfStop, SinkStop};
 pub use files::NamedFile;
 pub use mem::{MemShelf, MemSink};
 pub use out::OutSink;
 pub use shelf::Shelf;
 pub use sink::Sink;
-pub use stop::{ShelfStop, SinkStop};
 
 #[cfg(test)]
 mod tests;

@@ -1,14 +1,14 @@
 //! A shelf and a sink in memory, of which the calls fail that are to fail.
 ghost use Rattle.std.specs.Prelude.{◌≡◌, [], Some};
 ghost use Rattle.gp_io.specs.NamedFile.{files_of};
-ghost use Rattle.gp_io.specs.Notes.{names_of};
+ghost use Rattle.gp_io.specs.Reports.{names_of};
 
-use crate::calls::Calls;
-use crate::files::{NamedFile, front_of, put};
-use crate::notes::note;
+use crate::error::{ShelfStop, SinkStop};
+use crate::faults::Calls;
+use crate::files::{NamedFile, prefix_of, put};
+use crate::reports::note;
 use crate::shelf::Shelf;
 use crate::sink::Sink;
-use crate::stop::{ShelfStop, SinkStop};
 use std::alloc::Global;
 
 /// Files in memory, which tell their bytes, and of which some calls fail.
@@ -62,7 +62,7 @@ impl Shelf for MemShelf {
             note(self.alloc, &mut self.read_faults, name)?;
             return Err(ShelfStop::Failed);
         }
-        match front_of(&self.files, name, most) {
+        match prefix_of(&self.files, name, most) {
             Some(bytes) => Ok(Vec::from_slice(self.alloc, bytes)?),
             None => {
                 note(self.alloc, &mut self.misses, name)?;

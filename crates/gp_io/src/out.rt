@@ -1,8 +1,8 @@
 //! The standard output as a sink.
 ghost use Rattle.std.specs.Prelude.{◌≡◌, None};
 
+use crate::error::SinkStop;
 use crate::sink::Sink;
-use crate::stop::SinkStop;
 use crate::stream::write_whole;
 use std::io;
 

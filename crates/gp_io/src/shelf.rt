@@ -1,9 +1,9 @@
 //! Named files that can be read and replaced.
 ghost use Rattle.std.specs.Prelude.{◌≡◌, ◌≢◌, ◌≤◌, ℕ, List, Option, is_some, IfOk, OnOk, IfSome, vec_len};
-ghost use Rattle.gp_io.specs.Files.{Files, content, front_of, IfTold, OthersStay, Replaced};
-ghost use Rattle.gp_io.specs.Notes.{NotesIfAbsent, NotesIfFailed, IsAbsentOrNoMemory};
+ghost use Rattle.gp_io.specs.Files.{Files, content, prefix_of, IfKnown, OthersStay, Replaced};
+ghost use Rattle.gp_io.specs.Reports.{ReportsIfAbsent, ReportsIfFailed, IsAbsentOrNoMemory};
 
-use crate::stop::ShelfStop;
+use crate::error::ShelfStop;
 
 /// Named files, of which a contract may know the bytes, and three lists of names that were noted.
 ///
@@ -26,7 +26,7 @@ pub trait Shelf {
     fn read(&mut self, name: &str, most: usize) -> Result<Vec<u8>, ShelfStop>
         ensures at_most { IfOk result (λ bytes. vec_len bytes ≤ most) }
         ensures bytes { IfOk result (λ bytes. IfSome (holds self.old)
-            (λ files. front_of name.now most files ≡ Some bytes.items)) }
+            (λ files. prefix_of name.now most files ≡ Some bytes.items)) }
         ensures files { holds self.new ≡ holds self.old }
 
         // Where the files are told: an absent name is told as absent unless a read fault was noted or memory ran out, and no
@@ -36,8 +36,8 @@ pub trait Shelf {
         ensures not_there { IfSome (holds self.old) (λ files. content name.now files ≡ None →
             read_faults self.new ≡ read_faults self.old → IsAbsentOrNoMemory result) }
 
-        ensures notes_miss { NotesIfAbsent result name.now (misses self.old) (misses self.new) }
-        ensures notes_fault { NotesIfFailed result name.now (read_faults self.old) (read_faults self.new) }
+        ensures notes_miss { ReportsIfAbsent result name.now (misses self.old) (misses self.new) }
+        ensures notes_fault { ReportsIfFailed result name.now (read_faults self.old) (read_faults self.new) }
         ensures replace_faults { replace_faults self.new ≡ replace_faults self.old };
 
     /// Makes `bytes` the whole of the file `name`, which need not be there before.
@@ -46,14 +46,14 @@ pub trait Shelf {
     /// nothing is known of its bytes. `NoMemory` leaves every file alone. `Absent` never comes.
     fn replace(&mut self, name: &str, bytes: &[u8]) -> Result<(), ShelfStop>
         ensures ok { OnOk result
-            (IfTold (holds self.old) (holds self.new) (Replaced name.now bytes.now)) }
+            (IfKnown (holds self.old) (holds self.new) (Replaced name.now bytes.now)) }
         ensures failed { result ≡ Err ShelfStop.Failed →
-            IfTold (holds self.old) (holds self.new) (OthersStay name.now) }
+            IfKnown (holds self.old) (holds self.new) (OthersStay name.now) }
         ensures no_memory { result ≡ Err ShelfStop.NoMemory → holds self.new ≡ holds self.old }
         ensures never_absent { result ≢ Err ShelfStop.Absent }
         ensures told { is_some (holds self.new) ≡ is_some (holds self.old) }
 
-        ensures notes_fault { NotesIfFailed result name.now (replace_faults self.old) (replace_faults self.new) }
+        ensures notes_fault { ReportsIfFailed result name.now (replace_faults self.old) (replace_faults self.new) }
         ensures misses { misses self.new ≡ misses self.old }
         ensures read_faults { read_faults self.new ≡ read_faults self.old };
 }

@@ -1,8 +1,8 @@
 //! What takes bytes.
 ghost use Rattle.std.specs.Prelude.{◌≡◌, ◌≤◌, ℕ, List, Option, is_some, OnOk};
-ghost use Rattle.gp_io.specs.Bytes.{followed_by, TookFront, RoseIfFailed};
+ghost use Rattle.gp_io.specs.Bytes.{appended, WritesPrefix, CountsFailure};
 
-use crate::stop::SinkStop;
+use crate::error::SinkStop;
 
 /// What takes bytes, and counts its faults.
 ///
@@ -18,9 +18,9 @@ pub trait Sink {
     /// `Failed` comes only where the count of faults rose or stands at its greatest. After any stop
     /// the first of the bytes were taken, as many as the sink came to, and no others.
     fn write_all(&mut self, bytes: &[u8]) -> Result<(), SinkStop>
-        ensures ok { OnOk result (taken self.new ≡ followed_by (taken self.old) bytes.now) }
-        ensures front { TookFront bytes.now (taken self.old) (taken self.new) }
+        ensures ok { OnOk result (taken self.new ≡ appended (taken self.old) bytes.now) }
+        ensures front { WritesPrefix bytes.now (taken self.old) (taken self.new) }
         ensures told { is_some (taken self.new) ≡ is_some (taken self.old) }
-        ensures notes_fault { RoseIfFailed result (faults self.old) (faults self.new) }
+        ensures notes_fault { CountsFailure result (faults self.old) (faults self.new) }
         ensures never_falls { faults self.old ≤ faults self.new };
 }

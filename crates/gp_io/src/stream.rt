@@ -3,7 +3,7 @@ ghost use Rattle.std.specs.Prelude.{◌≡◌, ◌≢◌, ◌≤◌, ◌↔◌, 
 ghost use Rattle.std.specs.IoError.{error_kind};
 ghost use Rattle.std.specs.Io.KnownBytes.{Appends};
 
-use crate::stop::ShelfStop;
+use crate::error::ShelfStop;
 use std::alloc::Global;
 use std::io;
 use std::io::{ErrorKind, Read, Write};

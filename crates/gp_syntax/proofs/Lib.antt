@@ -1,4 +1,4 @@
-pub mod CuttingLemmas
+pub mod LinesLemmas
 pub mod DraftLemmas
 pub mod NumberLemmas
 pub mod PlaceLemmas

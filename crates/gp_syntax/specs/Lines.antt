@@ -48,13 +48,13 @@ begins_comment (first ∷ []) = false
 begins_comment (first ∷ second ∷ bytes) = (first == 45) && (second == 45)
 
 -- nothing but blanks, or a comment behind blanks
-abbrev pub says_nothing : List ℕ → Bool
-says_nothing [] = true
-says_nothing (byte ∷ bytes) = if is_blank byte then says_nothing bytes else begins_comment (byte ∷ bytes)
+abbrev pub is_blank_or_comment : List ℕ → Bool
+is_blank_or_comment [] = true
+is_blank_or_comment (byte ∷ bytes) = if is_blank byte then is_blank_or_comment bytes else begins_comment (byte ∷ bytes)
 
 -- a line that is answered: one that says something, or is too long to be looked into
 abbrev pub is_answered : List ℕ → Bool
-is_answered line = not (nat_le (length line) longest_line && says_nothing line)
+is_answered line = not (nat_le (length line) longest_line && is_blank_or_comment line)
 
 -- the lines of these bytes that are answered, where the first line has this number
 abbrev pub answered_from : ℕ → List ℕ → List (ℕ × List ℕ)

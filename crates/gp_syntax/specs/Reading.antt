@@ -14,8 +14,8 @@ use Rattle.gp_base.specs.declared.table.Column.{Column}
 use Rattle.gp_syntax.specs.declared.command.Command.{Command}
 use Rattle.gp_syntax.specs.declared.command.Command.TheVariants.{Create, Begin, Commit, Insert, Select}
 use Rattle.gp_syntax.specs.declared.command.ScriptLine.{ScriptLine}
-use Rattle.gp_syntax.specs.declared.stop.ReadStop.{ReadStop}
-use Rattle.gp_syntax.specs.declared.stop.ReadStop.TheVariants.{Refused, NoMemory}
+use Rattle.gp_syntax.specs.declared.error.ReadStop.{ReadStop}
+use Rattle.gp_syntax.specs.declared.error.ReadStop.TheVariants.{Refused, NoMemory}
 use Rattle.gp_base.specs.declared.refusal.Refusal.TheVariants.{NotBuilt}
 use Rattle.gp_syntax.specs.Lines.{longest_line}
 use Rattle.gp_syntax.specs.Canonical.{canonical}

@@ -5,15 +5,15 @@ ghost use Rattle.gp_syntax.specs.Canonical.{canonical, column_text, tuple_text};
 
 use crate::command::Command;
 use gp_base::{
-    Column, Items, Kind, Name, NoMemory, Row, Table, TextOf, push_all, text_of_pieces,
+    Column, Kind, Name, NoMemory, Row, Sequence, Table, TextFormat, append_all, text_of_pieces,
     write_joined, write_row,
 };
 use std::alloc::Global;
 
 /// The text of a column: its name and its kind.
-struct ColumnText;
+struct ColumnFormat;
 
-impl TextOf<Column> for ColumnText {
+impl TextFormat<Column> for ColumnFormat {
     ghost text = { column_text };
 
     fn write(&self, _alloc: Global, column: &Column, out: &mut Vec<u8>) -> Result<(), NoMemory> {
@@ -21,21 +21,21 @@ impl TextOf<Column> for ColumnText {
             Kind::Int => b"INT",
             Kind::Text => b"TEXT",
         };
-        push_all(out, &[column.name.as_bytes(), b" ", kind])?;
+        append_all(out, &[column.name.as_bytes(), b" ", kind])?;
         Ok(())
     }
 }
 
 /// The text of a row as literals in brackets.
-struct TupleText;
+struct TupleFormat;
 
-impl TextOf<Row> for TupleText {
+impl TextFormat<Row> for TupleFormat {
     ghost text = { tuple_text };
 
     fn write(&self, alloc: Global, row: &Row, out: &mut Vec<u8>) -> Result<(), NoMemory> {
         let mut cells = Vec::new(alloc);
         write_row(alloc, row, &mut cells)?;
-        push_all(out, &[b"(", &cells, b")"])?;
+        append_all(out, &[b"(", &cells, b")"])?;
         Ok(())
     }
 }
@@ -47,7 +47,7 @@ fn create_text(alloc: Global, table: &Table) -> Result<Vec<u8>, NoMemory>
     write_joined(
         alloc,
         table.cols.as_slice(),
-        &ColumnText,
+        &ColumnFormat,
         b", ",
         &mut columns,
     )?;
@@ -55,11 +55,11 @@ fn create_text(alloc: Global, table: &Table) -> Result<Vec<u8>, NoMemory>
     text_of_pieces(alloc, &[b"CREATE TABLE ", name, b" (", &columns, b")"])
 }
 
-fn insert_text(alloc: Global, table: &Name, rows: &Items<Row>) -> Result<Vec<u8>, NoMemory>
+fn insert_text(alloc: Global, table: &Name, rows: &Sequence<Row>) -> Result<Vec<u8>, NoMemory>
     ensures { IfOk result (λ text. text.items ≡ canonical (Command.Insert table.now rows.now)) }
 {
     let mut tuples = Vec::new(alloc);
-    write_joined(alloc, rows.as_slice(), &TupleText, b", ", &mut tuples)?;
+    write_joined(alloc, rows.as_slice(), &TupleFormat, b", ", &mut tuples)?;
     text_of_pieces(
         alloc,
         &[b"INSERT INTO ", table.as_bytes(), b" VALUES ", &tuples],

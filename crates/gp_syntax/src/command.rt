@@ -1,6 +1,6 @@
 //! The commands of a script.
 
-use gp_base::{Items, Name, Row, Table};
+use gp_base::{Name, Row, Sequence, Table};
 
 /// What a line of a script asks for.
 #[derive(Debug, Drop)]
@@ -19,7 +19,7 @@ pub enum Command {
         /// The table that the rows go to.
         table: Name,
         /// The rows, in the order of the text.
-        rows: Items<Row>,
+        rows: Sequence<Row>,
     },
     /// `SELECT * FROM`: the rows of a table, as the transaction sees them.
     Select {

@@ -8,7 +8,7 @@ ghost use Rattle.gp_syntax.specs.Reading.{drafted_column, drafted_columns, draft
 
 use crate::command::Command;
 use crate::scan::{after, before, parts};
-use gp_base::{Cell, Column, Items, Kind, Name, NoMemory, Row, Table};
+use gp_base::{Cell, Column, Kind, Name, NoMemory, Row, Sequence, Table};
 use std::alloc::Global;
 
 /// The text without one space in front.
@@ -48,11 +48,11 @@ fn drafted_column(alloc: Global, part: &[u8]) -> Result<Column, NoMemory>
     })
 }
 
-fn drafted_columns_of(alloc: Global, parts: &[&[u8]]) -> Result<Items<Column>, NoMemory>
+fn drafted_columns_of(alloc: Global, parts: &[&[u8]]) -> Result<Sequence<Column>, NoMemory>
     ensures { IfOk result (λ columns.
         columns ≡ map drafted_column (map (λ part. part.now) parts.now)) }
 {
-    let mut columns = Items::new(alloc);
+    let mut columns = Sequence::new(alloc);
     for part in parts {
         columns.push(drafted_column(alloc, part)?)?;
     }
@@ -60,7 +60,7 @@ fn drafted_columns_of(alloc: Global, parts: &[&[u8]]) -> Result<Items<Column>, N
 }
 
 /// The columns between the first brackets of a text.
-fn drafted_columns(alloc: Global, text: &[u8]) -> Result<Items<Column>, NoMemory>
+fn drafted_columns(alloc: Global, text: &[u8]) -> Result<Sequence<Column>, NoMemory>
     ensures { IfOk result (λ columns. columns ≡ drafted_columns text.now) }
 {
     let parts = parts(alloc, before(after(text, b'('), b')'), b',')?;
@@ -85,10 +85,10 @@ fn drafted_row(alloc: Global, text: &[u8]) -> Result<Row, NoMemory>
     drafted_row_of(alloc, &parts)
 }
 
-fn drafted_rows_of(alloc: Global, parts: &[&[u8]]) -> Result<Items<Row>, NoMemory>
+fn drafted_rows_of(alloc: Global, parts: &[&[u8]]) -> Result<Sequence<Row>, NoMemory>
     ensures { IfOk result (λ rows. rows ≡ map drafted_row (map (λ part. part.now) parts.now)) }
 {
-    let mut rows = Items::new(alloc);
+    let mut rows = Sequence::new(alloc);
     for part in parts {
         rows.push(drafted_row(alloc, part)?)?;
     }
@@ -96,12 +96,12 @@ fn drafted_rows_of(alloc: Global, parts: &[&[u8]]) -> Result<Items<Row>, NoMemor
 }
 
 /// A row behind each opening bracket.
-fn drafted_rows(alloc: Global, text: &[u8]) -> Result<Items<Row>, NoMemory>
+fn drafted_rows(alloc: Global, text: &[u8]) -> Result<Sequence<Row>, NoMemory>
     ensures { IfOk result (λ rows. rows ≡ drafted_rows text.now) }
 {
     let parts = parts(alloc, text, b'(')?;
     match parts.as_slice() {
-        [] => Ok(Items::new(alloc)),
+        [] => Ok(Sequence::new(alloc)),
         [_, behind @ ..] => drafted_rows_of(alloc, behind),
     }
 }

@@ -3,21 +3,21 @@
 
 mod canonical;
 mod command;
-mod cutting;
 mod draft;
+mod error;
+mod line;
 mod names;
 mod read;
 mod scan;
-mod stop;
 mod valid;
 
 pub use canonical::write_command;
 pub use command::{Command, ScriptLine};
-pub use cutting::{LONGEST_LINE, Line, LineIter, lines};
-pub use names::{LONGEST_NAME, is_name};
-pub use read::{line_is_read_in_one_way, read_command, read_line};
-pub use stop::ReadStop;
-pub use valid::{MOST_COLUMNS, MOST_ROWS};
+pub use error::ReadStop;
+pub use line::{Line, LineIter, MAX_LINE_LENGTH, lines};
+pub use names::{MAX_NAME_LENGTH, is_name};
+pub use read::{read_command, read_line, reading_is_unambiguous};
+pub use valid::{MAX_COLUMNS, MAX_ROWS};
 
 #[cfg(test)]
 mod tests;

@@ -6,7 +6,7 @@ ghost use Rattle.std.specs.Str.{bytes_eq};
 ghost use Rattle.gp_syntax.specs.Names.{is_name, is_name_byte, is_lower_letter, is_reserved};
 
 /// The greatest number of bytes of a name.
-pub const LONGEST_NAME: usize = 30;
+pub const MAX_NAME_LENGTH: usize = 30;
 
 /// The reserved words, in lower letters.
 const RESERVED_WORDS: &[u8] =
@@ -54,7 +54,7 @@ pub fn is_name(bytes: &[u8]) -> bool
         [first, others @ ..] => {
             is_lower_letter(*first)
                 && are_name_bytes(others)
-                && bytes.len() <= LONGEST_NAME
+                && bytes.len() <= MAX_NAME_LENGTH
                 && !is_reserved(bytes)
         }
     }

@@ -8,9 +8,9 @@ ghost use Rattle.gp_syntax.specs.Reading.{confirmed, read_text, read_of, Reads, 
 
 use crate::canonical::write_command;
 use crate::command::{Command, ScriptLine};
-use crate::cutting::LONGEST_LINE;
 use crate::draft::{behind, drafted};
-use crate::stop::ReadStop;
+use crate::error::ReadStop;
+use crate::line::MAX_LINE_LENGTH;
 use crate::valid::is_command;
 use gp_base::{NoMemory, Refusal};
 use std::alloc::Global;
@@ -60,7 +60,7 @@ pub fn read_command(alloc: Global, text: &[u8]) -> Result<Command, ReadStop>
 fn read_of(alloc: Global, line: &[u8]) -> Result<Option<Command>, NoMemory>
     ensures { IfOk result (λ found. found ≡ read_of line.now) }
 {
-    if line.len() > LONGEST_LINE {
+    if line.len() > MAX_LINE_LENGTH {
         return Ok(None);
     }
     match behind(line, b"s1: ") {
@@ -70,7 +70,7 @@ fn read_of(alloc: Global, line: &[u8]) -> Result<Option<Command>, NoMemory>
 }
 
 /// Reads a line of a script, without its end. Refused, as not built, exactly where it has more than
-/// [`LONGEST_LINE`](crate::LONGEST_LINE) bytes, or is not `s1: ` and then the canonical text of a command that a script may hold.
+/// [`MAX_LINE_LENGTH`](crate::MAX_LINE_LENGTH) bytes, or is not `s1: ` and then the canonical text of a command that a script may hold.
 /// The only other error is want of memory, which says nothing of the line.
 pub fn read_line(alloc: Global, line: &[u8]) -> Result<ScriptLine, ReadStop>
     ensures exact { GivesLine result (read_of line.now) }
@@ -88,7 +88,7 @@ pub fn read_line(alloc: Global, line: &[u8]) -> Result<ScriptLine, ReadStop>
 
 /// The laws of reading, whether memory is found or not: the function by which histories are told (`read_of`) gives a
 /// command exactly where the line holds it, and no line holds two commands. It does nothing, and its contract holds the laws.
-pub fn line_is_read_in_one_way()
+pub fn reading_is_unambiguous()
     ensures exact { (line : List ℕ) (command : Command) → (read_of line ≡ Some command) ↔ Reads line command }
     ensures one { (line : List ℕ) (one other : Command) → Reads line one → Reads line other → one ≡ other }
 {}

@@ -85,7 +85,7 @@ fn assert_read(rt: &impl Abort, alloc: Global, text: &[u8]) -> Result<(), Fail> 
 
 #[test]
 fn canonical_texts_are_read(rt: HostRuntime) -> Result<(), Fail> {
-    line_is_read_in_one_way();
+    reading_is_unambiguous();
     let texts: [&[u8]; 12] = [
         b"BEGIN",
         b"COMMIT",

@@ -10,10 +10,10 @@ use crate::names::is_name;
 use gp_base::{Cell, Column, Kind, Name, Row, Table};
 
 /// The greatest number of columns of a table.
-pub const MOST_COLUMNS: usize = 16;
+pub const MAX_COLUMNS: usize = 16;
 
 /// The greatest number of rows of one `INSERT`.
-pub const MOST_ROWS: usize = 100;
+pub const MAX_ROWS: usize = 100;
 
 fn is_int(kind: Kind) -> bool
     ensures { result ≡ is_int kind }
@@ -87,7 +87,7 @@ fn is_table(table: &Table) -> bool
     let columns = table.cols.as_slice();
     is_name(table.name.as_bytes())
         && 1 <= columns.len()
-        && columns.len() <= MOST_COLUMNS
+        && columns.len() <= MAX_COLUMNS
         && are_columns(columns)
         && all_differ(columns)
 }
@@ -104,7 +104,7 @@ pub(crate) fn is_command(command: &Command) -> bool
             let rows = rows.as_slice();
             is_name(table.as_bytes())
                 && 1 <= rows.len()
-                && rows.len() <= MOST_ROWS
+                && rows.len() <= MAX_ROWS
                 && are_tuples(rows)
         }
         Command::Select { table } => is_name(table.as_bytes()),

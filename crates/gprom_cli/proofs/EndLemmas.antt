@@ -2,12 +2,12 @@
 use Rattle.std.proofs.Common.{◌≡◌, ◌≢◌, ℕ, ◌+◌, ◌≤◌, ◌<◌, ◌⊎◌, [], take, suc, zero, Bool, true, false, cond, List, length, Option, Some, None, refl, sym, ap, ◌∙◌, subst, arith, inl, inr, ⊎_elim}
 use Rattle.std.specs.Prelude.{IfSome, IsSomeAnd}
 use Rattle.gp_io.specs.Files.{Files, content}
-use Rattle.gp_io.specs.Notes.{Notes}
-use Rattle.gp_io.proofs.NotesLemmas.{notes_longer}
-use Rattle.gp_io.specs.Bytes.{TookFront, Rose, followed_by}
+use Rattle.gp_io.specs.Reports.{Reports}
+use Rattle.gp_io.proofs.ReportsLemmas.{notes_longer}
+use Rattle.gp_io.specs.Bytes.{WritesPrefix, Increased, appended}
 use Rattle.gp_engine.specs.History.{replies_of, replies_text, has_refusal}
 use Rattle.gprom_cli.specs.Forms.{Form, Due, Usage, Absent, Unreadable, TooLong, Replies, Nothing, due_text, due_status, longest_script}
-use Rattle.gprom_cli.specs.Outcome.{Noted, IsQuiet, Names, IsDueFor, IsOrStops, Said, EndsFor, Ends, IfTold, AllQuiet}
+use Rattle.gprom_cli.specs.Outcome.{Noted, IsQuiet, Names, IsDueFor, IsOrStops, Said, EndsFor, Ends, IfKnown, AllQuiet}
 
 at_most_one : (b : Bool) (n : ℕ) → n ≡ cond b 1 0 → n ≤ 1
 at_most_one true n e = omega (arith, e)
@@ -38,11 +38,11 @@ still_longer (Some bytes) whole long there short =
     omega (arith, long, short, ap length one)
 
 module _ (script : List ℕ) (holds : Option Files) (misses faults : Noted) (taken taken' : Option (List ℕ)) (count count' result : ℕ) where
-  abbrev Told : Due → Type 0
-  Told due = IsDueFor script holds misses faults due × Said (due_text due) (due_status due) taken taken' count count' result
+  abbrev NumberedReply : Due → Type 0
+  NumberedReply due = IsDueFor script holds misses faults due × Said (due_text due) (due_status due) taken taken' count count' result
 
   -- status 3
-  missed : (due : Due) → Told due → result ≡ 3 → Names misses script
+  missed : (due : Due) → NumberedReply due → result ≡ 3 → Names misses script
   missed Usage told at = absurd told.0
   missed (Absent name) told at = rw (sym told.0.0) told.0.1
   missed (Unreadable name) told at = absurd (omega (arith, told.1.which, at))
@@ -51,7 +51,7 @@ module _ (script : List ℕ) (holds : Option Files) (misses faults : Noted) (tak
   missed Nothing told at = absurd (omega (arith, told.1.which, at))
 
   -- status 4
-  faulted : (due : Due) → Told due → result ≡ 4 → Names faults script
+  faulted : (due : Due) → NumberedReply due → result ≡ 4 → Names faults script
   faulted Usage told at = absurd told.0
   faulted (Absent name) told at = absurd (omega (arith, told.1.which, at))
   faulted (Unreadable name) told at = rw (sym told.0.0) told.0.2
@@ -60,7 +60,7 @@ module _ (script : List ℕ) (holds : Option Files) (misses faults : Noted) (tak
   faulted Nothing told at = absurd (omega (arith, told.1.which, at))
 
   -- under 0, 1, 2 and 6 nothing was noted and no fault counted
-  quiet : (due : Due) → Told due → (result < 3) ⊎ (result ≡ 6) → AllQuiet misses faults count count'
+  quiet : (due : Due) → NumberedReply due → (result < 3) ⊎ (result ≡ 6) → AllQuiet misses faults count count'
   quiet Usage told at = absurd told.0
   quiet (Absent name) told at = absurd (omega (arith, told.1.which, at))
   quiet (Unreadable name) told at = absurd (omega (arith, told.1.which, at))
@@ -68,7 +68,7 @@ module _ (script : List ℕ) (holds : Option Files) (misses faults : Noted) (tak
   quiet (Replies bytes) told at = (told.0.0, told.0.1, ⊎_elim told.1.calm (λ e. absurd (omega (arith, e, at))) told.1.which)
   quiet Nothing told at = absurd (omega (arith, told.1.which, at))
 
-  not_usage : (due : Due) → Told due → result ≡ 2 → ⊥
+  not_usage : (due : Due) → NumberedReply due → result ≡ 2 → ⊥
   not_usage Usage told at = told.0
   not_usage (Absent name) told at = omega (arith, told.1.which, at)
   not_usage (Unreadable name) told at = omega (arith, told.1.which, at)
@@ -77,8 +77,8 @@ module _ (script : List ℕ) (holds : Option Files) (misses faults : Noted) (tak
   not_usage Nothing told at = omega (arith, told.1.which, at)
 
   -- a script that is there, not too long and was not faulted is answered, unless memory ran out
-  taken-none : (text : List ℕ) → TookFront [] taken taken' → TookFront text taken taken'
-  taken-none text front = record { count = 0; is = front.is ∙ ap (followed_by taken) (take-nil front.count) }
+  taken-none : (text : List ℕ) → WritesPrefix [] taken taken' → WritesPrefix text taken taken'
+  taken-none text front = record { count = 0; is = front.is ∙ ap (appended taken) (take-nil front.count) }
 
   unsaid : (text : List ℕ) (status : ℕ) → status ≤ 6 → status ≢ 5 → Said [] 8 taken taken' count count' result → Said text status taken taken' count count' result
   unsaid text status low_status other said = record {
@@ -92,7 +92,7 @@ module _ (script : List ℕ) (holds : Option Files) (misses faults : Noted) (tak
 
 module _ (script : List ℕ) (files : Files) (misses faults : Noted) (taken taken' : Option (List ℕ)) (count count' result : ℕ) where
   abbrev Known : Due → Type 0
-  Known due = Told script (Some files) misses faults taken taken' count count' result due
+  Known due = NumberedReply script (Some files) misses faults taken taken' count count' result due
 
   not_noted : IsQuiet faults → Names faults script → ⊥
   not_noted same noted = notes_longer script faults.before faults.after noted (sym same)
@@ -142,15 +142,15 @@ module _ (misses faults : Noted) (taken taken' : Option (List ℕ)) (count count
   says-no_form None holds end none = end.2.which
   says-no_form (Some form) holds end none = absurd cc
 
-  pub says-absent : (form : Option Form) (holds : Option Files) → TheEnd form holds → result ≡ 3 → IsSomeAnd form (λ (f : Form). Notes f.script misses.before misses.after)
+  pub says-absent : (form : Option Form) (holds : Option Files) → TheEnd form holds → result ≡ 3 → IsSomeAnd form (λ (f : Form). Reports f.script misses.before misses.after)
   says-absent None holds end at = absurd (omega (arith, end.2.which, at))
   says-absent (Some form) holds end at = missed form.script holds misses faults taken taken' count count' result end.due (end.is_due, end.said) at
 
-  pub says-unreadable : (form : Option Form) (holds : Option Files) → TheEnd form holds → result ≡ 4 → IsSomeAnd form (λ (f : Form). Notes f.script faults.before faults.after)
+  pub says-unreadable : (form : Option Form) (holds : Option Files) → TheEnd form holds → result ≡ 4 → IsSomeAnd form (λ (f : Form). Reports f.script faults.before faults.after)
   says-unreadable None holds end at = absurd (omega (arith, end.2.which, at))
   says-unreadable (Some form) holds end at = faulted form.script holds misses faults taken taken' count count' result end.due (end.is_due, end.said) at
 
-  pub says-unwritten : (form : Option Form) (holds : Option Files) → TheEnd form holds → result ≡ 5 → Rose count count'
+  pub says-unwritten : (form : Option Form) (holds : Option Files) → TheEnd form holds → result ≡ 5 → Increased count count'
   says-unwritten None holds end at = end.2.unwritten at
   says-unwritten (Some form) holds end at = end.said.unwritten at
 
@@ -159,19 +159,19 @@ module _ (misses faults : Noted) (taken taken' : Option (List ℕ)) (count count
   says-quiet (Some form) holds end at = quiet form.script holds misses faults taken taken' count count' result end.due (end.is_due, end.said) at
 
   pub says-not_there : (form : Option Form) (holds : Option Files) → TheEnd form holds
-      → IfTold form holds (λ script files. content script files ≡ None → IsQuiet faults → IsOrStops 3 result)
+      → IfKnown form holds (λ script files. content script files ≡ None → IsQuiet faults → IsOrStops 3 result)
   says-not_there None holds end = tt
   says-not_there (Some form) None end = tt
   says-not_there (Some form) (Some files) end = λ none same. gone form.script files misses faults taken taken' count count' result end.due (end.is_due, end.said) none same
 
   pub says-too_long : (form : Option Form) (holds : Option Files) → TheEnd form holds
-      → IfTold form holds (λ script files. (bytes : List ℕ) → content script files ≡ Some bytes → longest_script < length bytes → IsQuiet faults → IsOrStops 6 result)
+      → IfKnown form holds (λ script files. (bytes : List ℕ) → content script files ≡ Some bytes → longest_script < length bytes → IsQuiet faults → IsOrStops 6 result)
   says-too_long None holds end = tt
   says-too_long (Some form) None end = tt
   says-too_long (Some form) (Some files) end = λ bytes there long same. too_long form.script files misses faults taken taken' count count' result end.due bytes (end.is_due, end.said) there long same
 
   pub says-answered : (form : Option Form) (holds : Option Files) → TheEnd form holds
-      → IfTold form holds (λ script files. (bytes : List ℕ) → content script files ≡ Some bytes → length bytes ≤ longest_script → IsQuiet faults
+      → IfKnown form holds (λ script files. (bytes : List ℕ) → content script files ≡ Some bytes → length bytes ≤ longest_script → IsQuiet faults
       → Said (replies_text (replies_of bytes)) (due_status (Replies bytes)) taken taken' count count' result)
   says-answered None holds end = tt
   says-answered (Some form) None end = tt

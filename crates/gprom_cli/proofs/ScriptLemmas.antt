@@ -9,7 +9,7 @@ use Rattle.gp_engine.specs.declared.reply.Reply.{Reply}
 use Rattle.gp_engine.specs.Replies.{is_refusal, line_text}
 use Rattle.gp_engine.specs.State.{State, empty_state}
 use Rattle.gp_engine.specs.Kept.{Kept, kept}
-use Rattle.gp_engine.specs.History.{Told, outcome_if, line_outcome, most_before, replies_from, replies_of, replies_text, has_refusal}
+use Rattle.gp_engine.specs.History.{NumberedReply, outcome_if, line_outcome, most_before, replies_from, replies_of, replies_text, has_refusal}
 use Rattle.gprom_cli.specs.Script.{FollowsLine, IsUnderWay, most_run}
 
 -- before the first line

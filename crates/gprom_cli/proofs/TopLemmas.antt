@@ -2,7 +2,7 @@
 use Rattle.std.proofs.Common.{◌≡◌, ℕ, ◌+◌, ◌<◌, ◌≤◌, List, length, take, Option, Some, None, refl, sym, ap, ◌∙◌, arith}
 use Rattle.std.specs.Prelude.{IfSome, IsSomeAnd, option_map}
 use Rattle.std.proofs.lemmas.List.{length-take, take_all}
-use Rattle.gp_io.specs.Files.{Files, content, front_of}
+use Rattle.gp_io.specs.Files.{Files, content, prefix_of}
 
 long-part : (content : Option (List ℕ)) (most limit : ℕ) (bytes : List ℕ) → option_map (take most) content ≡ Some bytes → limit < length bytes → IsSomeAnd content (λ whole. limit < length whole)
 long-part None most limit bytes read long = absurd cc
@@ -17,13 +17,13 @@ short-part (Some whole) limit bytes read short =
     ap (λ (w : List ℕ). Some w) (sym (take_all (limit + 1) whole (omega (arith, short, length-take (limit + 1) whole, ap length same))) ∙ same)
 
 -- the file is longer than the limit where more was read
-pub long-file : (holds : Option Files) (name : List ℕ) (most limit : ℕ) (bytes : List ℕ) → IfSome holds (λ files. front_of name most files ≡ Some bytes) → limit < length bytes
+pub long-file : (holds : Option Files) (name : List ℕ) (most limit : ℕ) (bytes : List ℕ) → IfSome holds (λ files. prefix_of name most files ≡ Some bytes) → limit < length bytes
     → IfSome holds (λ files. IsSomeAnd (content name files) (λ whole. limit < length whole))
 long-file None name most limit bytes read long = tt
 long-file (Some files) name most limit bytes read long = long-part (content name files) most limit bytes read long
 
 -- what was read is the whole file where no more than the limit was read
-pub whole-file : (holds : Option Files) (name : List ℕ) (limit : ℕ) (bytes : List ℕ) → IfSome holds (λ files. front_of name (limit + 1) files ≡ Some bytes) → length bytes ≤ limit
+pub whole-file : (holds : Option Files) (name : List ℕ) (limit : ℕ) (bytes : List ℕ) → IfSome holds (λ files. prefix_of name (limit + 1) files ≡ Some bytes) → length bytes ≤ limit
     → IfSome holds (λ files. content name files ≡ Some bytes)
 whole-file None name limit bytes read short = tt
 whole-file (Some files) name limit bytes read short = short-part (content name files) limit bytes read short

@@ -1,8 +1,8 @@
 -- How a call ends: what was due, by the words, the files and the notes of the shelf, and what the sink took of it.
 use Rattle.std.specs.Prelude.{◌≡◌, ℕ, ◌<◌, ◌≤◌, ◌⊎◌, List, length, Option, Some, None, IfSome, IsSomeAnd}
 use Rattle.gp_io.specs.Files.{Files, content}
-use Rattle.gp_io.specs.Notes.{Notes}
-use Rattle.gp_io.specs.Bytes.{TookFront, Rose, followed_by}
+use Rattle.gp_io.specs.Reports.{Reports}
+use Rattle.gp_io.specs.Bytes.{WritesPrefix, Increased, appended}
 use Rattle.gprom_cli.specs.Forms.{Form, Due, Usage, Absent, Unreadable, TooLong, Replies, Nothing, due_text, due_status, longest_script}
 
 -- a list of notes before a call and after it
@@ -14,7 +14,7 @@ abbrev pub IsQuiet : Noted → Type 0
 IsQuiet noted = noted.after ≡ noted.before
 
 abbrev pub Names : Noted → List ℕ → Type 0
-Names noted name = Notes name noted.before noted.after
+Names noted name = Reports name noted.before noted.after
 
 -- what is due for a form with this script, by the files where the shelf tells them, and by what was noted in the call
 abbrev pub IsDueFor : List ℕ → Option Files → Noted → Noted → Due → Type 0
@@ -37,10 +37,10 @@ IsOrStops status result = (result ≡ status) ⊎ ((result ≡ 5) ⊎ (result �
 -- stands at its greatest, and under 8, where memory ran out, some front of it was.
 pub record Said (text : List ℕ) (status : ℕ) (taken taken' : Option (List ℕ)) (faults faults' result : ℕ) : Type 0 where
   pub which : IsOrStops status result
-  pub front : TookFront text taken taken'
-  pub all : result ≡ status → taken' ≡ followed_by taken text
+  pub front : WritesPrefix text taken taken'
+  pub all : result ≡ status → taken' ≡ appended taken text
   pub calm : result ≡ status → faults' ≡ faults
-  pub unwritten : result ≡ 5 → Rose faults faults'
+  pub unwritten : result ≡ 5 → Increased faults faults'
   pub wanting : result ≡ 8 → faults' ≡ faults
 
 -- the end of a call whose words have a form
@@ -56,8 +56,8 @@ Ends None holds misses faults taken taken' count count' result =
 Ends (Some form) holds misses faults taken taken' count count' result = EndsFor form.script holds misses faults taken taken' count count' result
 
 -- a fact about the name of the script and the files, where the words have a form and the shelf tells its files
-abbrev pub IfTold : Option Form → Option Files → (List ℕ → Files → Type 0) → Type 0
-IfTold form holds P = IfSome form (λ (f : Form). IfSome holds (λ files. P f.script files))
+abbrev pub IfKnown : Option Form → Option Files → (List ℕ → Files → Type 0) → Type 0
+IfKnown form holds P = IfSome form (λ (f : Form). IfSome holds (λ files. P f.script files))
 
 -- nothing was noted of a script that is read
 abbrev pub AllQuiet : Noted → Noted → ℕ → ℕ → Type 0

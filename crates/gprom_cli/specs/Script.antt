@@ -4,7 +4,7 @@ use Rattle.gp_syntax.specs.Lines.{RiseFrom}
 use Rattle.gp_engine.specs.declared.reply.Reply.{Reply}
 use Rattle.gp_engine.specs.State.{State}
 use Rattle.gp_engine.specs.Kept.{Kept, kept}
-use Rattle.gp_engine.specs.History.{Told, outcome_if, replies_from, replies_of, replies_text, has_refusal}
+use Rattle.gp_engine.specs.History.{NumberedReply, outcome_if, replies_from, replies_of, replies_text, has_refusal}
 
 -- The answer to a line is that of the history machine, and what is kept after it is kept of the machine's state.
 pub record FollowsLine (old new : Kept) (runs : Bool) (line : ℕ × List ℕ) (answer : Reply) : Type 0 where

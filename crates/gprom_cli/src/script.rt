@@ -10,7 +10,7 @@ use gp_syntax::{ReadStop, lines, read_line};
 use std::alloc::Global;
 
 /// The greatest number of bytes of a script.
-pub const LONGEST_SCRIPT: usize = 16_777_216;
+pub const MAX_SCRIPT_LENGTH: usize = 16_777_216;
 
 /// How many answered lines are run; those behind them are not.
 const MOST_RUN: u32 = 99;

@@ -1,15 +1,15 @@
 //! The whole call: from the words of the command line to the bytes written and the status.
 
 ghost use Rattle.std.specs.Prelude.{◌≡◌, ◌⊎◌, List, ℕ, ◌<◌, ◌≤◌, IfOk, length, map, string_bytes, Some, None, IsSomeAnd, if◌then◌else◌};
-ghost use Rattle.gp_io.specs.Bytes.{Rose};
+ghost use Rattle.gp_io.specs.Bytes.{Increased};
 ghost use Rattle.gp_io.specs.Files.{content};
-ghost use Rattle.gp_io.specs.Notes.{Notes};
+ghost use Rattle.gp_io.specs.Reports.{Reports};
 ghost use Rattle.gp_engine.specs.History.{replies_of, replies_text, has_refusal};
 ghost use Rattle.gprom_cli.specs.Forms.{form_of, message, longest_script};
-ghost use Rattle.gprom_cli.specs.Outcome.{Ends, EndsFor, Said, IsOrStops, IfTold};
+ghost use Rattle.gprom_cli.specs.Outcome.{Ends, EndsFor, Said, IsOrStops, IfKnown};
 
 use crate::form::form_of;
-use crate::script::{LONGEST_SCRIPT, run_script};
+use crate::script::{MAX_SCRIPT_LENGTH, run_script};
 use gp_base::{NoMemory, text_of_pieces};
 use gp_io::{Shelf, ShelfStop, Sink, SinkStop};
 use std::alloc::Global;
@@ -96,9 +96,9 @@ fn run<H: Shelf, K: Sink>(alloc: Global, name: &str, shelf: &mut H, out: &mut K)
     ensures files { H.holds shelf.new ≡ H.holds shelf.old }
     ensures replaces { H.replace_faults shelf.new ≡ H.replace_faults shelf.old }
 {
-    match shelf.read(name, LONGEST_SCRIPT + 1) {
+    match shelf.read(name, MAX_SCRIPT_LENGTH + 1) {
         Ok(script) => {
-            if script.len() > LONGEST_SCRIPT {
+            if script.len() > MAX_SCRIPT_LENGTH {
                 say_name(alloc, b"too long ", name, TOO_LONG, out)
             } else {
                 answer(alloc, &script, out)
@@ -137,13 +137,13 @@ pub fn gprom<H: Shelf, K: Sink>(alloc: Global, words: &[String], shelf: &mut H, 
         (K.taken out.old) (K.taken out.new) (K.faults out.old) (K.faults out.new) result }
 
     // Over a shelf that tells its files: the replies of the history of the script, and exactly when the script is missing or too long.
-    ensures answered { IfTold (form_of (map string_bytes words.now)) (H.holds shelf.old) (λ script files. (bytes : List ℕ) →
+    ensures answered { IfKnown (form_of (map string_bytes words.now)) (H.holds shelf.old) (λ script files. (bytes : List ℕ) →
         content script files ≡ Some bytes → length bytes ≤ longest_script → H.read_faults shelf.new ≡ H.read_faults shelf.old →
         Said (replies_text (replies_of bytes)) (if has_refusal (replies_of bytes) then 1 else 0)
         (K.taken out.old) (K.taken out.new) (K.faults out.old) (K.faults out.new) result) }
-    ensures not_there { IfTold (form_of (map string_bytes words.now)) (H.holds shelf.old) (λ script files.
+    ensures not_there { IfKnown (form_of (map string_bytes words.now)) (H.holds shelf.old) (λ script files.
         content script files ≡ None → H.read_faults shelf.new ≡ H.read_faults shelf.old → IsOrStops 3 result) }
-    ensures too_long { IfTold (form_of (map string_bytes words.now)) (H.holds shelf.old) (λ script files. (bytes : List ℕ) →
+    ensures too_long { IfKnown (form_of (map string_bytes words.now)) (H.holds shelf.old) (λ script files. (bytes : List ℕ) →
         content script files ≡ Some bytes → longest_script < length bytes → H.read_faults shelf.new ≡ H.read_faults shelf.old →
         IsOrStops 6 result) }
 
@@ -151,10 +151,10 @@ pub fn gprom<H: Shelf, K: Sink>(alloc: Global, words: &[String], shelf: &mut H, 
     ensures usage { result ≡ 2 → form_of (map string_bytes words.now) ≡ None }
     ensures no_form { form_of (map string_bytes words.now) ≡ None → IsOrStops 2 result }
     ensures absent { result ≡ 3 → IsSomeAnd (form_of (map string_bytes words.now))
-        (λ form. Notes form.script (H.misses shelf.old) (H.misses shelf.new)) }
+        (λ form. Reports form.script (H.misses shelf.old) (H.misses shelf.new)) }
     ensures unreadable { result ≡ 4 → IsSomeAnd (form_of (map string_bytes words.now))
-        (λ form. Notes form.script (H.read_faults shelf.old) (H.read_faults shelf.new)) }
-    ensures unwritten { result ≡ 5 → Rose (K.faults out.old) (K.faults out.new) }
+        (λ form. Reports form.script (H.read_faults shelf.old) (H.read_faults shelf.new)) }
+    ensures unwritten { result ≡ 5 → Increased (K.faults out.old) (K.faults out.new) }
     ensures quiet { (result < 3) ⊎ (result ≡ 6) → (H.misses shelf.new ≡ H.misses shelf.old)
         × (H.read_faults shelf.new ≡ H.read_faults shelf.old) × (K.faults out.new ≡ K.faults out.old) }
 

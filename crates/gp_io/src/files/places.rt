@@ -2,7 +2,7 @@
 ghost use Rattle.std.specs.Prelude.{◌≡◌, ◌≤◌, OnOk, OnErr, IfSome, length, take};
 ghost use Rattle.std.specs.Option.{option_copied};
 ghost use Rattle.std.specs.List.{position};
-ghost use Rattle.gp_io.specs.Files.{content, front_of, Replaced};
+ghost use Rattle.gp_io.specs.Files.{content, prefix_of, Replaced};
 ghost use Rattle.gp_io.specs.NamedFile.{files_of, has_name};
 
 use super::NamedFile;
@@ -21,8 +21,8 @@ fn bytes_of<'a>(files: &'a [NamedFile], name: &str) -> Option<&'a [u8]>
 }
 
 /// The first `most` bytes of the first file of that name.
-pub(crate) fn front_of<'a>(files: &'a [NamedFile], name: &str, most: usize) -> Option<&'a [u8]>
-    ensures front { option_copied result ≡ front_of name.now most (files_of files.now) }
+pub(crate) fn prefix_of<'a>(files: &'a [NamedFile], name: &str, most: usize) -> Option<&'a [u8]>
+    ensures front { option_copied result ≡ prefix_of name.now most (files_of files.now) }
     ensures at_most { IfSome result (λ bytes. length bytes.now ≤ most) }
 {
     bytes_of(files, name).map(|bytes| front(bytes, most))

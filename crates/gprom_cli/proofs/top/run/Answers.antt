@@ -3,8 +3,8 @@ use Rattle.gprom_cli.specs.Forms.{Absent, Unreadable, TooLong, Replies, longest_
 use Rattle.gprom_cli.proofs.TopLemmas.{long-file, whole-file}
 use Rattle.gprom_cli.proofs.top.run.Goals as goal
 
-pub returns-then-len-gt-LONGEST_SCRIPT-clause-end : goal.returns-then-len-gt-LONGEST_SCRIPT-clause-end
-returns-then-len-gt-LONGEST_SCRIPT-clause-end g c = record {
+pub returns-then-len-gt-MAX_SCRIPT_LENGTH-clause-end : goal.returns-then-len-gt-MAX_SCRIPT_LENGTH-clause-end
+returns-then-len-gt-MAX_SCRIPT_LENGTH-clause-end g c = record {
   due = TooLong c.args.name.now;
   is_due = (
     refl,

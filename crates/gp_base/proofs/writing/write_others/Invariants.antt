@@ -1,7 +1,0 @@
-use Rattle.std.proofs.Common.{◌≡◌, ◌++◌, take}
-use Rattle.std.specs.List.{flat_map}
-use Rattle.gp_base.proofs.writing.write_others.Given as goal
-
--- the items so far stand behind what was there
-abbrev pub invariant-loop-item : goal.invariant-loop-item
-invariant-loop-item g l = l.out.items ≡ l.initial.out.items ++ flat_map (λ item. l.separator ++ g.W.TextOf.text item) (take l.item-index l.items)

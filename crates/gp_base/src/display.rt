@@ -1,0 +1,82 @@
+//! The texts of cells and rows, as replies and dumps print them.
+
+ghost use Rattle.std.specs.Prelude.{◌≡◌, ◌++◌, List, OnOk, OnErr, IfOk};
+ghost use Rattle.std.specs.Fmt.{signed_decimal};
+ghost use Rattle.std.specs.List.{flat_map};
+ghost use Rattle.gp_base.specs.Cells.{AreInRange};
+ghost use Rattle.gp_base.specs.Texts.{cell_text, row_text, quoted_byte};
+ghost use Rattle.gp_base.specs.Writing.{AppendsPrefix};
+
+use crate::cell::Cell;
+use crate::error::NoMemory;
+use crate::join::{TextFormat, append_all, write_joined};
+use crate::row::Row;
+use crate::text::Text;
+use std::alloc::Global;
+
+const QUOTE: u8 = b'\'';
+
+/// The text with each quote written twice.
+fn quoted(alloc: Global, text: &[u8]) -> Result<Vec<u8>, NoMemory>
+    ensures { IfOk result (λ bytes. bytes.items ≡ flat_map quoted_byte text.now) }
+{
+    let mut bytes = Vec::new(alloc);
+    for byte in text {
+        if *byte == QUOTE {
+            bytes.push(QUOTE)?;
+        }
+        bytes.push(*byte)?;
+    }
+    Ok(bytes)
+}
+
+/// Appends a number in decimal digits.
+fn write_number(alloc: Global, number: i64, out: &mut Vec<u8>) -> Result<(), NoMemory>
+    ensures ok { OnOk result (out.new.items ≡ out.old.items ++ signed_decimal number) }
+    ensures err { OnErr result (AppendsPrefix out.old.items out.new.items (signed_decimal number)) }
+{
+    let digits = number.to_string(alloc)?;
+    append_all(out, &[digits.as_bytes()])?;
+    Ok(())
+}
+
+/// Appends a text in quotes. The part between them is made first, since it may be longer than the text.
+fn write_quoted(alloc: Global, text: &Text, out: &mut Vec<u8>) -> Result<(), NoMemory>
+    ensures ok { OnOk result (out.new.items ≡ out.old.items ++ cell_text (Cell.Text text.now)) }
+    ensures err { OnErr result (AppendsPrefix out.old.items out.new.items (cell_text (Cell.Text text.now))) }
+{
+    let inside = quoted(alloc, text.as_bytes())?;
+    append_all(out, &[b"'", &inside, b"'"])?;
+    Ok(())
+}
+
+/// The text of a cell: NULL, a decimal number, or a text in quotes with each quote in it twice.
+#[derive(Clone, Copy, Debug)]
+pub struct CellFormat;
+
+impl TextFormat<Cell> for CellFormat {
+    ghost text = { cell_text };
+
+    fn write(&self, alloc: Global, cell: &Cell, out: &mut Vec<u8>) -> Result<(), NoMemory> {
+        match cell {
+            Cell::Null => append_all(out, &[b"NULL"]),
+            Cell::Int(number) => write_number(alloc, *number, out),
+            Cell::Text(text) => write_quoted(alloc, text, out),
+        }
+    }
+}
+
+/// Appends the text of a row: its cells with a comma and a space between. Where memory runs out, some front of it was
+/// appended.
+pub fn write_row(alloc: Global, row: &Row, out: &mut Vec<u8>) -> Result<(), NoMemory>
+    ensures ok { OnOk result (out.new.items ≡ out.old.items ++ row_text row.now) }
+    ensures err { OnErr result (AppendsPrefix out.old.items out.new.items (row_text row.now)) }
+{
+    write_joined(alloc, row.cells(), &CellFormat, b", ", out)
+}
+
+/// The law of row texts: two rows with the same text are the same row, also where one has more cells. It does nothing, and
+/// its contract holds the law.
+pub fn row_text_is_injective()
+    ensures { (one other : List Cell) → AreInRange one → AreInRange other → row_text one ≡ row_text other → one ≡ other }
+{}

@@ -1,0 +1,52 @@
+//! Which commands are built: those that run where there is at most one table.
+
+ghost use Rattle.std.specs.Prelude.{◌≡◌, ◌&&◌};
+ghost use Rattle.std.specs.List.{list_any};
+ghost use Rattle.gp_engine.specs.Event.{is_supported, is_named, fits_rows};
+
+use gp_base::{Name, Row, Sequence, Table};
+use gp_syntax::Command;
+
+/// Whether the table has this name.
+fn is_named(name: &Name, table: &Table) -> bool
+    ensures { result ≡ is_named name.now table.now }
+{
+    table.name == *name
+}
+
+/// Whether each row has as many cells as the table has columns.
+fn fits_rows(rows: &Sequence<Row>, table: &Table) -> bool
+    ensures { result ≡ fits_rows rows.now table.now }
+{
+    let width = table.cols.as_slice().len();
+    rows.as_slice().iter().all(|row| row.cells().len() == width)
+}
+
+/// Whether some table has this name and as many columns as each row has cells.
+fn takes_rows(tables: &[Table], name: &Name, rows: &Sequence<Row>) -> bool
+    ensures { result ≡ list_any (λ table. is_named name.now table && fits_rows rows.now table) tables.now }
+{
+    tables
+        .iter()
+        .any(|table| is_named(name, table) && fits_rows(rows, table))
+}
+
+/// Whether some table has this name.
+fn is_there(tables: &[Table], name: &Name) -> bool
+    ensures { result ≡ list_any (is_named name.now) tables.now }
+{
+    tables.iter().any(|table| is_named(name, table))
+}
+
+/// Whether the command is built, where these tables are there.
+pub(crate) fn is_supported(tables: &[Table], command: &Command) -> bool
+    ensures { result ≡ is_supported tables.now command.now }
+{
+    match command {
+        Command::Create { table: _ } => tables.is_empty(),
+        Command::Begin => true,
+        Command::Commit => true,
+        Command::Insert { table, rows } => takes_rows(tables, table, rows),
+        Command::Select { table } => is_there(tables, table),
+    }
+}

@@ -1,0 +1,17 @@
+use Rattle.std.proofs.Common.{◌≡◌, ◌+◌, ◌∷◌, ℕ, take, drop, arith, sym, subst}
+use Rattle.std.specs.Str.Lines.{strip_carriage_return}
+use Rattle.std.proofs.lemmas.List.{take_rest}
+use Rattle.gp_syntax.specs.Lines.{lines_of}
+use Rattle.gp_syntax.proofs.LinesLemmas.{first_line-open, first_line-ended}
+use Rattle.gp_syntax.proofs.line.first_line.Goals as goal
+
+pub returns-then-end-bytes-clause-lines : goal.returns-then-end-bytes-clause-lines
+returns-then-end-bytes-clause-lines c =
+    let bytes = c.args.bytes.now in
+    let place = c.place_of-end.ensures.place in
+    let whole = first_line-ended bytes (omega (arith, place, c.if-end-bytes.true)) in
+    rw (take_rest bytes (c.place_of-end.result + 1), c.without_return.ensures)
+    (subst (λ (n : ℕ). lines_of bytes ≡ strip_carriage_return (take n bytes) ∷ lines_of (drop (n + 1) bytes)) (sym place) whole)
+
+pub returns-else-end-bytes-clause-lines : goal.returns-else-end-bytes-clause-lines
+returns-else-end-bytes-clause-lines c = first_line-open c.args.bytes.now c.requires (omega (arith, c.place_of-end.ensures.place))
