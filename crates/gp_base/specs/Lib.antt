@@ -1,4 +1,5 @@
 pub mod Cells
+pub mod Names
 pub mod Order
 pub mod Texts
 pub mod Writing

@@ -5,6 +5,7 @@ mod cell;
 mod display;
 mod error;
 mod join;
+mod name;
 mod refusal;
 mod row;
 mod sequence;
@@ -16,12 +17,10 @@ pub use cell::Cell;
 pub use display::{CellFormat, row_text_is_injective, write_row};
 pub use error::NoMemory;
 pub use join::{TextFormat, append_all, text_of_pieces, write_joined};
+pub use name::{MAX_NAME_LENGTH, Name, is_name};
 pub use refusal::{Refusal, refusal_words, write_refusal};
 pub use row::Row;
 pub use sequence::{Sequence, TryClone};
 pub use sort::{sort_rows, sorting_is_unique};
 pub use table::{Column, Kind, Table};
-pub use text::{Name, Text};
-
-#[cfg(test)]
-mod tests;
+pub use text::Text;

@@ -2,8 +2,8 @@
 //! and is no rule of these types.
 
 use crate::error::NoMemory;
+use crate::name::Name;
 use crate::sequence::{Sequence, TryClone};
-use crate::text::Name;
 use std::alloc::Global;
 
 /// What a column holds beside NULL.

@@ -13,7 +13,7 @@ use Rattle.gp_engine.specs.declared.reply.Reply.TheVariants as reply
 use Rattle.gp_engine.specs.State.{State, Running, Database, rows_of, with_rows, running_of, without_session}
 use Rattle.gp_engine.specs.Event.{event, answered, recorded, is_supported, is_named, fits_rows, place_of}
 use Rattle.gp_syntax.specs.Commands.{is_command, is_tuple, most_rows}
-use Rattle.gp_syntax.specs.Names.{is_name}
+use Rattle.gp_base.specs.Names.{is_name}
 use Rattle.gp_engine.specs.Replies.{is_refusal}
 use Rattle.gp_engine.specs.Kept.{Follows, Kept, kept, kept_answer, kept_line, kept_event, transaction_of}
 

@@ -3,7 +3,7 @@ use Rattle.std.proofs.Common.{◌≡◌, ℕ, ◌<◌, ◌≤◌, true, not, ◌
 use Rattle.std.specs.List.{AllByRecursion, flat_map, list_all, slice_split, before_first, after_first}
 use Rattle.std.specs.Str.{bytes_eq}
 use Rattle.std.specs.Fmt.{signed_decimal}
-use Rattle.std.proofs.lemmas.Bool.{and_parts, leb-true, cond_both, false≢true}
+use Rattle.std.proofs.lemmas.Bool.{and_parts, leb-true, cond_both, cond-true, false≢true}
 use Rattle.std.proofs.lemmas.Bool.Decides.{nat_tests}
 use Rattle.gp_base.specs.declared.cell.Cell.{Cell}
 use Rattle.gp_base.specs.declared.cell.Cell.TheVariants as cell
@@ -15,10 +15,11 @@ use Rattle.gp_base.specs.Texts.{cell_text, row_text}
 use Rattle.gp_base.specs.Writing.{joined}
 use Rattle.gp_syntax.specs.declared.command.Command.{Command}
 use Rattle.gp_syntax.specs.declared.command.Command.TheVariants.{Create, Begin, Commit, Insert, Select}
-use Rattle.gp_syntax.specs.Names.{is_lower_letter, is_name_byte, is_name, is_reserved, longest_name}
+use Rattle.gp_base.specs.Names.{is_lower_letter, is_name_byte, is_name, is_reserved}
+use Rattle.gp_base.specs.declared.name.TheConstants.{MAX_NAME_LENGTH}
 use Rattle.gp_syntax.specs.Canonical.{column_text, tuple_text, canonical}
 use Rattle.gp_syntax.specs.Commands.{is_int, is_column, is_number, is_tuple, FitsCommand, IsCommand}
-use Rattle.gp_syntax.specs.Reading.{number_of, is_space, is_comma, is_open, is_close, without_space, drafted_column, drafted_columns, drafted_cell, drafted_row, drafted_rows, begins, drafted}
+use Rattle.gp_syntax.specs.Reading.{number_of, is_space, is_comma, is_open, is_close, without_space, drafted_name, drafted_column, drafted_columns, drafted_cell, drafted_row, drafted_rows, begins, drafted}
 use Rattle.gp_syntax.proofs.NumberLemmas.{number_of-signed_decimal, number_of-fits, signed_decimal_high}
 use Rattle.gp_syntax.proofs.PlaceLemmas.{IsFreeOf, IsFreeOf-append, IsFreeOf-high, before_first-stop, after_first-stop, slice_split-stop, slice_split-free, without_space-free, joined-free, IsRedrafted, split-joined}
 
@@ -37,10 +38,15 @@ name_bytes_high (byte ∷ bytes) h =
 pub name_high : (name : List ℕ) → is_name name ≡ true → AllByRecursion (λ byte. 45 ≤ byte) name
 name_high [] h = tt
 name_high (byte ∷ bytes) h =
-    let shown = and_parts (is_lower_letter byte && list_all is_name_byte bytes && nat_le (length (byte ∷ bytes)) longest_name) (not (is_reserved (byte ∷ bytes))) h in
-    let front = and_parts (is_lower_letter byte && list_all is_name_byte bytes) (nat_le (length (byte ∷ bytes)) longest_name) shown.0 in
+    let shown = and_parts (is_lower_letter byte && list_all is_name_byte bytes && nat_le (length (byte ∷ bytes)) MAX_NAME_LENGTH) (not (is_reserved (byte ∷ bytes))) h in
+    let front = and_parts (is_lower_letter byte && list_all is_name_byte bytes) (nat_le (length (byte ∷ bytes)) MAX_NAME_LENGTH) shown.0 in
     let parts = and_parts (is_lower_letter byte) (list_all is_name_byte bytes) front.0 in
     (le_trans (lit≤ tt) (leb-true 97 byte (and_parts (leb 97 byte) (leb byte 122) parts.0).0), name_bytes_high bytes parts.1)
+
+-- a name is drafted as itself
+name_drafted : (name : List ℕ) → is_name name ≡ true → drafted_name name ≡ name
+unfolding drafted_name
+name_drafted name named = cond-true (is_name name) name (codes "x") named
 
 -- ---- columns
 
@@ -55,11 +61,14 @@ without_space-name (byte ∷ bytes) more named = rw (IsFreeOf-high 32 (byte ∷ 
 column_name-found : (name more : List ℕ) → is_name name ≡ true → before_first is_space (name ++ 32 ∷ more) ≡ name
 column_name-found name more named = before_first-stop is_space name 32 more (IsFreeOf-high 32 name (lit< tt) (name_high name named)) refl
 
+word_drafted : (name more : List ℕ) → is_name name ≡ true → drafted_name (before_first is_space (name ++ 32 ∷ more)) ≡ name
+word_drafted name more named = ap drafted_name (column_name-found name more named) ∙ name_drafted name named
+
 column_found : (name : List ℕ) (kind : Kind) → is_name name ≡ true → is_int kind ≡ true → IsRedrafted column_text drafted_column (record { name = name; kind = kind })
 column_found name Int named int = record {
   free = IsFreeOf-append is_comma name (codes " INT") (IsFreeOf-high 44 name (lit< tt) (name_high name named)) (search rules);
-  first = ap (λ (text : List ℕ). record { name = before_first is_space text; kind = Int }) (without_space-name name (codes " INT") named) ∙ ap (λ (text : List ℕ). record { name = text; kind = Int }) (column_name-found name (codes "INT") named);
-  later = ap (λ (text : List ℕ). record { name = text; kind = Int }) (column_name-found name (codes "INT") named);
+  first = ap (λ (text : List ℕ). record { name = drafted_name (before_first is_space text); kind = Int }) (without_space-name name (codes " INT") named) ∙ ap (λ (text : List ℕ). record { name = text; kind = Int }) (word_drafted name (codes "INT") named);
+  later = ap (λ (text : List ℕ). record { name = text; kind = Int }) (word_drafted name (codes "INT") named);
 }
 column_found name Text named int = absurd (false≢true int)
 
@@ -172,19 +181,19 @@ create_drafted : (name : List ℕ) (cols : List Column) → is_name name ≡ tru
 unfolding drafted
 create_drafted name cols named some all =
     let brackets : List ℕ = 40 ∷ (joined column_text (codes ", ") cols ++ 41 ∷ []) in
-    ap₂ (λ (x : List ℕ) (xs : List Column). Some (Create (record { name = x; cols = xs }))) (column_name-found name brackets named) (columns_drafted name cols named some all)
+    ap₂ (λ (x : List ℕ) (xs : List Column). Some (Create (record { name = x; cols = xs }))) (word_drafted name brackets named) (columns_drafted name cols named some all)
 
 insert_drafted : (name : List ℕ) (rows : List (List Cell)) → is_name name ≡ true → nat_le 1 (length rows) ≡ true → AllByRecursion IsRowText rows → drafted (canonical (Insert name rows)) ≡ Some (Insert name rows)
 unfolding drafted
 insert_drafted name rows named some all =
-    ap₂ (λ (x : List ℕ) (xs : List (List Cell)). Some (Insert x xs)) (column_name-found name (codes "VALUES " ++ (joined tuple_text (codes ", ") rows ++ [])) named) (rows_drafted name rows named some all)
+    ap₂ (λ (x : List ℕ) (xs : List (List Cell)). Some (Insert x xs)) (word_drafted name (codes "VALUES " ++ (joined tuple_text (codes ", ") rows ++ [])) named) (rows_drafted name rows named some all)
 
 -- the draft of the canonical text of a command is that command
 pub drafted-canonical : (command : Command) → IsCommand command → drafted (canonical command) ≡ Some command
 unfolding drafted
 drafted-canonical Begin is = refl
 drafted-canonical Commit is = refl
-drafted-canonical (Select table) is = ap (λ (name : List ℕ). Some (Select name)) (append-nil table)
+drafted-canonical (Select table) is = ap (λ (name : List ℕ). Some (Select (drafted_name name))) (append-nil table) ∙ ap (λ (name : List ℕ). Some (Select name)) (name_drafted table is.shape)
 drafted-canonical (Create table) is =
     let columns = and_parts _ _ (and_parts _ _ is.shape).0 in
     let sizes = and_parts _ _ (and_parts _ _ columns.0).0 in

@@ -11,7 +11,7 @@ use Rattle.gp_base.specs.declared.table.Column.{Column}
 use Rattle.gp_base.specs.Cells.{AreInRange}
 use Rattle.gp_syntax.specs.declared.command.Command.{Command}
 use Rattle.gp_syntax.specs.declared.command.Command.TheVariants.{Create, Begin, Commit, Insert, Select}
-use Rattle.gp_syntax.specs.Names.{is_name}
+use Rattle.gp_base.specs.Names.{is_name}
 
 -- a table has at most this many columns
 abbrev pub most_columns : ℕ

@@ -7,6 +7,7 @@ use Rattle.std.specs.Prelude.{◌≡◌, ℕ, ◌^◌, Bool, true, ◌&&◌, Lis
 use Rattle.std.specs.List.{slice_split, before_first, after_first}
 use Rattle.std.specs.Str.{bytes_eq, all_ascii_digits}
 use Rattle.std.specs.Str.Parse.{without_leading_sign, signed_digits_value}
+use Rattle.gp_base.specs.Names.{is_name}
 use Rattle.gp_base.specs.declared.cell.Cell.{Cell}
 use Rattle.gp_base.specs.declared.cell.Cell.TheVariants as cell
 use Rattle.gp_base.specs.declared.table.Kind.TheVariants.{Int}
@@ -62,9 +63,13 @@ abbrev pub without_space : List ℕ → List ℕ
 without_space [] = []
 without_space (byte ∷ bytes) = if is_space byte then bytes else byte ∷ bytes
 
+-- the bytes where they are a name, and another name where they are none
+unfoldable pub drafted_name : List ℕ → List ℕ
+drafted_name bytes = if is_name bytes then bytes else codes "x"
+
 -- the first word of a part between commas, as a column of whole numbers
 abbrev pub drafted_column : List ℕ → Column
-drafted_column part = record { name = before_first is_space (without_space part); kind = Int }
+drafted_column part = record { name = drafted_name (before_first is_space (without_space part)); kind = Int }
 
 -- the columns between the first brackets of a text
 abbrev pub drafted_columns : List ℕ → List Column
@@ -91,11 +96,11 @@ unfoldable pub drafted : List ℕ → Option Command
 drafted text =
     if bytes_eq text (codes "BEGIN") then Some Begin
     else (if bytes_eq text (codes "COMMIT") then Some Commit
-    else (if begins text (codes "SELECT * FROM ") then Some (Select (drop 14 text))
+    else (if begins text (codes "SELECT * FROM ") then Some (Select (drafted_name (drop 14 text)))
     else (if begins text (codes "CREATE TABLE ")
-    then Some (Create (record { name = before_first is_space (drop 13 text); cols = drafted_columns (drop 13 text) }))
+    then Some (Create (record { name = drafted_name (before_first is_space (drop 13 text)); cols = drafted_columns (drop 13 text) }))
     else (if begins text (codes "INSERT INTO ")
-    then Some (Insert (before_first is_space (drop 12 text)) (drafted_rows (drop 12 text)))
+    then Some (Insert (drafted_name (before_first is_space (drop 12 text))) (drafted_rows (drop 12 text)))
     else None))))
 
 -- the draft, where it is a command of a script and the text is its canonical text

@@ -3,12 +3,12 @@
 
 ghost use Rattle.std.specs.Prelude.{◌≡◌, IfOk, map, drop, length, true, false, MatchOption};
 ghost use Rattle.std.specs.List.{before_first};
-ghost use Rattle.gp_syntax.specs.Reading.{number_of, without_space, begins, is_space, drafted};
+ghost use Rattle.gp_syntax.specs.Reading.{number_of, without_space, begins, is_space, drafted, drafted_name};
 ghost use Rattle.gp_syntax.specs.Reading.{drafted_column, drafted_columns, drafted_cell, drafted_row, drafted_rows};
 
 use crate::command::Command;
 use crate::scan::{after, before, parts};
-use gp_base::{Cell, Column, Kind, Name, NoMemory, Row, Sequence, Table};
+use gp_base::{Cell, Column, Kind, Name, NoMemory, Row, Sequence, Table, is_name};
 use std::alloc::Global;
 
 /// The text without one space in front.
@@ -38,12 +38,24 @@ fn number_of(text: &[u8]) -> i64
     }
 }
 
+/// The bytes as a name, or `x` where they are none: the comparison with the canonical text rejects such a draft.
+#[tactic(auto, unfolding(crate::specs::Reading::drafted_name))]
+fn drafted_name(alloc: Global, bytes: &[u8]) -> Result<Name, NoMemory>
+    ensures { IfOk result (λ name. name ≡ drafted_name bytes.now) }
+{
+    if is_name(bytes) {
+        Name::new(alloc, bytes)
+    } else {
+        Name::new(alloc, b"x")
+    }
+}
+
 /// The first word of a part between commas, as a column of whole numbers.
 fn drafted_column(alloc: Global, part: &[u8]) -> Result<Column, NoMemory>
     ensures { IfOk result (λ column. column ≡ drafted_column part.now) }
 {
     Ok(Column {
-        name: Name::from_bytes(alloc, before(without_space(part), b' '))?,
+        name: drafted_name(alloc, before(without_space(part), b' '))?,
         kind: Kind::Int,
     })
 }
@@ -115,17 +127,17 @@ pub(crate) fn behind<'a>(text: &'a [u8], words: &[u8]) -> Option<&'a [u8]>
 }
 
 fn drafted_select(alloc: Global, text: &[u8]) -> Result<Command, NoMemory>
-    ensures { IfOk result (λ command. command ≡ Command.Select text.now) }
+    ensures { IfOk result (λ command. command ≡ Command.Select (drafted_name text.now)) }
 {
-    let table = Name::from_bytes(alloc, text)?;
+    let table = drafted_name(alloc, text)?;
     Ok(Command::Select { table })
 }
 
 fn drafted_create(alloc: Global, text: &[u8]) -> Result<Command, NoMemory>
     ensures { IfOk result (λ command. command ≡ Command.Create
-        (record { name = before_first is_space text.now; cols = drafted_columns text.now })) }
+        (record { name = drafted_name (before_first is_space text.now); cols = drafted_columns text.now })) }
 {
-    let name = Name::from_bytes(alloc, before(text, b' '))?;
+    let name = drafted_name(alloc, before(text, b' '))?;
     let cols = drafted_columns(alloc, text)?;
     Ok(Command::Create {
         table: Table { name, cols },
@@ -134,9 +146,9 @@ fn drafted_create(alloc: Global, text: &[u8]) -> Result<Command, NoMemory>
 
 fn drafted_insert(alloc: Global, text: &[u8]) -> Result<Command, NoMemory>
     ensures { IfOk result (λ command.
-        command ≡ Command.Insert (before_first is_space text.now) (drafted_rows text.now)) }
+        command ≡ Command.Insert (drafted_name (before_first is_space text.now)) (drafted_rows text.now)) }
 {
-    let table = Name::from_bytes(alloc, before(text, b' '))?;
+    let table = drafted_name(alloc, before(text, b' '))?;
     let rows = drafted_rows(alloc, text)?;
     Ok(Command::Insert { table, rows })
 }

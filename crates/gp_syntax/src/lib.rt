@@ -6,7 +6,6 @@ mod command;
 mod draft;
 mod error;
 mod line;
-mod names;
 mod read;
 mod scan;
 mod valid;
@@ -15,7 +14,6 @@ pub use canonical::write_command;
 pub use command::{Command, ScriptLine};
 pub use error::ReadStop;
 pub use line::{Line, LineIter, MAX_LINE_LENGTH, lines};
-pub use names::{MAX_NAME_LENGTH, is_name};
 pub use read::{read_command, read_line, reading_is_unambiguous};
 pub use valid::{MAX_COLUMNS, MAX_ROWS};
 

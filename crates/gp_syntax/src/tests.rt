@@ -1,7 +1,7 @@
 //! What scripts, lines and names are read as: expected by the rules of the language.
 
 use crate::*;
-use gp_base::{Cell, Kind, Refusal};
+use gp_base::{Cell, Kind, Refusal, is_name};
 use std::alloc::Global;
 use std::process::Abort;
 use std::test::Fail;

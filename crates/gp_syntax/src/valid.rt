@@ -6,8 +6,7 @@ ghost use Rattle.std.specs.Str.{bytes_eq};
 ghost use Rattle.gp_syntax.specs.Commands.{is_command, all_differ, is_column, is_number, is_tuple, is_int};
 
 use crate::command::Command;
-use crate::names::is_name;
-use gp_base::{Cell, Column, Kind, Name, Row, Table};
+use gp_base::{Cell, Column, Kind, Name, Row, Table, is_name};
 
 /// The greatest number of columns of a table.
 pub const MAX_COLUMNS: usize = 16;

@@ -2,7 +2,7 @@ use Rattle.std.proofs.Common.{List, ℕ, rules, tests}
 use Rattle.std.specs.Str.{bytes_eq}
 use Rattle.std.proofs.lemmas.Iterator.Search.{any_from_yields_List}
 use Rattle.std.proofs.lemmas.Iterator.Splits.{YieldsList-from_slice_split}
-use Rattle.gp_syntax.proofs.names.is_among.Goals as goal
+use Rattle.gp_base.proofs.name.is_among.Goals as goal
 
 pub returns : goal.returns
 returns c = any_from_yields_List (λ (other : List ℕ). bytes_eq other c.args.word.now) _ _ _ c.any.ensures.ran
