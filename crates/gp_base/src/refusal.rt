@@ -1,38 +1,55 @@
 //! Why a line of a script is refused.
 
-ghost use Rattle.std.specs.Prelude.{◌≡◌, ◌++◌, OnOk, OnErr};
+ghost use Rattle.std.specs.Prelude.{◌≡◌, ◌++◌, Some, OnOk, OnErr};
 ghost use Rattle.gp_base.specs.Texts.{refusal_text};
-ghost use Rattle.gp_base.specs.Writing.{AppendsPrefix};
 
 use crate::error::NoMemory;
-use crate::join::append_all;
+use std::fmt;
 
-/// Why a line is refused. Its text begins with a code, E and two digits, and a variant named by a code has that one.
+/// Why a line is refused. The text of a refusal begins with its code, `E` and two digits, which scripts can test for.
 #[derive(Clone, Copy, Debug, PartialEq, Eq)]
 pub enum Refusal {
-    /// The line is of a kind that this version does not run. Its code is E29.
+    /// E29: this version does not support the line.
     NotBuilt,
-    /// The session has a transaction, and the command may stand only outside of one.
+    /// E09: the command is allowed outside a transaction only, and the session has a transaction.
     E09,
-    /// The session has no transaction, and the command may stand only inside one.
+    /// E10: the command is allowed inside a transaction only, and the session has none.
     E10,
 }
 
-/// The refusal's text: its code, a space and what it says.
-pub fn refusal_words(refusal: Refusal) -> &'static [u8]
-    ensures { result.now ≡ refusal_text refusal }
-{
-    match refusal {
-        Refusal::NotBuilt => b"E29 not built",
-        Refusal::E09 => b"E09 transaction active",
-        Refusal::E10 => b"E10 no transaction",
+impl Refusal {
+    /// The code, a space and the message.
+    fn text(&self) -> &'static str
+        ensures { result.now ≡ refusal_text self.now }
+    {
+        match self {
+            Refusal::NotBuilt => "E29 not built",
+            Refusal::E09 => "E09 transaction active",
+            Refusal::E10 => "E10 no transaction",
+        }
     }
 }
 
-/// Appends the refusal's text. Where memory runs out, some front of it was appended.
-pub fn write_refusal(refusal: Refusal, out: &mut Vec<u8>) -> Result<(), NoMemory>
-    ensures ok { OnOk result (out.new.items ≡ out.old.items ++ refusal_text refusal) }
-    ensures err { OnErr result (AppendsPrefix out.old.items out.new.items (refusal_text refusal)) }
+impl fmt::Display for Refusal {
+    ghost output = { λ refusal. Some (refusal_text refusal) };
+
+    fn fmt<W: fmt::Write>(&self, f: &mut fmt::Formatter<W>) -> fmt::Result {
+        f.write_str(self.text())
+    }
+}
+
+/// Appends the refusal's text, as [`Display`](std::fmt::Display) prints it. If memory runs out, `out` is unchanged.
+pub fn write_refusal(refusal: &Refusal, out: &mut Vec<u8>) -> Result<(), NoMemory>
+    ensures ok { OnOk result (out.new.items ≡ out.old.items ++ refusal_text refusal.now) }
+    ensures err { OnErr result (out.new.items ≡ out.old.items) }
 {
-    append_all(out, &[refusal_words(refusal)])
+    out.extend_from_slice(refusal.text().as_bytes())?;
+    Ok(())
+}
+
+/// The refusal's text.
+pub fn refusal_words(refusal: Refusal) -> &'static [u8]
+    ensures { result.now ≡ refusal_text refusal }
+{
+    refusal.text().as_bytes()
 }
