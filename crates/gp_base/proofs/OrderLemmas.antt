@@ -15,7 +15,7 @@ use Rattle.std.proofs.lemmas.List.Sums.{sum_by-cons}
 use Rattle.std.proofs.lemmas.List.Sorted.{sum_by-IsPermutation, IsPermutation-refl, IsPermutation-cons, IsPermutation-sym, IsPermutation-trans, IsPermutation-middle}
 use Rattle.gp_base.specs.declared.cell.Cell.{Cell}
 use Rattle.gp_base.specs.declared.cell.Cell.TheVariants.{Null, Int, Text}
-use Rattle.gp_base.specs.Order.{cell_cmp, row_cmp, insert_sorted, sorted_by, SortingKeepsRows, SortingSorts, SortedRowsAreUnique}
+use Rattle.gp_base.specs.Order.{cell_cmp, row_cmp, insert_sorted, sorted_by}
 
 -- ---- answers of a comparison
 
@@ -265,14 +265,14 @@ row_cmp_total = lists_total cell_cmp_total
 exact_rows : CmpEqualImpliesEq row_cmp
 exact_rows = slice_cmp-IsAntisymmetric exact_cells
 
-pub rows_are_kept : SortingKeepsRows
+pub rows_are_kept : (rows : List (List Cell)) → IsPermutation rows (sorted_by row_cmp rows)
 rows_are_kept = IsPermutation-sorted_by row_cmp
 
-pub rows_are_sorted : SortingSorts
+pub rows_are_sorted : (rows : List (List Cell)) → IsSorted row_cmp (sorted_by row_cmp rows)
 rows_are_sorted = sorted_in_order row_cmp row_cmp_total exact_rows
 
 -- sorted rows are the rows in order
-pub only_in_order : SortedRowsAreUnique
+pub only_in_order : (rows sorted : List (List Cell)) → IsPermutation rows sorted → IsSorted row_cmp sorted → sorted ≡ sorted_by row_cmp rows
 only_in_order = in_order_from_sorted row_cmp row_cmp_total exact_rows
 
 -- what `sort_rows` needs

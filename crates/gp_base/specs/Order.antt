@@ -1,11 +1,10 @@
 -- The order of cells and rows, and lists put in order. Rows are compared cell by cell, as SQL compares row values (ISO/IEC 9075-2).
 -- Where SQL leaves open whether NULL comes first, here it does, and texts stand in the order of their bytes.
-use Rattle.std.specs.Prelude.{◌≡◌, List, [], ◌∷◌, if◌then◌else◌}
+use Rattle.std.specs.Prelude.{List, [], ◌∷◌, if◌then◌else◌}
 use Rattle.std.specs.declared.cmp.Ordering.{Ordering}
 use Rattle.std.specs.declared.cmp.Ordering.TheVariants.{Less, Equal, Greater}
 use Rattle.std.specs.Ordering.{nat_cmp, int_cmp, is_le}
 use Rattle.std.specs.Cmp.Lexicographic.{slice_cmp}
-use Rattle.std.specs.List.Sorted.{IsPermutation, IsSorted}
 use Rattle.gp_base.specs.declared.cell.Cell.{Cell}
 use Rattle.gp_base.specs.declared.cell.Cell.TheVariants.{Null, Int, Text}
 
@@ -34,15 +33,3 @@ insert_sorted cmp item (other ∷ others) = if is_le (cmp item other) then item 
 abbrev pub sorted_by : {T : Type 0} → (T → T → Ordering) → List T → List T
 sorted_by cmp [] = []
 sorted_by cmp (item ∷ items) = insert_sorted cmp item (sorted_by cmp items)
-
--- rows in order are the rows themselves, each as often
-abbrev pub SortingKeepsRows : Type 0
-SortingKeepsRows = (rows : List (List Cell)) → IsPermutation rows (sorted_by row_cmp rows)
-
--- no row of the rows in order is above the one behind it
-abbrev pub SortingSorts : Type 0
-SortingSorts = (rows : List (List Cell)) → IsSorted row_cmp (sorted_by row_cmp rows)
-
--- rows that are sorted and the same, each as often, are the rows in order
-abbrev pub SortedRowsAreUnique : Type 0
-SortedRowsAreUnique = (rows sorted : List (List Cell)) → IsPermutation rows sorted → IsSorted row_cmp sorted → sorted ≡ sorted_by row_cmp rows

@@ -1,9 +1,8 @@
 //! The texts of cells and rows, as replies and dumps print them.
 
-ghost use Rattle.std.specs.Prelude.{◌≡◌, ◌++◌, List, OnOk, OnErr, IfOk};
+ghost use Rattle.std.specs.Prelude.{◌≡◌, ◌++◌, OnOk, OnErr, IfOk};
 ghost use Rattle.std.specs.Fmt.{signed_decimal};
 ghost use Rattle.std.specs.List.{flat_map};
-ghost use Rattle.gp_base.specs.Cells.{AreInRange};
 ghost use Rattle.gp_base.specs.Texts.{cell_text, row_text, quoted_byte};
 ghost use Rattle.gp_base.specs.Writing.{AppendsPrefix};
 
@@ -74,9 +73,3 @@ pub fn write_row(alloc: Global, row: &Row, out: &mut Vec<u8>) -> Result<(), NoMe
 {
     write_joined(alloc, row.cells(), &CellFormat, b", ", out)
 }
-
-/// The law of row texts: two rows with the same text are the same row, also where one has more cells. It does nothing, and
-/// its contract holds the law.
-pub fn row_text_is_injective()
-    ensures { (one other : List Cell) → AreInRange one → AreInRange other → row_text one ≡ row_text other → one ≡ other }
-{}
