@@ -22,7 +22,7 @@ pub use laws::{row_text_is_injective, sorting_is_unique};
 pub use name::{MAX_NAME_LENGTH, Name, is_name};
 pub use refusal::{Refusal, refusal_words, write_refusal};
 pub use row::Row;
-pub use sequence::{Sequence, TryClone};
+pub use sequence::Sequence;
 pub use sort::sort_rows;
 pub use table::{Column, Kind, Table};
 pub use text::Text;

@@ -6,8 +6,8 @@ ghost use Rattle.std.specs.Str.{bytes_eq};
 ghost use Rattle.gp_base.specs.Names.{is_name, is_name_byte, is_lower_letter, is_reserved};
 
 use crate::error::NoMemory;
-use crate::sequence::{Sequence, TryClone};
-use std::alloc::Global;
+use crate::sequence::Sequence;
+use std::alloc::{AllocError, Global};
 use std::marker::Model;
 
 /// The greatest number of bytes of a name.
@@ -105,8 +105,12 @@ impl Name {
     }
 }
 
-impl TryClone for Name {
-    fn try_clone(&self, alloc: Global) -> Result<Name, NoMemory> {
-        Name::new(alloc, self.as_bytes())
+impl Clone for Name {
+    ghost is_clone = { λ value copy. copy ≡ value };
+
+    fn clone(&self) -> Result<Name, AllocError> {
+        Ok(Name {
+            bytes: self.bytes.clone()?,
+        })
     }
 }

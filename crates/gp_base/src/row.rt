@@ -5,8 +5,8 @@ ghost use Rattle.gp_base.specs.Cells.{AreInRange};
 
 use crate::cell::Cell;
 use crate::error::NoMemory;
-use crate::sequence::{Sequence, TryClone};
-use std::alloc::Global;
+use crate::sequence::Sequence;
+use std::alloc::{AllocError, Global};
 use std::marker::Model;
 
 /// The cells of a row, in the order of its columns. Each number lies within 64 bits, which contracts can rely on. Rows
@@ -59,10 +59,12 @@ impl Row {
     }
 }
 
-impl TryClone for Row {
-    fn try_clone(&self, alloc: Global) -> Result<Row, NoMemory> {
+impl Clone for Row {
+    ghost is_clone = { λ value copy. copy ≡ value };
+
+    fn clone(&self) -> Result<Row, AllocError> {
         Ok(Row {
-            cells: self.cells.try_clone(alloc)?,
+            cells: self.cells.clone()?,
         })
     }
 }

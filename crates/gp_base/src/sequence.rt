@@ -3,16 +3,9 @@
 ghost use Rattle.std.specs.Prelude.{◌≡◌, ◌++◌, ◌∷◌, [], IfOk, OnOk, OnErr};
 
 use crate::error::NoMemory;
-use std::alloc::Global;
+use std::alloc::{AllocError, Global};
 use std::cmp::Ordering;
 use std::marker::Model;
-
-/// A value that can be copied, where there is memory for it.
-pub trait TryClone: Sized {
-    /// An equal value in memory of its own, or an `Err` where memory runs out.
-    fn try_clone(&self, alloc: Global) -> Result<Self, NoMemory>
-        ensures { IfOk result (λ copy. copy ≡ self.now) };
-}
 
 /// A list of values. Contracts see the list alone, and neither where it lies nor its capacity.
 #[derive(Debug, Drop)]
@@ -94,13 +87,15 @@ impl<T: Drop> Sequence<T> {
     }
 }
 
-impl<T: TryClone + Drop> TryClone for Sequence<T> {
-    fn try_clone(&self, alloc: Global) -> Result<Sequence<T>, NoMemory> {
-        let mut items = Vec::with_capacity(alloc, self.items.len())?;
-        for item in &self.items {
-            items.push(item.try_clone(alloc)?)?;
-        }
-        Ok(Sequence { items })
+impl<T: Clone> Clone for Sequence<T> {
+    // The copy is equal where the clone of an item is always equal to the item, as in every type of this crate.
+    ghost is_clone = { λ list copy.
+        ((item other : T) → T.is_clone item other → other ≡ item) → copy ≡ list };
+
+    fn clone(&self) -> Result<Sequence<T>, AllocError> {
+        Ok(Sequence {
+            items: self.items.clone()?,
+        })
     }
 }
 

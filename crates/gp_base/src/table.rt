@@ -1,10 +1,8 @@
 //! Tables: their names, and the names and kinds of their columns. That names differ is kept by whoever creates a table,
 //! and is no rule of these types.
 
-use crate::error::NoMemory;
 use crate::name::Name;
-use crate::sequence::{Sequence, TryClone};
-use std::alloc::Global;
+use crate::sequence::Sequence;
 
 /// What a column holds beside NULL.
 #[derive(Clone, Copy, Debug, PartialEq, Eq)]
@@ -16,7 +14,7 @@ pub enum Kind {
 }
 
 /// A column of a table.
-#[derive(Debug, Drop, PartialEq, Eq)]
+#[derive(Clone, Debug, Drop, PartialEq, Eq)]
 pub struct Column {
     /// Its name.
     pub name: Name,
@@ -25,28 +23,10 @@ pub struct Column {
 }
 
 /// A table: its name, and its columns in order.
-#[derive(Debug, Drop, PartialEq, Eq)]
+#[derive(Clone, Debug, Drop, PartialEq, Eq)]
 pub struct Table {
     /// Its name.
     pub name: Name,
     /// Its columns, from left to right.
     pub cols: Sequence<Column>,
-}
-
-impl TryClone for Column {
-    fn try_clone(&self, alloc: Global) -> Result<Column, NoMemory> {
-        Ok(Column {
-            name: self.name.try_clone(alloc)?,
-            kind: self.kind,
-        })
-    }
-}
-
-impl TryClone for Table {
-    fn try_clone(&self, alloc: Global) -> Result<Table, NoMemory> {
-        Ok(Table {
-            name: self.name.try_clone(alloc)?,
-            cols: self.cols.try_clone(alloc)?,
-        })
-    }
 }

@@ -9,7 +9,7 @@ ghost use Rattle.gp_engine.specs.State.{empty_state};
 
 use crate::reply::Reply;
 use crate::supported::is_supported;
-use gp_base::{NoMemory, Refusal, Row, Sequence, Table, TryClone};
+use gp_base::{NoMemory, Refusal, Row, Sequence, Table};
 use gp_syntax::Command;
 use std::alloc::Global;
 use std::marker::Model;
@@ -123,7 +123,7 @@ impl Engine {
         ensures ok { IfOk result (λ reply. (self.new ≡ record self.old { line = line }) × (reply ≡ Reply.Rows self.old.rows)) }
         ensures err { OnErr result (self.new ≡ self.old) }
     {
-        let rows = self.rows.try_clone(self.alloc)?;
+        let rows = self.rows.clone()?;
         self.line = line;
         Ok(Reply::Rows(rows))
     }
