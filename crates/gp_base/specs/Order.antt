@@ -1,5 +1,5 @@
--- The order of cells and rows, and lists put in order. Rows are compared cell by cell, as SQL compares row values (ISO/IEC 9075-2).
--- Where SQL leaves open whether NULL comes first, here it does, and texts stand in the order of their bytes.
+-- Part of the statement: the order of cells and rows, and a sorted list. Rows compare cell by cell, as row values of SQL do (ISO/IEC
+-- 9075-2). SQL leaves the place of NULL and the collation of texts to the implementation: here NULL is first, and texts compare by bytes.
 use Rattle.std.specs.Prelude.{List, [], ◌∷◌, if◌then◌else◌}
 use Rattle.std.specs.declared.cmp.Ordering.{Ordering}
 use Rattle.std.specs.declared.cmp.Ordering.TheVariants.{Less, Equal, Greater}
@@ -8,7 +8,7 @@ use Rattle.std.specs.Cmp.Lexicographic.{slice_cmp}
 use Rattle.gp_base.specs.declared.cell.Cell.{Cell}
 use Rattle.gp_base.specs.declared.cell.Cell.TheVariants.{Null, Int, Text}
 
--- NULL is before every number, and every number before every text; texts go by their bytes
+-- NULL is less than every number, and every number is less than every text
 abbrev pub cell_cmp : Cell → Cell → Ordering
 cell_cmp Null Null = Equal
 cell_cmp Null (Int m) = Less
@@ -20,16 +20,16 @@ cell_cmp (Text t) Null = Greater
 cell_cmp (Text t) (Int m) = Greater
 cell_cmp (Text t) (Text s) = slice_cmp nat_cmp t s
 
--- rows go cell by cell, and a row that ends first is before
+-- rows compare lexicographically: a proper prefix is less
 abbrev pub row_cmp : List Cell → List Cell → Ordering
 row_cmp = slice_cmp cell_cmp
 
--- the item put before the first of the list that is not below it
+-- the item inserted before the first item of a list that it does not exceed
 abbrev pub insert_sorted : {T : Type 0} → (T → T → Ordering) → T → List T → List T
 insert_sorted cmp item [] = item ∷ []
 insert_sorted cmp item (other ∷ others) = if is_le (cmp item other) then item ∷ other ∷ others else other ∷ insert_sorted cmp item others
 
--- the items in order, each as often as it occurs: the first is put into the others in order
+-- the items in ascending order, each as often as it occurs: insertion sort
 abbrev pub sorted_by : {T : Type 0} → (T → T → Ordering) → List T → List T
 sorted_by cmp [] = []
 sorted_by cmp (item ∷ items) = insert_sorted cmp item (sorted_by cmp items)

@@ -1,14 +1,15 @@
-//! The values that a table holds, with their order.
+//! The value of a cell.
 
 use crate::text::Text;
 
-/// A value in a table. NULL is before every number, and every number is before every text.
-#[derive(Clone, Debug, Drop, PartialEq, Eq, PartialOrd, Ord)]
+/// The value of a cell. In ascending order NULL is first, then come the numbers, then the texts. SQL (ISO/IEC 9075-2)
+/// leaves the place of NULL to the implementation.
+#[derive(Clone, Drop, PartialEq, Eq, PartialOrd, Ord)]
 pub enum Cell {
     /// No value.
     Null,
-    /// A whole number of 64 bits with sign.
+    /// An integer of 64 bits with sign.
     Int(i64),
-    /// A text, ordered by its bytes.
+    /// A text, which compares by its bytes.
     Text(Text),
 }

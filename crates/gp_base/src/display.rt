@@ -1,4 +1,5 @@
-//! The texts of cells and rows, as replies and dumps print them.
+//! The texts of cells and rows, as replies and dumps print them. Dumps have many rows, so a row is appended to the output
+//! cell by cell, without a text of its own.
 
 ghost use Rattle.std.specs.Prelude.{◌≡◌, ◌++◌, OnOk, OnErr, IfOk};
 ghost use Rattle.std.specs.Fmt.{signed_decimal};
@@ -13,9 +14,10 @@ use crate::row::Row;
 use crate::text::Text;
 use std::alloc::Global;
 
+/// The quote around a text value.
 const QUOTE: u8 = b'\'';
 
-/// The text with each quote written twice.
+/// The text with each quote doubled.
 fn quoted(alloc: Global, text: &[u8]) -> Result<Vec<u8>, NoMemory>
     ensures { IfOk result (λ bytes. bytes.items ≡ flat_map quoted_byte text.now) }
 {
@@ -29,28 +31,30 @@ fn quoted(alloc: Global, text: &[u8]) -> Result<Vec<u8>, NoMemory>
     Ok(bytes)
 }
 
-/// Appends a number in decimal digits.
+/// Appends a number in decimal.
 fn write_number(alloc: Global, number: i64, out: &mut Vec<u8>) -> Result<(), NoMemory>
     ensures ok { OnOk result (out.new.items ≡ out.old.items ++ signed_decimal number) }
-    ensures err { OnErr result (AppendsPrefix out.old.items out.new.items (signed_decimal number)) }
+    ensures err { OnErr result
+        (AppendsPrefix out.old.items out.new.items (signed_decimal number)) }
 {
     let digits = number.to_string(alloc)?;
     append_all(out, &[digits.as_bytes()])?;
     Ok(())
 }
 
-/// Appends a text in quotes. The part between them is made first, since it may be longer than the text.
+/// Appends a text in quotes.
 fn write_quoted(alloc: Global, text: &Text, out: &mut Vec<u8>) -> Result<(), NoMemory>
     ensures ok { OnOk result (out.new.items ≡ out.old.items ++ cell_text (Cell.Text text.now)) }
-    ensures err { OnErr result (AppendsPrefix out.old.items out.new.items (cell_text (Cell.Text text.now))) }
+    ensures err { OnErr result
+        (AppendsPrefix out.old.items out.new.items (cell_text (Cell.Text text.now))) }
 {
     let inside = quoted(alloc, text.as_bytes())?;
     append_all(out, &[b"'", &inside, b"'"])?;
     Ok(())
 }
 
-/// The text of a cell: NULL, a decimal number, or a text in quotes with each quote in it twice.
-#[derive(Clone, Copy, Debug)]
+/// Prints a cell: `NULL`, a decimal number, or a text as a character string literal of SQL (ISO/IEC 9075-2), in quotes
+/// with each quote inside doubled.
 pub struct CellFormat;
 
 impl TextFormat<Cell> for CellFormat {
@@ -65,8 +69,8 @@ impl TextFormat<Cell> for CellFormat {
     }
 }
 
-/// Appends the text of a row: its cells with a comma and a space between. Where memory runs out, some front of it was
-/// appended.
+/// Appends the text of a row: its cells, separated by a comma and a space. If memory runs out, a prefix of that text has
+/// been appended.
 pub fn write_row(alloc: Global, row: &Row, out: &mut Vec<u8>) -> Result<(), NoMemory>
     ensures ok { OnOk result (out.new.items ≡ out.old.items ++ row_text row.now) }
     ensures err { OnErr result (AppendsPrefix out.old.items out.new.items (row_text row.now)) }

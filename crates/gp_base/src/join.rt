@@ -1,4 +1,4 @@
-//! Writers of texts. Where memory runs out, a writer leaves some front of its text behind what was there.
+//! Writers that append many texts to one output, without a text of their own. If memory runs out, a prefix has been appended.
 
 ghost use Rattle.std.specs.Prelude.{◌≡◌, ◌++◌, IfOk, OnOk, OnErr, List, ℕ, ◌∷◌};
 ghost use Rattle.std.specs.List.{flat_map};
@@ -7,10 +7,11 @@ ghost use Rattle.gp_base.specs.Writing.{AppendsPrefix, joined};
 use crate::error::NoMemory;
 use std::alloc::Global;
 
-/// Appends the pieces in order.
+/// Appends the pieces in order. If memory runs out, a prefix of their concatenation has been appended.
 pub fn append_all(out: &mut Vec<u8>, pieces: &[&[u8]]) -> Result<(), NoMemory>
     ensures ok { OnOk result (out.new.items ≡ out.old.items ++ flat_map (λ piece. piece.now) pieces.now) }
-    ensures err { OnErr result (AppendsPrefix out.old.items out.new.items (flat_map (λ piece. piece.now) pieces.now)) }
+    ensures err { OnErr result
+        (AppendsPrefix out.old.items out.new.items (flat_map (λ piece. piece.now) pieces.now)) }
 {
     for piece in pieces {
         out.extend_from_slice(piece)?;
@@ -18,7 +19,7 @@ pub fn append_all(out: &mut Vec<u8>, pieces: &[&[u8]]) -> Result<(), NoMemory>
     Ok(())
 }
 
-/// One text of the pieces in order.
+/// The concatenation of the pieces.
 pub fn text_of_pieces(alloc: Global, pieces: &[&[u8]]) -> Result<Vec<u8>, NoMemory>
     ensures { IfOk result (λ text. text.items ≡ flat_map (λ piece. piece.now) pieces.now) }
 {
@@ -27,18 +28,18 @@ pub fn text_of_pieces(alloc: Global, pieces: &[&[u8]]) -> Result<Vec<u8>, NoMemo
     Ok(text)
 }
 
-/// A way to write values of a type, each as one text.
+/// A textual format of the values of a type.
 pub trait TextFormat<T> {
     /// The text of a value.
     ghost text: { T → List ℕ };
 
-    /// Appends the text of a value. Where memory runs out, some front of it was appended.
+    /// Appends the text of a value. If memory runs out, a prefix of it has been appended.
     fn write(&self, alloc: Global, item: &T, out: &mut Vec<u8>) -> Result<(), NoMemory>
         ensures ok { OnOk result (out.new.items ≡ out.old.items ++ text item.now) }
         ensures err { OnErr result (AppendsPrefix out.old.items out.new.items (text item.now)) };
 }
 
-/// Appends the text of each item with the separator before it.
+/// Appends the separator and the text of each item.
 fn write_others<T, W: TextFormat<T>>(
     alloc: Global,
     items: &[T],
@@ -46,8 +47,10 @@ fn write_others<T, W: TextFormat<T>>(
     separator: &[u8],
     out: &mut Vec<u8>,
 ) -> Result<(), NoMemory>
-    ensures ok { OnOk result (out.new.items ≡ out.old.items ++ flat_map (λ item. separator.now ++ W.text item) items.now) }
-    ensures err { OnErr result (AppendsPrefix out.old.items out.new.items (flat_map (λ item. separator.now ++ W.text item) items.now)) }
+    ensures ok { OnOk result (out.new.items
+        ≡ out.old.items ++ flat_map (λ item. separator.now ++ W.text item) items.now) }
+    ensures err { OnErr result (AppendsPrefix out.old.items out.new.items
+        (flat_map (λ item. separator.now ++ W.text item) items.now)) }
 {
     for item in items {
         out.extend_from_slice(separator)?;
@@ -56,8 +59,7 @@ fn write_others<T, W: TextFormat<T>>(
     Ok(())
 }
 
-/// Appends the texts of the first item and the others, with the separator between each two.
-#[tactic(auto, using(crate::proofs::WritingLemmas::fronts))]
+/// Appends the text of the first item and, with the separator before each, of the others.
 fn write_from<T, W: TextFormat<T>>(
     alloc: Global,
     first: &T,
@@ -66,15 +68,18 @@ fn write_from<T, W: TextFormat<T>>(
     separator: &[u8],
     out: &mut Vec<u8>,
 ) -> Result<(), NoMemory>
-    ensures ok { OnOk result (out.new.items ≡ out.old.items ++ joined W.text separator.now (first.now ∷ others.now)) }
-    ensures err { OnErr result (AppendsPrefix out.old.items out.new.items (joined W.text separator.now (first.now ∷ others.now))) }
+    ensures ok { OnOk result (out.new.items
+        ≡ out.old.items ++ joined W.text separator.now (first.now ∷ others.now)) }
+    ensures err { OnErr result (AppendsPrefix out.old.items out.new.items
+        (joined W.text separator.now (first.now ∷ others.now))) }
 {
     texts.write(alloc, first, out)?;
     write_others(alloc, others, texts, separator, out)?;
     Ok(())
 }
 
-/// Appends the texts of the items with the separator between each two. Where memory runs out, some front was appended.
+/// Appends the texts of the items with the separator between neighbours. If memory runs out, a prefix of that text has been
+/// appended.
 pub fn write_joined<T, W: TextFormat<T>>(
     alloc: Global,
     items: &[T],
@@ -82,8 +87,10 @@ pub fn write_joined<T, W: TextFormat<T>>(
     separator: &[u8],
     out: &mut Vec<u8>,
 ) -> Result<(), NoMemory>
-    ensures ok { OnOk result (out.new.items ≡ out.old.items ++ joined W.text separator.now items.now) }
-    ensures err { OnErr result (AppendsPrefix out.old.items out.new.items (joined W.text separator.now items.now)) }
+    ensures ok { OnOk result
+        (out.new.items ≡ out.old.items ++ joined W.text separator.now items.now) }
+    ensures err { OnErr result
+        (AppendsPrefix out.old.items out.new.items (joined W.text separator.now items.now)) }
 {
     match items {
         [] => Ok(()),

@@ -1,4 +1,17 @@
-//! The values that every layer of gprom speaks of.
+//! The values that all crates of gprom share, with their order and their texts.
+//!
+//! In reading order: [`Cell`] and [`Row`] are the values of a table, [`Text`] and [`Name`] the bytes in them, [`Table`] and
+//! [`Column`] its description, and [`Sequence`] the list type that they hold. [`sort_rows`] sorts rows, [`write_row`] prints
+//! one, and [`write_joined`] prints the items of a list in any [`TextFormat`]. [`Refusal`] is the reason why a line of a
+//! script is refused, [`NoMemory`] the error of calls that allocate. [`sorting_is_unique`] and [`row_text_is_injective`] are
+//! laws of the definitions in `specs/`, which the contracts cite.
+//!
+//! ```text
+//! let mut row = Row::new(alloc);
+//! row.push(Cell::Int(7))?;
+//! row.push(Cell::Text(Text::from_bytes(alloc, b"it's")?))?;
+//! write_row(alloc, &row, &mut out)?; // appends 7, 'it''s'
+//! ```
 #![tactic(auto)]
 
 mod cell;

@@ -67,7 +67,7 @@ pub fn is_name(bytes: &[u8]) -> bool
 }
 
 /// The name of a table or a column. Each value satisfies [`is_name`], so callers need not check it again.
-#[derive(Debug, Drop, PartialEq, Eq)]
+#[derive(Drop, PartialEq, Eq)]
 pub struct Name {
     bytes: Sequence<u8>,
 }

@@ -41,7 +41,7 @@ impl fmt::Display for Refusal {
 /// Appends the refusal's text, as [`Display`](std::fmt::Display) prints it. If memory runs out, `out` is unchanged.
 pub fn write_refusal(refusal: &Refusal, out: &mut Vec<u8>) -> Result<(), NoMemory>
     ensures ok { OnOk result (out.new.items ≡ out.old.items ++ refusal_text refusal.now) }
-    ensures err { OnErr result (out.new.items ≡ out.old.items) }
+    ensures unchanged { OnErr result (out.new.items ≡ out.old.items) }
 {
     out.extend_from_slice(refusal.text().as_bytes())?;
     Ok(())

@@ -1,4 +1,4 @@
-//! Rows, which are lists of cells.
+//! Rows of a table.
 
 ghost use Rattle.std.specs.Prelude.{◌≡◌, ◌++◌, ◌∷◌, [], OnOk, OnErr};
 ghost use Rattle.gp_base.specs.Cells.{AreInRange};
@@ -9,9 +9,9 @@ use crate::sequence::Sequence;
 use std::alloc::{AllocError, Global};
 use std::marker::Model;
 
-/// The cells of a row, in the order of its columns. Each number lies within 64 bits, which contracts can rely on. Rows
-/// are compared cell by cell, and a row that ends first is before.
-#[derive(Debug, Drop, PartialEq, Eq, PartialOrd, Ord)]
+/// The cells of a row, in the order of its columns. Contracts see a row as a list of cells and know that each number in it
+/// fits 64 bits with sign. Rows compare lexicographically, so a proper prefix is less.
+#[derive(Drop, PartialEq, Eq, PartialOrd, Ord)]
 pub struct Row {
     cells: Sequence<Cell>,
 }
@@ -31,7 +31,7 @@ impl Model for Row {
 }
 
 impl Row {
-    /// A row of no cells.
+    /// A row with no cells.
     pub fn new(alloc: Global) -> Row
         ensures { result ≡ [] }
     {
@@ -40,7 +40,7 @@ impl Row {
         }
     }
 
-    /// The cells of the row. Each number in them lies within 64 bits.
+    /// The cells of the row.
     pub fn cells(&self) -> &[Cell]
         ensures cells { result.now ≡ self.now }
         ensures in_range { AreInRange self.now }
@@ -48,11 +48,11 @@ impl Row {
         self.cells.as_slice()
     }
 
-    /// Adds a cell at the end. An `Err` leaves the row as it was.
+    /// Adds a cell at the end. If memory runs out, the row is unchanged.
     #[tactic(auto, using(crate::proofs::CellLemmas::rows_in_range))]
     pub fn push(&mut self, cell: Cell) -> Result<(), NoMemory>
         ensures ok { OnOk result (self.new ≡ self.old ++ cell ∷ []) }
-        ensures err { OnErr result (self.new ≡ self.old) }
+        ensures unchanged { OnErr result (self.new ≡ self.old) }
     {
         self.cells.push(cell)?;
         Ok(())

@@ -1,4 +1,4 @@
-//! A list of values that contracts see as a list.
+//! The list type of this program.
 
 ghost use Rattle.std.specs.Prelude.{◌≡◌, ◌++◌, ◌∷◌, [], IfOk, OnOk, OnErr};
 
@@ -7,8 +7,9 @@ use std::alloc::{AllocError, Global};
 use std::cmp::Ordering;
 use std::marker::Model;
 
-/// A list of values. Contracts see the list alone, and neither where it lies nor its capacity.
-#[derive(Debug, Drop)]
+/// A growing list. Contracts see it as a mathematical list: two sequences with equal items are equal, whatever their
+/// capacities. A `Vec` in a contract is no such value, which is why types that contracts compare hold a `Sequence`.
+#[derive(Drop)]
 pub struct Sequence<T> {
     items: Vec<T>,
 }
@@ -22,7 +23,7 @@ impl<T> Model for Sequence<T> {
 }
 
 impl<T> Sequence<T> {
-    /// No values.
+    /// A sequence with no items.
     pub fn new(alloc: Global) -> Sequence<T>
         ensures { result ≡ [] }
     {
@@ -31,14 +32,14 @@ impl<T> Sequence<T> {
         }
     }
 
-    /// The values of a vector, in its order.
+    /// The items of a vector.
     pub fn from_vec(items: Vec<T>) -> Sequence<T>
         ensures { result ≡ items.items }
     {
         Sequence { items }
     }
 
-    /// The values of a slice, or an `Err` where memory runs out.
+    /// A copy of the items of a slice. Running out of memory is the only error.
     pub fn from_slice(alloc: Global, items: &[T]) -> Result<Sequence<T>, NoMemory>
     where
         T: Copy,
@@ -49,26 +50,26 @@ impl<T> Sequence<T> {
         })
     }
 
-    /// The values as a vector, in their order.
+    /// The items as a vector.
     pub fn into_vec(self) -> Vec<T>
         ensures { result.items ≡ self }
     {
         self.items
     }
 
-    /// The values as a slice.
+    /// The items as a slice.
     pub fn as_slice(&self) -> &[T]
         ensures { result.now ≡ self.now }
     {
         self.items.as_slice()
     }
 
-    /// Adds a value at the end. An `Err` leaves the list as it was.
+    /// Adds an item at the end. If memory runs out, the sequence is unchanged.
     pub fn push(&mut self, item: T) -> Result<(), NoMemory>
     where
         T: Drop,
         ensures ok { OnOk result (self.new ≡ self.old ++ item ∷ []) }
-        ensures err { OnErr result (self.new ≡ self.old) }
+        ensures unchanged { OnErr result (self.new ≡ self.old) }
     {
         self.items.push(item)?;
         Ok(())
@@ -76,10 +77,10 @@ impl<T> Sequence<T> {
 }
 
 impl<T: Drop> Sequence<T> {
-    /// Moves all of the others to the end. An `Err` leaves the list as it was.
+    /// Moves the items of another sequence to the end. If memory runs out, this sequence is unchanged.
     pub fn append(&mut self, others: Sequence<T>) -> Result<(), NoMemory>
         ensures ok { OnOk result (self.new ≡ self.old ++ others) }
-        ensures err { OnErr result (self.new ≡ self.old) }
+        ensures unchanged { OnErr result (self.new ≡ self.old) }
     {
         let mut others = others.items;
         self.items.append(&mut others)?;
@@ -88,7 +89,8 @@ impl<T: Drop> Sequence<T> {
 }
 
 impl<T: Clone> Clone for Sequence<T> {
-    // The copy is equal where the clone of an item is always equal to the item, as in every type of this crate.
+    // Clones of items are known only by the item's own relation. Where that relation implies equality, as it does for every
+    // type of this crate, the copy is equal to the original.
     ghost is_clone = { λ list copy.
         ((item other : T) → T.is_clone item other → other ≡ item) → copy ≡ list };
 

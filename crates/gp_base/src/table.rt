@@ -1,29 +1,29 @@
-//! Tables: their names, and the names and kinds of their columns. That names differ is kept by whoever creates a table,
-//! and is no rule of these types.
+//! The description of a table: its name and its columns. Whether the names of columns differ is checked where a table is
+//! created, so these types allow equal names.
 
 use crate::name::Name;
 use crate::sequence::Sequence;
 
-/// What a column holds beside NULL.
-#[derive(Clone, Copy, Debug, PartialEq, Eq)]
+/// The type of the values of a column, which may also be NULL.
+#[derive(Clone, Copy, PartialEq, Eq)]
 pub enum Kind {
-    /// Whole numbers of 64 bits with sign.
+    /// Integers of 64 bits with sign.
     Int,
     /// Texts.
     Text,
 }
 
 /// A column of a table.
-#[derive(Clone, Debug, Drop, PartialEq, Eq)]
+#[derive(Clone, Drop, PartialEq, Eq)]
 pub struct Column {
     /// Its name.
     pub name: Name,
-    /// What it holds beside NULL.
+    /// The type of its values.
     pub kind: Kind,
 }
 
-/// A table: its name, and its columns in order.
-#[derive(Clone, Debug, Drop, PartialEq, Eq)]
+/// A table: its name and its columns.
+#[derive(Clone, Drop, PartialEq, Eq)]
 pub struct Table {
     /// Its name.
     pub name: Name,

@@ -15,7 +15,7 @@ use std::alloc::Global;
 use std::marker::Model;
 
 /// An engine in the middle of a script.
-#[derive(Debug, Drop)]
+#[derive(Drop)]
 pub struct Engine {
     alloc: Global,
     tables: Sequence<Table>,

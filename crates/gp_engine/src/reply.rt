@@ -5,7 +5,7 @@ ghost use Rattle.std.specs.Prelude.{◌≡◌};
 use gp_base::{Refusal, Row, Sequence};
 
 /// The answer to one line.
-#[derive(Debug, Drop)]
+#[derive(Drop)]
 pub enum Reply {
     /// A table was created.
     Created {

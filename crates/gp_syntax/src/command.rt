@@ -3,7 +3,7 @@
 use gp_base::{Name, Row, Sequence, Table};
 
 /// What a line of a script asks for.
-#[derive(Debug, Drop)]
+#[derive(Drop)]
 pub enum Command {
     /// `CREATE TABLE`: a new table, empty in every version.
     Create {
@@ -29,7 +29,7 @@ pub enum Command {
 }
 
 /// A line of a script: who asks, and for what.
-#[derive(Debug, Drop)]
+#[derive(Drop)]
 pub struct ScriptLine {
     /// The number of the session, from 1.
     pub session: u32,
