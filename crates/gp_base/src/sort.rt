@@ -9,7 +9,6 @@ use crate::row::Row;
 
 /// Sorts the rows in ascending order, and keeps each of them as often as it occurs. If memory runs out, the rows are
 /// unchanged.
-#[tactic(auto, using(crate::proofs::OrderLemmas::rows_in_order))]
 pub fn sort_rows(rows: &mut Vec<Row>) -> Result<(), NoMemory>
     ensures permutation { IsPermutation rows.old.items rows.new.items }
     ensures sorted { OnOk result (IsSorted row_cmp rows.new.items) }
