@@ -1,4 +1,4 @@
--- A row stays in range as a cell in range is added.
+-- Lemmas of cells: a row in range stays in range when a cell in range is added.
 use Rattle.std.proofs.Common.{List, [], ◌∷◌, ◌++◌}
 use Rattle.gp_base.specs.declared.cell.Cell.{Cell}
 use Rattle.gp_base.specs.Cells.{IsInRange, AreInRange}
@@ -7,5 +7,5 @@ pub AreInRange-push : (cells : List Cell) (cell : Cell) → AreInRange cells →
 AreInRange-push [] cell all one = (one, tt)
 AreInRange-push (c ∷ cells) cell all one = (all.0, AreInRange-push cells cell all.1 one)
 
--- what `Row::push` needs
+-- for `Row::push`
 pub ruleset rows_in_range = (AreInRange-push)

@@ -1,4 +1,5 @@
--- Lists in order: what rises and holds each item as often is the list put in order. Cells and rows have such an order.
+-- Lemmas of sorting: a sorted permutation of a list is its insertion sort, in any total order whose ties are equal. The order of rows is
+-- such an order.
 use Rattle.std.proofs.Common.{◌≡◌, ℕ, zero, suc, ◌+◌, ◌<◌, ℤ, pos, true, false, cond, List, [], ◌∷◌, length, get_or, refl, sym, ap, ◌∙◌, subst, arith, add-one}
 use Rattle.std.specs.declared.cmp.Ordering.{Ordering}
 use Rattle.std.specs.declared.cmp.Ordering.TheVariants.{Less, Equal, Greater}
@@ -17,9 +18,9 @@ use Rattle.gp_base.specs.declared.cell.Cell.{Cell}
 use Rattle.gp_base.specs.declared.cell.Cell.TheVariants.{Null, Int, Text}
 use Rattle.gp_base.specs.Order.{cell_cmp, row_cmp, insert_sorted, sorted_by}
 
--- ---- answers of a comparison
+-- ---- results of a comparison
 
--- not above, in two forms
+-- less or equal, and not greater
 gt_from_le : (o : Ordering) → is_le o ≡ true → is_gt o ≡ false
 gt_from_le Less e = refl
 gt_from_le Equal e = refl
@@ -30,25 +31,25 @@ le_from_gt Less e = refl
 le_from_gt Equal e = refl
 le_from_gt Greater e = sym e
 
--- an item that is above another has that one not above itself
+-- of two items one is less than or equal to the other
 le_turned : (o : Ordering) → is_le o ≡ false → is_le (ordering_reverse o) ≡ true
 le_turned Less e = sym e
 le_turned Equal e = refl
 le_turned Greater e = refl
 
--- the second is not below the first, so the first is not above the second
+-- where the second is not less than the first, the first is less than or equal to the second
 le_from_lt_turned : (o : Ordering) → is_lt o ≡ false → is_le (ordering_reverse o) ≡ true
 le_from_lt_turned Less e = sym e
 le_from_lt_turned Equal e = refl
 le_from_lt_turned Greater e = refl
 
--- the same, back
+-- the converse
 lt_from_le_turned : (o : Ordering) → is_le o ≡ true → is_lt (ordering_reverse o) ≡ false
 lt_from_le_turned Less e = refl
 lt_from_le_turned Equal e = refl
 lt_from_le_turned Greater e = sym e
 
--- neither is above the other
+-- less or equal in both directions
 equal_from_both : (o : Ordering) → is_le o ≡ true → is_le (ordering_reverse o) ≡ true → o ≡ Equal
 equal_from_both Less e f = absurd (false≢true f)
 equal_from_both Equal e f = refl
@@ -59,23 +60,23 @@ equal_from_is_eq Less e = absurd (false≢true e)
 equal_from_is_eq Equal e = refl
 equal_from_is_eq Greater e = absurd (false≢true e)
 
--- a second comparison that ties changes nothing
+-- a second comparison with result Equal changes nothing
 then_equal : (o : Ordering) → o ≡ ordering_then o Equal
 then_equal Less = refl
 then_equal Equal = refl
 then_equal Greater = refl
 
--- ---- lists that rise
+-- ---- ascending lists
 
--- the item is not above any of the list
-abbrev IsBelowAll : {T : Type 0} → (T → T → Ordering) → T → List T → Type 0
-IsBelowAll cmp item [] = Unit {0}
-IsBelowAll cmp item (other ∷ others) = (is_le (cmp item other) ≡ true) × IsBelowAll cmp item others
+-- the item is less than or equal to each item of the list
+abbrev IsLowerBound : {T : Type 0} → (T → T → Ordering) → T → List T → Type 0
+IsLowerBound cmp item [] = Unit {0}
+IsLowerBound cmp item (other ∷ others) = (is_le (cmp item other) ≡ true) × IsLowerBound cmp item others
 
--- no item is above one behind it
-abbrev Rises : {T : Type 0} → (T → T → Ordering) → List T → Type 0
-Rises cmp [] = Unit {0}
-Rises cmp (item ∷ items) = IsBelowAll cmp item items × Rises cmp items
+-- each item is less than or equal to all later ones
+abbrev IsAscending : {T : Type 0} → (T → T → Ordering) → List T → Type 0
+IsAscending cmp [] = Unit {0}
+IsAscending cmp (item ∷ items) = IsLowerBound cmp item items × IsAscending cmp items
 
 -- how often the item occurs
 abbrev times : {T : Type 0} → (T → T → Ordering) → T → List T → ℕ
@@ -83,59 +84,59 @@ times cmp item [] = 0
 times cmp item (other ∷ others) = cond (is_eq (cmp item other)) 1 0 + times cmp item others
 
 module _ {T : Type 0} (cmp : T → T → Ordering) (total : IsTotalOrder cmp) (exact : CmpEqualImpliesEq cmp) where
-  -- not above, through an item between
+  -- transitivity
   le_through : (x y z : T) → is_le (cmp x y) ≡ true → is_le (cmp y z) ≡ true → is_le (cmp x z) ≡ true
   le_through x y z first second = le_from_gt (cmp x z) (upto total x y z (gt_from_le (cmp x y) first) (gt_from_le (cmp y z) second))
 
-  IsBelowAll-through : (x y : T) (zs : List T) → is_le (cmp x y) ≡ true → IsBelowAll cmp y zs → IsBelowAll cmp x zs
-  IsBelowAll-through x y [] first all = tt
-  IsBelowAll-through x y (z ∷ zs) first all = (le_through x y z first all.0, IsBelowAll-through x y zs first all.1)
+  IsLowerBound-through : (x y : T) (zs : List T) → is_le (cmp x y) ≡ true → IsLowerBound cmp y zs → IsLowerBound cmp x zs
+  IsLowerBound-through x y [] first all = tt
+  IsLowerBound-through x y (z ∷ zs) first all = (le_through x y z first all.0, IsLowerBound-through x y zs first all.1)
 
-  -- what is not above an item nor any of a list is not above any of the list with the item in it
-  IsBelowAll-insert_sorted : (x item : T) (ys : List T) → is_le (cmp x item) ≡ true → IsBelowAll cmp x ys → IsBelowAll cmp x (insert_sorted cmp item ys)
-  IsBelowAll-insert_sorted x item [] below all = (below, tt)
-  IsBelowAll-insert_sorted x item (y ∷ ys) below all =
-      elim (is_le (cmp item y)) as (λ b. IsBelowAll cmp x (cond b (item ∷ y ∷ ys) (y ∷ insert_sorted cmp item ys))) [
+  -- a lower bound of a list and of an item is one of the list with the item inserted
+  IsLowerBound-insert_sorted : (x item : T) (ys : List T) → is_le (cmp x item) ≡ true → IsLowerBound cmp x ys → IsLowerBound cmp x (insert_sorted cmp item ys)
+  IsLowerBound-insert_sorted x item [] below all = (below, tt)
+  IsLowerBound-insert_sorted x item (y ∷ ys) below all =
+      elim (is_le (cmp item y)) as (λ b. IsLowerBound cmp x (cond b (item ∷ y ∷ ys) (y ∷ insert_sorted cmp item ys))) [
         | true ↦ (below, all)
-        | false ↦ (all.0, IsBelowAll-insert_sorted x item ys below all.1)
+        | false ↦ (all.0, IsLowerBound-insert_sorted x item ys below all.1)
       ]
 
-  -- an item insert_sorted in a list that rises leaves it rising
-  Rises-insert_sorted : (item : T) (ys : List T) → Rises cmp ys → Rises cmp (insert_sorted cmp item ys)
-  Rises-insert_sorted item [] rises = (tt, tt)
-  Rises-insert_sorted item (y ∷ ys) rises =
-      elim (is_le (cmp item y)) as (λ b. is_le (cmp item y) ≡ b → Rises cmp (cond b (item ∷ y ∷ ys) (y ∷ insert_sorted cmp item ys))) [
-        | true ↦ λ is. ((is, IsBelowAll-through item y ys is rises.0), rises)
-        | false ↦ λ is. (IsBelowAll-insert_sorted y item ys (subst (λ o. is_le o ≡ true) (sym (total.antisymm y item)) (le_turned (cmp item y) is)) rises.0, Rises-insert_sorted item ys rises.1)
+  -- inserting an item keeps a list ascending
+  IsAscending-insert_sorted : (item : T) (ys : List T) → IsAscending cmp ys → IsAscending cmp (insert_sorted cmp item ys)
+  IsAscending-insert_sorted item [] ascending = (tt, tt)
+  IsAscending-insert_sorted item (y ∷ ys) ascending =
+      elim (is_le (cmp item y)) as (λ b. is_le (cmp item y) ≡ b → IsAscending cmp (cond b (item ∷ y ∷ ys) (y ∷ insert_sorted cmp item ys))) [
+        | true ↦ λ is. ((is, IsLowerBound-through item y ys is ascending.0), ascending)
+        | false ↦ λ is. (IsLowerBound-insert_sorted y item ys (subst (λ o. is_le o ≡ true) (sym (total.antisymm y item)) (le_turned (cmp item y) is)) ascending.0, IsAscending-insert_sorted item ys ascending.1)
       ] refl
 
-  Rises-sorted_by : (xs : List T) → Rises cmp (sorted_by cmp xs)
-  Rises-sorted_by [] = tt
-  Rises-sorted_by (x ∷ xs) = Rises-insert_sorted x (sorted_by cmp xs) (Rises-sorted_by xs)
+  IsAscending-sorted_by : (xs : List T) → IsAscending cmp (sorted_by cmp xs)
+  IsAscending-sorted_by [] = tt
+  IsAscending-sorted_by (x ∷ xs) = IsAscending-insert_sorted x (sorted_by cmp xs) (IsAscending-sorted_by xs)
 
-  -- a list that is sorted by its places rises
-  Rises-from_sorted : (xs : List T) → IsSorted cmp xs → Rises cmp xs
-  Rises-from_sorted [] sorted = tt
-  Rises-from_sorted (x ∷ []) sorted = (tt, tt)
-  Rises-from_sorted (x ∷ y ∷ ys) sorted =
+  -- a list that is sorted by std's definition is ascending
+  IsAscending-from_sorted : (xs : List T) → IsSorted cmp xs → IsAscending cmp xs
+  IsAscending-from_sorted [] sorted = tt
+  IsAscending-from_sorted (x ∷ []) sorted = (tt, tt)
+  IsAscending-from_sorted (x ∷ y ∷ ys) sorted =
       let first : is_le (cmp x y) ≡ true =
       subst (λ o. is_le o ≡ true) (sym (total.antisymm x y)) (le_from_lt_turned (cmp y x) (sorted 0 x (omega arith) (omega arith))) in
-      let rest : Rises cmp (y ∷ ys) = Rises-from_sorted (y ∷ ys) (λ k d low high. rw add-one (simp add-one at (sorted (suc k) d (omega arith) (omega arith)))) in
-      ((first, IsBelowAll-through x y ys first rest.0), rest)
+      let rest : IsAscending cmp (y ∷ ys) = IsAscending-from_sorted (y ∷ ys) (λ k d low high. rw add-one (simp add-one at (sorted (suc k) d (omega arith) (omega arith)))) in
+      ((first, IsLowerBound-through x y ys first rest.0), rest)
 
-  -- a list that rises is sorted by its places
-  sorted_at : (xs : List T) → Rises cmp xs → (k : ℕ) (d : T) → k + 1 < length xs → is_lt (cmp (get_or xs (k + 1) d) (get_or xs k d)) ≡ false
-  sorted_at [] rises k d within = absurd (omega arith)
-  sorted_at (x ∷ []) rises k d within = absurd (omega arith)
-  sorted_at (x ∷ y ∷ ys) rises zero d within = subst (λ o. is_lt o ≡ false) (sym (total.antisymm y x)) (lt_from_le_turned (cmp x y) rises.0.0)
-  sorted_at (x ∷ y ∷ ys) rises (suc k) d within = rw add-one (simp add-one at (sorted_at (y ∷ ys) rises.1 k d (omega arith)))
+  -- an ascending list is sorted by std's definition
+  sorted_at : (xs : List T) → IsAscending cmp xs → (k : ℕ) (d : T) → k + 1 < length xs → is_lt (cmp (get_or xs (k + 1) d) (get_or xs k d)) ≡ false
+  sorted_at [] ascending k d within = absurd (omega arith)
+  sorted_at (x ∷ []) ascending k d within = absurd (omega arith)
+  sorted_at (x ∷ y ∷ ys) ascending zero d within = subst (λ o. is_lt o ≡ false) (sym (total.antisymm y x)) (lt_from_le_turned (cmp x y) ascending.0.0)
+  sorted_at (x ∷ y ∷ ys) ascending (suc k) d within = rw add-one (simp add-one at (sorted_at (y ∷ ys) ascending.1 k d (omega arith)))
 
-  sorted_in_order : (xs : List T) → IsSorted cmp (sorted_by cmp xs)
-  sorted_in_order xs k d low high = sorted_at (sorted_by cmp xs) (Rises-sorted_by xs) k d high
+  IsSorted-sorted_by : (xs : List T) → IsSorted cmp (sorted_by cmp xs)
+  IsSorted-sorted_by xs k d low high = sorted_at (sorted_by cmp xs) (IsAscending-sorted_by xs) k d high
 
   -- ---- how often each item occurs
 
-  -- placing an item counts it once, and the others as before
+  -- inserting an item counts it once
   times-insert_sorted : (item x : T) (ys : List T) → times cmp item (insert_sorted cmp x ys) ≡ times cmp item (x ∷ ys)
   times-insert_sorted item x [] = refl
   times-insert_sorted item x (y ∷ ys) =
@@ -148,7 +149,7 @@ module _ {T : Type 0} (cmp : T → T → Ordering) (total : IsTotalOrder cmp) (e
   times-sorted_by item [] = refl
   times-sorted_by item (x ∷ xs) = times-insert_sorted item x (sorted_by cmp xs) ∙ ap (λ n. cond (is_eq (cmp item x)) 1 0 + n) (times-sorted_by item xs)
 
-  -- as a sum, which a permutation keeps
+  -- the count as a sum, which permutations preserve
   times-is : (item : T) (xs : List T) → times cmp item xs ≡ sum_by (λ other. cond (is_eq (cmp item other)) 1 0) xs
   times-is item [] = refl
   times-is item (x ∷ xs) = ap (λ n. cond (is_eq (cmp item x)) 1 0 + n) (times-is item xs) ∙ sym (sum_by-cons (λ other. cond (is_eq (cmp item other)) 1 0) x xs)
@@ -159,8 +160,8 @@ module _ {T : Type 0} (cmp : T → T → Ordering) (total : IsTotalOrder cmp) (e
   times_itself : (x : T) (xs : List T) → 0 < times cmp x (x ∷ xs)
   times_itself x xs = rw (tied_itself total x) (omega arith)
 
-  -- what is below all of a list is below each item that occurs in it
-  below_occurring : (x item : T) (ys : List T) → IsBelowAll cmp x ys → 0 < times cmp item ys → is_le (cmp x item) ≡ true
+  -- a lower bound of a list is less than or equal to each item that occurs in it
+  below_occurring : (x item : T) (ys : List T) → IsLowerBound cmp x ys → 0 < times cmp item ys → is_le (cmp x item) ≡ true
   below_occurring x item [] all occurs = absurd (omega arith)
   below_occurring x item (y ∷ ys) all occurs =
       elim (is_eq (cmp item y)) as (λ b. is_eq (cmp item y) ≡ b → 0 < cond b 1 0 + times cmp item ys → is_le (cmp x item) ≡ true) [
@@ -171,28 +172,28 @@ module _ {T : Type 0} (cmp : T → T → Ordering) (total : IsTotalOrder cmp) (e
   le_itself : (x : T) → is_le (cmp x x) ≡ true
   le_itself x = ap is_le (tied_itself total x)
 
-  -- two lists that rise and hold each item as often are equal
-  same_rising : (xs ys : List T) → Rises cmp xs → Rises cmp ys → ((item : T) → times cmp item xs ≡ times cmp item ys) → xs ≡ ys
-  same_rising [] [] up up' same = refl
-  same_rising [] (y ∷ ys) up up' same = absurd (omega (arith, same y, times_itself y ys))
-  same_rising (x ∷ xs) [] up up' same = absurd (omega (arith, same x, times_itself x xs))
-  same_rising (x ∷ xs) (y ∷ ys) up up' same =
+  -- two ascending lists with equal counts of each item are equal
+  ascending_unique : (xs ys : List T) → IsAscending cmp xs → IsAscending cmp ys → ((item : T) → times cmp item xs ≡ times cmp item ys) → xs ≡ ys
+  ascending_unique [] [] up up' same = refl
+  ascending_unique [] (y ∷ ys) up up' same = absurd (omega (arith, same y, times_itself y ys))
+  ascending_unique (x ∷ xs) [] up up' same = absurd (omega (arith, same x, times_itself x xs))
+  ascending_unique (x ∷ xs) (y ∷ ys) up up' same =
       let left : is_le (cmp x y) ≡ true = below_occurring x y (x ∷ xs) (le_itself x, up.0) (omega (arith, same y, times_itself y ys)) in
       let right : is_le (cmp y x) ≡ true = below_occurring y x (y ∷ ys) (le_itself y, up'.0) (omega (arith, same x, times_itself x xs)) in
       let first : x ≡ y = exact x y (equal_from_both (cmp x y) left (subst (λ o. is_le o ≡ true) (total.antisymm y x) right)) in
       let rest : xs ≡ ys =
-      same_rising xs ys up.1 up'.1 (λ item.
+      ascending_unique xs ys up.1 up'.1 (λ item.
       let counts : cond (is_eq (cmp item y)) 1 0 + times cmp item xs ≡ cond (is_eq (cmp item y)) 1 0 + times cmp item ys =
       subst (λ z. cond (is_eq (cmp item z)) 1 0 + times cmp item xs ≡ cond (is_eq (cmp item y)) 1 0 + times cmp item ys) first (same item) in
       omega arith) in
       cc
 
-  -- a sorted permutation is the list in order
-  in_order_from_sorted : (xs ys : List T) → IsPermutation xs ys → IsSorted cmp ys → ys ≡ sorted_by cmp xs
-  in_order_from_sorted xs ys moved sorted =
-      same_rising ys (sorted_by cmp xs) (Rises-from_sorted ys sorted) (Rises-sorted_by xs) (λ item. times-IsPermutation item xs ys moved ∙ sym (times-sorted_by item xs))
+  -- a sorted permutation of a list is its insertion sort
+  sorted_by-unique : (xs ys : List T) → IsPermutation xs ys → IsSorted cmp ys → ys ≡ sorted_by cmp xs
+  sorted_by-unique xs ys moved sorted =
+      ascending_unique ys (sorted_by cmp xs) (IsAscending-from_sorted ys sorted) (IsAscending-sorted_by xs) (λ item. times-IsPermutation item xs ys moved ∙ sym (times-sorted_by item xs))
 
--- ---- the list in order holds what the list holds
+-- ---- insertion sort is a permutation
 
 IsPermutation-insert_sorted : {T : Type 0} (cmp : T → T → Ordering) (x : T) (ys : List T) → IsPermutation (x ∷ ys) (insert_sorted cmp x ys)
 IsPermutation-insert_sorted cmp x [] = IsPermutation-refl (x ∷ [])
@@ -209,29 +210,29 @@ IsPermutation-sorted_by cmp (x ∷ xs) =
 
 -- ---- cells and rows
 
--- which kind of cell comes first
+-- the rank of the kind of a cell
 abbrev kind_rank : Cell → ℕ
 kind_rank Null = 0
 kind_rank (Int number) = 1
 kind_rank (Text text) = 2
 
--- the number of a cell, where it has one
+-- the number in a cell, or 0
 abbrev number_in : Cell → ℤ
 number_in Null = pos 0
 number_in (Int number) = number
 number_in (Text text) = pos 0
 
--- the bytes of a cell, where it has some
+-- the bytes in a cell, or none
 abbrev bytes_in : Cell → List ℕ
 bytes_in Null = []
 bytes_in (Int number) = []
 bytes_in (Text text) = text
 
--- cells go by their kind, then by their number, then by their bytes
+-- the order by rank, then by number, then by bytes
 abbrev parts_cmp : Cell → Cell → Ordering
 parts_cmp = then_cmp (on kind_rank nat_cmp) (then_cmp (on number_in int_cmp) (on bytes_in (slice_cmp nat_cmp)))
 
--- this is the order of cells, whose laws follow from those of its parts
+-- it is the order of cells, so the laws of its parts carry over
 parts_cmp-is : (x y : Cell) → cell_cmp x y ≡ parts_cmp x y
 parts_cmp-is Null Null = refl
 parts_cmp-is Null (Int m) = refl
@@ -246,7 +247,7 @@ parts_cmp-is (Text t) (Text s) = refl
 cell_cmp_total : IsTotalOrder cell_cmp
 cell_cmp_total = subst IsTotalOrder (λ i x y. sym (parts_cmp-is x y) i) (then_total (on_total kind_rank nat_cmp_total) (then_total (on_total number_in int_cmp_total) (on_total bytes_in nat_list_cmp_total)))
 
--- only equal cells tie
+-- cells that compare as Equal are equal
 exact_cells : CmpEqualImpliesEq cell_cmp
 exact_cells Null Null e = refl
 exact_cells Null (Int m) e = cc
@@ -261,19 +262,16 @@ exact_cells (Text t) (Text s) e = ap Text (exact_bytes t s e)
 row_cmp_total : IsTotalOrder row_cmp
 row_cmp_total = lists_total cell_cmp_total
 
--- only equal rows tie
+-- rows that compare as Equal are equal
 exact_rows : CmpEqualImpliesEq row_cmp
 exact_rows = slice_cmp-IsAntisymmetric exact_cells
 
-pub rows_are_kept : (rows : List (List Cell)) → IsPermutation rows (sorted_by row_cmp rows)
-rows_are_kept = IsPermutation-sorted_by row_cmp
+pub rows_permuted : (rows : List (List Cell)) → IsPermutation rows (sorted_by row_cmp rows)
+rows_permuted = IsPermutation-sorted_by row_cmp
 
-pub rows_are_sorted : (rows : List (List Cell)) → IsSorted row_cmp (sorted_by row_cmp rows)
-rows_are_sorted = sorted_in_order row_cmp row_cmp_total exact_rows
+pub rows_sorted : (rows : List (List Cell)) → IsSorted row_cmp (sorted_by row_cmp rows)
+rows_sorted = IsSorted-sorted_by row_cmp row_cmp_total exact_rows
 
--- sorted rows are the rows in order
-pub only_in_order : (rows sorted : List (List Cell)) → IsPermutation rows sorted → IsSorted row_cmp sorted → sorted ≡ sorted_by row_cmp rows
-only_in_order = in_order_from_sorted row_cmp row_cmp_total exact_rows
-
--- what `sort_rows` needs
-pub ruleset rows_in_order = (only_in_order)
+-- a sorted permutation of rows is unique
+pub sorted_rows_unique : (rows sorted : List (List Cell)) → IsPermutation rows sorted → IsSorted row_cmp sorted → sorted ≡ sorted_by row_cmp rows
+sorted_rows_unique = sorted_by-unique row_cmp row_cmp_total exact_rows

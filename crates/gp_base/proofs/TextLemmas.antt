@@ -1,5 +1,5 @@
--- The text of a row is the text of no other row. Behind the text of a cell the row's text ends, or goes on with a comma: so the end of
--- each cell's text is found, and it is the text of one cell alone.
+-- Lemmas of row texts: different rows have different texts. After the text of a cell the row ends or a comma follows, so the end of each
+-- cell's text is determined, and different cells have different texts.
 use Rattle.std.proofs.Common.{◌≡◌, ℕ, suc, ◌≤◌, eqb, List, [], ◌∷◌, ◌++◌, length, drop, get_or, ℤ, pos, negsuc, refl, sym, ap, subst, ◌∙◌, append_assoc, codes, lit≤, arith, inl, inr}
 use Rattle.std.specs.Int.{w64}
 use Rattle.std.specs.Int.RustNames.{FitsSigned}
@@ -15,31 +15,31 @@ use Rattle.gp_base.specs.declared.cell.Cell.TheVariants.{Null, Int, Text}
 use Rattle.gp_base.specs.Cells.{IsInRange, AreInRange}
 use Rattle.gp_base.specs.Texts.{quoted_byte, cell_text, row_text}
 
--- nothing, or a comma and what is behind it
+-- the empty text, or one that begins with a comma
 abbrev IsEnd : List ℕ → Type 0
 IsEnd [] = Unit {0}
 IsEnd (byte ∷ bytes) = byte ≡ 44
 
--- each byte is above a comma, as the bytes of numbers and of NULL are
+-- each byte is greater than a comma, as in numbers and NULL
 abbrev AreHigh : List ℕ → Type 0
 AreHigh bytes = AllByRecursion (λ byte. 45 ≤ byte) bytes
 
 -- ---- numbers and NULL
 
--- the end of a text without commas is found
-high-fronts : (xs ys r s : List ℕ) → AreHigh xs → AreHigh ys → IsEnd r → IsEnd s → xs ++ r ≡ ys ++ s → (xs ≡ ys) × (r ≡ s)
-high-fronts [] [] r s high others end last e = (refl, e)
-high-fronts [] (y ∷ ys) [] s high others end last e = absurd cc
-high-fronts [] (y ∷ ys) (b ∷ r) s high others end last e =
+-- the end of a text without commas is determined
+high-determined : (xs ys r s : List ℕ) → AreHigh xs → AreHigh ys → IsEnd r → IsEnd s → xs ++ r ≡ ys ++ s → (xs ≡ ys) × (r ≡ s)
+high-determined [] [] r s high others end last e = (refl, e)
+high-determined [] (y ∷ ys) [] s high others end last e = absurd cc
+high-determined [] (y ∷ ys) (b ∷ r) s high others end last e =
     let first : b ≡ y = cc in
     absurd (omega (arith, others.0))
-high-fronts (x ∷ xs) [] r [] high others end last e = absurd cc
-high-fronts (x ∷ xs) [] r (b ∷ s) high others end last e =
+high-determined (x ∷ xs) [] r [] high others end last e = absurd cc
+high-determined (x ∷ xs) [] r (b ∷ s) high others end last e =
     let first : x ≡ b = cc in
     absurd (omega (arith, high.0))
-high-fronts (x ∷ xs) (y ∷ ys) r s high others end last e =
+high-determined (x ∷ xs) (y ∷ ys) r s high others end last e =
     let first : x ≡ y = cc in
-    let parts = high-fronts xs ys r s high.1 others.1 end last (ap (drop 1) e) in
+    let parts = high-determined xs ys r s high.1 others.1 end last (ap (drop 1) e) in
     let later : xs ≡ ys = parts.0 in
     let whole : x ∷ xs ≡ y ∷ ys = cc in
     (whole, parts.1)
@@ -58,7 +58,7 @@ null-high = (lit≤ tt, (lit≤ tt, (lit≤ tt, (lit≤ tt, tt))))
 same-first : (x y : ℕ) (xs ys : List ℕ) → x ∷ xs ≡ y ∷ ys → x ≡ y
 same-first x y xs ys e = cc
 
--- no number is written NULL
+-- NULL is the text of no number
 null-no_number : (number : ℤ) → FitsSigned w64 number → codes "NULL" ≡ signed_decimal number → ⊥
 null-no_number (pos n) fits e =
     let digits : AllDigits 10 (codes "NULL") = subst (AllDigits 10) (sym e) (decimal_is_IsNumeral n (omega (arith, fits.sfits))).0.1 in
@@ -67,7 +67,7 @@ null-no_number (negsuc n) fits e = omega (arith, same-first 78 45 (codes "ULL") 
 
 -- ---- texts in quotes
 
--- a text of high bytes, and what may stand behind it, does not begin with a quote
+-- a text of high bytes, and what may follow it, does not begin with a quote
 high-no_quote : (xs r more : List ℕ) → AreHigh xs → IsEnd r → xs ++ r ≡ 39 ∷ more → ⊥
 high-no_quote [] [] more high end e = cc
 high-no_quote [] (b ∷ r) more high end e =
@@ -77,7 +77,7 @@ high-no_quote (x ∷ xs) r more high end e =
     let first : x ≡ 39 = cc in
     omega (arith, high.0)
 
--- the quote at the end of a text is no byte of the text: behind it stands no second quote
+-- the closing quote is no byte of the text, since no second quote follows it
 end-no_quoted : (byte : ℕ) (text r more : List ℕ) → IsEnd r → 39 ∷ r ≡ flat_map quoted_byte (byte ∷ text) ++ more → ⊥
 end-no_quoted byte text [] more end e = elim (cases_Bool (eqb byte 39)) [
   | inl quote ↦
@@ -100,16 +100,16 @@ end-no_quoted byte text (b ∷ r) more end e = elim (cases_Bool (eqb byte 39)) [
       eqb-false byte 39 other (sym first)
 ]
 
--- the end of a text in quotes is found
-quoted-fronts : (t u r s : List ℕ) → IsEnd r → IsEnd s → flat_map quoted_byte t ++ 39 ∷ r ≡ flat_map quoted_byte u ++ 39 ∷ s → (t ≡ u) × (r ≡ s)
-quoted-fronts [] [] r s end last e = (refl, ap (drop 1) e)
-quoted-fronts [] (b ∷ u) r s end last e = absurd (end-no_quoted b u r (39 ∷ s) end e)
-quoted-fronts (a ∷ t) [] r s end last e = absurd (end-no_quoted a t s (39 ∷ r) last (sym e))
-quoted-fronts (a ∷ t) (b ∷ u) r s end last e = elim (cases_Bool (eqb a 39)) [
+-- the end of a text in quotes is determined
+quoted-determined : (t u r s : List ℕ) → IsEnd r → IsEnd s → flat_map quoted_byte t ++ 39 ∷ r ≡ flat_map quoted_byte u ++ 39 ∷ s → (t ≡ u) × (r ≡ s)
+quoted-determined [] [] r s end last e = (refl, ap (drop 1) e)
+quoted-determined [] (b ∷ u) r s end last e = absurd (end-no_quoted b u r (39 ∷ s) end e)
+quoted-determined (a ∷ t) [] r s end last e = absurd (end-no_quoted a t s (39 ∷ r) last (sym e))
+quoted-determined (a ∷ t) (b ∷ u) r s end last e = elim (cases_Bool (eqb a 39)) [
   | inl left ↦ elim (cases_Bool (eqb b 39)) [
     | inl right ↦
         let f = rw (left, right) at e in
-        let parts = quoted-fronts t u r s end last (ap (drop 2) f) in
+        let parts = quoted-determined t u r s end last (ap (drop 2) f) in
         let later : t ≡ u = parts.0 in
         let first : a ≡ 39 = eqb-true a 39 left in
         let second : b ≡ 39 = eqb-true b 39 right in
@@ -127,7 +127,7 @@ quoted-fronts (a ∷ t) (b ∷ u) r s end last e = elim (cases_Bool (eqb a 39)) 
         absurd (eqb-false a 39 left first)
     | inr right ↦
         let f = rw (left, right) at e in
-        let parts = quoted-fronts t u r s end last (ap (drop 1) f) in
+        let parts = quoted-determined t u r s end last (ap (drop 1) f) in
         let later : t ≡ u = parts.0 in
         let first : a ≡ b = ap (λ (bytes : List ℕ). get_or bytes 0 0) f in
         let whole : a ∷ t ≡ b ∷ u = cc in
@@ -137,22 +137,22 @@ quoted-fronts (a ∷ t) (b ∷ u) r s end last e = elim (cases_Bool (eqb a 39)) 
 
 -- ---- cells
 
--- the end of a cell's text is found, and no other cell has that text
-cell-fronts : (one other : Cell) (r s : List ℕ) → IsInRange one → IsInRange other → IsEnd r → IsEnd s → cell_text one ++ r ≡ cell_text other ++ s → (one ≡ other) × (r ≡ s)
-cell-fronts Null Null r s fits suits end last e = (refl, (high-fronts (codes "NULL") (codes "NULL") r s null-high null-high end last e).1)
-cell-fronts Null (Int m) r s fits suits end last e = absurd (null-no_number m suits (high-fronts (codes "NULL") (signed_decimal m) r s null-high (number-high m suits) end last e).0)
-cell-fronts Null (Text u) r s fits suits end last e = absurd (high-no_quote (codes "NULL") r _ null-high end e)
-cell-fronts (Int n) Null r s fits suits end last e = absurd (null-no_number n fits (sym (high-fronts (signed_decimal n) (codes "NULL") r s (number-high n fits) null-high end last e).0))
-cell-fronts (Int n) (Int m) r s fits suits end last e =
-    let parts = high-fronts (signed_decimal n) (signed_decimal m) r s (number-high n fits) (number-high m suits) end last e in
+-- the end of a cell's text is determined, and so is the cell
+cell-determined : (one other : Cell) (r s : List ℕ) → IsInRange one → IsInRange other → IsEnd r → IsEnd s → cell_text one ++ r ≡ cell_text other ++ s → (one ≡ other) × (r ≡ s)
+cell-determined Null Null r s fits suits end last e = (refl, (high-determined (codes "NULL") (codes "NULL") r s null-high null-high end last e).1)
+cell-determined Null (Int m) r s fits suits end last e = absurd (null-no_number m suits (high-determined (codes "NULL") (signed_decimal m) r s null-high (number-high m suits) end last e).0)
+cell-determined Null (Text u) r s fits suits end last e = absurd (high-no_quote (codes "NULL") r _ null-high end e)
+cell-determined (Int n) Null r s fits suits end last e = absurd (null-no_number n fits (sym (high-determined (signed_decimal n) (codes "NULL") r s (number-high n fits) null-high end last e).0))
+cell-determined (Int n) (Int m) r s fits suits end last e =
+    let parts = high-determined (signed_decimal n) (signed_decimal m) r s (number-high n fits) (number-high m suits) end last e in
     (ap Int (signed_decimal_injective n m fits.sfits suits.sfits parts.0), parts.1)
-cell-fronts (Int n) (Text u) r s fits suits end last e = absurd (high-no_quote (signed_decimal n) r _ (number-high n fits) end e)
-cell-fronts (Text t) Null r s fits suits end last e = absurd (high-no_quote (codes "NULL") s _ null-high last (sym e))
-cell-fronts (Text t) (Int m) r s fits suits end last e = absurd (high-no_quote (signed_decimal m) s _ (number-high m suits) last (sym e))
-cell-fronts (Text t) (Text u) r s fits suits end last e =
+cell-determined (Int n) (Text u) r s fits suits end last e = absurd (high-no_quote (signed_decimal n) r _ (number-high n fits) end e)
+cell-determined (Text t) Null r s fits suits end last e = absurd (high-no_quote (codes "NULL") s _ null-high last (sym e))
+cell-determined (Text t) (Int m) r s fits suits end last e = absurd (high-no_quote (signed_decimal m) s _ (number-high m suits) last (sym e))
+cell-determined (Text t) (Text u) r s fits suits end last e =
     let inside : flat_map quoted_byte t ++ 39 ∷ r ≡ flat_map quoted_byte u ++ 39 ∷ s =
     sym (append_assoc (flat_map quoted_byte t) (39 ∷ []) r) ∙ ap (drop 1) e ∙ append_assoc (flat_map quoted_byte u) (39 ∷ []) s in
-    let parts = quoted-fronts t u r s end last inside in
+    let parts = quoted-determined t u r s end last inside in
     (ap Text parts.0, parts.1)
 
 -- no cell has the empty text
@@ -167,7 +167,7 @@ cell-some (Text text) rest fits e = cc
 
 -- ---- rows
 
--- what stands behind the first cell
+-- the texts after the first cell
 abbrev others_text : List Cell → List ℕ
 others_text cells = flat_map (λ (other : Cell). codes ", " ++ cell_text other) cells
 
@@ -175,23 +175,23 @@ others-end : (cells : List Cell) → IsEnd (others_text cells)
 others-end [] = tt
 others-end (cell ∷ cells) = refl
 
-others-differ : (one other : List Cell) → AreInRange one → AreInRange other → others_text one ≡ others_text other → one ≡ other
-others-differ [] [] fits suits e = refl
-others-differ [] (b ∷ more) fits suits e = absurd cc
-others-differ (a ∷ cells) [] fits suits e = absurd cc
-others-differ (a ∷ cells) (b ∷ more) fits suits e =
-    let parts = cell-fronts a b (others_text cells) (others_text more) fits.0 suits.0 (others-end cells) (others-end more) (ap (drop 2) e) in
+others-injective : (one other : List Cell) → AreInRange one → AreInRange other → others_text one ≡ others_text other → one ≡ other
+others-injective [] [] fits suits e = refl
+others-injective [] (b ∷ more) fits suits e = absurd cc
+others-injective (a ∷ cells) [] fits suits e = absurd cc
+others-injective (a ∷ cells) (b ∷ more) fits suits e =
+    let parts = cell-determined a b (others_text cells) (others_text more) fits.0 suits.0 (others-end cells) (others-end more) (ap (drop 2) e) in
     let first : a ≡ b = parts.0 in
-    let later : cells ≡ more = others-differ cells more fits.1 suits.1 parts.1 in
+    let later : cells ≡ more = others-injective cells more fits.1 suits.1 parts.1 in
     cc
 
--- two rows with the same text are the same row
-pub rows-differ : (one other : List Cell) → AreInRange one → AreInRange other → row_text one ≡ row_text other → one ≡ other
-rows-differ [] [] fits suits e = refl
-rows-differ [] (b ∷ more) fits suits e = absurd (cell-some b (others_text more) suits.0 e)
-rows-differ (a ∷ cells) [] fits suits e = absurd (cell-some a (others_text cells) fits.0 (sym e))
-rows-differ (a ∷ cells) (b ∷ more) fits suits e =
-    let parts = cell-fronts a b (others_text cells) (others_text more) fits.0 suits.0 (others-end cells) (others-end more) e in
+-- rows with equal texts are equal
+pub row_text-injective : (one other : List Cell) → AreInRange one → AreInRange other → row_text one ≡ row_text other → one ≡ other
+row_text-injective [] [] fits suits e = refl
+row_text-injective [] (b ∷ more) fits suits e = absurd (cell-some b (others_text more) suits.0 e)
+row_text-injective (a ∷ cells) [] fits suits e = absurd (cell-some a (others_text cells) fits.0 (sym e))
+row_text-injective (a ∷ cells) (b ∷ more) fits suits e =
+    let parts = cell-determined a b (others_text cells) (others_text more) fits.0 suits.0 (others-end cells) (others-end more) e in
     let first : a ≡ b = parts.0 in
-    let later : cells ≡ more = others-differ cells more fits.1 suits.1 parts.1 in
+    let later : cells ≡ more = others-injective cells more fits.1 suits.1 parts.1 in
     cc

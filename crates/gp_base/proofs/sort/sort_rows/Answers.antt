@@ -1,5 +1,5 @@
 use Rattle.std.proofs.Common.{arith, rules}
-use Rattle.gp_base.proofs.OrderLemmas.{only_in_order}
+use Rattle.gp_base.proofs.OrderLemmas.{sorted_rows_unique}
 use Rattle.gp_base.proofs.sort.sort_rows.Goals as goal
 
 pub returns-clause-permutation : goal.returns-clause-permutation
@@ -9,4 +9,4 @@ pub returns-clause-sorted : goal.returns-clause-sorted
 returns-clause-sorted c = search rules
 
 pub returns-clause-unique : goal.returns-clause-unique
-returns-clause-unique c = grind (arith, only_in_order)
+returns-clause-unique c = grind (arith, sorted_rows_unique)
