@@ -1,133 +1,65 @@
--- The first line of a text, found by the place of its first line feed.
-use Rattle.std.proofs.Common.{◌≡◌, ℕ, zero, suc, ◌+◌, ◌-◌, ◌<◌, ◌≤◌, Bool, true, false, cond, eqb, ◌&&◌, List, [], ◌∷◌, length, get_or, take, drop, filter, refl, sym, ap, ◌∙◌, subst, arith, add-one, inl, inr}
-use Rattle.std.specs.List.{position_or_len}
-use Rattle.std.specs.Str.Lines.{strip_carriage_return}
-use Rattle.std.proofs.lemmas.Bool.{cases_Bool, and_right, and_left}
-use Rattle.std.proofs.Math.Numerals.{one-add}
-use Rattle.std.proofs.lemmas.List.{length-take}
-use Rattle.gp_syntax.specs.Lines.{line_feed, carriage_return, onto_line, begins_with_feed, lines_of, numbered, is_answered, script_lines, RiseFrom}
+-- The first of std's lines, found by the first line feed, and the order of the numbers of lines.
+use Rattle.std.proofs.Common.{◌≡◌, ℕ, zero, suc, ◌+◌, ◌<◌, ◌≤◌, Bool, true, false, eqb, cond, List, [], ◌∷◌, length, take, drop, filter, refl, ap, suc-add, ◌∙◌, arith, inl, inr, get_or}
+use Rattle.std.specs.List.{AllByRecursion, position_or_len, slice_split, enumerate_from, before_first, after_first}
+use Rattle.std.specs.List.Sorted.{IsStrictlyIncreasing}
+use Rattle.std.specs.Str.Lines.{lines, lines_of_parts, strip_carriage_return}
+use Rattle.std.proofs.lemmas.Bool.{cases_Bool, cond-false, ne_eqb}
+use Rattle.std.proofs.lemmas.List.Elements.{All-from_recursion}
+use Rattle.std.proofs.lemmas.List.Splits.{slice_split_first, slice_split_none, length-slice_split}
+use Rattle.gp_syntax.specs.Lines.{is_answered, numbers_of, script_lines}
 
 abbrev is_feed : ℕ → Bool
-is_feed byte = eqb byte line_feed
+is_feed byte = eqb byte 10
 
 abbrev place : List ℕ → ℕ
 place bytes = position_or_len is_feed bytes
 
--- ---- the place of the first line feed
+-- a part that another follows is a line, without the carriage return at its end
+lines_of_parts-more : (part : List ℕ) (parts : List (List ℕ)) → 0 < length parts → lines_of_parts (part ∷ parts) ≡ strip_carriage_return part ∷ lines_of_parts parts
+lines_of_parts-more part [] some = absurd (omega arith)
+lines_of_parts-more part (next ∷ parts) some = refl
 
-place-at : (b : ℕ) (bytes : List ℕ) → is_feed b ≡ true → place (b ∷ bytes) ≡ 0
-place-at b bytes e = rw e refl
+-- the first line ends at the first line feed
+pub lines-ended : (bytes : List ℕ) → place bytes < length bytes → lines bytes ≡ strip_carriage_return (take (place bytes) bytes) ∷ lines (drop (place bytes + 1) bytes)
+lines-ended bytes within =
+    ap lines_of_parts (slice_split_first is_feed bytes 0 within)
+    ∙ lines_of_parts-more (before_first is_feed bytes) (slice_split is_feed (after_first is_feed bytes)) (omega (arith, length-slice_split is_feed (after_first is_feed bytes)))
 
-place-after : (b : ℕ) (bytes : List ℕ) → is_feed b ≡ false → place (b ∷ bytes) ≡ suc (place bytes)
-place-after b bytes e = rw (e, one-add) refl
-
-begins-not : (bytes : List ℕ) → length bytes ≤ place bytes → begins_with_feed bytes ≡ false
-begins-not [] far = refl
-begins-not (b ∷ bytes) far = elim (cases_Bool (is_feed b)) [
-  | inl e ↦ absurd (omega (arith, place-at b bytes e))
-  | inr e ↦ e
-]
-
-begins-later : (bytes : List ℕ) (n : ℕ) → place bytes ≡ suc n → begins_with_feed bytes ≡ false
-begins-later [] n e = absurd (omega (arith, e))
-begins-later (b ∷ bytes) n far = elim (cases_Bool (is_feed b)) [
-  | inl e ↦ absurd (omega (arith, place-at b bytes e, far))
-  | inr e ↦ e
-]
-
-begins-here : (bytes : List ℕ) → place bytes ≡ 0 → place bytes < length bytes → begins_with_feed bytes ≡ true
-begins-here [] e within = absurd (omega (arith, within))
-begins-here (b ∷ bytes) here within = elim (cases_Bool (is_feed b)) [
-  | inl e ↦ e
-  | inr e ↦ absurd (omega (arith, place-after b bytes e, here))
-]
-
--- ---- one carriage return is dropped from the end alone
-
-chosen : (t : Bool) (a n b : ℕ) (bytes : List ℕ) → cond t (a ∷ take n (b ∷ bytes)) (a ∷ b ∷ bytes) ≡ a ∷ cond t (take n (b ∷ bytes)) (b ∷ bytes)
-chosen true a n b bytes = refl
-chosen false a n b bytes = refl
-
-strip-longer : (a b : ℕ) (bytes : List ℕ) → strip_carriage_return (a ∷ b ∷ bytes) ≡ a ∷ strip_carriage_return (b ∷ bytes)
-strip-longer a b bytes =
-    let one : length (a ∷ b ∷ bytes) - 1 ≡ suc (length bytes) = omega arith in
-    let two : length (b ∷ bytes) - 1 ≡ length bytes = omega arith in
-    rw (one, two) (chosen (eqb (get_or (b ∷ bytes) (length bytes) 0) 13) a (length bytes) b bytes)
-
-strip-more : (a : ℕ) (bytes : List ℕ) → 0 < length bytes → strip_carriage_return (a ∷ bytes) ≡ a ∷ strip_carriage_return bytes
-strip-more a [] some = absurd (omega (arith, some))
-strip-more a (b ∷ bytes) some = strip-longer a b bytes
-
-strip-other : (a : ℕ) → eqb a 13 ≡ false → strip_carriage_return (a ∷ []) ≡ a ∷ []
-strip-other a e = rw e refl
-
-strip-return : (a : ℕ) → eqb a 13 ≡ true → strip_carriage_return (a ∷ []) ≡ []
-strip-return a e = rw e refl
-
--- ---- the first line
-
-onto-front : (b : ℕ) (bytes : List ℕ) → is_feed b ≡ false → (eqb b carriage_return && begins_with_feed bytes) ≡ false → lines_of (b ∷ bytes) ≡ onto_line b (lines_of bytes)
-onto-front b bytes e f = rw (e, f) refl
-
-pub first_line-open : (bytes : List ℕ) → 0 < length bytes → length bytes ≤ place bytes → lines_of bytes ≡ bytes ∷ []
-first_line-open [] some far = absurd (omega (arith, some))
-first_line-open (b ∷ []) some far = elim (cases_Bool (is_feed b)) [
-  | inl e ↦ absurd (omega (arith, place-at b [] e, far))
-  | inr e ↦ onto-front b [] e (and_right (eqb b carriage_return) false refl)
-]
-first_line-open (b ∷ c ∷ bytes) some far = elim (cases_Bool (is_feed b)) [
-  | inl e ↦ absurd (omega (arith, place-at b (c ∷ bytes) e, far))
-  | inr e ↦
-      let later : length (c ∷ bytes) ≤ place (c ∷ bytes) = omega (arith, place-after b (c ∷ bytes) e, far) in
-      onto-front b (c ∷ bytes) e (and_right (eqb b carriage_return) (begins_with_feed (c ∷ bytes)) (begins-not (c ∷ bytes) later))
-      ∙ ap (onto_line b) (first_line-open (c ∷ bytes) (omega arith) later)
-]
-
-abbrev IsCut : List ℕ → ℕ → Type 0
-IsCut bytes n = lines_of bytes ≡ strip_carriage_return (take n bytes) ∷ lines_of (drop (suc n) bytes)
-
--- a byte before the first line feed
-cut-more : (b n : ℕ) (bytes : List ℕ) → is_feed b ≡ false → place bytes ≡ n → n < length bytes → IsCut bytes n → IsCut (b ∷ bytes) (suc n)
-cut-more b zero bytes e here within cut = elim (cases_Bool (eqb b 13)) [
-  | inl return ↦
-      let feed = begins-here bytes here (omega (arith, here)) in
-      let skip : lines_of (b ∷ bytes) ≡ lines_of bytes = rw (e, return, feed) refl in
-      skip ∙ cut ∙ ap (λ (line : List ℕ). line ∷ lines_of (drop 1 bytes)) (sym (strip-return b return))
+-- no byte is a line feed where the first is found at the end
+no_feed : (bytes : List ℕ) → length bytes ≤ place bytes → AllByRecursion (λ byte. is_feed byte ≡ false) bytes
+no_feed [] far = tt
+no_feed (byte ∷ bytes) far = elim (cases_Bool (is_feed byte)) [
+  | inl feed ↦
+      let here : place (byte ∷ bytes) ≡ 0 = rw feed refl in
+      absurd (omega (arith, here, far))
   | inr other ↦
-      onto-front b bytes e (and_left (eqb b carriage_return) (begins_with_feed bytes) other)
-      ∙ ap (onto_line b) cut ∙ ap (λ (line : List ℕ). line ∷ lines_of (drop 1 bytes)) (sym (strip-other b other))
-]
-cut-more b (suc n) bytes e later within cut =
-    let some : 0 < length (take (suc n) bytes) = omega (arith, length-take (suc n) bytes) in
-    onto-front b bytes e (and_right (eqb b carriage_return) (begins_with_feed bytes) (begins-later bytes n later))
-    ∙ ap (onto_line b) cut ∙ ap (λ (line : List ℕ). line ∷ lines_of (drop (suc (suc n)) bytes)) (sym (strip-more b (take (suc n) bytes) some))
-
-ended : (bytes : List ℕ) → place bytes < length bytes → IsCut bytes (place bytes)
-ended [] within = absurd (omega (arith, within))
-ended (b ∷ bytes) within = elim (cases_Bool (is_feed b)) [
-  | inl e ↦
-      let first : IsCut (b ∷ bytes) 0 = rw e refl in
-      subst (IsCut (b ∷ bytes)) (sym (place-at b bytes e)) first
-  | inr e ↦
-      let inside : place bytes < length bytes = omega (arith, place-after b bytes e, within) in
-      subst (IsCut (b ∷ bytes)) (sym (place-after b bytes e)) (cut-more b (place bytes) bytes e refl inside (ended bytes inside))
+      let later : place (byte ∷ bytes) ≡ 1 + place bytes = rw other refl in
+      (other, no_feed bytes (omega (arith, later, far)))
 ]
 
-pub first_line-ended : (bytes : List ℕ) → place bytes < length bytes → lines_of bytes ≡ strip_carriage_return (take (place bytes) bytes) ∷ lines_of (drop (place bytes + 1) bytes)
-first_line-ended bytes within = rw add-one (ended bytes within)
+-- bytes without a line feed are one line
+pub lines-open : (bytes : List ℕ) → 0 < length bytes → length bytes ≤ place bytes → lines bytes ≡ bytes ∷ []
+lines-open [] some far = absurd (omega (arith, some))
+lines-open (byte ∷ bytes) some far =
+    ap lines_of_parts (slice_split_none is_feed (byte ∷ bytes) (All-from_recursion (λ b. is_feed b ≡ false) (byte ∷ bytes) (no_feed (byte ∷ bytes) far)))
+    ∙ cond-false (eqb (length (byte ∷ bytes)) 0) [] ((byte ∷ bytes) ∷ []) (ne_eqb (length (byte ∷ bytes)) 0 (λ e. absurd (omega arith)))
 
--- ---- the numbers of lines rise
+-- ---- the numbers of lines increase
 
-rise-next : (answered : Bool) (below number : ℕ) (line : List ℕ) (lines : List (ℕ × List ℕ)) → below < number → RiseFrom number lines → RiseFrom below lines
-    → RiseFrom below (cond answered ((number, line) ∷ lines) lines)
-rise-next true below number line lines lt above all = (lt, above)
-rise-next false below number line lines lt above all = all
+increasing-cons : (first next : ℕ) (numbers : List ℕ) → first < next → IsStrictlyIncreasing (next ∷ numbers) → IsStrictlyIncreasing (first ∷ next ∷ numbers)
+increasing-cons first next numbers below increasing zero within = below
+increasing-cons first next numbers below increasing (suc k) within = rw (suc-add k 1) (increasing k (omega arith))
 
-rise-filter : (below number : ℕ) (lines : List (List ℕ)) → below < number → RiseFrom below (filter (λ (line : ℕ × List ℕ). is_answered line.1) (numbered number lines))
-rise-filter below number [] lt = tt
-rise-filter below number (line ∷ lines) lt =
-    rise-next (is_answered line) below number line (filter (λ (other : ℕ × List ℕ). is_answered other.1) (numbered (number + 1) lines)) lt
-    (rise-filter number (number + 1) lines (omega arith)) (rise-filter below (number + 1) lines (omega arith))
+increasing-step : (answered : Bool) (last number : ℕ) (line : List ℕ) (more : List (ℕ × List ℕ)) → last < number → IsStrictlyIncreasing (number ∷ numbers_of more) → IsStrictlyIncreasing (last ∷ numbers_of more)
+    → IsStrictlyIncreasing (last ∷ numbers_of (cond answered ((number, line) ∷ more) more))
+increasing-step true last number line more below with without = increasing-cons last number (numbers_of more) below with
+increasing-step false last number line more below with without = without
 
-pub rise-script : (bytes : List ℕ) → RiseFrom 0 (script_lines bytes)
-rise-script bytes = rise-filter 0 1 (lines_of bytes) (omega arith)
+increasing-from : (last number : ℕ) (all : List (List ℕ)) → last < number → IsStrictlyIncreasing (last ∷ numbers_of (filter (λ (line : ℕ × List ℕ). is_answered line.1) (enumerate_from number all)))
+increasing-from last number [] below = λ k within. absurd (omega arith)
+increasing-from last number (line ∷ all) below =
+    increasing-step (is_answered line) last number line (filter (λ (other : ℕ × List ℕ). is_answered other.1) (enumerate_from (number + 1) all)) below
+    (increasing-from number (number + 1) all (omega arith)) (increasing-from last (number + 1) all (omega arith))
+
+pub script_lines-increasing : (script : List ℕ) → IsStrictlyIncreasing (0 ∷ numbers_of (script_lines script))
+script_lines-increasing script = increasing-from 0 1 (lines script) (omega arith)

@@ -1,70 +1,37 @@
--- How a script is cut into numbered lines, and which of them are answered. All other lines are skipped. Two hyphens begin a comment, as
--- in SQL (ISO/IEC 9075-2), here at the beginning of a line alone.
-use Rattle.std.specs.Prelude.{ℕ, ◌+◌, ◌<◌, Bool, true, false, ◌&&◌, ◌||◌, not, List, [], ◌∷◌, length, nat_le, if◌then◌else◌, ◌==◌, filter}
-
--- the byte that ends a line
-abbrev pub line_feed : ℕ
-line_feed = 10
-
--- the byte that belongs to the end of its line where a line feed follows
-abbrev pub carriage_return : ℕ
-carriage_return = 13
-
--- a line of more bytes than this, without its end, is answered whatever it holds, and is never read
-abbrev pub longest_line : ℕ
-longest_line = 4096
-
--- the byte before everything in the first line, or alone in a line where there is none
-abbrev pub onto_line : ℕ → List (List ℕ) → List (List ℕ)
-onto_line byte [] = (byte ∷ []) ∷ []
-onto_line byte (line ∷ lines) = (byte ∷ line) ∷ lines
-
--- the bytes begin with a line feed
-abbrev pub begins_with_feed : List ℕ → Bool
-begins_with_feed [] = false
-begins_with_feed (byte ∷ bytes) = byte == line_feed
-
--- the lines of a text: each ends at a line feed, which the last may lack, and one carriage return directly before a line feed
--- belongs to the end of its line
-abbrev pub lines_of : List ℕ → List (List ℕ)
-lines_of [] = []
-lines_of (byte ∷ bytes) =
-    if byte == line_feed then [] ∷ lines_of bytes
-    else (if (byte == carriage_return) && begins_with_feed bytes then lines_of bytes else onto_line byte (lines_of bytes))
-
--- the lines under their numbers, where the first has this number
-abbrev pub numbered : ℕ → List (List ℕ) → List (ℕ × List ℕ)
-numbered number [] = []
-numbered number (line ∷ lines) = (number, line) ∷ numbered (number + 1) lines
+-- Part of the statement: the numbered lines of a script, and which of them get a reply. Blank lines and comments get none, but are
+-- counted. Lines are those of std's `str::lines`: they end at a line feed, and one carriage return directly before a line feed belongs
+-- to the end of its line. Two hyphens begin a comment, as in SQL (ISO/IEC 9075-2), but only at the beginning of a line.
+use Rattle.std.specs.Prelude.{ℕ, Bool, true, ◌&&◌, ◌||◌, not, List, [], ◌∷◌, length, map, nat_eq, nat_le, if◌then◌else◌, ◌==◌, filter, codes}
+use Rattle.std.specs.List.{enumerate_from, starts_with}
+use Rattle.std.specs.Str.Lines.{lines}
+use Rattle.gp_syntax.specs.declared.line.TheConstants.{MAX_LINE_LENGTH}
 
 -- a space or a tab
 abbrev pub is_blank : ℕ → Bool
 is_blank byte = (byte == 32) || (byte == 9)
 
--- two hyphens stand first
-abbrev pub begins_comment : List ℕ → Bool
-begins_comment [] = false
-begins_comment (first ∷ []) = false
-begins_comment (first ∷ second ∷ bytes) = (first == 45) && (second == 45)
-
--- nothing but blanks, or a comment behind blanks
+-- a line of spaces and tabs alone, or one that has two hyphens after them
 abbrev pub is_blank_or_comment : List ℕ → Bool
 is_blank_or_comment [] = true
-is_blank_or_comment (byte ∷ bytes) = if is_blank byte then is_blank_or_comment bytes else begins_comment (byte ∷ bytes)
+is_blank_or_comment (byte ∷ bytes) =
+    if is_blank byte then is_blank_or_comment bytes else starts_with nat_eq (byte ∷ bytes) (codes "--")
 
--- a line that is answered: one that says something, or is too long to be looked into
+-- A line gets a reply unless it is blank or a comment. A line that is too long is not examined: it always gets one.
 abbrev pub is_answered : List ℕ → Bool
-is_answered line = not (nat_le (length line) longest_line && is_blank_or_comment line)
+is_answered line = not (nat_le (length line) MAX_LINE_LENGTH && is_blank_or_comment line)
 
--- the lines of these bytes that are answered, where the first line has this number
+-- the lines of these bytes that get a reply, in order, each with its number, where the first line has this number
 abbrev pub answered_from : ℕ → List ℕ → List (ℕ × List ℕ)
-answered_from number bytes = filter (λ line. is_answered line.1) (numbered number (lines_of bytes))
+answered_from number bytes = filter (λ line. is_answered line.1) (enumerate_from number (lines bytes))
 
--- the lines of a script that are answered, in order and under their numbers; all lines are counted, from 1
+-- the lines of a script that get a reply, in order, each with its number; all lines are counted, from 1
 abbrev pub script_lines : List ℕ → List (ℕ × List ℕ)
-script_lines bytes = answered_from 1 bytes
+script_lines script = answered_from 1 script
 
--- the numbers of the lines rise from above this one
-abbrev pub RiseFrom : ℕ → List (ℕ × List ℕ) → Type 0
-RiseFrom number [] = Unit {0}
-RiseFrom number (line ∷ lines) = (number < line.0) × RiseFrom line.0 lines
+-- the numbers of numbered lines
+abbrev pub numbers_of : List (ℕ × List ℕ) → List ℕ
+numbers_of numbered = map (λ (line : ℕ × List ℕ). line.0) numbered
+
+-- the most bytes of a line that is read
+abbrev pub longest_line : ℕ
+longest_line = MAX_LINE_LENGTH

@@ -1,14 +1,15 @@
-//! How a script is cut into lines, and which of them are answered.
+//! The lines of a script that get a reply.
 
 ghost use Rattle.std.specs.Prelude.{◌≡◌, ◌-◌, ◌^◌, ◌<◌, ◌∷◌, length};
 ghost use Rattle.std.specs.Iterator.{YieldsFirstBy, item_count};
-ghost use Rattle.std.specs.Str.Lines.{strip_carriage_return};
-ghost use Rattle.gp_syntax.specs.Lines.{lines_of, script_lines, RiseFrom, is_blank_or_comment, is_answered, begins_comment, is_blank};
+ghost use Rattle.std.specs.List.Sorted.{IsStrictlyIncreasing};
+ghost use Rattle.std.specs.Str.Lines.{lines, strip_carriage_return};
+ghost use Rattle.gp_syntax.specs.Lines.{script_lines, numbers_of, is_blank_or_comment, is_answered, is_blank};
 
 use crate::scan::place_of;
 use std::marker::Model;
 
-/// The greatest number of bytes of a line that is looked into, without its end. A longer line is answered, and always refused.
+/// The most bytes that a line may have, without its end. A longer line is always refused, whatever it holds.
 pub const MAX_LINE_LENGTH: usize = 4096;
 
 const LINE_FEED: u8 = b'\n';
@@ -22,31 +23,21 @@ fn is_blank(byte: u8) -> bool
     byte == b' ' || byte == b'\t'
 }
 
-/// Whether two hyphens stand first.
-fn begins_comment(bytes: &[u8]) -> bool
-    ensures { result ≡ begins_comment bytes.now }
-{
-    match bytes {
-        [first, second, ..] => *first == b'-' && *second == b'-',
-        _ => false,
-    }
-}
-
-/// Whether the line is blank or a comment.
+/// Whether the line has spaces and tabs alone, or `--` after them.
 fn is_blank_or_comment(line: &[u8]) -> bool
     ensures { result ≡ is_blank_or_comment line.now }
 {
     let mut rest = line;
     while let [first, others @ ..] = rest {
         if !is_blank(*first) {
-            return begins_comment(rest);
+            return rest.starts_with(b"--");
         }
         rest = others;
     }
     true
 }
 
-/// Whether a line is answered: a line that is too long is, whatever it holds.
+/// Whether the line gets a reply. A line that is too long gets one without a look at its bytes.
 fn is_answered(line: &[u8]) -> bool
     ensures { result ≡ is_answered line.now }
 {
@@ -54,24 +45,24 @@ fn is_answered(line: &[u8]) -> bool
 }
 
 /// The bytes without the one carriage return at their end, if there is one.
-fn without_return(line: &[u8]) -> &[u8]
+fn strip_carriage_return(line: &[u8]) -> &[u8]
     ensures { result.now ≡ strip_carriage_return line.now }
 {
     match line {
-        [front @ .., CARRIAGE_RETURN] => front,
+        [prefix @ .., CARRIAGE_RETURN] => prefix,
         _ => line,
     }
 }
 
-/// The first line, and the bytes behind its end.
-fn first_line(bytes: &[u8]) -> (&[u8], &[u8])
+/// The first line, and the bytes after its end.
+fn split_line(bytes: &[u8]) -> (&[u8], &[u8])
     requires { 0 < length bytes.now }
-    ensures lines { lines_of bytes.now ≡ result.0.now ∷ lines_of result.1.now }
+    ensures lines { lines bytes.now ≡ result.0.now ∷ lines result.1.now }
     ensures shorter { length result.1.now < length bytes.now }
 {
     let end = place_of(bytes, LINE_FEED);
     if end < bytes.len() {
-        (without_return(&bytes[..end]), &bytes[end + 1..])
+        (strip_carriage_return(&bytes[..end]), &bytes[end + 1..])
     } else {
         (bytes, &[])
     }
@@ -80,13 +71,13 @@ fn first_line(bytes: &[u8]) -> (&[u8], &[u8])
 /// A line of a script.
 #[derive(Clone, Copy, Debug)]
 pub struct Line<'a> {
-    /// Its number in the script, from 1.
+    /// The line's number in the script, from 1.
     pub number: u32,
-    /// Its bytes, without its line feed and the carriage return before that.
+    /// The line's bytes, without its line feed and the carriage return before that.
     pub bytes: &'a [u8],
 }
 
-/// The lines of a script that are answered: those that are neither blank nor comments, and those that are too long.
+/// The remaining lines of a script that get a reply. [`lines`] makes it.
 #[derive(Debug, Drop)]
 pub struct LineIter<'a> {
     rest: &'a [u8],
@@ -113,7 +104,7 @@ impl<'a> Iterator for LineIter<'a> {
 
     fn next(&mut self) -> Option<Line<'a>> {
         while !self.rest.is_empty() {
-            let (bytes, rest) = first_line(self.rest);
+            let (bytes, rest) = split_line(self.rest);
             let number = self.number;
             self.rest = rest;
             self.number += 1;
@@ -125,14 +116,16 @@ impl<'a> Iterator for LineIter<'a> {
     }
 }
 
-/// The lines of a script that are answered, in order and under their numbers. A script is cut at each line feed, and one carriage
-/// return directly before a line feed is dropped with it; the last line may lack its line feed, and then keeps a carriage return.
-/// Every line is counted, from 1. A line of at most [`MAX_LINE_LENGTH`] bytes is not answered where it holds spaces and tabs alone, or
-/// where `--` stands first or behind spaces and tabs. The script has fewer than 2^32 - 1 bytes, so that each number fits.
+/// The lines of a script that get a reply, in order, each with its number. Every line is counted, from 1.
+///
+/// A line ends at a line feed, and one carriage return directly before it belongs to the line's end. The last line may lack its line feed,
+/// and then keeps a carriage return. A line of at most [`MAX_LINE_LENGTH`] bytes gets no reply if it is blank (spaces and tabs alone)
+/// or a comment (`--` after any spaces and tabs).
 pub fn lines(bytes: &[u8]) -> LineIter<'_>
+    // Each number fits 32 bits, and so does the next one.
     requires { length bytes.now < 2 ^ 32 - 1 }
     ensures lines { result ≡ script_lines bytes.now }
-    ensures rise { RiseFrom 0 result }
+    ensures increasing { IsStrictlyIncreasing (0 ∷ numbers_of result) }
 {
     LineIter {
         rest: bytes,

@@ -1,5 +1,5 @@
-use Rattle.gp_syntax.proofs.LinesLemmas.{rise-script}
+use Rattle.gp_syntax.proofs.LinesLemmas.{script_lines-increasing}
 use Rattle.gp_syntax.proofs.line.lines.Goals as goal
 
-pub returns-clause-rise : goal.returns-clause-rise
-returns-clause-rise c = rise-script c.args.bytes.now
+pub returns-clause-increasing : goal.returns-clause-increasing
+returns-clause-increasing c = script_lines-increasing c.args.bytes.now

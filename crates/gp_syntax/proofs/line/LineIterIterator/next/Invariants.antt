@@ -2,7 +2,7 @@ use Rattle.std.proofs.Common.{◌≡◌, ◌+◌, ◌<◌, ◌^◌, length}
 use Rattle.gp_syntax.specs.Lines.{answered_from}
 use Rattle.gp_syntax.proofs.line.LineIterIterator.next.Given as goal
 
--- the lines that were passed are not answered
+-- the lines passed so far get no reply
 abbrev pub invariant-loop-self : goal.invariant-loop-self
 invariant-loop-self l =
     let now = l.self-inside in
