@@ -2,5 +2,5 @@ pub mod LinesLemmas
 pub mod DraftLemmas
 pub mod NumberLemmas
 pub mod PlaceLemmas
-pub mod ReadingLaw
+pub mod ReadingLemmas
 pub mod ScanLemmas
