@@ -1,5 +1,6 @@
--- Which replies are refusals, and the texts of replies: each is one line, an answer of rows one more for each row.
-use Rattle.std.specs.Prelude.{ℕ, Bool, true, false, List, [], ◌∷◌, length, codes, Option, Some, None, slice_get}
+-- Part of the statement: the texts of replies. Each is one line, and the rows of a SELECT follow it, one line each.
+use Rattle.std.specs.Prelude.{ℕ, Bool, true, false, List, [], ◌∷◌, length, codes, slice_get}
+use Rattle.std.specs.Option.{option_map_or}
 use Rattle.std.specs.List.{concat, flat_map}
 use Rattle.std.specs.Fmt.{decimal}
 use Rattle.gp_base.specs.declared.cell.Cell.{Cell}
@@ -18,24 +19,20 @@ is_refusal (Rows rows) = false
 is_refusal (Committed t version) = false
 is_refusal (Refused refusal) = true
 
--- the end of a line: a line feed
+-- the end of a line
 abbrev pub newline : List ℕ
 newline = 10 ∷ []
 
--- the name of a table, or nothing where there is none
-abbrev pub name_of : Option Table → List ℕ
-name_of None = []
-name_of (Some table) = table.name
-
--- the name of the table at a place, counted from 0, or nothing where there is none
+-- the name of the table at a place, counted from 0, or nothing if there is none
 abbrev pub name_at : ℕ → List Table → List ℕ
-name_at place tables = name_of (slice_get tables place)
+name_at place tables = option_map_or (λ (table : Table). table.name) (slice_get tables place) []
 
--- a row of an answer, on a line of its own behind two spaces
+-- a row of a SELECT, on a line of its own after two spaces
 abbrev pub row_line : List Cell → List ℕ
 row_line row = concat (codes "  " ∷ row_text row ∷ newline ∷ [])
 
--- The text of a reply without the number of its line, where these tables are there. Rows stand in row order, each as often as it occurs.
+-- The text of a reply without the number of its line, given the tables after the line. Rows are in row order, and a row is printed as often as
+-- it occurs.
 abbrev pub reply_text : List Table → Reply → List ℕ
 reply_text tables (Created table) = concat (codes "created " ∷ name_at table tables ∷ newline ∷ [])
 reply_text tables (Began t version) = concat (codes "begin " ∷ decimal t ∷ codes " at " ∷ decimal version ∷ newline ∷ [])
@@ -44,6 +41,6 @@ reply_text tables (Rows rows) = concat (codes "rows " ∷ decimal (length rows) 
 reply_text tables (Committed t version) = concat (codes "committed " ∷ decimal t ∷ codes " as " ∷ decimal version ∷ newline ∷ [])
 reply_text tables (Refused refusal) = concat (refusal_text refusal ∷ newline ∷ [])
 
--- the reply to a line, behind the line's number
+-- the text of the reply to a line, which begins with the line's number
 abbrev pub line_text : ℕ → List Table → Reply → List ℕ
 line_text number tables reply = concat (decimal number ∷ codes " " ∷ reply_text tables reply ∷ [])

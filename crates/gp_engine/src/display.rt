@@ -1,18 +1,28 @@
 //! The texts of replies.
 
-ghost use Rattle.std.specs.Prelude.{◌≡◌, ◌++◌, IfOk, OnOk, OnErr};
+ghost use Rattle.std.specs.Prelude.{◌≡◌, ◌++◌, IfOk, IfSome, OnOk, OnErr, string_bytes, List};
 ghost use Rattle.std.specs.List.{flat_map};
-ghost use Rattle.gp_base.specs.Writing.{AppendsPrefix};
-ghost use Rattle.gp_engine.specs.Replies.{reply_text, line_text, row_line, name_at};
+ghost use Rattle.gp_base.specs.declared.table.Table.{Table};
+ghost use Rattle.gp_engine.specs.Replies.{line_text, row_line, name_at};
 
 use crate::reply::Reply;
-use gp_base::{
-    NoMemory, Refusal, Row, Sequence, Table, append_all, refusal_words, sort_rows, text_of_pieces,
-    write_row,
-};
+use gp_base::{NoMemory, Refusal, Row, Sequence, Table, sort_rows, write_row};
 use std::alloc::Global;
+use std::fmt::Display;
 
-/// The name of the table at a place, or nothing where there is none.
+/// Enough bytes for the text of a reply without rows.
+const SHORT_TEXT: usize = 64;
+
+/// What the value displays. A script may have millions of refused lines, so a short text takes one allocation.
+fn short_text<D: Display + Drop>(alloc: Global, value: D) -> Result<String, NoMemory>
+    ensures { IfOk result (λ text. IfSome (D.output value) (λ bytes. string_bytes text ≡ bytes)) }
+{
+    let mut text = String::with_capacity(alloc, SHORT_TEXT)?;
+    text.write(value)?;
+    Ok(text)
+}
+
+/// The name of the table at a place, or nothing if there is none.
 fn name_at(tables: &[Table], place: u32) -> &[u8]
     ensures { result.now ≡ name_at place tables.now }
 {
@@ -22,96 +32,102 @@ fn name_at(tables: &[Table], place: u32) -> &[u8]
     }
 }
 
-fn created_text(alloc: Global, tables: &[Table], table: u32) -> Result<Vec<u8>, NoMemory>
-    ensures { IfOk result (λ text. text.items ≡ reply_text tables.now (Reply.Created table)) }
-{
-    text_of_pieces(alloc, &[b"created ", name_at(tables, table), b"\n"])
-}
-
-fn began_text(alloc: Global, tables: &[Table], t: u32, version: u32) -> Result<Vec<u8>, NoMemory>
-    ensures { IfOk result (λ text. text.items ≡ reply_text tables.now (Reply.Began t version)) }
-{
-    let t = t.to_string(alloc)?;
-    let version = version.to_string(alloc)?;
-    text_of_pieces(
-        alloc,
-        &[b"begin ", t.as_bytes(), b" at ", version.as_bytes(), b"\n"],
-    )
-}
-
-fn wrote_text(alloc: Global, tables: &[Table], rows: u32) -> Result<Vec<u8>, NoMemory>
-    ensures { IfOk result (λ text. text.items ≡ reply_text tables.now (Reply.Wrote rows)) }
-{
-    let rows = rows.to_string(alloc)?;
-    text_of_pieces(alloc, &[b"wrote ", rows.as_bytes(), b"\n"])
-}
-
-fn committed_text(
+fn created_text(
     alloc: Global,
+    number: u32,
     tables: &[Table],
-    t: u32,
-    version: u32,
+    table: u32,
 ) -> Result<Vec<u8>, NoMemory>
-    ensures { IfOk result (λ text. text.items ≡ reply_text tables.now (Reply.Committed t version)) }
+    ensures { IfOk result (λ text. text.items
+        ≡ line_text number tables.now (Reply.Created table)) }
 {
-    let t = t.to_string(alloc)?;
-    let version = version.to_string(alloc)?;
-    text_of_pieces(
-        alloc,
-        &[
-            b"committed ",
-            t.as_bytes(),
-            b" as ",
-            version.as_bytes(),
-            b"\n",
-        ],
-    )
-}
-
-/// The rows, each on a line of its own.
-fn row_lines(alloc: Global, rows: &[Row]) -> Result<Vec<u8>, NoMemory>
-    ensures { IfOk result (λ text. text.items ≡ flat_map row_line rows.now) }
-{
-    let mut text = Vec::new(alloc);
-    for row in rows {
-        text.extend_from_slice(b"  ")?;
-        write_row(alloc, row, &mut text)?;
-        text.push(b'\n')?;
-    }
+    let mut text = short_text(alloc, format_args!("{number} created "))?.into_bytes();
+    text.extend_from_slice(name_at(tables, table))?;
+    text.push(b'\n')?;
     Ok(text)
 }
 
-fn rows_text(alloc: Global, tables: &[Table], rows: Sequence<Row>) -> Result<Vec<u8>, NoMemory>
-    ensures { IfOk result (λ text. text.items ≡ reply_text tables.now (Reply.Rows rows)) }
+fn began_text(alloc: Global, number: u32, t: u32, version: u32) -> Result<Vec<u8>, NoMemory>
+    ensures { IfOk result (λ text. (tables : List Table)
+        → text.items ≡ line_text number tables (Reply.Began t version)) }
+{
+    let text = short_text(alloc, format_args!("{number} begin {t} at {version}\n"))?;
+    Ok(text.into_bytes())
+}
+
+fn wrote_text(alloc: Global, number: u32, rows: u32) -> Result<Vec<u8>, NoMemory>
+    ensures { IfOk result (λ text. (tables : List Table)
+        → text.items ≡ line_text number tables (Reply.Wrote rows)) }
+{
+    let text = short_text(alloc, format_args!("{number} wrote {rows}\n"))?;
+    Ok(text.into_bytes())
+}
+
+fn committed_text(alloc: Global, number: u32, t: u32, version: u32) -> Result<Vec<u8>, NoMemory>
+    ensures { IfOk result (λ text. (tables : List Table)
+        → text.items ≡ line_text number tables (Reply.Committed t version)) }
+{
+    let text = short_text(alloc, format_args!("{number} committed {t} as {version}\n"))?;
+    Ok(text.into_bytes())
+}
+
+fn refused_text(alloc: Global, number: u32, refusal: Refusal) -> Result<Vec<u8>, NoMemory>
+    ensures { IfOk result (λ text. (tables : List Table)
+        → text.items ≡ line_text number tables (Reply.Refused refusal)) }
+{
+    let text = short_text(alloc, format_args!("{number} {refusal}\n"))?;
+    Ok(text.into_bytes())
+}
+
+/// Appends the rows, each on a line of its own.
+fn write_row_lines(alloc: Global, rows: &[Row], text: &mut Vec<u8>) -> Result<(), NoMemory>
+    ensures { OnOk result (text.new.items ≡ text.old.items ++ flat_map row_line rows.now) }
+{
+    for row in rows {
+        text.extend_from_slice(b"  ")?;
+        write_row(alloc, row, text)?;
+        text.push(b'\n')?;
+    }
+    Ok(())
+}
+
+fn rows_text(
+    alloc: Global,
+    number: u32,
+    tables: &[Table],
+    rows: Sequence<Row>,
+) -> Result<Vec<u8>, NoMemory>
+    ensures { IfOk result (λ text. text.items ≡ line_text number tables.now (Reply.Rows rows)) }
 {
     let mut rows = rows.into_vec();
-    let count = rows.len().to_string(alloc)?;
+    let count = rows.len();
     sort_rows(&mut rows)?;
-    let lines = row_lines(alloc, &rows)?;
-    text_of_pieces(alloc, &[b"rows ", count.as_bytes(), b"\n", &lines])
+    let mut text = short_text(alloc, format_args!("{number} rows {count}\n"))?.into_bytes();
+    write_row_lines(alloc, &rows, &mut text)?;
+    Ok(text)
 }
 
-fn refused_text(alloc: Global, tables: &[Table], refusal: Refusal) -> Result<Vec<u8>, NoMemory>
-    ensures { IfOk result (λ text. text.items ≡ reply_text tables.now (Reply.Refused refusal)) }
-{
-    text_of_pieces(alloc, &[refusal_words(refusal), b"\n"])
-}
-
-fn reply_text(alloc: Global, tables: &[Table], reply: Reply) -> Result<Vec<u8>, NoMemory>
-    ensures { IfOk result (λ text. text.items ≡ reply_text tables.now reply) }
+/// The reply to a line, with the line's number.
+fn line_text(
+    alloc: Global,
+    number: u32,
+    tables: &[Table],
+    reply: Reply,
+) -> Result<Vec<u8>, NoMemory>
+    ensures { IfOk result (λ text. text.items ≡ line_text number tables.now reply) }
 {
     match reply {
-        Reply::Created { table } => created_text(alloc, tables, table),
-        Reply::Began { t, version } => began_text(alloc, tables, t, version),
-        Reply::Wrote { rows } => wrote_text(alloc, tables, rows),
-        Reply::Rows(rows) => rows_text(alloc, tables, rows),
-        Reply::Committed { t, version } => committed_text(alloc, tables, t, version),
-        Reply::Refused(refusal) => refused_text(alloc, tables, refusal),
+        Reply::Created { table } => created_text(alloc, number, tables, table),
+        Reply::Began { t, version } => began_text(alloc, number, t, version),
+        Reply::Wrote { rows } => wrote_text(alloc, number, rows),
+        Reply::Rows(rows) => rows_text(alloc, number, tables, rows),
+        Reply::Committed { t, version } => committed_text(alloc, number, t, version),
+        Reply::Refused(refusal) => refused_text(alloc, number, refusal),
     }
 }
 
-/// Appends the reply to a line: the line's number, a space and the reply's text, rows in row order. The tables are those that were
-/// there after the line. Where memory runs out, some front of the text was appended.
+/// Appends the reply to a line: the line's number, a space and the reply's text, with rows in row order. `tables` are the tables after
+/// the line. If memory runs out, `out` is unchanged.
 pub fn write_reply(
     alloc: Global,
     number: u32,
@@ -120,16 +136,9 @@ pub fn write_reply(
     out: &mut Vec<u8>,
 ) -> Result<(), NoMemory>
     ensures ok { OnOk result (out.new.items ≡ out.old.items ++ line_text number tables.now reply) }
-    ensures err { OnErr result (AppendsPrefix out.old.items out.new.items (line_text number tables.now reply)) }
+    ensures err { OnErr result (out.new.items ≡ out.old.items) }
 {
-    let digits = number.to_string(alloc)?;
-    // A script may have millions of refused lines, so a refusal is written without a text of its own.
-    if let Reply::Refused(refusal) = reply {
-        return append_all(
-            out,
-            &[digits.as_bytes(), b" ", refusal_words(refusal), b"\n"],
-        );
-    }
-    let text = reply_text(alloc, tables, reply)?;
-    append_all(out, &[digits.as_bytes(), b" ", &text])
+    let text = line_text(alloc, number, tables, reply)?;
+    out.extend_from_slice(&text)?;
+    Ok(())
 }
