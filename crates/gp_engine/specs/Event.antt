@@ -1,6 +1,6 @@
--- What the command of one line does to a state, and the reply to it. A refused line leaves the state as it was. Under snapshot isolation
--- (Berenson and others, SIGMOD 1995) a transaction sees the version that was the newest at its beginning and what it wrote itself, and
--- its commit makes the next version.
+-- Part of the statement: what the command of one line does to the state, and the reply to it. Under snapshot isolation (Berenson and
+-- others, SIGMOD 1995) a transaction reads the version that was newest when it began, and its own writes; its commit makes the next
+-- version. A refused line leaves the state unchanged.
 use Rattle.std.specs.Prelude.{ℕ, ◌+◌, Bool, true, false, ◌&&◌, List, [], ◌∷◌, ◌++◌, length, Option, Some, None, if◌then◌else◌, ◌==◌}
 use Rattle.std.specs.List.{list_any, list_all, position_or_len}
 use Rattle.std.specs.Str.{bytes_eq}
@@ -23,8 +23,8 @@ is_named name table = bytes_eq table.name name
 abbrev pub fits_rows : List (List Cell) → Table → Bool
 fits_rows rows table = list_all (λ (row : List Cell). length row == length table.cols) rows
 
--- Which commands are built, in session 1: a CREATE TABLE while there is no table, an INSERT of rows that fit into a table that is
--- there, a SELECT from a table that is there, and each BEGIN and COMMIT.
+-- Whether this version supports a command, given the catalogue: CREATE TABLE while there is no table, INSERT of rows of the right width
+-- into an existing table, SELECT from an existing table, BEGIN and COMMIT.
 abbrev pub is_supported : List Table → Command → Bool
 is_supported [] (Create table) = true
 is_supported (first ∷ others) (Create table) = false
@@ -33,11 +33,11 @@ is_supported tables Commit = true
 is_supported tables (Insert name rows) = list_any (λ (table : Table). is_named name table && fits_rows rows table) tables
 is_supported tables (Select name) = list_any (is_named name) tables
 
--- the place of a table in the order of creation, from 0
+-- the place of a table in the catalogue, from 0
 abbrev pub place_of : List ℕ → List Table → ℕ
 place_of name tables = position_or_len (is_named name) tables
 
--- a refusal
+-- a refusal leaves the state unchanged
 abbrev pub refused : State → Refusal → State × Reply
 refused state refusal = (state, reply.Refused refusal)
 
@@ -45,7 +45,7 @@ refused state refusal = (state, reply.Refused refusal)
 abbrev pub created : State → Table → State × Reply
 created state table = (record state { catalogue = state.catalogue ++ table ∷ [] }, reply.Created (length state.catalogue))
 
--- BEGIN: the next transaction, counted from 1 over all sessions, which sees the newest version
+-- BEGIN: the next transaction, numbered from 1 over all sessions; its snapshot is the newest version
 abbrev pub began : State → ℕ → State × Reply
 began state session =
     let number = length state.begun + 1 in
@@ -60,7 +60,7 @@ began state session =
       reply.Began number version,
     )
 
--- COMMIT: what the transaction sees becomes the next version, also where it wrote nothing
+-- COMMIT: what the transaction reads becomes the next version, even if it wrote nothing
 abbrev pub committed : State → ℕ → Running → State × Reply
 committed state session running =
     let version = length state.committed + 1 in (
@@ -72,7 +72,7 @@ committed state session running =
       reply.Committed running.transaction version,
     )
 
--- the state after a statement that was accepted, where its transaction sees this from now on
+-- the state after a statement of a transaction, which reads this view from now on
 abbrev pub seen : State → ℕ → Running → Database → State
 seen state session running view =
     let statements = running.statements + 1 in
@@ -81,19 +81,19 @@ seen state session running view =
       running = record { session = session; transaction = running.transaction; statements = statements; view = view } ∷ state.running;
     }
 
--- INSERT: from now on the transaction sees these rows too, behind those that it saw in the table
+-- INSERT: appends the rows to the table, as the transaction reads it
 abbrev pub inserted : State → ℕ → Running → List ℕ → List (List Cell) → State × Reply
 inserted state session running name rows =
     let place = place_of name state.catalogue in
     (seen state session running (with_rows place (rows_of place running.view ++ rows) running.view), reply.Wrote (length rows))
 
--- SELECT: the rows of the table as the transaction sees it
+-- SELECT: the rows of the table, as the transaction reads it
 abbrev pub selected : State → ℕ → Running → List ℕ → State × Reply
 selected state session running name =
     (seen state session running running.view, reply.Rows (rows_of (place_of name state.catalogue) running.view))
 
--- What a command that is built does in a session that has no transaction, or has this one. CREATE TABLE and BEGIN want a session with
--- none, the other commands a session with one.
+-- What a supported command does in a session without or with an active transaction. CREATE TABLE and BEGIN are allowed only outside a
+-- transaction, the other commands only inside one.
 abbrev pub answered : State → ℕ → Option Running → Command → State × Reply
 answered state session None (Create table) = created state table
 answered state session None Begin = began state session
@@ -106,14 +106,14 @@ answered state session (Some running) Commit = committed state session running
 answered state session (Some running) (Insert name rows) = inserted state session running name rows
 answered state session (Some running) (Select name) = selected state session running name
 
--- the outcome of a line, with the line among those that were accepted unless it was refused
+-- the outcome of a line, with the line among the accepted ones unless it was refused
 abbrev pub recorded : ℕ → ℕ → Command → State × Reply → State × Reply
 recorded line session command (state, reply) =
     if is_refusal reply then (state, reply)
     else (record state { accepted = record { line = line; session = session; command = command } ∷ state.accepted }, reply)
 
--- What a command does at a line in a session, and the reply to it. A command that is not built is refused as such, whether or not the
--- session has a transaction.
+-- What the command of a line does in a session, and the reply to it. A command that is not supported is refused as not built, whether or
+-- not the session has a transaction. Session 1 is the only one that is supported.
 abbrev pub event : State → ℕ → ℕ → Command → State × Reply
 event state line session command =
     if (session == 1) && is_supported state.catalogue command

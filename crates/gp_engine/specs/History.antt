@@ -1,5 +1,5 @@
--- The history of a script: its lines one after another, each answered from the state that the ones before it left. Such a history is
--- what past transactions are later replayed over (Arab and others, A Generic Provenance Middleware, TaPP 2014).
+-- Part of the statement: the history of a script. Each of its lines is answered from the state that the lines before it left. Past
+-- transactions are later replayed over this history (Arab and others, A Generic Provenance Middleware, TaPP 2014).
 use Rattle.std.specs.Prelude.{ℕ, ◌+◌, Bool, List, [], ◌∷◌, Option, Some, None, nat_le, if◌then◌else◌}
 use Rattle.std.specs.List.{flat_map, list_any}
 use Rattle.gp_base.specs.declared.refusal.Refusal.TheVariants.{NotBuilt}
@@ -12,57 +12,48 @@ use Rattle.gp_engine.specs.State.{State, empty_state}
 use Rattle.gp_engine.specs.Event.{event, refused}
 use Rattle.gp_engine.specs.Replies.{is_refusal, line_text}
 
--- A line is run where at most this many lines were answered before it. Each later line is refused as not built.
+-- A line is run if at most this many lines got a reply before it. Every later line is refused as not built.
 abbrev pub most_before : ℕ
 most_before = 98
 
--- a reply, the number of its line, and the tables that were there after it
+-- a reply, with the number of its line and the tables after that line
 pub record NumberedReply : Type 0 where
   pub number : ℕ
   pub tables : List Table
   pub reply : Reply
 
--- what a line does that holds this command of session 1, or that holds none
+-- the outcome of a line that holds this command of session 1, or no command
 abbrev pub outcome : State → ℕ → Option Command → State × Reply
 outcome state number None = refused state NotBuilt
 outcome state number (Some command) = event state number 1 command
 
--- what a line does that is run, or that stands too late to be run
+-- the outcome of a line, which is run or comes too late
 abbrev pub outcome_if : Bool → State → ℕ × List ℕ → State × Reply
 outcome_if runs state line = if runs then outcome state line.0 (read_of line.1) else refused state NotBuilt
 
--- what a line does where so many lines were answered before it
+-- the outcome of a line before which so many lines got a reply
 abbrev pub line_outcome : ℕ → State → ℕ × List ℕ → State × Reply
 line_outcome before state line = outcome_if (nat_le before most_before) state line
 
--- the replies to these lines in order, where so many lines were answered before them
+-- the replies to these lines, before which so many lines got a reply
 abbrev pub replies_from : ℕ → State → List (ℕ × List ℕ) → List NumberedReply
 replies_from before state [] = []
 replies_from before state (line ∷ lines) =
     let next = line_outcome before state line in
     record { number = line.0; tables = next.0.catalogue; reply = next.1 } ∷ replies_from (before + 1) next.0 lines
 
--- the state after these lines, where so many lines were answered before them
-abbrev pub state_from : ℕ → State → List (ℕ × List ℕ) → State
-state_from before state [] = state
-state_from before state (line ∷ lines) = state_from (before + 1) (line_outcome before state line).0 lines
-
--- the replies to the lines of a script
+-- the replies to the lines of a script, in order
 abbrev pub replies_of : List ℕ → List NumberedReply
 replies_of script = replies_from 0 empty_state (script_lines script)
 
--- the state after the last line of a script
-abbrev pub state_of : List ℕ → State
-state_of script = state_from 0 empty_state (script_lines script)
-
--- the text of one reply, with the number of its line
+-- the text of a reply, with the number of its line
 abbrev pub numbered_text : NumberedReply → List ℕ
-numbered_text told = line_text told.number told.tables told.reply
+numbered_text numbered = line_text numbered.number numbered.tables numbered.reply
 
--- the texts of replies, one after another
+-- the texts of the replies, one after another
 abbrev pub replies_text : List NumberedReply → List ℕ
 replies_text replies = flat_map numbered_text replies
 
--- whether some line was refused
+-- whether some line is refused
 abbrev pub has_refusal : List NumberedReply → Bool
-has_refusal replies = list_any (λ (told : NumberedReply). is_refusal told.reply) replies
+has_refusal replies = list_any (λ (numbered : NumberedReply). is_refusal numbered.reply) replies

@@ -1,6 +1,6 @@
--- What the engine keeps of a state: the tables, how many versions and transactions there are, the transaction of session 1, and the
--- rows of the one table, as that transaction sees them, or as the newest version has them where there is none. The engine keeps
--- nothing else of a state: no older version, and nothing that a transaction saw before.
+-- Machinery of the engine's contract: the part of a state that the engine keeps. It keeps the tables, the numbers of versions and
+-- transactions, the transaction of session 1, and the rows of the one table as session 1 reads them. It keeps no older version, and
+-- nothing that a transaction read before.
 use Rattle.std.specs.Prelude.{◌≡◌, ℕ, ◌+◌, ◌&&◌, List, [], ◌∷◌, ◌++◌, length, Option, Some, None, if◌then◌else◌, ◌==◌}
 use Rattle.gp_base.specs.declared.cell.Cell.{Cell}
 use Rattle.gp_base.specs.declared.refusal.Refusal.TheVariants.{NotBuilt, E09, E10}
@@ -17,28 +17,28 @@ use Rattle.gp_engine.specs.Event.{event, is_supported}
 pub record Kept : Type 0 where
   -- the tables, in order of creation
   pub tables : List Table
-  -- the number of the last accepted line, or 0
+  -- the number of the last accepted line, or 0 if there is none
   pub line : ℕ
-  -- how many versions were made
+  -- how many versions were committed
   pub versions : ℕ
   -- how many transactions began
   pub transactions : ℕ
-  -- the number of the transaction of session 1, where it has one
+  -- the number of the active transaction of session 1, if it has one
   pub running : Option ℕ
-  -- the rows of the first table, as session 1 sees them
+  -- the rows of the first table, as session 1 reads them
   pub rows : List (List Cell)
 
--- the number of the line that was accepted last, or 0
+-- the number of the last accepted line, or 0 if there is none
 abbrev pub last_line : List Accepted → ℕ
 last_line [] = 0
 last_line (accepted ∷ older) = accepted.line
 
--- what a session sees: what its transaction sees, or the newest version where it has none
-abbrev pub sees : Option Running → List Database → Database
-sees None committed = newest committed
-sees (Some running) committed = running.view
+-- what a session reads: the view of its transaction, or the newest version if it has none
+abbrev pub read_by : Option Running → List Database → Database
+read_by None committed = newest committed
+read_by (Some running) committed = running.view
 
--- the number of a transaction, where there is one
+-- the number of a transaction, if there is one
 abbrev pub transaction_of : Option Running → Option ℕ
 transaction_of None = None
 transaction_of (Some running) = Some running.transaction
@@ -51,16 +51,16 @@ kept state = record {
   versions = length state.committed;
   transactions = length state.begun;
   running = transaction_of (running_of 1 state.running);
-  rows = rows_of 0 (sees (running_of 1 state.running) state.committed);
+  rows = rows_of 0 (read_by (running_of 1 state.running) state.committed);
 }
 
--- The engine follows the event of a line: whatever state the engine kept before the line, the answer is the event's reply, and after
--- the line it keeps the event's state.
+-- The engine follows the event of a line. For every state of the specification that the engine represents before the line, the answer is
+-- the reply of the event, and after the line the engine represents the state that the event leaves.
 pub record Follows (old new : Kept) (line session : ℕ) (command : Command) (answer : Reply) : Type 0 where
   pub reply : (state : State) → old ≡ kept state → answer ≡ (event state line session command).1
   pub state : (state : State) → old ≡ kept state → new ≡ kept (event state line session command).0
 
--- what a command that is built does to what is kept, but for the number of the line, where there is no transaction or this one
+-- what a supported command does to the kept state, but for the line number, outside a transaction or inside this one
 abbrev pub kept_answer : Kept → Option ℕ → Command → Kept × Reply
 kept_answer k None (Create table) = (record k { tables = k.tables ++ table ∷ [] }, reply.Created (length k.tables))
 kept_answer k None Begin = (record k { transactions = k.transactions + 1; running = Some (k.transactions + 1) }, reply.Began (k.transactions + 1) k.versions)
@@ -77,7 +77,7 @@ kept_answer k (Some t) (Select name) = (k, reply.Rows k.rows)
 abbrev pub kept_line : ℕ → Kept × Reply → Kept × Reply
 kept_line line (k, answer) = if is_refusal answer then (k, answer) else (record k { line = line }, answer)
 
--- what a command at a line in a session does to what is kept, and the reply to it
+-- what the command of a line does to the kept state in a session, and the reply to it
 abbrev pub kept_event : Kept → ℕ → ℕ → Command → Kept × Reply
 kept_event k line session command =
     if (session == 1) && is_supported k.tables command then kept_line line (kept_answer k k.running command) else (k, reply.Refused NotBuilt)

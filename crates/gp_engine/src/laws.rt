@@ -1,16 +1,19 @@
-//! Laws of histories.
+//! The laws of histories.
 
 ghost use Rattle.std.specs.Prelude.{◌≡◌, ℕ, List, map, true};
-ghost use Rattle.gp_syntax.specs.Lines.{script_lines};
+ghost use Rattle.gp_syntax.specs.Lines.{script_lines, numbers_of};
 ghost use Rattle.gp_engine.specs.State.{State};
 ghost use Rattle.gp_engine.specs.History.{NumberedReply, replies_of, line_outcome};
 ghost use Rattle.gp_engine.specs.Replies.{is_refusal};
 
-/// The laws of a history: each line of a script that is answered has one reply, in order and under its number, and a
-/// line that is refused leaves the state as it was. It does nothing, and its contract holds the laws.
+/// Every line of a script that gets a reply gets one, in order and with its number, and a refused line leaves the state unchanged.
+///
+/// The function does nothing. Its contract is the law.
 pub fn every_line_has_one_reply()
-    ensures numbers { (script : List ℕ)
-        → map (λ (told : NumberedReply). told.number) (replies_of script) ≡ map (λ (line : ℕ × List ℕ). line.0) (script_lines script) }
-    ensures refused { (before : ℕ) (state : State) (line : ℕ × List ℕ)
-        → is_refusal (line_outcome before state line).1 ≡ true → (line_outcome before state line).0 ≡ state }
+    ensures one_each { (script : List ℕ)
+        → map (λ (reply : NumberedReply). reply.number) (replies_of script)
+        ≡ numbers_of (script_lines script) }
+    ensures unchanged { (before : ℕ) (state : State) (line : ℕ × List ℕ)
+        → is_refusal (line_outcome before state line).1 ≡ true
+        → (line_outcome before state line).0 ≡ state }
 {}
