@@ -7,7 +7,7 @@ use Rattle.std.proofs.lemmas.List.{take-append-drop}
 use Rattle.std.proofs.lemmas.Option.{option_and_then_some}
 use Rattle.std.proofs.lemmas.Slice.Eq.{bytes_eq-Decides}
 use Rattle.gp_syntax.specs.declared.command.Command.{Command}
-use Rattle.gp_syntax.specs.Lines.{longest_line}
+use Rattle.gp_syntax.specs.declared.line.TheConstants.{MAX_LINE_LENGTH}
 use Rattle.gp_syntax.specs.Canonical.{canonical}
 use Rattle.gp_syntax.specs.Commands.{is_command, FitsCommand, IsCommand}
 use Rattle.gp_syntax.specs.Reading.{begins, drafted, confirmed, read_text, read_of, Reads}
@@ -50,8 +50,8 @@ read-from_text text command is written =
 pub reads-from_read : (line : List ℕ) (command : Command) → read_of line ≡ Some command → Reads line command
 unfolding read_of
 reads-from_read line command e =
-    let kept = given (nat_le (length line) longest_line && begins line (codes "s1: ")) (read_text (drop 4 line)) command e in
-    let tests = and_parts (nat_le (length line) longest_line) (begins line (codes "s1: ")) kept.0 in
+    let kept = given (nat_le (length line) MAX_LINE_LENGTH && begins line (codes "s1: ")) (read_text (drop 4 line)) command e in
+    let tests = and_parts (nat_le (length line) MAX_LINE_LENGTH) (begins line (codes "s1: ")) kept.0 in
     let front : take 4 line ≡ codes "s1: " = (bytes_eq-Decides (take 4 line) (codes "s1: ")).0 tests.1 in
     let read = text-from_read (drop 4 line) command kept.1 in
     record {
@@ -65,5 +65,5 @@ unfolding read_of
 read-from_reads line command reads =
     let front : begins line (codes "s1: ") ≡ true = ap (λ (x : List ℕ). begins x (codes "s1: ")) reads.text in
     let rest : drop 4 line ≡ canonical command = ap (drop 4) reads.text in
-    cond-true (nat_le (length line) longest_line && begins line (codes "s1: ")) (read_text (drop 4 line)) None (and_from (nat_le (length line) longest_line) (begins line (codes "s1: ")) reads.short front)
+    cond-true (nat_le (length line) MAX_LINE_LENGTH && begins line (codes "s1: ")) (read_text (drop 4 line)) None (and_from (nat_le (length line) MAX_LINE_LENGTH) (begins line (codes "s1: ")) reads.short front)
     ∙ read-from_text (drop 4 line) command reads.valid (sym rest)

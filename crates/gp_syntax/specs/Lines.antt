@@ -31,7 +31,3 @@ script_lines script = answered_from 1 script
 -- the numbers of numbered lines
 abbrev pub numbers_of : List (ℕ × List ℕ) → List ℕ
 numbers_of numbered = map (λ (line : ℕ × List ℕ). line.0) numbered
-
--- the most bytes of a line that is read
-abbrev pub longest_line : ℕ
-longest_line = MAX_LINE_LENGTH

@@ -18,14 +18,14 @@ use Rattle.gp_syntax.specs.declared.command.ScriptLine.{ScriptLine}
 use Rattle.gp_syntax.specs.declared.error.ReadStop.{ReadStop}
 use Rattle.gp_syntax.specs.declared.error.ReadStop.TheVariants.{Refused, NoMemory}
 use Rattle.gp_base.specs.declared.refusal.Refusal.TheVariants.{NotBuilt}
-use Rattle.gp_syntax.specs.Lines.{longest_line}
+use Rattle.gp_syntax.specs.declared.line.TheConstants.{MAX_LINE_LENGTH}
 use Rattle.gp_syntax.specs.Canonical.{canonical}
 use Rattle.gp_syntax.specs.Commands.{is_command, IsCommand}
 
 -- a line holds a command: it is not too long, and is the session and the command's canonical text
 pub record Reads (line : List ℕ) (command : Command) : Type 0 where
   pub valid : IsCommand command
-  pub short : nat_le (length line) longest_line ≡ true
+  pub short : nat_le (length line) MAX_LINE_LENGTH ≡ true
   pub text : line ≡ codes "s1: " ++ canonical command
 
 -- a number of 64 bits with sign
@@ -113,7 +113,7 @@ read_text text = option_and_then (confirmed text) (drafted text)
 
 -- the command of a line, or none: the line is not too long, and the command's text stands behind the session
 unfoldable pub read_of : List ℕ → Option Command
-read_of line = if nat_le (length line) longest_line && begins line (codes "s1: ") then read_text (drop 4 line) else None
+read_of line = if nat_le (length line) MAX_LINE_LENGTH && begins line (codes "s1: ") then read_text (drop 4 line) else None
 
 -- what a reader of commands answers is what reading gives: the command, the one refusal where there is none, or want of memory
 abbrev pub GivesCommand : Result Command ReadStop → Option Command → Type 0

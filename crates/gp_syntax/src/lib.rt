@@ -18,6 +18,3 @@ pub use laws::reading_is_unambiguous;
 pub use line::{Line, LineIter, MAX_LINE_LENGTH, lines};
 pub use read::{read_command, read_line};
 pub use valid::{MAX_COLUMNS, MAX_ROWS};
-
-#[cfg(test)]
-mod tests;
