@@ -1,5 +1,6 @@
--- The canonical text of a command, the one spelling in which a script may hold it: reserved words in capitals, names as they are,
--- numbers in decimal, one space between tokens, and none behind an opening bracket or before a closing bracket or a comma.
+-- Part of the statement: the canonical text of a command, the only text that a script may write it in. Reserved words are in capitals, names
+-- as they are, numbers in decimal; there is one space between tokens, and none after an opening parenthesis or before a closing
+-- parenthesis or a comma.
 use Rattle.std.specs.Prelude.{ℕ, List, [], ◌∷◌, codes}
 use Rattle.std.specs.List.{concat}
 use Rattle.gp_base.specs.declared.cell.Cell.{Cell}
@@ -20,11 +21,11 @@ kind_text Text = codes "TEXT"
 abbrev pub column_text : Column → List ℕ
 column_text column = concat (column.name ∷ codes " " ∷ kind_text column.kind ∷ [])
 
--- a tuple: the literals of a row in brackets, with a comma and a space between each two
+-- a tuple: the literals of a row in parentheses, separated by a comma and a space
 abbrev pub tuple_text : List Cell → List ℕ
 tuple_text row = concat (codes "(" ∷ row_text row ∷ codes ")" ∷ [])
 
--- the one canonical text of a command
+-- the canonical text of a command
 abbrev pub canonical : Command → List ℕ
 canonical (Create table) = concat (codes "CREATE TABLE " ∷ table.name ∷ codes " (" ∷ joined column_text (codes ", ") table.cols ∷ codes ")" ∷ [])
 canonical Begin = codes "BEGIN"

@@ -1,4 +1,4 @@
-//! The writer of commands: each command has one canonical text.
+//! The canonical texts of commands.
 
 ghost use Rattle.std.specs.Prelude.{◌≡◌, IfOk};
 ghost use Rattle.gp_syntax.specs.Canonical.{canonical, column_text, tuple_text};
@@ -10,7 +10,7 @@ use gp_base::{
 };
 use std::alloc::Global;
 
-/// The text of a column: its name and its kind.
+/// The text of a column: its name, a space and its kind.
 struct ColumnFormat;
 
 impl TextFormat<Column> for ColumnFormat {
@@ -26,7 +26,7 @@ impl TextFormat<Column> for ColumnFormat {
     }
 }
 
-/// The text of a row as literals in brackets.
+/// The text of a tuple: the literals of a row in parentheses.
 struct TupleFormat;
 
 impl TextFormat<Row> for TupleFormat {
@@ -66,9 +66,9 @@ fn insert_text(alloc: Global, table: &Name, rows: &Sequence<Row>) -> Result<Vec<
     )
 }
 
-/// The one canonical text of a command: reserved words in capitals, names as they are, numbers in decimal, one space between
-/// tokens, and none behind an opening bracket or before a closing bracket or a comma. Any command has one, also a command that no
-/// script may hold. The only error is want of memory.
+/// The canonical text of a command: reserved words in capitals, names as they are, numbers in decimal, one space between tokens, and none
+/// after an opening parenthesis or before a closing parenthesis or a comma. Every command has one, even if no script may hold it. The only
+/// error is that memory runs out.
 pub fn write_command(alloc: Global, command: &Command) -> Result<Vec<u8>, NoMemory>
     ensures { IfOk result (λ text. text.items ≡ canonical command.now) }
 {

@@ -2,37 +2,37 @@
 
 use gp_base::{Name, Row, Sequence, Table};
 
-/// What a line of a script asks for.
+/// A command. They are those of SQL (ISO/IEC 9075-2), in the dialect of scripts.
 #[derive(Drop)]
 pub enum Command {
-    /// `CREATE TABLE`: a new table, empty in every version.
+    /// `CREATE TABLE` adds a table, which is empty in every version.
     Create {
         /// The table, with its columns.
         table: Table,
     },
-    /// `BEGIN`: the session's next transaction.
+    /// `BEGIN` begins a transaction in the session.
     Begin,
-    /// `COMMIT`: the transaction's rows become the next version.
+    /// `COMMIT` makes the next version from what the transaction reads.
     Commit,
-    /// `INSERT INTO` .. `VALUES`: rows to add.
+    /// `INSERT INTO .. VALUES` appends rows to a table.
     Insert {
-        /// The table that the rows go to.
+        /// The table that the rows are appended to.
         table: Name,
         /// The rows, in the order of the text.
         rows: Sequence<Row>,
     },
-    /// `SELECT * FROM`: the rows of a table, as the transaction sees them.
+    /// `SELECT * FROM` gives the rows of a table, as the transaction reads them.
     Select {
         /// The table that is read.
         table: Name,
     },
 }
 
-/// A line of a script: who asks, and for what.
+/// What a line of a script holds: a session and its command.
 #[derive(Drop)]
 pub struct ScriptLine {
     /// The number of the session, from 1.
     pub session: u32,
-    /// What it asks for.
+    /// The command.
     pub command: Command,
 }

@@ -1,4 +1,17 @@
-//! The language of scripts: lines, commands, their canonical texts and the reader of commands.
+//! The language of scripts.
+//!
+//! [`lines`] gives the lines of a script that get a reply, [`read_line`] reads the command that such a line holds, and [`write_command`]
+//! writes the canonical text of a command, the only text that is read as that command ([`reading_is_unambiguous`]).
+//!
+//! In reading order: `line` cuts a script into lines, `command` has the commands, `canonical` their texts, `read` the readers, which use
+//! `draft`, `scan` and `valid`, `error` says why a line is not read, and `laws` has the theorem.
+//!
+//! ```text
+//! let mut rest = lines(b"-- a comment\ns1: BEGIN\n");
+//! while let Some(line) = rest.next() {
+//!     let read = read_line(alloc, line.bytes)?; // line 2: session 1, Command::Begin
+//! }
+//! ```
 #![tactic(auto)]
 
 mod canonical;
