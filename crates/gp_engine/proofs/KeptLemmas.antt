@@ -1,4 +1,4 @@
--- What is kept of an event's state is what the event does to what is kept.
+-- The abstraction commutes with the step: what the engine keeps of the state after an event is what the event does to what it keeps.
 use Rattle.std.proofs.Common.{◌≡◌, ℕ, ◌+◌, ◌≤◌, ◌<◌, ◌^◌, nat_le, true, false, eqb, ◌&&◌, List, [], ◌∷◌, length, Option, Some, None, refl, sym, ap, ◌∙◌, subst, arith, add-one, inl, inr}
 use Rattle.std.specs.List.{list_all, list_any}
 use Rattle.std.proofs.lemmas.Bool.{cases_Bool, and_parts, eqb-true, both_ways, leb-true, or_cases, or_left, or_right}
@@ -29,7 +29,7 @@ running_of-without session (first ∷ others) = elim (cases_Bool (eqb first.sess
   | inr other ↦ rw (other, other) (running_of-without session others)
 ]
 
--- a command that is built stands in the one table that is there
+-- a table with this name is the one table
 place-first : (name : List ℕ) (tables : List Table) → length tables ≤ 1 → list_any (is_named name) tables ≡ true → place_of name tables ≡ 0
 place-first name [] few named = absurd cc
 place-first name (table ∷ []) few found = elim (or_cases (is_named name table) false found) [
@@ -45,7 +45,7 @@ any-weaker name rows (table ∷ tables) any = elim (or_cases (is_named name tabl
   | inr later ↦ or_right _ _ (any-weaker name rows tables later)
 ]
 
--- a row of the first table, after one more write of it
+-- the rows of the first table, after a write to it
 rows_of-first : (place : ℕ) (rows : List (List Cell)) (database : Database) → place ≡ 0 → rows_of 0 (with_rows place rows database) ≡ rows
 rows_of-first place rows database first = rw first refl
 
@@ -104,7 +104,7 @@ few-rows name rows valid =
     let most = (and_parts (is_name name && nat_le 1 (length rows)) (nat_le (length rows) most_rows) (and_parts (is_name name && nat_le 1 (length rows) && nat_le (length rows) most_rows) (list_all is_tuple rows) valid).0).1 in
     omega (arith, leb-true (length rows) most_rows most)
 
--- what a line may leave: as it was where it is refused, and never a line above it
+-- a refused line leaves the kept state unchanged, and no accepted line is above this one
 pub record Leaves (line : ℕ) (old : Kept) (outcome : Kept × Reply) : Type 0 where
   pub refused : is_refusal outcome.1 ≡ true → outcome.0 ≡ old
   pub up_to : outcome.0.line ≤ line

@@ -1,4 +1,4 @@
-//! The engine: what it keeps of the history so far, and what a line does to it.
+//! The engine: what it keeps of the state, and how a command changes it.
 
 ghost use Rattle.std.specs.Prelude.{◌≡◌, ◌<◌, ◌≤◌, ◌+◌, ◌^◌, ◌++◌, ◌∷◌, [], IfOk, OnOk, OnErr, length, Some, None, true};
 ghost use Rattle.gp_syntax.specs.Commands.{IsCommand};
@@ -14,7 +14,7 @@ use gp_syntax::Command;
 use std::alloc::Global;
 use std::marker::Model;
 
-/// An engine in the middle of a script.
+/// The engine, between two lines of a script.
 #[derive(Drop)]
 pub struct Engine {
     alloc: Global,
@@ -38,7 +38,7 @@ impl Model for Engine {
 }
 
 impl Engine {
-    /// An engine before the first line.
+    /// An engine before the first line of a script.
     pub fn new(alloc: Global) -> Engine
         ensures { result ≡ kept empty_state }
     {
@@ -61,9 +61,9 @@ impl Engine {
     }
 }
 
-// One function for each command that is accepted.
+// One function for each command.
 impl Engine {
-    /// CREATE TABLE: the one table.
+    /// CREATE TABLE: adds the one table.
     fn create(&mut self, line: u32, table: Table) -> Result<Reply, NoMemory>
         requires first { self.old.tables ≡ [] }
         requires above { self.old.line < line }
@@ -76,7 +76,7 @@ impl Engine {
         Ok(Reply::Created { table: 0 })
     }
 
-    /// BEGIN: the next transaction, at the newest version.
+    /// BEGIN: begins the next transaction, whose snapshot is the newest version.
     fn begin(&mut self, line: u32) -> Reply
         requires { self.old.line < line }
         ensures kept { self.new ≡ record self.old { transactions = self.old.transactions + 1; running = Some (self.old.transactions + 1); line = line } }
@@ -90,7 +90,7 @@ impl Engine {
         Reply::Began { t, version }
     }
 
-    /// COMMIT: the next version.
+    /// COMMIT: makes the next version.
     fn commit(&mut self, line: u32, t: u32) -> Reply
         requires { self.old.line < line }
         ensures kept { self.new ≡ record self.old { versions = self.old.versions + 1; running = None; line = line } }
@@ -103,7 +103,7 @@ impl Engine {
         Reply::Committed { t, version }
     }
 
-    /// INSERT: the rows stand behind those that are there.
+    /// INSERT: appends the rows.
     fn insert(&mut self, line: u32, rows: Sequence<Row>) -> Result<Reply, NoMemory>
         requires few { length rows < 2 ^ 32 }
         requires above { self.old.line < line }
@@ -117,7 +117,7 @@ impl Engine {
         Ok(Reply::Wrote { rows: count })
     }
 
-    /// SELECT: the rows that are there.
+    /// SELECT: gives the rows.
     fn select(&mut self, line: u32) -> Result<Reply, NoMemory>
         requires { self.old.line < line }
         ensures ok { IfOk result (λ reply. (self.new ≡ record self.old { line = line }) × (reply ≡ Reply.Rows self.old.rows)) }
@@ -129,11 +129,11 @@ impl Engine {
     }
 }
 
-// A line, by whether its session has a transaction.
+// A command, by whether its session has an active transaction.
 impl Engine {
-    /// A command of a session that has no transaction.
+    /// Runs a command outside a transaction.
     fn outside(&mut self, line: u32, command: Command) -> Result<Reply, NoMemory>
-        requires built { is_supported self.old.tables command ≡ true }
+        requires supported { is_supported self.old.tables command ≡ true }
         requires above { self.old.line < line }
         ensures ok { IfOk result (λ reply. (self.new, reply) ≡ kept_line line (kept_answer self.old None command)) }
         ensures err { OnErr result (self.new ≡ self.old) }
@@ -147,7 +147,7 @@ impl Engine {
         }
     }
 
-    /// A command of the session whose transaction is this one.
+    /// Runs a command inside transaction `t`.
     fn inside(&mut self, line: u32, t: u32, command: Command) -> Result<Reply, NoMemory>
         requires read { IsCommand command }
         requires above { self.old.line < line }
@@ -163,7 +163,7 @@ impl Engine {
         }
     }
 
-    /// The command of a line, where it is built.
+    /// Runs a command if it is supported.
     fn step(&mut self, line: u32, session: u32, command: Command) -> Result<Reply, NoMemory>
         requires read { IsCommand command }
         requires above { self.old.line < line }
@@ -180,20 +180,17 @@ impl Engine {
         }
     }
 
-    /// Runs the command of a line in a session, and gives its reply. The number of the line is above those of all lines that were
-    /// accepted before it, and the command is one of a script, as the reader of commands gives them. A line that is refused, and one
-    /// that finds no memory, leaves the engine as it was.
+    /// Runs the command of a line in a session, and gives the reply. Lines are numbered in order: `line` is above the number of every
+    /// accepted line before it. The command is one that a script may hold, as [`read_line`](gp_syntax::read_line) gives it. If the
+    /// line is refused, or if memory runs out, the engine is unchanged.
     pub fn line(&mut self, line: u32, session: u32, command: Command) -> Result<Reply, NoMemory>
         requires read { IsCommand command }
         requires above { self.old.line < line }
 
-        // The reply and the next state are those of the event.
         ensures follows { IfOk result (Follows self.old self.new line session command) }
-
-        // A refused line leaves the state, and want of memory leaves it too.
-        ensures refused { IfOk result (λ reply. is_refusal reply ≡ true → self.new ≡ self.old) }
+        ensures unchanged { IfOk result (λ reply. is_refusal reply ≡ true → self.new ≡ self.old) }
         ensures err { OnErr result (self.new ≡ self.old) }
-        ensures up_to { OnOk result (self.new.line ≤ line) }
+        ensures last_line { OnOk result (self.new.line ≤ line) }
     {
         self.step(line, session, command)
     }

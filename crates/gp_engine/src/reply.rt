@@ -4,43 +4,43 @@ ghost use Rattle.std.specs.Prelude.{◌≡◌};
 
 use gp_base::{Refusal, Row, Sequence};
 
-/// The answer to one line.
+/// The reply to a line.
 #[derive(Drop)]
 pub enum Reply {
-    /// A table was created.
+    /// `CREATE TABLE` created a table.
     Created {
-        /// Its place in the order of creation, from 0.
+        /// The place of the table in order of creation, from 0.
         table: u32,
     },
-    /// A transaction began.
+    /// `BEGIN` began a transaction.
     Began {
-        /// Its number, from 1 over all sessions.
+        /// The number of the transaction, from 1 over all sessions.
         t: u32,
-        /// The version that it sees.
+        /// The version that is its snapshot.
         version: u32,
     },
-    /// A statement wrote rows.
+    /// `INSERT` wrote rows.
     Wrote {
-        /// How many rows it wrote.
+        /// The number of rows.
         rows: u32,
     },
-    /// The rows that a SELECT gives, in no promised order.
+    /// `SELECT` read these rows, in no particular order.
     Rows(Sequence<Row>),
-    /// A transaction committed.
+    /// `COMMIT` committed a transaction.
     Committed {
-        /// Its number.
+        /// The number of the transaction.
         t: u32,
-        /// The version that it made.
+        /// The version that the transaction made.
         version: u32,
     },
-    /// The line was refused, and changed nothing.
+    /// The line was refused, and left the state unchanged.
     Refused(Refusal),
 }
 
 impl Reply {
     ghost use Rattle.gp_engine.specs.Replies.{is_refusal};
 
-    /// Whether the line was refused.
+    /// Whether the reply is a refusal.
     pub fn is_refusal(&self) -> bool
         ensures { result ≡ is_refusal self.now }
     {

@@ -1,4 +1,4 @@
-//! Which commands are built: those that run where there is at most one table.
+//! Which commands the engine runs. It supports one table.
 
 ghost use Rattle.std.specs.Prelude.{◌≡◌, ◌&&◌};
 ghost use Rattle.std.specs.List.{list_any};
@@ -22,7 +22,7 @@ fn fits_rows(rows: &Sequence<Row>, table: &Table) -> bool
     rows.as_slice().iter().all(|row| row.cells().len() == width)
 }
 
-/// Whether some table has this name and as many columns as each row has cells.
+/// Whether some table has this name, and as many columns as each row has cells.
 fn takes_rows(tables: &[Table], name: &Name, rows: &Sequence<Row>) -> bool
     ensures { result ≡ list_any (λ table. is_named name.now table && fits_rows rows.now table) tables.now }
 {
@@ -32,13 +32,13 @@ fn takes_rows(tables: &[Table], name: &Name, rows: &Sequence<Row>) -> bool
 }
 
 /// Whether some table has this name.
-fn is_there(tables: &[Table], name: &Name) -> bool
+fn exists(tables: &[Table], name: &Name) -> bool
     ensures { result ≡ list_any (is_named name.now) tables.now }
 {
     tables.iter().any(|table| is_named(name, table))
 }
 
-/// Whether the command is built, where these tables are there.
+/// Whether the engine runs the command, given these tables.
 pub(crate) fn is_supported(tables: &[Table], command: &Command) -> bool
     ensures { result ≡ is_supported tables.now command.now }
 {
@@ -47,6 +47,6 @@ pub(crate) fn is_supported(tables: &[Table], command: &Command) -> bool
         Command::Begin => true,
         Command::Commit => true,
         Command::Insert { table, rows } => takes_rows(tables, table, rows),
-        Command::Select { table } => is_there(tables, table),
+        Command::Select { table } => exists(tables, table),
     }
 }

@@ -9,14 +9,14 @@ returns-clause-follows c =
     (λ reply is. follows-from c.args.self.now c.step.new.self c.args.line c.args.session c.args.command reply c.step.ensures.few is)
     c.step.ensures.ok
 
-pub returns-clause-refused : goal.returns-clause-refused
-returns-clause-refused c =
+pub returns-clause-unchanged : goal.returns-clause-unchanged
+returns-clause-unchanged c =
     IfOk-weaker c.step.result _ _
     (λ reply is refusal. (subst (Leaves c.args.line c.args.self.now) (sym is) (event-leaves c.args.line c.args.session c.args.self.now c.args.command c.requires.above)).refused refusal)
     c.step.ensures.ok
 
-pub returns-clause-up_to : goal.returns-clause-up_to
-returns-clause-up_to c =
+pub returns-clause-last_line : goal.returns-clause-last_line
+returns-clause-last_line c =
     IfOk-weaker c.step.result _ (λ reply. c.step.new.self.line ≤ c.args.line)
     (λ reply is. (subst (Leaves c.args.line c.args.self.now) (sym is) (event-leaves c.args.line c.args.session c.args.self.now c.args.command c.requires.above)).up_to)
     c.step.ensures.ok
