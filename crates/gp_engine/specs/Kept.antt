@@ -63,7 +63,8 @@ pub record Follows (old new : Kept) (line session : ℕ) (command : Command) (an
 -- what a supported command does to the kept state, but for the line number, outside a transaction or inside this one
 abbrev pub kept_answer : Kept → Option ℕ → Command → Kept × Reply
 kept_answer k None (Create table) = (record k { tables = k.tables ++ table ∷ [] }, reply.Created (length k.tables))
-kept_answer k None Begin = (record k { transactions = k.transactions + 1; running = Some (k.transactions + 1) }, reply.Began (k.transactions + 1) k.versions)
+kept_answer k None Begin =
+    (record k { transactions = k.transactions + 1; running = Some (k.transactions + 1) }, reply.Began (k.transactions + 1) k.versions)
 kept_answer k None Commit = (k, reply.Refused E10)
 kept_answer k None (Insert name rows) = (k, reply.Refused E10)
 kept_answer k None (Select name) = (k, reply.Refused E10)
@@ -80,4 +81,5 @@ kept_line line (k, answer) = if is_refusal answer then (k, answer) else (record 
 -- what the command of a line does to the kept state in a session, and the reply to it
 abbrev pub kept_event : Kept → ℕ → ℕ → Command → Kept × Reply
 kept_event k line session command =
-    if (session == 1) && is_supported k.tables command then kept_line line (kept_answer k k.running command) else (k, reply.Refused NotBuilt)
+    if (session == 1) && is_supported k.tables command then kept_line line (kept_answer k k.running command)
+    else (k, reply.Refused NotBuilt)

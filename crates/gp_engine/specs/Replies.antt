@@ -31,13 +31,14 @@ name_at place tables = option_map_or (λ (table : Table). table.name) (slice_get
 abbrev pub row_line : List Cell → List ℕ
 row_line row = concat (codes "  " ∷ row_text row ∷ newline ∷ [])
 
--- The text of a reply without the number of its line, given the tables after the line. Rows are in row order, and a row is printed as often as
--- it occurs.
+-- The text of a reply without the number of its line, given the tables after the line. Rows are in row order, and each is printed as often
+-- as it occurs.
 abbrev pub reply_text : List Table → Reply → List ℕ
 reply_text tables (Created table) = concat (codes "created " ∷ name_at table tables ∷ newline ∷ [])
 reply_text tables (Began t version) = concat (codes "begin " ∷ decimal t ∷ codes " at " ∷ decimal version ∷ newline ∷ [])
 reply_text tables (Wrote rows) = concat (codes "wrote " ∷ decimal rows ∷ newline ∷ [])
-reply_text tables (Rows rows) = concat (codes "rows " ∷ decimal (length rows) ∷ newline ∷ flat_map row_line (sorted_by row_cmp rows) ∷ [])
+reply_text tables (Rows rows) =
+    concat (codes "rows " ∷ decimal (length rows) ∷ newline ∷ flat_map row_line (sorted_by row_cmp rows) ∷ [])
 reply_text tables (Committed t version) = concat (codes "committed " ∷ decimal t ∷ codes " as " ∷ decimal version ∷ newline ∷ [])
 reply_text tables (Refused refusal) = concat (refusal_text refusal ∷ newline ∷ [])
 

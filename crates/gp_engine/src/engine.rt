@@ -32,9 +32,18 @@ impl Model for Engine {
 
     ghost Value = { Kept };
 
-    ghost view = { λ a. record { tables = a.tables; line = a.line; versions = a.versions; transactions = a.transactions; running = a.running; rows = a.rows } };
+    ghost view = { λ a. record {
+      tables = a.tables;
+      line = a.line;
+      versions = a.versions;
+      transactions = a.transactions;
+      running = a.running;
+      rows = a.rows;
+    } };
 
-    ghost invariant = { λ a. (length a.tables ≤ 1) × (a.versions ≤ a.line) × (a.transactions ≤ a.line) };
+    // Each version and each transaction took a line of its own, so their numbers fit 32 bits.
+    ghost invariant = { λ a.
+        (length a.tables ≤ 1) × (a.versions ≤ a.line) × (a.transactions ≤ a.line) };
 }
 
 impl Engine {
@@ -67,7 +76,8 @@ impl Engine {
     fn create(&mut self, line: u32, table: Table) -> Result<Reply, NoMemory>
         requires first { self.old.tables ≡ [] }
         requires above { self.old.line < line }
-        ensures ok { IfOk result (λ reply. (self.new ≡ record self.old { tables = self.old.tables ++ table ∷ []; line = line })
+        ensures ok { IfOk result (λ reply. (self.new
+            ≡ record self.old { tables = self.old.tables ++ table ∷ []; line = line })
             × (reply ≡ Reply.Created (length self.old.tables))) }
         ensures err { OnErr result (self.new ≡ self.old) }
     {
@@ -79,7 +89,11 @@ impl Engine {
     /// BEGIN: begins the next transaction, whose snapshot is the newest version.
     fn begin(&mut self, line: u32) -> Reply
         requires { self.old.line < line }
-        ensures kept { self.new ≡ record self.old { transactions = self.old.transactions + 1; running = Some (self.old.transactions + 1); line = line } }
+        ensures kept { self.new ≡ record self.old {
+          transactions = self.old.transactions + 1;
+          running = Some (self.old.transactions + 1);
+          line = line;
+        } }
         ensures reply { result ≡ Reply.Began (self.old.transactions + 1) self.old.versions }
     {
         let t = self.transactions + 1;
@@ -93,7 +107,8 @@ impl Engine {
     /// COMMIT: makes the next version.
     fn commit(&mut self, line: u32, t: u32) -> Reply
         requires { self.old.line < line }
-        ensures kept { self.new ≡ record self.old { versions = self.old.versions + 1; running = None; line = line } }
+        ensures kept { self.new
+            ≡ record self.old { versions = self.old.versions + 1; running = None; line = line } }
         ensures reply { result ≡ Reply.Committed t (self.old.versions + 1) }
     {
         let version = self.versions + 1;
@@ -107,7 +122,8 @@ impl Engine {
     fn insert(&mut self, line: u32, rows: Sequence<Row>) -> Result<Reply, NoMemory>
         requires few { length rows < 2 ^ 32 }
         requires above { self.old.line < line }
-        ensures ok { IfOk result (λ reply. (self.new ≡ record self.old { rows = self.old.rows ++ rows; line = line })
+        ensures ok { IfOk result (λ reply. (self.new
+            ≡ record self.old { rows = self.old.rows ++ rows; line = line })
             × (reply ≡ Reply.Wrote (length rows))) }
         ensures err { OnErr result (self.new ≡ self.old) }
     {
@@ -120,7 +136,8 @@ impl Engine {
     /// SELECT: gives the rows.
     fn select(&mut self, line: u32) -> Result<Reply, NoMemory>
         requires { self.old.line < line }
-        ensures ok { IfOk result (λ reply. (self.new ≡ record self.old { line = line }) × (reply ≡ Reply.Rows self.old.rows)) }
+        ensures ok { IfOk result (λ reply. (self.new ≡ record self.old { line = line })
+            × (reply ≡ Reply.Rows self.old.rows)) }
         ensures err { OnErr result (self.new ≡ self.old) }
     {
         let rows = self.rows.clone()?;
@@ -135,7 +152,8 @@ impl Engine {
     fn outside(&mut self, line: u32, command: Command) -> Result<Reply, NoMemory>
         requires supported { is_supported self.old.tables command ≡ true }
         requires above { self.old.line < line }
-        ensures ok { IfOk result (λ reply. (self.new, reply) ≡ kept_line line (kept_answer self.old None command)) }
+        ensures ok { IfOk result (λ reply.
+            (self.new, reply) ≡ kept_line line (kept_answer self.old None command)) }
         ensures err { OnErr result (self.new ≡ self.old) }
     {
         match command {
@@ -151,7 +169,8 @@ impl Engine {
     fn inside(&mut self, line: u32, t: u32, command: Command) -> Result<Reply, NoMemory>
         requires read { IsCommand command }
         requires above { self.old.line < line }
-        ensures ok { IfOk result (λ reply. (self.new, reply) ≡ kept_line line (kept_answer self.old (Some t) command)) }
+        ensures ok { IfOk result (λ reply.
+            (self.new, reply) ≡ kept_line line (kept_answer self.old (Some t) command)) }
         ensures err { OnErr result (self.new ≡ self.old) }
     {
         match command {
@@ -167,7 +186,8 @@ impl Engine {
     fn step(&mut self, line: u32, session: u32, command: Command) -> Result<Reply, NoMemory>
         requires read { IsCommand command }
         requires above { self.old.line < line }
-        ensures ok { IfOk result (λ reply. (self.new, reply) ≡ kept_event self.old line session command) }
+        ensures ok { IfOk result (λ reply.
+            (self.new, reply) ≡ kept_event self.old line session command) }
         ensures few { length self.old.tables ≤ 1 }
         ensures err { OnErr result (self.new ≡ self.old) }
     {

@@ -24,7 +24,8 @@ fn fits_rows(rows: &Sequence<Row>, table: &Table) -> bool
 
 /// Whether some table has this name, and as many columns as each row has cells.
 fn takes_rows(tables: &[Table], name: &Name, rows: &Sequence<Row>) -> bool
-    ensures { result ≡ list_any (λ table. is_named name.now table && fits_rows rows.now table) tables.now }
+    ensures { result ≡ list_any
+        (λ table. is_named name.now table && fits_rows rows.now table) tables.now }
 {
     tables
         .iter()

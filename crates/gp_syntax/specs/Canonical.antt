@@ -1,5 +1,5 @@
--- Part of the statement: the canonical text of a command, the only text that a script may write it in. Reserved words are in capitals, names
--- as they are, numbers in decimal; there is one space between tokens, and none after an opening parenthesis or before a closing
+-- Part of the statement: the canonical text of a command, the only text that a script may write it in. Reserved words are in capitals,
+-- names as they are, numbers in decimal; there is one space between tokens, and none after an opening parenthesis or before a closing
 -- parenthesis or a comma.
 use Rattle.std.specs.Prelude.{ℕ, List, [], ◌∷◌, codes}
 use Rattle.std.specs.List.{concat}
@@ -27,7 +27,8 @@ tuple_text row = concat (codes "(" ∷ row_text row ∷ codes ")" ∷ [])
 
 -- the canonical text of a command
 abbrev pub canonical : Command → List ℕ
-canonical (Create table) = concat (codes "CREATE TABLE " ∷ table.name ∷ codes " (" ∷ joined column_text (codes ", ") table.cols ∷ codes ")" ∷ [])
+canonical (Create table) = concat (codes "CREATE TABLE " ∷ table.name
+    ∷ codes " (" ∷ joined column_text (codes ", ") table.cols ∷ codes ")" ∷ [])
 canonical Begin = codes "BEGIN"
 canonical Commit = codes "COMMIT"
 canonical (Insert table rows) = concat (codes "INSERT INTO " ∷ table ∷ codes " VALUES " ∷ joined tuple_text (codes ", ") rows ∷ [])

@@ -84,7 +84,8 @@ fn read_of(alloc: Global, line: &[u8]) -> Result<Option<Command>, NoMemory>
 pub fn read_line(alloc: Global, line: &[u8]) -> Result<ScriptLine, ReadStop>
     ensures exact { GivesLine result (read_of line.now) }
     ensures sound { IfOk result (λ read. Reads line.now read.command) }
-    ensures complete { (command : Command) → Reads line.now command → GivesLine result (Some command) }
+    ensures complete { (command : Command) → Reads line.now command
+        → GivesLine result (Some command) }
 {
     match read_of(alloc, line)? {
         Some(command) => Ok(ScriptLine {
