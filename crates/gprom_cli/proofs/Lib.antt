@@ -1,3 +1,4 @@
+pub mod Progress
+pub mod ReadingLemmas
+pub mod PromisesLemmas
 pub mod ScriptLemmas
-pub mod TopLemmas
-pub mod EndLemmas

@@ -1,3 +1,5 @@
+pub mod Args
+pub mod Status
+pub mod Call
+pub mod Promises
 pub mod Script
-pub mod Forms
-pub mod Outcome

@@ -1,4 +1,4 @@
-//! A whole script: each line that says something is run and answered.
+//! A whole script: every line that is neither blank nor a comment is run and gets its reply.
 
 ghost use Rattle.std.specs.Prelude.{◌≡◌, ◌<◌, ◌≤◌, IfOk, OnOk, length};
 ghost use Rattle.gp_engine.specs.History.{replies_of, replies_text, has_refusal};
@@ -9,22 +9,22 @@ use gp_engine::{Engine, Reply, write_reply};
 use gp_syntax::{ReadStop, lines, read_line};
 use std::alloc::Global;
 
-/// The greatest number of bytes of a script.
+/// The greatest length of a script, in bytes.
 pub const MAX_SCRIPT_LENGTH: usize = 16_777_216;
 
-/// How many answered lines are run; those behind them are not.
-const MOST_RUN: u32 = 99;
+/// How many of the lines that get a reply are run; each later one is refused as not built. (One more than the lines that may come before.)
+const MAX_LINES_RUN: u32 = 99;
 
-/// The answers to a script.
-#[derive(Debug, Drop)]
+/// What a script writes.
+#[derive(Drop)]
 pub struct Output {
-    /// The text of the replies.
+    /// The replies, each with the number of its line.
     pub text: Vec<u8>,
-    /// Whether some line was refused.
+    /// Whether a line was refused.
     pub refused: bool,
 }
 
-/// Answers a line, which may be run or not.
+/// Runs one line, or refuses it where `runs` is false.
 fn answer_line(
     alloc: Global,
     engine: &mut Engine,
@@ -41,21 +41,22 @@ fn answer_line(
     }
     match read_line(alloc, bytes) {
         Ok(read) => engine.line(number, read.session, read.command),
-        Err(ReadStop::Refused(_)) => Ok(Reply::Refused(Refusal::NotBuilt)),
+        Err(ReadStop::Refused(refusal)) => Ok(Reply::Refused(refusal)),
         Err(ReadStop::NoMemory) => Err(NoMemory),
     }
 }
 
-/// Answers each line of a script in order.
+/// Runs the lines of a script in order on a new engine, and gives their replies: exactly those of the history of the script, whatever its
+/// bytes. The only error is that memory ran out.
 pub fn run_script(alloc: Global, script: &[u8]) -> Result<Output, NoMemory>
-    requires { length script.now ≤ 16777216 }
+    requires { length script.now ≤ MAX_SCRIPT_LENGTH }
     ensures text { IfOk result (λ output. output.text.items ≡ replies_text (replies_of script.now)) }
     ensures refused { IfOk result (λ output. output.refused ≡ has_refusal (replies_of script.now)) }
 {
     let mut engine = Engine::new(alloc);
     let mut text = Vec::new(alloc);
     let mut refused = false;
-    let mut left = MOST_RUN;
+    let mut left = MAX_LINES_RUN;
     let mut rest = lines(script);
     while let Some(line) = rest.next() {
         let reply = answer_line(alloc, &mut engine, left > 0, line.number, line.bytes)?;

@@ -1,0 +1,25 @@
+//! Tests of what no contract says, over the public calls of all crates: that calls succeed when memory is available, printed texts worked out by
+//! hand, the real files and the real output.
+//!
+//! Reading order: `values.rt` (cells, rows, refusals), `files.rt` (shelves and sinks), `lines.rt` (lines and commands of a script),
+//! `replies.rt` (the engine and the texts of replies), `calls.rt` (the whole call).
+//!
+//! Each test is a `for` over a table of cases, and a helper that borrows compares one case:
+//!
+//! ```
+//! for (script, replies, status) in SCRIPTS {
+//!     assert!(rt; answers(rt.alloc(), script, replies, *status)?, "at {script}");
+//! }
+//! ```
+#![tactic(auto)]
+
+#[cfg(test)]
+mod calls;
+#[cfg(test)]
+mod files;
+#[cfg(test)]
+mod lines;
+#[cfg(test)]
+mod replies;
+#[cfg(test)]
+mod values;
