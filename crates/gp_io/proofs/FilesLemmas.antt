@@ -1,11 +1,12 @@
--- How a list of named files that is changed at one place shows as files.
+-- A list of named files of which one was replaced, seen as files.
 use Rattle.std.proofs.Common.{◌≡◌, ◌≢◌, ℕ, ◌+◌, ◌<◌, Bool, true, false, cond, not, List, [], ◌∷◌, ◌++◌, length, Some, None, refl, sym, ◌∙◌, ap, arith, string_bytes, slice_index_or, slice_set, bytes_eq, suc, nat_lt, ◌≤◌}
 use Rattle.std.specs.List.{position, position_or_len}
 use Rattle.std.proofs.lemmas.Slice.Eq.{bytes_eq-Decides}
 use Rattle.std.proofs.lemmas.List.Sums.{prefix_len-le-length}
 use Rattle.std.proofs.lemmas.Bool.Decides.{nat_tests}
-use Rattle.gp_io.specs.Files.{Files, Replaced}
-use Rattle.gp_io.specs.NamedFile.{files_of, has_name}
+use Rattle.gp_io.specs.Shelf.{Files, Replaced}
+use Rattle.gp_io.specs.NamedFile.{files_of}
+use Rattle.gp_io.specs.Stored.{has_name}
 use Rattle.gp_io.specs.declared.files.NamedFile.{NamedFile}
 
 bytes_eq-same : (a b : List ℕ) → a ≡ b → bytes_eq a b ≡ true

@@ -1,3 +1,3 @@
-pub mod BytesLemmas
 pub mod FilesLemmas
-pub mod ReportsLemmas
+pub mod ShelfLemmas
+pub mod SinkLemmas

@@ -1,5 +1,5 @@
-pub mod Bytes
-pub mod Files
-pub mod Mem
+pub mod Shelf
+pub mod Sink
 pub mod NamedFile
-pub mod Reports
+pub mod FaultPlan
+pub mod Stored

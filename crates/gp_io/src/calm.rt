@@ -1,19 +1,17 @@
-//! A shelf and a sink in memory that never fail.
+//! A shelf and a sink in memory that never fail but for memory.
 ghost use Rattle.std.specs.Prelude.{◌≡◌, [], Some};
 ghost use Rattle.gp_io.specs.NamedFile.{files_of};
-ghost use Rattle.gp_io.specs.Reports.{names_of};
+ghost use Rattle.gp_io.specs.Shelf.{unreported};
+ghost use Rattle.gp_io.specs.Stored.{names_of};
 
 use crate::error::{ShelfStop, SinkStop};
 use crate::files::{NamedFile, prefix_of, put};
-use crate::reports::note;
+use crate::reports::report;
 use crate::shelf::Shelf;
 use crate::sink::Sink;
 use std::alloc::Global;
 
-/// Files in memory, which tell their bytes and of which no call fails.
-///
-/// The names of files that were not there are noted in the misses; the two lists of faults stay
-/// empty.
+/// Files in memory. It knows them, and no call answers `Failed`.
 #[derive(Drop)]
 pub struct CalmShelf {
     alloc: Global,
@@ -22,10 +20,9 @@ pub struct CalmShelf {
 }
 
 impl CalmShelf {
-    /// A shelf of these files, of which the first of a name counts, and with no name noted.
+    /// A shelf of these files; of two files with one name the first counts.
     pub fn new(alloc: Global, files: Vec<NamedFile>) -> CalmShelf
-        ensures holds { ⟦<CalmShelf as Shelf>⟧.holds result ≡ Some (files_of files.items) }
-        ensures misses { ⟦<CalmShelf as Shelf>⟧.misses result ≡ [] }
+        ensures { ⟦<CalmShelf as Shelf>⟧.state result ≡ unreported (Some (files_of files.items)) }
     {
         CalmShelf {
             alloc,
@@ -36,19 +33,18 @@ impl CalmShelf {
 }
 
 impl Shelf for CalmShelf {
-    ghost holds = { λ shelf. Some (files_of shelf.files.items) };
-
-    ghost misses = { λ shelf. names_of shelf.misses.items };
-
-    ghost read_faults = { λ _. [] };
-
-    ghost replace_faults = { λ _. [] };
+    ghost state = { λ shelf. record {
+      holds = Some (files_of shelf.files.items);
+      misses = names_of shelf.misses.items;
+      read_faults = [];
+      replace_faults = [];
+    } };
 
     fn read(&mut self, name: &str, most: usize) -> Result<Vec<u8>, ShelfStop> {
         match prefix_of(&self.files, name, most) {
             Some(bytes) => Ok(Vec::from_slice(self.alloc, bytes)?),
             None => {
-                note(self.alloc, &mut self.misses, name)?;
+                report(self.alloc, &mut self.misses, name)?;
                 Err(ShelfStop::Absent)
             }
         }
@@ -60,36 +56,34 @@ impl Shelf for CalmShelf {
     }
 }
 
-/// Bytes in memory, of which all are taken as long as there is memory for them.
+/// Output in memory. It knows the bytes written, and no call answers `Failed`.
 #[derive(Drop)]
 pub struct CalmSink {
     bytes: Vec<u8>,
 }
 
 impl CalmSink {
-    /// A sink that has taken nothing yet.
+    /// A sink to which nothing has been written.
     pub fn new(alloc: Global) -> CalmSink
-        ensures taken { ⟦<CalmSink as Sink>⟧.taken result ≡ Some [] }
+        ensures { ⟦<CalmSink as Sink>⟧.state result ≡ record { taken = Some []; faults = 0 } }
     {
         CalmSink {
             bytes: Vec::new(alloc),
         }
     }
 
-    /// All bytes that were taken.
+    /// All bytes written so far.
     pub fn bytes(&self) -> &[u8]
-        ensures { ⟦<CalmSink as Sink>⟧.taken self.now ≡ Some result.now }
+        ensures { (⟦<CalmSink as Sink>⟧.state self.now).taken ≡ Some result.now }
     {
         self.bytes.as_slice()
     }
 }
 
 impl Sink for CalmSink {
-    ghost taken = { λ sink. Some sink.bytes.items };
+    ghost state = { λ sink. record { taken = Some sink.bytes.items; faults = 0 } };
 
-    ghost faults = { λ _. 0 };
-
-    #[tactic(auto, using(crate::proofs::BytesLemmas::one_call))]
+    #[tactic(auto, using(crate::proofs::SinkLemmas::one_call))]
     fn write_all(&mut self, bytes: &[u8]) -> Result<(), SinkStop> {
         self.bytes.extend_from_slice(bytes)?;
         Ok(())

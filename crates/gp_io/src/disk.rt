@@ -1,21 +1,22 @@
-//! The files of the system as a shelf.
-ghost use Rattle.std.specs.Prelude.{◌≡◌, ◌≢◌, ◌≤◌, ◌↔◌, [], None, IfOk, vec_len};
+//! The operating system's files as a shelf.
+ghost use Rattle.std.specs.Prelude.{◌≡◌, ◌≢◌, ◌≤◌, ◌<◌, ◌↔◌, None, IfOk, OnOk, vec_len, vec_capacity, string_bytes};
 ghost use Rattle.std.specs.IoError.{error_kind};
-ghost use Rattle.gp_io.specs.Reports.{names_of};
+ghost use Rattle.gp_io.specs.Shelf.{unreported, ReadStops};
+ghost use Rattle.gp_io.specs.Stored.{names_of};
 
 use crate::error::ShelfStop;
-use crate::reports::{note_prepared, prepare};
+use crate::reports::{append, prepare};
 use crate::shelf::Shelf;
-use crate::stream::{read_front, write_whole};
+use crate::stream::{read_prefix, write_and_flush};
 use std::alloc::Global;
 use std::io::ErrorKind;
 use std::rt::Files;
 use std::{fs, io};
 
-/// The files of the system, by their paths.
+/// The operating system's files, by their paths.
 ///
-/// It tells nothing of what they hold, since others may change them at any time. The room for a note is made first and the
-/// file is opened afterwards, so that no fault goes without its note.
+/// It does not know what they hold, since other programs may change them at any time. The memory for
+/// a report is taken before the file is opened, so that no failure goes unreported.
 #[derive(Drop)]
 pub struct DiskShelf<R: Files + Drop> {
     rt: R,
@@ -26,12 +27,9 @@ pub struct DiskShelf<R: Files + Drop> {
 }
 
 impl<R: Files + Drop> DiskShelf<R> {
-    /// The files that `rt` reaches, with no name noted.
+    /// The files that `rt` reaches.
     pub fn new(rt: R, alloc: Global) -> DiskShelf<R>
-        ensures holds { ⟦<DiskShelf<R> as Shelf>⟧.holds result ≡ None }
-        ensures misses { ⟦<DiskShelf<R> as Shelf>⟧.misses result ≡ [] }
-        ensures read_faults { ⟦<DiskShelf<R> as Shelf>⟧.read_faults result ≡ [] }
-        ensures replace_faults { ⟦<DiskShelf<R> as Shelf>⟧.replace_faults result ≡ [] }
+        ensures { ⟦<DiskShelf<R> as Shelf>⟧.state result ≡ unreported None }
     {
         DiskShelf {
             rt,
@@ -41,45 +39,53 @@ impl<R: Files + Drop> DiskShelf<R> {
             replace_faults: Vec::new(alloc),
         }
     }
+
+    /// Reports the name of a file that was not read.
+    fn report_read(&mut self, stop: ShelfStop, reported: String)
+        requires misses { vec_len self.old.misses < vec_capacity self.old.misses }
+        requires read_faults { vec_len self.old.read_faults < vec_capacity self.old.read_faults }
+        ensures { ReadStops (string_bytes reported) (⟦<DiskShelf<R> as Shelf>⟧.state self.old)
+            (⟦<DiskShelf<R> as Shelf>⟧.state self.new) stop }
+    {
+        match stop {
+            ShelfStop::Absent => append(&mut self.misses, reported),
+            ShelfStop::Failed => append(&mut self.read_faults, reported),
+            ShelfStop::NoMemory => {}
+        }
+    }
 }
 
 impl<R: Files + Drop> Shelf for DiskShelf<R> {
-    ghost holds = { λ _. None };
+    ghost state = { λ shelf. record {
+      holds = None;
+      misses = names_of shelf.misses.items;
+      read_faults = names_of shelf.read_faults.items;
+      replace_faults = names_of shelf.replace_faults.items;
+    } };
 
-    ghost misses = { λ shelf. names_of shelf.misses.items };
-
-    ghost read_faults = { λ shelf. names_of shelf.read_faults.items };
-
-    ghost replace_faults = { λ shelf. names_of shelf.replace_faults.items };
-
-    /// `Absent` comes only where the system answers that there is none. Every other answer is a fault, such as that to a
-    /// folder, to a path that leads through a file, and where reading is not permitted.
+    /// `Absent` comes only where the system answers that no such file exists. A directory, a path
+    /// through a file and a missing permission are failures.
     fn read(&mut self, name: &str, most: usize) -> Result<Vec<u8>, ShelfStop> {
-        let kept = prepare(self.alloc, &mut self.misses, name)?;
+        let reported = prepare(self.alloc, &mut self.misses, name)?;
         self.read_faults.reserve(1)?;
         match read_file(&self.rt, self.alloc, name, most) {
-            Err(ShelfStop::Absent) => {
-                note_prepared(&mut self.misses, kept);
-                Err(ShelfStop::Absent)
-            }
-            Err(ShelfStop::Failed) => {
-                note_prepared(&mut self.read_faults, kept);
-                Err(ShelfStop::Failed)
-            }
-            Err(ShelfStop::NoMemory) => Err(ShelfStop::NoMemory),
             Ok(bytes) => Ok(bytes),
+            Err(stop) => {
+                self.report_read(stop, reported);
+                Err(stop)
+            }
         }
     }
 
-    /// The file is made where there is none; its folder has to be there.
+    /// The file is created where it does not exist; its directory has to exist.
     fn replace(&mut self, name: &str, bytes: &[u8]) -> Result<(), ShelfStop> {
-        let kept = prepare(self.alloc, &mut self.replace_faults, name)?;
+        let reported = prepare(self.alloc, &mut self.replace_faults, name)?;
         match write_file(&self.rt, name, bytes) {
+            Ok(()) => Ok(()),
             Err(_) => {
-                note_prepared(&mut self.replace_faults, kept);
+                append(&mut self.replace_faults, reported);
                 Err(ShelfStop::Failed)
             }
-            Ok(()) => Ok(()),
         }
     }
 }
@@ -100,12 +106,12 @@ fn read_file<R: Files>(rt: &R, alloc: Global, name: &str, most: usize) -> Result
     ensures { IfOk result (λ bytes. vec_len bytes ≤ most) }
 {
     match fs::open(rt, name) {
-        Ok(file) => read_front(file, alloc, most),
+        Ok(file) => read_prefix(file, alloc, most),
         Err(error) => Err(open_stop(&error)),
     }
 }
 
 fn write_file<R: Files>(rt: &R, name: &str, bytes: &[u8]) -> io::Result<()> {
     let mut file = fs::create(rt, name)?;
-    write_whole(&mut file, bytes)
+    write_and_flush(&mut file, bytes)
 }

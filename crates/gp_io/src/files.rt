@@ -4,11 +4,11 @@ mod places;
 
 pub(crate) use places::{prefix_of, put};
 
-/// A file that is kept in memory: its name, and the bytes that it holds.
-#[derive(Debug, Drop)]
+/// A file in memory.
+#[derive(Drop)]
 pub struct NamedFile {
     /// The name by which it is read and replaced.
     pub name: String,
-    /// All bytes of the file.
+    /// The content.
     pub bytes: Vec<u8>,
 }

@@ -1,16 +1,28 @@
-//! The outside of a call: a shelf of named files and a sink of bytes.
+//! Files and an output as traits, so that a contract can state what a call reads and writes.
 //!
-//! [`Shelf`] and [`Sink`] say by contract what each answer tells of the files, of the bytes taken
-//! and of the faults, so that code over any shelf and sink can state what it left behind.
-//! [`MemShelf`] and [`MemSink`] keep all in memory and fail where they are told to, [`CalmShelf`]
-//! and [`CalmSink`] keep all in memory and never fail, and [`DiskShelf`] and [`OutSink`] are the
-//! files of the system and its standard output.
+//! In reading order:
+//! - [`Shelf`] and [`Sink`] are the traits. Their contracts say what each answer means.
+//! - [`ShelfStop`] and [`SinkStop`] are the reasons why a call stopped.
+//! - [`CalmShelf`] and [`CalmSink`] keep everything in memory and never fail but for memory.
+//! - [`MemShelf`] and [`MemSink`] add injected failures, for tests.
+//! - [`DiskShelf`] and [`OutSink`] are the operating system's files and its standard output.
+//!
+//! A caller is generic over both, and so runs on a disk, in memory and under injected failures:
+//!
+//! ```text
+//! fn copy<H: Shelf, K: Sink>(name: &str, shelf: &mut H, out: &mut K) -> bool {
+//!     match shelf.read(name, 1024) {
+//!         Ok(bytes) => out.write_all(&bytes).is_ok(),
+//!         Err(_) => false,
+//!     }
+//! }
+//! ```
 #![tactic(auto)]
 
 mod calm;
 mod disk;
 mod error;
-mod faults;
+mod fault_plan;
 mod files;
 mod mem;
 mod out;
@@ -27,6 +39,3 @@ pub use mem::{MemShelf, MemSink};
 pub use out::OutSink;
 pub use shelf::Shelf;
 pub use sink::Sink;
-
-#[cfg(test)]
-mod tests;

@@ -1,26 +1,23 @@
-//! What takes bytes.
-ghost use Rattle.std.specs.Prelude.{◌≡◌, ◌≤◌, ℕ, List, Option, is_some, OnOk};
-ghost use Rattle.gp_io.specs.Bytes.{appended, WritesPrefix, CountsFailure};
+//! A destination for output bytes.
+ghost use Rattle.std.specs.Prelude.{◌≡◌, OnOk};
+ghost use Rattle.gp_io.specs.Sink.{SinkState, appended, WritesPrefix, CountsFault};
 
 use crate::error::SinkStop;
 
-/// What takes bytes, and counts its faults.
+/// A destination for output bytes.
 ///
-/// `taken` is the bytes taken so far, where the sink tells them. `faults` is a count that never
-/// falls.
+/// `state` is what a contract sees of it: the bytes written so far, where the sink knows them, and
+/// the number of write errors.
 pub trait Sink {
-    ghost taken: { Self → Option (List ℕ) };
+    ghost state: { Self → SinkState };
 
-    ghost faults: { Self → ℕ };
-
-    /// Takes all bytes.
+    /// Writes all of `bytes`.
     ///
-    /// `Failed` comes only where the count of faults rose or stands at its greatest. After any stop
-    /// the first of the bytes were taken, as many as the sink came to, and no others.
+    /// `Failed`: a write error, which is counted up to the greatest `u64`. After any stop a prefix
+    /// of `bytes` was written.
     fn write_all(&mut self, bytes: &[u8]) -> Result<(), SinkStop>
-        ensures ok { OnOk result (taken self.new ≡ appended (taken self.old) bytes.now) }
-        ensures front { WritesPrefix bytes.now (taken self.old) (taken self.new) }
-        ensures told { is_some (taken self.new) ≡ is_some (taken self.old) }
-        ensures notes_fault { CountsFailure result (faults self.old) (faults self.new) }
-        ensures never_falls { faults self.old ≤ faults self.new };
+        ensures complete { OnOk result
+            ((state self.new).taken ≡ appended (state self.old).taken bytes.now) }
+        ensures prefix { WritesPrefix bytes.now (state self.old).taken (state self.new).taken }
+        ensures faults { CountsFault result (state self.old).faults (state self.new).faults };
 }

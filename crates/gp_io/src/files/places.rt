@@ -1,9 +1,10 @@
-//! Where a name stands among named files.
+//! Finding a file by its name, and replacing its content.
 ghost use Rattle.std.specs.Prelude.{◌≡◌, ◌≤◌, OnOk, OnErr, IfSome, length, take};
 ghost use Rattle.std.specs.Option.{option_copied};
 ghost use Rattle.std.specs.List.{position};
-ghost use Rattle.gp_io.specs.Files.{content, prefix_of, Replaced};
-ghost use Rattle.gp_io.specs.NamedFile.{files_of, has_name};
+ghost use Rattle.gp_io.specs.Shelf.{content, prefix_of, Replaced};
+ghost use Rattle.gp_io.specs.NamedFile.{files_of};
+ghost use Rattle.gp_io.specs.Stored.{has_name};
 
 use super::NamedFile;
 use std::alloc::{AllocError, Global};
@@ -22,13 +23,13 @@ fn bytes_of<'a>(files: &'a [NamedFile], name: &str) -> Option<&'a [u8]>
 
 /// The first `most` bytes of the first file of that name.
 pub(crate) fn prefix_of<'a>(files: &'a [NamedFile], name: &str, most: usize) -> Option<&'a [u8]>
-    ensures front { option_copied result ≡ prefix_of name.now most (files_of files.now) }
+    ensures prefix { option_copied result ≡ prefix_of name.now most (files_of files.now) }
     ensures at_most { IfSome result (λ bytes. length bytes.now ≤ most) }
 {
-    bytes_of(files, name).map(|bytes| front(bytes, most))
+    bytes_of(files, name).map(|bytes| prefix(bytes, most))
 }
 
-fn front(bytes: &[u8], most: usize) -> &[u8]
+fn prefix(bytes: &[u8], most: usize) -> &[u8]
     ensures { result.now ≡ take most bytes.now }
 {
     if most < bytes.len() {
@@ -38,13 +39,13 @@ fn front(bytes: &[u8], most: usize) -> &[u8]
     }
 }
 
-fn place_of(files: &[NamedFile], name: &str) -> Option<usize>
+fn position_of(files: &[NamedFile], name: &str) -> Option<usize>
     ensures { result ≡ position (has_name name.now) files.now }
 {
     files.iter().position(|file| file.name.as_str() == name)
 }
 
-/// Makes `bytes` the whole of the first file of that name, or of a new one.
+/// Replaces the content of the first file of that name, or appends a new file.
 pub(crate) fn put(
     alloc: Global,
     files: &mut Vec<NamedFile>,
@@ -56,9 +57,9 @@ pub(crate) fn put(
     ensures err { OnErr result (files.new.items ≡ files.old.items) }
 {
     let bytes = Vec::from_slice(alloc, bytes)?;
-    match place_of(files, name) {
-        Some(place) => {
-            files[place].bytes = bytes;
+    match position_of(files, name) {
+        Some(position) => {
+            files[position].bytes = bytes;
         }
         None => {
             let name = String::from_str(alloc, name)?;
