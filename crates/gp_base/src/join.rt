@@ -9,7 +9,8 @@ use std::alloc::Global;
 
 /// Appends the pieces in order. If memory runs out, a prefix of their concatenation has been appended.
 pub fn append_all(out: &mut Vec<u8>, pieces: &[&[u8]]) -> Result<(), NoMemory>
-    ensures ok { OnOk result (out.new.items ≡ out.old.items ++ flat_map (λ piece. piece.now) pieces.now) }
+    ensures ok { OnOk result
+        (out.new.items ≡ out.old.items ++ flat_map (λ piece. piece.now) pieces.now) }
     ensures err { OnErr result
         (AppendsPrefix out.old.items out.new.items (flat_map (λ piece. piece.now) pieces.now)) }
 {
