@@ -52,18 +52,18 @@ unfolding read_of
 reads-from_read line command e =
     let kept = given (nat_le (length line) MAX_LINE_LENGTH && begins line (codes "s1: ")) (read_text (drop 4 line)) command e in
     let tests = and_parts (nat_le (length line) MAX_LINE_LENGTH) (begins line (codes "s1: ")) kept.0 in
-    let front : take 4 line ≡ codes "s1: " = (bytes_eq-Decides (take 4 line) (codes "s1: ")).0 tests.1 in
+    let session : take 4 line ≡ codes "s1: " = (bytes_eq-Decides (take 4 line) (codes "s1: ")).0 tests.1 in
     let read = text-from_read (drop 4 line) command kept.1 in
     record {
       valid = read.0;
       short = tests.0;
-      text = sym (take-append-drop 4 line) ∙ ap (λ (x : List ℕ). x ++ drop 4 line) front ∙ ap (λ (x : List ℕ). codes "s1: " ++ x) (sym read.1);
+      text = sym (take-append-drop 4 line) ∙ ap (λ (x : List ℕ). x ++ drop 4 line) session ∙ ap (λ (x : List ℕ). codes "s1: " ++ x) (sym read.1);
     }
 
 pub read-from_reads : (line : List ℕ) (command : Command) → Reads line command → read_of line ≡ Some command
 unfolding read_of
 read-from_reads line command reads =
-    let front : begins line (codes "s1: ") ≡ true = ap (λ (x : List ℕ). begins x (codes "s1: ")) reads.text in
+    let session : begins line (codes "s1: ") ≡ true = ap (λ (x : List ℕ). begins x (codes "s1: ")) reads.text in
     let rest : drop 4 line ≡ canonical command = ap (drop 4) reads.text in
-    cond-true (nat_le (length line) MAX_LINE_LENGTH && begins line (codes "s1: ")) (read_text (drop 4 line)) None (and_from (nat_le (length line) MAX_LINE_LENGTH) (begins line (codes "s1: ")) reads.short front)
+    cond-true (nat_le (length line) MAX_LINE_LENGTH && begins line (codes "s1: ")) (read_text (drop 4 line)) None (and_from (nat_le (length line) MAX_LINE_LENGTH) (begins line (codes "s1: ")) reads.short session)
     ∙ read-from_text (drop 4 line) command reads.valid (sym rest)
