@@ -1,3 +1,3 @@
-pub mod FilesLemmas
+pub mod FileListLemmas
 pub mod ShelfLemmas
 pub mod SinkLemmas

@@ -1,11 +1,11 @@
 -- What follows from the contract of a shelf, and how reports of calls in a row compose.
-use Rattle.std.proofs.Common.{◌≡◌, ℕ, ◌+◌, ◌⊎◌, inl, inr, List, [], ◌++◌, length, replicate, take, Option, Some, None, Result, Ok, Err, subst, refl, sym, ◌∙◌, ap, append_assoc, length-append, arith}
+use Rattle.std.proofs.Common.{◌≡◌, ℕ, ◌+◌, ◌⊎◌, inl, inr, List, ◌++◌, length, replicate, take, Option, Some, None, Result, Ok, Err, subst, refl, sym, ◌∙◌, ap, append_assoc, length-append, arith}
 use Rattle.std.specs.Prelude.{is_some, IfSome, IfOk, IfErr}
 use Rattle.std.specs.Option.{option_map}
 use Rattle.std.proofs.lemmas.List.{length-replicate, replicate-append-replicate}
 use Rattle.gp_io.specs.declared.error.ShelfStop.{ShelfStop}
 use Rattle.gp_io.specs.declared.error.ShelfStop.TheVariants.{Absent, Failed, NoMemory}
-use Rattle.gp_io.specs.Shelf.{Files, content, prefix_of, ShelfState, Reports, ReportsMiss, ReportsReadFault, ReadStops, Replaced, FilesRelate, ReplacesFile, ReplaceStops}
+use Rattle.gp_io.specs.Shelf.{Files, content, prefix_of, ShelfState, Reports, ReadStops, FilesRelate, ReplaceStops}
 
 -- a name that was reported in two calls was reported in both together
 pub Reports-twice : (name : List ℕ) (old middle new : List (List ℕ)) → Reports name old middle → Reports name middle new → Reports name old new
@@ -57,3 +57,28 @@ Absent-where_none items_of (Err Absent) name most old new files read stopped hol
 Absent-where_none items_of (Err Failed) name most old new files read stopped holds none unchanged =
     absurd (Reports-differs name old.read_faults new.read_faults stopped.reported (sym unchanged))
 Absent-where_none items_of (Err NoMemory) name most old new files read stopped holds none unchanged = inr refl
+
+-- A shelf that never fails, with read faults and replace faults beside it that it leaves alone: what a stopped call of it leaves.
+module _ (old new : ShelfState) (read_faults replace_faults : List (List ℕ)) where
+  abbrev with_faults : ShelfState → ShelfState
+  with_faults state = record state { read_faults = read_faults; replace_faults = replace_faults }
+
+  read_with_faults : (name : List ℕ) (stop : ShelfStop) → new.read_faults ≡ old.read_faults → ReadStops name old new stop → ReadStops name (with_faults old) (with_faults new) stop
+  read_with_faults name Absent calm stopped = record { absent = stopped.absent; reported = stopped.reported; others = ap with_faults stopped.others }
+  read_with_faults name Failed calm stopped = absurd (Reports-differs name old.read_faults new.read_faults stopped.reported (sym calm))
+  read_with_faults name NoMemory calm stopped = ap with_faults stopped
+
+  replace_with_faults : (name : List ℕ) (stop : ShelfStop) → new.replace_faults ≡ old.replace_faults → ReplaceStops name old new stop → ReplaceStops name (with_faults old) (with_faults new) stop
+  replace_with_faults name Absent calm stopped = absurd stopped
+  replace_with_faults name Failed calm stopped = absurd (Reports-differs name old.replace_faults new.replace_faults stopped.reported (sym calm))
+  replace_with_faults name NoMemory calm stopped = ap with_faults stopped
+
+  pub IfErr-read_with_faults : {T : Type 0} (result : Result T ShelfStop) (name : List ℕ) → new.read_faults ≡ old.read_faults
+      → IfErr result (ReadStops name old new) → IfErr result (ReadStops name (with_faults old) (with_faults new))
+  IfErr-read_with_faults (Ok value) name calm stopped = tt
+  IfErr-read_with_faults (Err stop) name calm stopped = read_with_faults name stop calm stopped
+
+  pub IfErr-replace_with_faults : {T : Type 0} (result : Result T ShelfStop) (name : List ℕ) → new.replace_faults ≡ old.replace_faults
+      → IfErr result (ReplaceStops name old new) → IfErr result (ReplaceStops name (with_faults old) (with_faults new))
+  IfErr-replace_with_faults (Ok value) name calm stopped = tt
+  IfErr-replace_with_faults (Err stop) name calm stopped = replace_with_faults name stop calm stopped

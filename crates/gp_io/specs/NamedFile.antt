@@ -1,6 +1,6 @@
 -- Part of the statement: the files that a list of named files is.
-use Rattle.std.specs.Prelude.{ℕ, List, map, string_bytes}
-use Rattle.gp_io.specs.declared.files.NamedFile.{NamedFile}
+use Rattle.std.specs.Prelude.{List, map, string_bytes}
+use Rattle.gp_io.specs.declared.named_file.NamedFile.{NamedFile}
 use Rattle.gp_io.specs.Shelf.{Files}
 
 -- the names with the bytes of their files

@@ -5,7 +5,8 @@ ghost use Rattle.gp_io.specs.Shelf.{unreported};
 ghost use Rattle.gp_io.specs.Stored.{names_of};
 
 use crate::error::{ShelfStop, SinkStop};
-use crate::files::{NamedFile, prefix_of, put};
+use crate::file_list::{prefix_of, put};
+use crate::named_file::NamedFile;
 use crate::reports::report;
 use crate::shelf::Shelf;
 use crate::sink::Sink;

@@ -7,7 +7,7 @@ ghost use Rattle.gp_io.specs.Stored.{names_of};
 use crate::calm::{CalmShelf, CalmSink};
 use crate::error::{ShelfStop, SinkStop};
 use crate::fault_plan::FaultPlan;
-use crate::files::NamedFile;
+use crate::named_file::NamedFile;
 use crate::reports::report;
 use crate::shelf::Shelf;
 use crate::sink::Sink;

@@ -6,15 +6,19 @@ use crate::error::ShelfStop;
 
 /// Named files that can be read and replaced.
 ///
-/// `state` is what a contract sees of it: the files, where the shelf knows them, and the names of
-/// files that it reported missing, unreadable or not replaced.
+/// A contract sees a shelf as its `state`: the files, where the shelf knows them, and the names that
+/// it has reported missing, unreadable or not replaced. A call reports no name but its own.
 pub trait Shelf {
     ghost state: { Self → ShelfState };
 
-    /// Reads the first `most` bytes of the file `name`, or all where there are fewer.
+    /// Reads the first `most` bytes of the file `name`, or all of them where there are fewer.
     ///
-    /// `Absent`: there is no such file, and the name is reported missing. `Failed`: the file could
-    /// not be read, and the name is reported unreadable. No file changes.
+    /// - `Absent`: there is no such file, and its name is reported missing.
+    /// - `Failed`: the file could not be read, and its name is reported unreadable.
+    /// - `NoMemory`: memory ran out, and nothing is reported.
+    ///
+    /// No file changes. A shelf that knows its files answers `Absent` for every file that does not
+    /// exist, unless it reports a read fault or memory runs out.
     fn read(&mut self, name: &str, most: usize) -> Result<Vec<u8>, ShelfStop>
         ensures at_most { IfOk result (λ bytes. vec_len bytes ≤ most) }
         ensures content { IfOk result (λ bytes. IfSome (state self.old).holds
@@ -24,8 +28,11 @@ pub trait Shelf {
 
     /// Makes `bytes` the content of the file `name`, which is created where it does not exist.
     ///
-    /// `Failed`: the file could not be replaced, the name is reported, and the content of this file
-    /// is unknown. `NoMemory`: no file changes. `Absent` never comes.
+    /// - `Failed`: the file could not be replaced, and its name is reported. Its content is unknown,
+    ///   and no other file changes.
+    /// - `NoMemory`: memory ran out. Nothing is reported, and no file changes.
+    ///
+    /// `Absent` never comes.
     fn replace(&mut self, name: &str, bytes: &[u8]) -> Result<(), ShelfStop>
         ensures replaced { OnOk result
             (ReplacesFile name.now bytes.now (state self.old) (state self.new)) }

@@ -6,15 +6,17 @@ use crate::error::SinkStop;
 
 /// A destination for output bytes.
 ///
-/// `state` is what a contract sees of it: the bytes written so far, where the sink knows them, and
-/// the number of write errors.
+/// A contract sees a sink as its `state`: the bytes written so far, where the sink knows them, and
+/// the number of write errors, which never falls.
 pub trait Sink {
     ghost state: { Self → SinkState };
 
     /// Writes all of `bytes`.
     ///
-    /// `Failed`: a write error, which is counted up to the greatest `u64`. After any stop a prefix
-    /// of `bytes` was written.
+    /// - `Failed`: a write error, which is counted; the count stops at the greatest `u64`.
+    /// - `NoMemory`: memory ran out, and no write error is counted.
+    ///
+    /// After either a prefix of `bytes` has been written.
     fn write_all(&mut self, bytes: &[u8]) -> Result<(), SinkStop>
         ensures complete { OnOk result
             ((state self.new).taken ≡ appended (state self.old).taken bytes.now) }

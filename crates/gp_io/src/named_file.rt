@@ -1,8 +1,4 @@
-//! Named files that are kept in memory.
-
-mod places;
-
-pub(crate) use places::{prefix_of, put};
+//! A file in memory.
 
 /// A file in memory.
 #[derive(Drop)]

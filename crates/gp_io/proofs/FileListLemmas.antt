@@ -7,7 +7,7 @@ use Rattle.std.proofs.lemmas.Bool.Decides.{nat_tests}
 use Rattle.gp_io.specs.Shelf.{Files, Replaced}
 use Rattle.gp_io.specs.NamedFile.{files_of}
 use Rattle.gp_io.specs.Stored.{has_name}
-use Rattle.gp_io.specs.declared.files.NamedFile.{NamedFile}
+use Rattle.gp_io.specs.declared.named_file.NamedFile.{NamedFile}
 
 bytes_eq-same : (a b : List ℕ) → a ≡ b → bytes_eq a b ≡ true
 bytes_eq-same a b same = (bytes_eq-Decides a b).1 same

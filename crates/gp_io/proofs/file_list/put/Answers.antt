@@ -1,6 +1,6 @@
 use Rattle.std.proofs.Common.{ap, sym, ◌∙◌}
-use Rattle.gp_io.proofs.FilesLemmas.{Replaced-set, Replaced-push}
-use Rattle.gp_io.proofs.files.places.put.Goals as goal
+use Rattle.gp_io.proofs.FileListLemmas.{Replaced-set, Replaced-push}
+use Rattle.gp_io.proofs.file_list.put.Goals as goal
 
 pub returns-in-Some-clause-ok : goal.returns-in-Some-clause-ok
 returns-in-Some-clause-ok c =

@@ -6,7 +6,7 @@ ghost use Rattle.gp_io.specs.Shelf.{content, prefix_of, Replaced};
 ghost use Rattle.gp_io.specs.NamedFile.{files_of};
 ghost use Rattle.gp_io.specs.Stored.{has_name};
 
-use super::NamedFile;
+use crate::named_file::NamedFile;
 use std::alloc::{AllocError, Global};
 
 /// The bytes of the first file of that name.
