@@ -33,7 +33,7 @@ pub use error::NoMemory;
 pub use join::{TextFormat, append_all, text_of_pieces, write_joined};
 pub use laws::{row_text_is_injective, sorting_is_unique};
 pub use name::{MAX_NAME_LENGTH, Name, is_name};
-pub use refusal::{Refusal, refusal_words, write_refusal};
+pub use refusal::{Refusal, write_refusal};
 pub use row::Row;
 pub use sequence::Sequence;
 pub use sort::sort_rows;

@@ -46,10 +46,3 @@ pub fn write_refusal(refusal: &Refusal, out: &mut Vec<u8>) -> Result<(), NoMemor
     out.extend_from_slice(refusal.text().as_bytes())?;
     Ok(())
 }
-
-/// The refusal's text.
-pub fn refusal_words(refusal: Refusal) -> &'static [u8]
-    ensures { result.now ≡ refusal_text refusal }
-{
-    refusal.text().as_bytes()
-}

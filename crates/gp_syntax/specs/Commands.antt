@@ -21,7 +21,7 @@ most_columns = 16
 abbrev pub most_rows : ℕ
 most_rows = 100
 
--- no name of a column stands twice
+-- no column name is used twice
 abbrev pub all_differ : List Column → Bool
 all_differ [] = true
 all_differ (column ∷ columns) = not (list_any (λ (other : Column). bytes_eq column.name other.name) columns) && all_differ columns
@@ -47,7 +47,7 @@ is_tuple [] = false
 is_tuple (first ∷ others) = is_number first && list_all is_number others
 
 -- the shape of a command of a script: a table has 1 to 16 columns, all INT and of different names, an INSERT has 1 to 100 tuples,
--- and tables and columns stand under names
+-- and tables and columns have names of the language
 abbrev pub is_command : Command → Bool
 is_command (Create table) = is_name table.name && nat_le 1 (length table.cols) && nat_le (length table.cols) most_columns
     && list_all is_column table.cols && all_differ table.cols

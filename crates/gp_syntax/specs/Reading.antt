@@ -1,7 +1,7 @@
 -- Reading: what command a line holds. `Reads` says it as a relation: the line is short enough, and is the session and then the
 -- canonical text of a command. `read_of` says it as a function: a draft is made from the places of spaces, brackets and commas alone,
 -- and it is what the line holds where it is a command and the line is its canonical text. The contracts of the readers tie the two,
--- so a line is read in exactly one way, or not at all. That a reader is told by its writer follows invertible syntax descriptions
+-- so a line is read in exactly one way, or not at all. Defining the reader by the writer follows invertible syntax descriptions
 -- (Rendel and Ostermann, Haskell Symposium 2010).
 use Rattle.std.specs.Prelude.{◌≡◌, ℕ, ◌^◌, Bool, true, ◌&&◌, List, [], ◌∷◌, ◌++◌, length, take, drop, map, Option, Some, None, Result, Ok, Err, option_and_then, nat_lt, nat_le, if◌then◌else◌, ◌==◌, codes, ℤ, pos, negsuc}
 use Rattle.std.specs.List.{slice_split, before_first, after_first}
@@ -46,7 +46,7 @@ number_of text = if is_number_text text then signed_digits_value 10 text else po
 abbrev pub is_space : ℕ → Bool
 is_space byte = byte == 32
 
--- a comma, which stands between two parts
+-- a comma, which separates two parts
 abbrev pub is_comma : ℕ → Bool
 is_comma byte = byte == 44
 
@@ -83,7 +83,7 @@ drafted_cell part = cell.Int (number_of (without_space part))
 abbrev pub drafted_row : List ℕ → List Cell
 drafted_row text = map drafted_cell (slice_split is_comma (before_first is_close text))
 
--- a row behind each opening bracket, whatever stands before the first
+-- a row behind each opening bracket, whatever is before the first
 abbrev pub drafted_rows : List ℕ → List (List Cell)
 drafted_rows text = map drafted_row (drop 1 (slice_split is_open text))
 
@@ -111,11 +111,11 @@ confirmed text command = if is_command command && bytes_eq (canonical command) t
 unfoldable pub read_text : List ℕ → Option Command
 read_text text = option_and_then (confirmed text) (drafted text)
 
--- the command of a line, or none: the line is not too long, and the command's text stands behind the session
+-- the command of a line, or none: the line is not too long, and the command's text follows the session
 unfoldable pub read_of : List ℕ → Option Command
 read_of line = if nat_le (length line) MAX_LINE_LENGTH && begins line (codes "s1: ") then read_text (drop 4 line) else None
 
--- what a reader of commands answers is what reading gives: the command, the one refusal where there is none, or want of memory
+-- what a reader of commands answers is what reading gives: the command, the one refusal where there is none, or that memory ran out
 abbrev pub GivesCommand : Result Command ReadStop → Option Command → Type 0
 GivesCommand (Ok command) read = read ≡ Some command
 GivesCommand (Err (Refused refusal)) read = (refusal ≡ NotBuilt) × (read ≡ None)
