@@ -1,4 +1,4 @@
--- Which commands a script may hold, whatever tables are there: the limits on names, columns, tuples and numbers. The commands are from
+-- Part of the statement: which commands a script may hold, whatever tables exist: the limits on names, columns, tuples and numbers. The commands are from
 -- SQL (ISO/IEC 9075-2); the limits are this program's own.
 use Rattle.std.specs.Prelude.{◌≡◌, ℕ, Bool, true, false, ◌&&◌, not, List, [], ◌∷◌, length, nat_le}
 use Rattle.std.specs.List.{list_all, list_any, AllByRecursion}

@@ -1,8 +1,7 @@
--- Reading: what command a line holds. `Reads` says it as a relation: the line is short enough, and is the session and then the
--- canonical text of a command. `read_of` says it as a function: a draft is made from the places of spaces, brackets and commas alone,
--- and it is what the line holds where it is a command and the line is its canonical text. The contracts of the readers tie the two,
--- so a line is read in exactly one way, or not at all. Defining the reader by the writer follows invertible syntax descriptions
--- (Rendel and Ostermann, Haskell Symposium 2010).
+-- Part of the statement (`Reads`) and machinery (all else): what command a line holds. As a relation, the line is short enough, and is the
+-- session and then the canonical text of a command. As a function (`read_of`), a command is guessed from the places of spaces, brackets and
+-- commas, and the line holds it where the line is its canonical text. The contracts of the readers tie the two, so a line is read in exactly one
+-- way, or not at all. Defining the reader by the writer follows invertible syntax descriptions (Rendel and Ostermann, Haskell Symposium 2010).
 use Rattle.std.specs.Prelude.{◌≡◌, ℕ, ◌^◌, Bool, true, ◌&&◌, List, [], ◌∷◌, ◌++◌, length, take, drop, map, Option, Some, None, Result, Ok, Err, option_and_then, nat_lt, nat_le, if◌then◌else◌, ◌==◌, codes, ℤ, pos, negsuc}
 use Rattle.std.specs.List.{slice_split, before_first, after_first}
 use Rattle.std.specs.Str.{bytes_eq, all_ascii_digits}
