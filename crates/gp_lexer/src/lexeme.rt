@@ -5,6 +5,9 @@ ghost use Rattle.std.specs.Prelude.{◌≡◌, ◌<◌, ◌^◌};
 use gp_base::{Name, Text};
 use std::marker::Model;
 
+/// The greatest number of bytes of the value of a text.
+pub const MAX_TEXT_LENGTH: usize = 255;
+
 /// A reserved word or a sign. No name is a reserved word.
 #[derive(Clone, Copy, PartialEq, Eq)]
 pub enum Symbol {
