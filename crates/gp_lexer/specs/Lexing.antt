@@ -15,8 +15,8 @@ use Rattle.gp_lexer.specs.declared.lexeme.Symbol.TheVariants as s
 use Rattle.gp_lexer.specs.declared.lexeme.Lexeme.{Lexeme}
 use Rattle.gp_lexer.specs.declared.lexeme.Lexeme.TheVariants.{Symbol as Sign, Word, Number, Big, Text}
 use Rattle.gp_lexer.specs.declared.lexeme.TheConstants.{MAX_TEXT_LENGTH}
-use Rattle.gp_lexer.specs.declared.lexer.LexStop.{LexStop}
-use Rattle.gp_lexer.specs.declared.lexer.LexStop.TheVariants.{Fault, NoMemory}
+use Rattle.gp_lexer.specs.declared.error.LexStop.{LexStop}
+use Rattle.gp_lexer.specs.declared.error.LexStop.TheVariants.{Fault, NoMemory}
 use Rattle.gp_lexer.specs.Lexemes.{symbol_text}
 
 -- a lexeme and the bytes after it, or None where no lexeme can be read
@@ -25,7 +25,7 @@ Scanned = Option (Lexeme × List ℕ)
 
 -- ---- words
 
--- a byte of a word after its first letter: a letter, a digit or an underscore
+-- a byte of a word, which begins with a letter: a letter, a digit or an underscore
 abbrev pub is_word_byte : ℕ → Bool
 is_word_byte byte = is_ascii_alphanumeric byte || (byte == 95)
 
@@ -44,11 +44,11 @@ reserved_word word = find (λ symbol. str_eq_ignore_ascii_case (symbol_text symb
 abbrev pub word_lexeme : List ℕ → Lexeme
 word_lexeme word = option_map_or Sign (reserved_word word) (Word (str_to_ascii_lowercase word))
 
--- the word that begins with this letter, if it is not too long
-unfoldable pub word_at : ℕ → List ℕ → Scanned
-word_at letter bytes =
+-- the word that the bytes begin with, if it is not too long
+unfoldable pub word_at : List ℕ → Scanned
+word_at bytes =
     let count = prefix_len is_word_byte bytes in
-    if nat_le (count + 1) MAX_NAME_LENGTH then Some (word_lexeme (letter ∷ take count bytes), drop count bytes) else None
+    if nat_le count MAX_NAME_LENGTH then Some (word_lexeme (take count bytes), drop count bytes) else None
 
 -- ---- numbers
 
@@ -56,11 +56,11 @@ word_at letter bytes =
 abbrev pub number_lexeme : ℕ → Option Lexeme
 number_lexeme value = if nat_lt value (2 ^ 63) then Some (Number value) else (if value == 2 ^ 63 then Some Big else None)
 
--- the number that begins with this digit, if it is not too large
-unfoldable pub number_at : ℕ → List ℕ → Scanned
-number_at digit bytes =
+-- the number that the bytes begin with, if it is not too large
+unfoldable pub number_at : List ℕ → Scanned
+number_at bytes =
     let count = prefix_len is_ascii_digit bytes in
-    option_map (λ lexeme. (lexeme, drop count bytes)) (number_lexeme (digits_value 10 (digit ∷ take count bytes)))
+    option_map (λ lexeme. (lexeme, drop count bytes)) (number_lexeme (digits_value 10 (take count bytes)))
 
 -- ---- texts
 
@@ -101,8 +101,14 @@ signs =
     ∷ (codes "<", s.Lt) ∷ (codes ">=", s.Ge) ∷ (codes ">", s.Gt) ∷ (codes "!=", s.Ne) ∷ []
 
 -- the first sign in the list that the bytes begin with
+abbrev pub sign_among : List (List ℕ × Symbol) → List ℕ → Scanned
+sign_among [] bytes = None
+sign_among (sign ∷ others) bytes =
+    if starts_with nat_eq bytes sign.0 then Some (Sign sign.1, drop (length sign.0) bytes) else sign_among others bytes
+
+-- the sign that the bytes begin with
 unfoldable pub sign_at : List ℕ → Scanned
-sign_at bytes = option_map (λ sign. (Sign sign.1, drop (length sign.0) bytes)) (find (λ sign. starts_with nat_eq bytes sign.0) signs)
+sign_at = sign_among signs
 
 -- ---- lines
 
@@ -110,11 +116,12 @@ sign_at bytes = option_map (λ sign. (Sign sign.1, drop (length sign.0) bytes)) 
 abbrev pub is_blank : ℕ → Bool
 is_blank byte = (byte == 32) || (byte == 9)
 
--- the lexeme at the start of these bytes
-unfoldable pub lexeme_at : ℕ → List ℕ → Scanned
-lexeme_at byte bytes =
-    if is_ascii_alphabetic byte then word_at byte bytes
-    else (if is_ascii_digit byte then number_at byte bytes
+-- the lexeme that the bytes begin with
+unfoldable pub lexeme_at : List ℕ → Scanned
+lexeme_at [] = None
+lexeme_at (byte ∷ bytes) =
+    if is_ascii_alphabetic byte then word_at (byte ∷ bytes)
+    else (if is_ascii_digit byte then number_at (byte ∷ bytes)
     else (if byte == quote then text_lexeme (quoted_text bytes) else sign_at (byte ∷ bytes)))
 
 -- the lexemes and the column of each, or the column of the fault
@@ -141,7 +148,7 @@ lexed_from bound line [] = Ok ([], [])
 lexed_from zero line (byte ∷ bytes) = Err (column_of line (byte ∷ bytes))
 lexed_from (suc bound) line (byte ∷ bytes) =
     if is_blank byte then lexed_from bound line bytes
-    else lexed_at (column_of line (byte ∷ bytes)) (lexeme_at byte bytes) (λ rest. lexed_from bound line rest)
+    else lexed_at (column_of line (byte ∷ bytes)) (lexeme_at (byte ∷ bytes)) (λ rest. lexed_from bound line rest)
 
 -- the lexemes of a line
 unfoldable pub lexed : List ℕ → Lexed

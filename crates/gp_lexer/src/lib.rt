@@ -1,10 +1,15 @@
 //! Lexemes: the words, numbers, texts and signs that a line of a script or a question consists of.
 #![tactic(auto)]
 
+mod error;
 mod layout;
 mod lexeme;
+mod lexemes;
 mod lexer;
+mod symbol;
 
+pub use error::LexStop;
 pub use layout::Gap;
 pub use lexeme::{Lexeme, MAX_TEXT_LENGTH, Number, Symbol};
-pub use lexer::LexStop;
+pub use lexemes::Lexemes;
+pub use lexer::lex;

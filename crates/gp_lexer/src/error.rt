@@ -1,0 +1,35 @@
+//! Why a line has no lexemes.
+
+ghost use Rattle.std.specs.Prelude.{◌≡◌};
+ghost use Rattle.gp_lexer.specs.declared.error.LexStop.TheVariants.{NoMemory as OutOfMemory};
+
+use gp_base::NoMemory;
+use std::alloc::AllocFailed;
+
+/// Why a line has no lexemes.
+#[derive(Clone, Copy, Debug, PartialEq, Eq)]
+pub enum LexStop {
+    /// No lexeme can be read at this column, which counts the bytes of the line from 1.
+    Fault {
+        /// The column.
+        column: u32,
+    },
+    /// Memory ran out.
+    NoMemory,
+}
+
+impl From<NoMemory> for LexStop {
+    ghost from_gives = { λ _ stop. stop ≡ OutOfMemory };
+
+    fn from(_error: NoMemory) -> LexStop {
+        LexStop::NoMemory
+    }
+}
+
+impl<T: Drop> From<AllocFailed<T>> for LexStop {
+    ghost from_gives = { λ _ stop. stop ≡ OutOfMemory };
+
+    fn from(_error: AllocFailed<T>) -> LexStop {
+        LexStop::NoMemory
+    }
+}
