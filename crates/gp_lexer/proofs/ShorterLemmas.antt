@@ -5,11 +5,10 @@ use Rattle.std.specs.List.{AllByRecursion, prefix_len, starts_with}
 use Rattle.std.specs.Option.{option_map}
 use Rattle.std.specs.Str.Parse.{digits_value}
 use Rattle.gp_base.specs.declared.name.TheConstants.{MAX_NAME_LENGTH}
-use Rattle.gp_base.specs.Texts.{quote}
 use Rattle.gp_lexer.specs.declared.lexeme.Symbol.{Symbol}
 use Rattle.gp_lexer.specs.declared.lexeme.Lexeme.{Lexeme}
 use Rattle.gp_lexer.specs.declared.lexeme.Lexeme.TheVariants.{Symbol as Sign, Text}
-use Rattle.gp_lexer.specs.declared.lexeme.TheConstants.{MAX_TEXT_LENGTH}
+use Rattle.gp_lexer.specs.declared.lexeme.TheConstants.{MAX_TEXT_LENGTH, QUOTE}
 use Rattle.gp_lexer.specs.Lexing.{Scanned, Quoted, is_word_byte, word_lexeme, word_at, number_lexeme, number_at, with_byte, quoted_text, quoted_text_after_quote, text_lexeme, signs, sign_among, sign_at, lexeme_at}
 use Rattle.gp_lexer.proofs.WordLemmas.{letter-word}
 
@@ -59,15 +58,15 @@ text-cases b bytes false true text after = tt
 text-cases b bytes false false text after = with_byte-more b (length bytes) (length (b ∷ bytes)) (quoted_text bytes) (omega arith) text
 
 after-cases : (b : ℕ) (bytes : List ℕ) (t : Bool) → TextAtMost (length bytes) (quoted_text bytes)
-    → TextAtMost (length (b ∷ bytes)) (cond t (with_byte quote (quoted_text bytes)) (Some ([], b ∷ bytes)))
-after-cases b bytes true text = with_byte-more quote (length bytes) (length (b ∷ bytes)) (quoted_text bytes) (omega arith) text
+    → TextAtMost (length (b ∷ bytes)) (cond t (with_byte QUOTE (quoted_text bytes)) (Some ([], b ∷ bytes)))
+after-cases b bytes true text = with_byte-more QUOTE (length bytes) (length (b ∷ bytes)) (quoted_text bytes) (omega arith) text
 after-cases b bytes false text = omega arith
 
 both-shorter : (bytes : List ℕ) → TextAtMost (length bytes) (quoted_text bytes) × TextAtMost (length bytes) (quoted_text_after_quote bytes)
 both-shorter [] = (tt, lit≤ tt)
 both-shorter (b ∷ bytes) =
     let others = both-shorter bytes in
-    (text-cases b bytes (eqb b quote) (is_ascii_control b) others.0 others.1, after-cases b bytes (eqb b quote) others.0)
+    (text-cases b bytes (eqb b QUOTE) (is_ascii_control b) others.0 others.1, after-cases b bytes (eqb b QUOTE) others.0)
 
 text_lexeme-shorter : (n : ℕ) (text : Quoted) → TextAtMost n text → RestAtMost n (text_lexeme text)
 text_lexeme-shorter n None h = tt
@@ -95,7 +94,7 @@ signs-long = (lit≤ tt, (lit≤ tt, (lit≤ tt, (lit≤ tt, (lit≤ tt, (lit≤
 -- the bytes after a lexeme are fewer than those from it on
 pub lexeme-shorter : (b : ℕ) (bytes : List ℕ) → RestAtMost (length bytes) (lexeme_at (b ∷ bytes))
 unfolding lexeme_at sign_at
-lexeme-shorter b bytes = by (is_ascii_alphabetic b) refl (is_ascii_digit b) refl (eqb b quote)
+lexeme-shorter b bytes = by (is_ascii_alphabetic b) refl (is_ascii_digit b) refl (eqb b QUOTE)
   where
     by : (t : Bool) → is_ascii_alphabetic b ≡ t → (u : Bool) → is_ascii_digit b ≡ u → (v : Bool)
         → RestAtMost (length bytes) (cond t (word_at (b ∷ bytes)) (cond u (number_at (b ∷ bytes)) (cond v (text_lexeme (quoted_text bytes)) (sign_at (b ∷ bytes)))))

@@ -5,12 +5,12 @@ use Rattle.std.specs.Char.{is_ascii_control}
 use Rattle.std.specs.Fmt.{decimal}
 use Rattle.std.specs.List.{flat_map, list_any}
 use Rattle.gp_base.specs.Names.{is_name}
-use Rattle.gp_base.specs.Texts.{quote, quoted_byte}
+use Rattle.gp_base.specs.Texts.{quoted_byte}
 use Rattle.gp_lexer.specs.declared.lexeme.Symbol.{Symbol}
 use Rattle.gp_lexer.specs.declared.lexeme.Symbol.TheVariants as s
 use Rattle.gp_lexer.specs.declared.lexeme.Lexeme.{Lexeme}
 use Rattle.gp_lexer.specs.declared.lexeme.Lexeme.TheVariants.{Symbol as Sign, Word, Number, Big, Text}
-use Rattle.gp_lexer.specs.declared.lexeme.TheConstants.{MAX_TEXT_LENGTH}
+use Rattle.gp_lexer.specs.declared.lexeme.TheConstants.{MAX_TEXT_LENGTH, QUOTE}
 
 -- a reserved word in capitals, or a sign
 abbrev pub symbol_text : Symbol → List ℕ
@@ -66,7 +66,7 @@ spelled (Sign symbol) = symbol_text symbol
 spelled (Word word) = word
 spelled (Number n) = decimal n
 spelled Big = codes "9223372036854775808"
-spelled (Text text) = quote ∷ (flat_map quoted_byte text ++ quote ∷ [])
+spelled (Text text) = QUOTE ∷ (flat_map quoted_byte text ++ QUOTE ∷ [])
 
 -- the lexemes that lines can hold: the words that are not reserved are the names, numbers fit an i64, and texts are not too long and
 -- have no control character

@@ -9,12 +9,11 @@ use Rattle.std.specs.Result.{result_ok}
 use Rattle.std.specs.Str.{str_eq_ignore_ascii_case, str_to_ascii_lowercase}
 use Rattle.std.specs.Str.Parse.{digits_value}
 use Rattle.gp_base.specs.declared.name.TheConstants.{MAX_NAME_LENGTH}
-use Rattle.gp_base.specs.Texts.{quote}
 use Rattle.gp_lexer.specs.declared.lexeme.Symbol.{Symbol}
 use Rattle.gp_lexer.specs.declared.lexeme.Symbol.TheVariants as s
 use Rattle.gp_lexer.specs.declared.lexeme.Lexeme.{Lexeme}
 use Rattle.gp_lexer.specs.declared.lexeme.Lexeme.TheVariants.{Symbol as Sign, Word, Number, Big, Text}
-use Rattle.gp_lexer.specs.declared.lexeme.TheConstants.{MAX_TEXT_LENGTH}
+use Rattle.gp_lexer.specs.declared.lexeme.TheConstants.{MAX_TEXT_LENGTH, QUOTE}
 use Rattle.gp_lexer.specs.declared.error.LexStop.{LexStop}
 use Rattle.gp_lexer.specs.declared.error.LexStop.TheVariants.{Fault, NoMemory}
 use Rattle.gp_lexer.specs.Lexemes.{symbol_text}
@@ -78,13 +77,13 @@ abbrev mutual
   pub quoted_text : List ℕ → Quoted
   quoted_text [] = None
   quoted_text (byte ∷ bytes) =
-      if byte == quote then quoted_text_after_quote bytes else (if is_ascii_control byte then None else with_byte byte (quoted_text bytes))
+      if byte == QUOTE then quoted_text_after_quote bytes else (if is_ascii_control byte then None else with_byte byte (quoted_text bytes))
 
   -- after a quote in it, a second quote is a quote of its value, and anything else is after its end
   pub quoted_text_after_quote : List ℕ → Quoted
   quoted_text_after_quote [] = Some ([], [])
   quoted_text_after_quote (byte ∷ bytes) =
-      if byte == quote then with_byte quote (quoted_text bytes) else Some ([], byte ∷ bytes)
+      if byte == QUOTE then with_byte QUOTE (quoted_text bytes) else Some ([], byte ∷ bytes)
 
 -- a text, if its value is not too long
 abbrev pub text_lexeme : Quoted → Scanned
@@ -122,7 +121,7 @@ lexeme_at [] = None
 lexeme_at (byte ∷ bytes) =
     if is_ascii_alphabetic byte then word_at (byte ∷ bytes)
     else (if is_ascii_digit byte then number_at (byte ∷ bytes)
-    else (if byte == quote then text_lexeme (quoted_text bytes) else sign_at (byte ∷ bytes)))
+    else (if byte == QUOTE then text_lexeme (quoted_text bytes) else sign_at (byte ∷ bytes)))
 
 -- the lexemes and the column of each, or the column of the fault
 abbrev pub Lexed : Type 0

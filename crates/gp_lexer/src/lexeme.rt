@@ -8,6 +8,9 @@ use std::marker::Model;
 /// The greatest number of bytes of the value of a text.
 pub const MAX_TEXT_LENGTH: usize = 255;
 
+/// The byte at both ends of a text.
+pub(crate) const QUOTE: u8 = b'\'';
+
 /// A reserved word or a sign. No name is a reserved word.
 #[derive(Clone, Copy, PartialEq, Eq)]
 pub enum Symbol {

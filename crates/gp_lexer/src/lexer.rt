@@ -11,7 +11,7 @@ ghost use Rattle.gp_lexer.specs.Lexemes.{symbol_text};
 ghost use Rattle.gp_lexer.specs.Lexing as spec;
 
 use crate::error::LexStop;
-use crate::lexeme::{Lexeme, MAX_TEXT_LENGTH, Number, Symbol};
+use crate::lexeme::{Lexeme, MAX_TEXT_LENGTH, Number, QUOTE, Symbol};
 use crate::lexemes::Lexemes;
 use crate::symbol::symbol_text;
 use gp_base::{MAX_NAME_LENGTH, Name, NoMemory, Sequence, Text};
@@ -192,11 +192,11 @@ fn quoted_text(alloc: Global, bytes: &[u8]) -> Result<Option<(Vec<u8>, &[u8])>, 
     let mut rest = bytes;
     loop {
         match rest {
-            [b'\'', b'\'', others @ ..] => {
-                value.push(b'\'')?;
+            [QUOTE, QUOTE, others @ ..] => {
+                value.push(QUOTE)?;
                 rest = others;
             }
-            [b'\'', others @ ..] => return Ok(Some((value, others))),
+            [QUOTE, others @ ..] => return Ok(Some((value, others))),
             [byte, others @ ..] if !byte.is_ascii_control() => {
                 value.push(*byte)?;
                 rest = others;
@@ -255,7 +255,7 @@ fn lexeme_at(alloc: Global, bytes: &[u8]) -> Result<Option<(Lexeme, &[u8])>, NoM
                 word_at(alloc, bytes)
             } else if byte.is_ascii_digit() {
                 Ok(number_at(bytes))
-            } else if *byte == b'\'' {
+            } else if *byte == QUOTE {
                 text_at(alloc, others)
             } else {
                 Ok(sign_at(bytes))
