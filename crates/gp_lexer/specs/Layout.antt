@@ -4,8 +4,8 @@ use Rattle.std.specs.Prelude.{ℕ, Bool, true, false, List, [], ◌∷◌, ◌++
 use Rattle.gp_lexer.specs.declared.lexeme.Symbol.TheVariants as s
 use Rattle.gp_lexer.specs.declared.lexeme.Lexeme.{Lexeme}
 use Rattle.gp_lexer.specs.declared.lexeme.Lexeme.TheVariants.{Symbol as Sign, Word, Number, Big, Text}
-use Rattle.gp_lexer.specs.declared.layout.Gap.{Gap}
-use Rattle.gp_lexer.specs.declared.layout.Gap.TheVariants.{Start, AfterComma, Joined, Spaced}
+use Rattle.gp_lexer.specs.declared.gap.Gap.{Gap}
+use Rattle.gp_lexer.specs.declared.gap.Gap.TheVariants.{Start, AfterComma, Joined, Spaced}
 use Rattle.gp_lexer.specs.Lexemes.{spelled}
 
 -- a lexeme that is separated from the one before it

@@ -1,20 +1,23 @@
-//! Why a line has no lexemes.
+//! The error of the lexer.
 
 ghost use Rattle.std.specs.Prelude.{◌≡◌};
 ghost use Rattle.gp_lexer.specs.declared.error.LexStop.TheVariants.{NoMemory as OutOfMemory};
 
 use gp_base::NoMemory;
 use std::alloc::AllocFailed;
+use thiserror::Error;
 
 /// Why a line has no lexemes.
-#[derive(Clone, Copy, Debug, PartialEq, Eq)]
+#[derive(Debug, Drop, Error)]
 pub enum LexStop {
     /// No lexeme can be read at this column, which counts the bytes of the line from 1.
+    #[error("no lexeme at column {column}")]
     Fault {
-        /// The column.
+        /// The column of the first byte that no lexeme takes.
         column: u32,
     },
     /// Memory ran out.
+    #[error("out of memory")]
     NoMemory,
 }
 

@@ -2,6 +2,7 @@
 #![tactic(auto)]
 
 mod error;
+mod gap;
 mod layout;
 mod lexeme;
 mod lexemes;
@@ -9,7 +10,8 @@ mod lexer;
 mod symbol;
 
 pub use error::LexStop;
-pub use layout::Gap;
+pub use gap::Gap;
+pub use layout::Layout;
 pub use lexeme::{Lexeme, MAX_TEXT_LENGTH, Number, Symbol};
 pub use lexemes::Lexemes;
 pub use lexer::lex;
