@@ -57,7 +57,7 @@ not-among word (x ∷ xs) h = by (str_eq_ignore_ascii_case (symbol_text x) word)
     by true none others = absurd cc
     by false none others = others none
 
-same-words : reserved_words ≡ map (λ symbol. str_to_ascii_lowercase (symbol_text symbol)) reserved_symbols
+pub same-words : reserved_words ≡ map (λ symbol. str_to_ascii_lowercase (symbol_text symbol)) reserved_symbols
 same-words = refl
 
 not-reserved : (word : List ℕ) → reserved_word word ≡ None → is_reserved (str_to_ascii_lowercase word) ≡ false

@@ -3,6 +3,7 @@
 
 mod error;
 mod gap;
+mod laws;
 mod layout;
 mod lexeme;
 mod lexemes;
@@ -11,6 +12,7 @@ mod symbol;
 
 pub use error::LexStop;
 pub use gap::Gap;
+pub use laws::{lexemes_are_proper, lexing_inverts_layout};
 pub use layout::Layout;
 pub use lexeme::{Lexeme, MAX_TEXT_LENGTH, Number, Symbol};
 pub use lexemes::Lexemes;
