@@ -1,0 +1,80 @@
+-- Part of the statement: what a line is read as, or its refusal, which is the first fault in the order of the tests: length, encoding,
+-- lexemes, open brackets, syntax, shape.
+use Rattle.std.specs.Prelude.{◌≡◌, ℕ, ◌+◌, ◌-◌, ◌≤◌, ◌<◌, Bool, true, false, List, [], ◌∷◌, length, Option, Some, None, Result, Ok, Err, if◌then◌else◌, nat_lt, ◌==◌, slice_index_or}
+use Rattle.std.specs.Str.Lossy.{utf8_valid_len}
+use Rattle.gp_grammar.specs.declared.limits.TheConstants.{MAX_LINE_LENGTH, MAX_OPEN}
+use Rattle.gp_grammar.specs.Syntax.{Lexemes, Bytes, Command, ScriptLine, Question}
+use Rattle.gp_grammar.specs.CommandGrammar.{IsCommand, IsScriptLine}
+use Rattle.gp_grammar.specs.QuestionGrammar.{IsQuestion}
+use Rattle.gp_grammar.specs.Places.{Stops}
+use Rattle.gp_grammar.specs.Depth.{is_too_deep}
+use Rattle.gp_grammar.specs.Limits.{Limit, depth, Shape, command_shape, line_shape, question_shape, passed_limit}
+use Rattle.gp_grammar.specs.Parsing.{Outcome, Parser, whole}
+use Rattle.gp_grammar.specs.CommandParsing.{command, script_line}
+use Rattle.gp_grammar.specs.QuestionParsing.{question}
+
+-- why a text is refused; columns count from 1
+pub data Fault : Type 0 where
+  too_long not_utf8 : Fault
+  lexical syntax : ℕ → Fault
+  over : Limit → Fault
+
+-- the lexemes of a text and their columns, or the column of the lexical fault
+abbrev pub Lexed : Type 0
+Lexed = Result (Lexemes × List ℕ) ℕ
+
+-- the column of the first lexeme of the rest, or that behind the last byte
+abbrev pub column_of : Lexemes → List ℕ → ℕ → Lexemes → ℕ
+column_of lexemes columns end rest = slice_index_or columns (length lexemes - length rest) end
+
+module _ {A : Type 0} (Is : Lexemes → A → Type 0) (shape : A → Shape) where
+  -- the lexemes of a text, after the lexical tests, are read as this
+  pub record ReadsLexemes (lexemes : Lexemes) (x : A) : Type 0 where
+    pub shallow : is_too_deep MAX_OPEN lexemes ≡ false
+    pub derived : Is lexemes x
+    pub within : passed_limit (shape x) ≡ None
+
+  -- they are refused: for open brackets, for syntax or for a limit, in this order
+  pub data RefusesLexemes (lexemes : Lexemes) (columns : List ℕ) (end : ℕ) : Fault → Type 0 where
+    deep : is_too_deep MAX_OPEN lexemes ≡ true → RefusesLexemes lexemes columns end (over depth)
+    stopped : (rest : Lexemes) → is_too_deep MAX_OPEN lexemes ≡ false → Stops Is lexemes rest
+        → RefusesLexemes lexemes columns end (syntax (column_of lexemes columns end rest))
+    limited : (x : A) (limit : Limit) → is_too_deep MAX_OPEN lexemes ≡ false → Is lexemes x → passed_limit (shape x) ≡ Some limit
+        → RefusesLexemes lexemes columns end (over limit)
+
+-- ---- reading as functions
+
+abbrev pub within_shape : {A : Type 0} → A → Option Limit → Result A Fault
+within_shape x None = Ok x
+within_shape x (Some limit) = Err (over limit)
+
+abbrev pub placed : {A : Type 0} → (A → Shape) → Lexemes → List ℕ → ℕ → Outcome A → Result A Fault
+placed shape lexemes columns end (Ok x) = within_shape x (passed_limit (shape x))
+placed shape lexemes columns end (Err rest) = Err (syntax (column_of lexemes columns end rest))
+
+abbrev pub read_lexemes : {A : Type 0} → Parser A → (A → Shape) → Lexemes → List ℕ → ℕ → Result A Fault
+read_lexemes parser shape lexemes columns end =
+    if is_too_deep MAX_OPEN lexemes then Err (over depth) else placed shape lexemes columns end (whole parser lexemes)
+
+abbrev pub read_lexed : {A : Type 0} → Parser A → (A → Shape) → ℕ → Lexed → Result A Fault
+read_lexed parser shape end (Err column) = Err (lexical column)
+read_lexed parser shape end (Ok l) = read_lexemes parser shape l.0 l.1 end
+
+-- over the lexer
+module _ (lexemes_of : Bytes → Lexed) where
+  abbrev pub read_text : {A : Type 0} → Parser A → (A → Shape) → Bytes → Result A Fault
+  read_text parser shape bytes =
+      if utf8_valid_len bytes == length bytes then read_lexed parser shape (length bytes + 1) (lexemes_of bytes) else Err not_utf8
+
+  abbrev pub read_line : {A : Type 0} → Parser A → (A → Shape) → Bytes → Result A Fault
+  read_line parser shape bytes = if nat_lt MAX_LINE_LENGTH (length bytes) then Err too_long else read_text parser shape bytes
+
+  -- a command without a session, of any length
+  abbrev pub command_of : Bytes → Result Command Fault
+  command_of = read_text command command_shape
+
+  abbrev pub script_line_of : Bytes → Result ScriptLine Fault
+  script_line_of = read_line script_line line_shape
+
+  abbrev pub question_of : Bytes → Result Question Fault
+  question_of = read_line question question_shape
