@@ -1,1 +1,8 @@
 mod Examples
+pub mod Agreement
+pub mod Locality
+pub mod Completeness
+pub mod Building
+pub mod Soundness
+pub mod CappingLemmas
+pub mod WholeLaws
