@@ -6,3 +6,7 @@ pub mod Building
 pub mod Soundness
 pub mod CappingLemmas
 pub mod WholeLaws
+pub mod Shrinking
+pub mod CommandBuilding
+pub mod SoundCombinators
+pub mod CommandSoundness

@@ -87,14 +87,18 @@ tuple = in_brackets (separated literal)
 abbrev pub named : Bytes → Bytes → Item
 named table name = record { table = table; name = name }
 
+-- a name without AS, or none
+abbrev pub optional_name : Bytes → Parser Item
+optional_name table [] = Ok (named table table, [])
+optional_name table (Word name ∷ ts) = Ok (named table name, ts)
+optional_name table (Fixed symbol ∷ ts) = Ok (named table table, Fixed symbol ∷ ts)
+optional_name table (Number n ∷ ts) = Ok (named table table, Number n ∷ ts)
+optional_name table (Big ∷ ts) = Ok (named table table, Big ∷ ts)
+optional_name table (Text bytes ∷ ts) = Ok (named table table, Text bytes ∷ ts)
+
 -- the name of an item, behind its table
 abbrev pub alias : Bytes → Parser Item
-alias table [] = Ok (named table table, [])
-alias table (Word name ∷ ts) = Ok (named table name, ts)
-alias table (Fixed symbol ∷ ts) = where_next s.As (λ rest. identifier rest >>= (λ r. Ok (named table r.0, r.1))) (accept (named table table)) (Fixed symbol ∷ ts)
-alias table (Number n ∷ ts) = Ok (named table table, Number n ∷ ts)
-alias table (Big ∷ ts) = Ok (named table table, Big ∷ ts)
-alias table (Text bytes ∷ ts) = Ok (named table table, Text bytes ∷ ts)
+alias table = where_next s.As (λ rest. identifier rest >>= (λ r. Ok (named table r.0, r.1))) (optional_name table)
 
 unfoldable pub item : Parser Item
 item ts = identifier ts >>= (λ r. alias r.0 r.1)
