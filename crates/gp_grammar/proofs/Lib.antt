@@ -10,3 +10,4 @@ pub mod Shrinking
 pub mod CommandBuilding
 pub mod SoundCombinators
 pub mod CommandSoundness
+pub mod CommandCompleteness
