@@ -68,7 +68,7 @@ Loose rest = first_binds rest < 1
 
 -- ---- the parsers shrink
 
-shrinks-literal : Shrinks c.literal
+pub shrinks-literal : Shrinks c.literal
 shrinks-literal = record { below = below }
   where
     behind_sign : (ts : Lexemes) → Below (length (Fixed s.Minus ∷ ts)) (c.negative ts)
@@ -91,11 +91,11 @@ shrinks-literal = record { below = below }
     below (Word word ∷ ts) = tt
     below (Big ∷ ts) = tt
 
-shrinks-tuple : Shrinks c.tuple
+pub shrinks-tuple : Shrinks c.tuple
 unfolding c.tuple
 shrinks-tuple = shrinks-in_brackets (separated c.literal) (shrinks-keeps _ (shrinks-separated c.literal shrinks-literal))
 
-shrinks-column : Shrinks c.column
+pub shrinks-column : Shrinks c.column
 unfolding c.column
 shrinks-column = shrinks-bind identifier _ shrinks-identifier (λ name. keeps-next s.Int (accept _) _ (keeps-accept _) (shrinks-keeps _ (shrinks-then s.Text (accept _) (keeps-accept _))))
 
@@ -110,7 +110,7 @@ keeps-optional_name table = record { below = below }
     below (Big ∷ ts) = omega arith
     below (Text bytes ∷ ts) = omega arith
 
-shrinks-item : Shrinks c.item
+pub shrinks-item : Shrinks c.item
 unfolding c.item
 shrinks-item = shrinks-bind identifier _ shrinks-identifier (λ table. keeps-next s.As (λ rest. identifier rest >>= (λ r. Ok (named table r.0, r.1))) (c.optional_name table)
     (shrinks-keeps _ (shrinks-bind identifier _ shrinks-identifier (λ name. keeps-accept (named table name)))) (keeps-optional_name table))
@@ -131,10 +131,10 @@ shrinks-block = shrinks-then s.Select _ (keeps-bind c.items _ keeps-items (λ it
     (keeps-bind (separated c.item) _ (shrinks-keeps _ (shrinks-separated c.item shrinks-item)) (λ from. keeps-bind c.condition _ keeps-condition
         (λ cond. keeps-accept (record { items = items; from = from; cond = cond })))))))
 
-shrinks-all : Shrinks (s.All then c.block)
+pub shrinks-all : Shrinks (s.All then c.block)
 shrinks-all = shrinks-then s.All c.block (shrinks-keeps _ shrinks-block)
 
-shrinks-set_term : Shrinks c.set_term
+pub shrinks-set_term : Shrinks c.set_term
 unfolding c.set_term
 shrinks-set_term = shrinks-bind identifier _ shrinks-identifier (λ col. shrinks-keeps _ (shrinks-then s.Eq _
     (keeps-bind term _ (shrinks-keeps _ shrinks-term) (λ x. keeps-accept (record { col = col; term = x })))))

@@ -11,3 +11,5 @@ pub mod CommandBuilding
 pub mod SoundCombinators
 pub mod CommandSoundness
 pub mod CommandCompleteness
+pub mod LocalCombinators
+pub mod CommandLocality

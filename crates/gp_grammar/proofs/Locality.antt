@@ -40,18 +40,18 @@ module _ (t : Lexeme) (m m' : Lexemes) where
     pub falls : (ts : Lexemes) → length ts < n → Falls ts (p ts)
     pub along : (ts us : Lexemes) → length ts < n → SameRest ts us → Same (p ts) (p us) ⊎ Past (p ts)
 
-  falls-less : {A : Type 0} (ts us : Lexemes) (o : Outcome (A × Lexemes)) → length ts ≤ length us → Falls ts o → Falls us o
+  pub falls-less : {A : Type 0} (ts us : Lexemes) (o : Outcome (A × Lexemes)) → length ts ≤ length us → Falls ts o → Falls us o
   falls-less ts us (Ok a) h f = omega arith
   falls-less ts us (Err a) h f = omega arith
 
-  falls-past : {A : Type 0} (ts : Lexemes) (o : Outcome (A × Lexemes)) → length ts ≤ length m → Falls ts o → Past o
+  pub falls-past : {A : Type 0} (ts : Lexemes) (o : Outcome (A × Lexemes)) → length ts ≤ length m → Falls ts o → Past o
   falls-past ts (Ok a) h f = omega arith
   falls-past ts (Err a) h f = omega arith
 
-  local-weaken : {A : Type 0} (n k : ℕ) (p : Parser A) → k ≤ n → Local n p → Local k p
+  pub local-weaken : {A : Type 0} (n k : ℕ) (p : Parser A) → k ≤ n → Local n p → Local k p
   local-weaken n k p h w = record { falls = λ ts lt. w.falls ts (omega arith); along = λ ts us lt e. w.along ts us (omega arith) e }
 
-  local-ok : {A : Type 0} (n : ℕ) (x : A) → Local n (λ ts. Ok (x, ts))
+  pub local-ok : {A : Type 0} (n : ℕ) (x : A) → Local n (λ ts. Ok (x, ts))
   local-ok n x = record { falls = λ ts lt. omega arith; along = λ ts us lt e. inl (refl, e) }
 
   bind-falls : {A B : Type 0} (n : ℕ) (f : A × Lexemes → Outcome (B × Lexemes)) → ((x : A) → Local n (λ ts. f (x, ts))) → (ts : Lexemes) → length ts < n
@@ -69,7 +69,7 @@ module _ (t : Lexeme) (m m' : Lexemes) where
   bind-along n f k ts lt (Ok a) q h (inr e) = inr (falls-past a.1 (f a) e ((k a.0).falls a.1 (omega arith)))
   bind-along n f k ts lt (Err a) q h (inr e) = inr e
 
-  local-bind : {A B : Type 0} (n : ℕ) (p : Parser A) (f : A × Lexemes → Outcome (B × Lexemes)) → Local n p → ((x : A) → Local n (λ ts. f (x, ts))) → Local n (λ ts. p ts >>= f)
+  pub local-bind : {A B : Type 0} (n : ℕ) (p : Parser A) (f : A × Lexemes → Outcome (B × Lexemes)) → Local n p → ((x : A) → Local n (λ ts. f (x, ts))) → Local n (λ ts. p ts >>= f)
   local-bind n p f w k = record {
     falls = λ ts lt. bind-falls n f k ts lt (p ts) (w.falls ts lt);
     along = λ ts us lt e. bind-along n f k ts lt (p ts) (p us) (w.falls ts lt) (w.along ts us lt e);
@@ -123,26 +123,26 @@ module _ (t : Lexeme) (m m' : Lexemes) where
     along = λ ts us lt e. chosen-along n h some w k is ts us lt e (strip symbol ts) (strip symbol us) (strip-less symbol ts) (strip-along symbol ts us e);
   }
 
-  local-err : {A : Type 0} (n : ℕ) → Local {A = A} n (λ ts. Err ts)
+  pub local-err : {A : Type 0} (n : ℕ) → Local {A = A} n (λ ts. Err ts)
   local-err n = record { falls = λ ts lt. omega arith; along = λ ts us lt e. inl e }
 
-  local-expect : {B : Type 0} (n : ℕ) (symbol : Symbol) (f : Parser B) → Local n f → Local n (λ ts. expect symbol ts >>= f)
+  pub local-expect : {B : Type 0} (n : ℕ) (symbol : Symbol) (f : Parser B) → Local n f → Local n (λ ts. expect symbol ts >>= f)
   unfolding expect
   local-expect n symbol f k = local-strip n symbol (λ ts o. expected ts o >>= f) f (local-err n) k (λ ts rest. refl)
 
   -- ---- names and operators
 
-  here : (x : Lexeme) → x ≡ t → SameRest (x ∷ m) (x ∷ m')
+  pub here : (x : Lexeme) → x ≡ t → SameRest (x ∷ m) (x ∷ m')
   here x e = record { front = []; first = ap (λ z. z ∷ m) e; second = ap (λ z. z ∷ m') e }
 
-  there : (x : Lexeme) (front : Lexemes) → SameRest (x ∷ (front ++ (t ∷ m))) (x ∷ (front ++ (t ∷ m')))
+  pub there : (x : Lexeme) (front : Lexemes) → SameRest (x ∷ (front ++ (t ∷ m))) (x ∷ (front ++ (t ∷ m')))
   there x front = record { front = x ∷ front; first = refl; second = refl }
 
-  after : (front : Lexemes) → SameRest (front ++ (t ∷ m)) (front ++ (t ∷ m'))
+  pub after : (front : Lexemes) → SameRest (front ++ (t ∷ m)) (front ++ (t ∷ m'))
   after front = record { front = front; first = refl; second = refl }
 
   -- a reader that looks at the first token
-  along-by : {A : Type 0} (p : Parser A) → (n : ℕ) → ((x : Lexeme) → x ≡ t → length m < n → Same (p (x ∷ m)) (p (x ∷ m')) ⊎ Past (p (x ∷ m)))
+  pub along-by : {A : Type 0} (p : Parser A) → (n : ℕ) → ((x : Lexeme) → x ≡ t → length m < n → Same (p (x ∷ m)) (p (x ∷ m')) ⊎ Past (p (x ∷ m)))
       → ((x : Lexeme) (front : Lexemes) → length (front ++ (t ∷ m)) < n → Same (p (x ∷ (front ++ (t ∷ m)))) (p (x ∷ (front ++ (t ∷ m')))) ⊎ Past (p (x ∷ (front ++ (t ∷ m)))))
       → (ts us : Lexemes) → length ts < suc n → SameRest ts us → Same (p ts) (p us) ⊎ Past (p ts)
   along-by p n one more ts us lt e =
@@ -176,7 +176,7 @@ module _ (t : Lexeme) (m m' : Lexemes) where
   identifier-falls (Big ∷ ts) = omega arith
   identifier-falls (Text bytes ∷ ts) = omega arith
 
-  local-identifier : (n : ℕ) → Local n identifier
+  pub local-identifier : (n : ℕ) → Local n identifier
   local-identifier n = record { falls = λ ts lt. identifier-falls ts; along = λ ts us lt e. along-by identifier n (λ x e' lt'. identifier-one x e') (λ x front lt'. identifier-more x front) ts us (omega arith) e }
 
   abbrev OperatorAlong : Option (Op × Lexemes) → Option (Op × Lexemes) → Type 0
@@ -235,7 +235,7 @@ module _ (t : Lexeme) (m m' : Lexemes) where
     along = λ ts us lt e. joined-along n h some w k is ts us lt e (next_operator ops ts) (next_operator ops us) (next_operator-less ops ts) (next_operator-along ops ts us e);
   }
 
-  local-same : {A : Type 0} (n : ℕ) (p q : Parser A) → ((ts : Lexemes) → q ts ≡ p ts) → Local n p → Local n q
+  pub local-same : {A : Type 0} (n : ℕ) (p q : Parser A) → ((ts : Lexemes) → q ts ≡ p ts) → Local n p → Local n q
   local-same n p q is w = record {
     falls = λ ts lt. let F : Outcome _ → Type 0 = λ x. Falls ts x in subst F (sym (is ts)) (w.falls ts lt);
     along = λ ts us lt e. let P : Outcome _ → Type 0 = λ x. Same x (q us) ⊎ Past x in let Q : Outcome _ → Type 0 = λ x. Same (p ts) x ⊎ Past (p ts) in
