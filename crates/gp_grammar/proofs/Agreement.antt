@@ -3,7 +3,7 @@ use Rattle.std.proofs.Common.{◌≡◌, ℕ, zero, suc, pos, ◌+◌, ◌<◌, 
 use Rattle.gp_lexer.specs.declared.lexeme.Symbol.{Symbol}
 use Rattle.gp_lexer.specs.declared.lexeme.Symbol.TheVariants as s
 use Rattle.gp_lexer.specs.declared.lexeme.Lexeme.{Lexeme}
-use Rattle.gp_lexer.specs.declared.lexeme.Lexeme.TheVariants.{Symbol as Fixed, Word, Number, Big, Text}
+use Rattle.gp_lexer.specs.declared.lexeme.Lexeme.TheVariants.{Symbol as Sign, Word, Number, Big, Text}
 use Rattle.gp_grammar.specs.declared.level.Level.{Level}
 use Rattle.gp_grammar.specs.declared.level.Level.TheVariants as l
 use Rattle.gp_grammar.specs.declared.op.Op.{Op}
@@ -63,7 +63,7 @@ with_rest-less t ts (Some op) = omega arith
 
 pub next_operator-less : (ops : Symbol → Option Op) (ts : Lexemes) → IfSome (next_operator ops ts) (λ o. length o.1 < length ts)
 next_operator-less ops [] = tt
-next_operator-less ops (Fixed symbol ∷ ts) = with_rest-less (Fixed symbol) ts (ops symbol)
+next_operator-less ops (Sign symbol ∷ ts) = with_rest-less (Sign symbol) ts (ops symbol)
 next_operator-less ops (Word word ∷ ts) = tt
 next_operator-less ops (Number n ∷ ts) = tt
 next_operator-less ops (Big ∷ ts) = tt
@@ -71,7 +71,7 @@ next_operator-less ops (Text bytes ∷ ts) = tt
 
 pub identifier-agree : (ts : Lexemes) → Agree (length ts) (identifier ts) (identifier ts)
 identifier-agree [] = agree-refl _ (Err []) tt
-identifier-agree (Fixed symbol ∷ ts) = agree-refl _ (Err (Fixed symbol ∷ ts)) tt
+identifier-agree (Sign symbol ∷ ts) = agree-refl _ (Err (Sign symbol ∷ ts)) tt
 identifier-agree (Word word ∷ ts) = agree-refl _ (Ok (word, ts)) (omega arith)
 identifier-agree (Number n ∷ ts) = agree-refl _ (Err (Number n ∷ ts)) tt
 identifier-agree (Big ∷ ts) = agree-refl _ (Err (Big ∷ ts)) tt
@@ -183,7 +183,7 @@ module _ (n : ℕ) (f g : Parser Term) (agrees : AgreeBelow n f g) where
 
   primary-agree : AgreeBelow (suc n) (primary f) (primary g)
   primary-agree [] lt = agree-refl _ (Err []) tt
-  primary-agree (Fixed symbol ∷ ts) lt = primary_by-agree symbol (Fixed symbol ∷ ts) ts (omega arith)
+  primary-agree (Sign symbol ∷ ts) lt = primary_by-agree symbol (Sign symbol ∷ ts) ts (omega arith)
   primary-agree (Word word ∷ ts) lt = column-agree word ts
   primary-agree (Number m ∷ ts) lt = agree-refl _ (Ok (int (pos m), ts)) (omega arith)
   primary-agree (Big ∷ ts) lt = agree-refl _ (Err (Big ∷ ts)) tt

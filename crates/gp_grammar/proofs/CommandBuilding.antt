@@ -3,7 +3,7 @@ use Rattle.std.proofs.Common.{◌≡◌, ℕ, List, [], ◌∷◌, ◌++◌, map
 use Rattle.std.specs.Prelude.{option_map}
 use Rattle.std.proofs.lemmas.List.{map-append}
 use Rattle.gp_lexer.specs.declared.lexeme.Symbol.TheVariants as s
-use Rattle.gp_lexer.specs.declared.lexeme.Lexeme.TheVariants.{Symbol as Fixed, Word}
+use Rattle.gp_lexer.specs.declared.lexeme.Lexeme.TheVariants.{Symbol as Sign, Word}
 use Rattle.gp_grammar.specs.Syntax as syntax
 use Rattle.gp_grammar.specs.Syntax.{Lexemes, Bytes, Term, SetTerm, Item, Items, Block, Query, Command, ScriptLine}
 use Rattle.gp_grammar.specs.Capping.{capped, capped_set, capped_items, capped_block, capped_command, capped_line}
@@ -48,10 +48,10 @@ BuildsSession = Built IsSessionCommand capped_line
 pub no_condition : BuildsWhere [] None
 no_condition = record { tree = None; is = g.absent; same = refl }
 
-pub condition : (a : Lexemes) (x : Term) → BuildsTerm a x → BuildsWhere (Fixed s.Where ∷ a) (Some x)
+pub condition : (a : Lexemes) (x : Term) → BuildsTerm a x → BuildsWhere (Sign s.Where ∷ a) (Some x)
 condition a x i = record { tree = Some i.tree; is = g.present a i.tree i.is; same = ap (λ z. Some z) i.same }
 
-pub star : BuildsItems (Fixed s.Star ∷ []) syntax.star
+pub star : BuildsItems (Sign s.Star ∷ []) syntax.star
 star = record { tree = syntax.star; is = g.star; same = refl }
 
 pub terms : (a : Lexemes) (xs : List Term) → IsList comma BuildsTerm a xs → BuildsItems a (syntax.list xs)
@@ -59,7 +59,7 @@ terms a xs i = let w : Built (IsList comma IsTerm) (map capped) a xs = list-buil
     record { tree = syntax.list w.tree; is = g.terms a w.tree w.is; same = ap (λ z. syntax.list z) w.same }
 
 pub block : (a b w : Lexemes) (items : Items) (from : List Item) (cond : Option Term) → BuildsItems a items → IsList comma IsItem b from → BuildsWhere w cond
-    → BuildsBlock (Fixed s.Select ∷ (a ++ (Fixed s.From ∷ (b ++ w)))) (record { items = items; from = from; cond = cond })
+    → BuildsBlock (Sign s.Select ∷ (a ++ (Sign s.From ∷ (b ++ w)))) (record { items = items; from = from; cond = cond })
 block a b w items from cond i j k = record {
   tree = record { items = i.tree; from = from; cond = k.tree };
   is = g.block a b w i.tree from k.tree i.is j k.is;
@@ -69,15 +69,15 @@ block a b w items from cond i j k = record {
 pub query : (a : Lexemes) (xs : Query) → IsList g.union_all BuildsBlock a xs → BuildsQuery a xs
 query a xs i = list-built i
 
-pub set_term : (col : Bytes) (a : Lexemes) (x : Term) → BuildsTerm a x → BuildsSetTerm (Word col ∷ Fixed s.Eq ∷ a) (record { col = col; term = x })
+pub set_term : (col : Bytes) (a : Lexemes) (x : Term) → BuildsTerm a x → BuildsSetTerm (Word col ∷ Sign s.Eq ∷ a) (record { col = col; term = x })
 set_term col a x i = record { tree = record { col = col; term = i.tree }; is = g.set_term col a i.tree i.is; same = ap (λ z. record { col = col; term = z }) i.same }
 
 pub insert_select : (table : Bytes) (a : Lexemes) (xs : Query) → BuildsQuery a xs
-    → BuildsCommand (Fixed s.Insert ∷ Fixed s.Into ∷ Word table ∷ a) (syntax.insert_select table xs)
+    → BuildsCommand (Sign s.Insert ∷ Sign s.Into ∷ Word table ∷ a) (syntax.insert_select table xs)
 insert_select table a xs i = record { tree = syntax.insert_select table i.tree; is = g.insert_select table a i.tree i.is; same = ap (λ z. syntax.insert_select table z) i.same }
 
 pub update : (table : Bytes) (a w : Lexemes) (sets : List SetTerm) (cond : Option Term) → IsList comma BuildsSetTerm a sets → BuildsWhere w cond
-    → BuildsCommand (Fixed s.Update ∷ Word table ∷ Fixed s.Set ∷ (a ++ w)) (syntax.update table sets cond)
+    → BuildsCommand (Sign s.Update ∷ Word table ∷ Sign s.Set ∷ (a ++ w)) (syntax.update table sets cond)
 update table a w sets cond i j =
     let l : Built (IsList comma IsSetTerm) (map capped_set) a sets = list-built i in
     record {
@@ -87,7 +87,7 @@ update table a w sets cond i j =
     }
 
 pub delete : (table : Bytes) (w : Lexemes) (cond : Option Term) → BuildsWhere w cond
-    → BuildsCommand (Fixed s.Delete ∷ Fixed s.From ∷ Word table ∷ w) (syntax.delete table cond)
+    → BuildsCommand (Sign s.Delete ∷ Sign s.From ∷ Word table ∷ w) (syntax.delete table cond)
 delete table w cond i = record { tree = syntax.delete table i.tree; is = g.delete table w i.tree i.is; same = ap (λ z. syntax.delete table z) i.same }
 
 pub select : (a : Lexemes) (xs : Query) → BuildsQuery a xs → BuildsCommand a (syntax.select xs)
@@ -98,7 +98,7 @@ pub as_is : (a : Lexemes) (x : Command) → IsCommand a x → capped_command x �
 as_is a x i e = record { tree = x; is = i; same = sym e }
 
 pub in_session : (name : Bytes) (session : ℕ) (a : Lexemes) (x : Command) → session_of name ≡ Some session → BuildsCommand a x
-    → BuildsSession (Word name ∷ Fixed s.Colon ∷ a) (record { session = session; command = x })
+    → BuildsSession (Word name ∷ Sign s.Colon ∷ a) (record { session = session; command = x })
 in_session name session a x e i = record {
   tree = record { session = session; command = i.tree };
   is = g.in_session name session a i.tree e i.is;

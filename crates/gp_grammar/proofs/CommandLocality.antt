@@ -7,7 +7,7 @@ use Rattle.gp_base.specs.declared.table.Kind.TheVariants as kind
 use Rattle.gp_lexer.specs.declared.lexeme.Symbol.{Symbol}
 use Rattle.gp_lexer.specs.declared.lexeme.Symbol.TheVariants as s
 use Rattle.gp_lexer.specs.declared.lexeme.Lexeme.{Lexeme}
-use Rattle.gp_lexer.specs.declared.lexeme.Lexeme.TheVariants.{Symbol as Fixed, Word, Number, Big, Text}
+use Rattle.gp_lexer.specs.declared.lexeme.Lexeme.TheVariants.{Symbol as Sign, Word, Number, Big, Text}
 use Rattle.gp_grammar.specs.Syntax as syntax
 use Rattle.gp_grammar.specs.Syntax.{Lexemes, Bytes, Term, SetTerm, Item, Items, Block, Query, Command, ScriptLine}
 use Rattle.gp_grammar.specs.CommandGrammar.{session_of}
@@ -28,7 +28,7 @@ abbrev negative_choice : Lexeme → Option (Parser Cell)
 negative_choice (Number zero) = Some (accept (cell.Int (pos 0)))
 negative_choice (Number (suc n)) = Some (accept (cell.Int (negsuc n)))
 negative_choice Big = Some (accept (cell.Int (negsuc (2 ^ 63 - 1))))
-negative_choice (Fixed symbol) = None
+negative_choice (Sign symbol) = None
 negative_choice (Word word) = None
 negative_choice (Text bytes) = None
 
@@ -37,7 +37,7 @@ negative-first [] = refl
 negative-first (Number zero ∷ ts) = refl
 negative-first (Number (suc n) ∷ ts) = refl
 negative-first (Big ∷ ts) = refl
-negative-first (Fixed symbol ∷ ts) = refl
+negative-first (Sign symbol ∷ ts) = refl
 negative-first (Word word ∷ ts) = refl
 negative-first (Text bytes ∷ ts) = refl
 
@@ -47,20 +47,20 @@ literal_symbol s.Minus = Some c.negative
 literal_symbol _ = None
 
 abbrev literal_choice : Lexeme → Option (Parser Cell)
-literal_choice (Fixed symbol) = literal_symbol symbol
+literal_choice (Sign symbol) = literal_symbol symbol
 literal_choice (Number n) = Some (accept (cell.Int (pos n)))
 literal_choice (Text bytes) = Some (accept (cell.Text bytes))
 literal_choice (Word word) = None
 literal_choice Big = None
 
-literal_symbol-first : (symbol : Symbol) (ts : Lexemes) → c.literal_by symbol (Fixed symbol ∷ ts) ts ≡ by_option (literal_symbol symbol) (Err (Fixed symbol ∷ ts)) (λ p. p ts)
+literal_symbol-first : (symbol : Symbol) (ts : Lexemes) → c.literal_by symbol (Sign symbol ∷ ts) ts ≡ by_option (literal_symbol symbol) (Err (Sign symbol ∷ ts)) (λ p. p ts)
 literal_symbol-first s.Null ts = refl
 literal_symbol-first s.Minus ts = refl
 literal_symbol-first _ ts = refl
 
 literal-first : (ts : Lexemes) → c.literal ts ≡ first_choice literal_choice fail ts
 literal-first [] = refl
-literal-first (Fixed symbol ∷ ts) = literal_symbol-first symbol ts
+literal-first (Sign symbol ∷ ts) = literal_symbol-first symbol ts
 literal-first (Number n ∷ ts) = refl
 literal-first (Text bytes ∷ ts) = refl
 literal-first (Word word ∷ ts) = refl
@@ -68,7 +68,7 @@ literal-first (Big ∷ ts) = refl
 
 abbrev name_choice : Bytes → Lexeme → Option (Parser Item)
 name_choice table (Word name) = Some (accept (named table name))
-name_choice table (Fixed symbol) = None
+name_choice table (Sign symbol) = None
 name_choice table (Number n) = None
 name_choice table Big = None
 name_choice table (Text bytes) = None
@@ -76,7 +76,7 @@ name_choice table (Text bytes) = None
 name-first : (table : Bytes) (ts : Lexemes) → c.optional_name table ts ≡ first_choice (name_choice table) (accept (named table table)) ts
 name-first table [] = refl
 name-first table (Word name ∷ ts) = refl
-name-first table (Fixed symbol ∷ ts) = refl
+name-first table (Sign symbol ∷ ts) = refl
 name-first table (Number n ∷ ts) = refl
 name-first table (Big ∷ ts) = refl
 name-first table (Text bytes ∷ ts) = refl
@@ -96,13 +96,13 @@ command_symbol s.Delete = Some c.delete
 command_symbol _ = None
 
 abbrev command_choice : Lexeme → Option (Parser Command)
-command_choice (Fixed symbol) = command_symbol symbol
+command_choice (Sign symbol) = command_symbol symbol
 command_choice (Word word) = None
 command_choice (Number n) = None
 command_choice Big = None
 command_choice (Text bytes) = None
 
-command_symbol-first : (symbol : Symbol) (ts : Lexemes) → c.command_by symbol (Fixed symbol ∷ ts) ts ≡ by_option (command_symbol symbol) (selected (Fixed symbol ∷ ts)) (λ p. p ts)
+command_symbol-first : (symbol : Symbol) (ts : Lexemes) → c.command_by symbol (Sign symbol ∷ ts) ts ≡ by_option (command_symbol symbol) (selected (Sign symbol ∷ ts)) (λ p. p ts)
 unfolding c.query c.block expect
 command_symbol-first s.Create ts = refl
 command_symbol-first s.Begin ts = refl
@@ -116,7 +116,7 @@ command_symbol-first _ ts = refl
 command-first : (ts : Lexemes) → c.command ts ≡ first_choice command_choice selected ts
 unfolding c.query c.block expect
 command-first [] = refl
-command-first (Fixed symbol ∷ ts) = command_symbol-first symbol ts
+command-first (Sign symbol ∷ ts) = command_symbol-first symbol ts
 command-first (Word word ∷ ts) = refl
 command-first (Number n ∷ ts) = refl
 command-first (Big ∷ ts) = refl
@@ -124,7 +124,7 @@ command-first (Text bytes ∷ ts) = refl
 
 abbrev session_choice : Lexeme → Option (Parser ScriptLine)
 session_choice (Word name) = option_map c.in_session (session_of name)
-session_choice (Fixed symbol) = None
+session_choice (Sign symbol) = None
 session_choice (Number n) = None
 session_choice Big = None
 session_choice (Text bytes) = None
@@ -136,7 +136,7 @@ session-first (Word name ∷ ts) = go (session_of name)
     go : (o : Option ℕ) → by_option o (Err (Word name ∷ ts)) (λ session. c.in_session session ts) ≡ by_option (option_map c.in_session o) (Err (Word name ∷ ts)) (λ p. p ts)
     go None = refl
     go (Some session) = refl
-session-first (Fixed symbol ∷ ts) = refl
+session-first (Sign symbol ∷ ts) = refl
 session-first (Number n ∷ ts) = refl
 session-first (Big ∷ ts) = refl
 session-first (Text bytes ∷ ts) = refl
@@ -152,7 +152,7 @@ module _ (t : Lexeme) (m m' : Lexemes) where
   negative-chosen n (Number zero) p e = good-is n _ p (local-ok t m m' n (cell.Int (pos 0))) e
   negative-chosen n (Number (suc k)) p e = good-is n _ p (local-ok t m m' n (cell.Int (negsuc k))) e
   negative-chosen n Big p e = good-is n _ p (local-ok t m m' n (cell.Int (negsuc (2 ^ 63 - 1)))) e
-  negative-chosen n (Fixed symbol) p e = cc
+  negative-chosen n (Sign symbol) p e = cc
   negative-chosen n (Word word) p e = cc
   negative-chosen n (Text bytes) p e = cc
 
@@ -165,7 +165,7 @@ module _ (t : Lexeme) (m m' : Lexemes) where
   literal_symbol-chosen n _ p e = cc
 
   literal-chosen : (n : ℕ) (x : Lexeme) (p : Parser Cell) → literal_choice x ≡ Some p → Local t m m' n p
-  literal-chosen n (Fixed symbol) p e = literal_symbol-chosen n symbol p e
+  literal-chosen n (Sign symbol) p e = literal_symbol-chosen n symbol p e
   literal-chosen n (Number k) p e = good-is n _ p (local-ok t m m' n (cell.Int (pos k))) e
   literal-chosen n (Text bytes) p e = good-is n _ p (local-ok t m m' n (cell.Text bytes)) e
   literal-chosen n (Word word) p e = cc
@@ -186,7 +186,7 @@ module _ (t : Lexeme) (m m' : Lexemes) where
 
   name-chosen : (table : Bytes) (n : ℕ) (x : Lexeme) (p : Parser Item) → name_choice table x ≡ Some p → Local t m m' n p
   name-chosen table n (Word name) p e = good-is n _ p (local-ok t m m' n (named table name)) e
-  name-chosen table n (Fixed symbol) p e = cc
+  name-chosen table n (Sign symbol) p e = cc
   name-chosen table n (Number k) p e = cc
   name-chosen table n Big p e = cc
   name-chosen table n (Text bytes) p e = cc
@@ -260,7 +260,7 @@ module _ (t : Lexeme) (m m' : Lexemes) where
   command_symbol-chosen n _ p e = cc
 
   command-chosen : (n : ℕ) (x : Lexeme) (p : Parser Command) → command_choice x ≡ Some p → Local t m m' n p
-  command-chosen n (Fixed symbol) p e = command_symbol-chosen n symbol p e
+  command-chosen n (Sign symbol) p e = command_symbol-chosen n symbol p e
   command-chosen n (Word word) p e = cc
   command-chosen n (Number k) p e = cc
   command-chosen n Big p e = cc
@@ -277,7 +277,7 @@ module _ (t : Lexeme) (m m' : Lexemes) where
       go None e = cc
       go (Some session) e = good-is n _ p (local-expect t m m' n s.Colon _ (local-bind t m m' n c.command _ (local-command n)
           (λ x. local-ok t m m' n (record { session = session; command = x })))) e
-  session-chosen n (Fixed symbol) p e = cc
+  session-chosen n (Sign symbol) p e = cc
   session-chosen n (Number k) p e = cc
   session-chosen n Big p e = cc
   session-chosen n (Text bytes) p e = cc

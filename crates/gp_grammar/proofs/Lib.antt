@@ -13,3 +13,4 @@ pub mod CommandSoundness
 pub mod CommandCompleteness
 pub mod LocalCombinators
 pub mod CommandLocality
+pub mod QuestionSoundness

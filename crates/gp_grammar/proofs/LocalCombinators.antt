@@ -3,7 +3,7 @@ use Rattle.std.proofs.Common.{◌≡◌, ℕ, zero, suc, ◌+◌, ◌<◌, ◌�
 use Rattle.gp_lexer.specs.declared.lexeme.Symbol.{Symbol}
 use Rattle.gp_lexer.specs.declared.lexeme.Symbol.TheVariants as s
 use Rattle.gp_lexer.specs.declared.lexeme.Lexeme.{Lexeme}
-use Rattle.gp_lexer.specs.declared.lexeme.Lexeme.TheVariants.{Symbol as Fixed, Word, Number, Big, Text}
+use Rattle.gp_lexer.specs.declared.lexeme.Lexeme.TheVariants.{Symbol as Sign, Word, Number, Big, Text}
 use Rattle.gp_grammar.specs.Syntax.{Lexemes, Bytes}
 use Rattle.gp_grammar.specs.Parsing.{Outcome, Parser, ◌>>=◌, by_option, is_symbol, strip, expect}
 use Rattle.gp_grammar.specs.CommandParsing.{where_next, fail, accept, many, push, separated, in_brackets, closed}
@@ -40,7 +40,7 @@ word-first text some none (x ∷ ts) = go (is_word text x)
 
 abbrev number_choice : (ℕ → Bool) → Lexeme → Option (Parser ℕ)
 number_choice fits (Number n) = cond (fits n) (Some (accept n)) None
-number_choice fits (Fixed symbol) = None
+number_choice fits (Sign symbol) = None
 number_choice fits (Word word) = None
 number_choice fits Big = None
 number_choice fits (Text bytes) = None
@@ -52,7 +52,7 @@ number-first fits (Number n ∷ ts) = go (fits n)
     go : (b : Bool) → cond b (Ok (n, ts)) (Err (Number n ∷ ts)) ≡ by_option (cond b (Some (accept n)) None) (Err (Number n ∷ ts)) (λ p. p ts)
     go true = refl
     go false = refl
-number-first fits (Fixed symbol ∷ ts) = refl
+number-first fits (Sign symbol ∷ ts) = refl
 number-first fits (Word word ∷ ts) = refl
 number-first fits (Big ∷ ts) = refl
 number-first fits (Text bytes ∷ ts) = refl
@@ -106,7 +106,7 @@ module _ (t : Lexeme) (m m' : Lexemes) where
 
   number-chosen : (n : ℕ) (fits : ℕ → Bool) (x : Lexeme) (p : Parser ℕ) → number_choice fits x ≡ Some p → Local t m m' n p
   number-chosen n fits (Number k) p e = chosen-if n (λ x. fits k) (accept k) (local-ok t m m' n k) (Number k) p e
-  number-chosen n fits (Fixed symbol) p e = cc
+  number-chosen n fits (Sign symbol) p e = cc
   number-chosen n fits (Word word) p e = cc
   number-chosen n fits Big p e = cc
   number-chosen n fits (Text bytes) p e = cc

@@ -3,7 +3,7 @@ use Rattle.std.proofs.Common.{◌≡◌, ℕ, zero, suc, pos, ◌+◌, ◌<◌, 
 use Rattle.gp_lexer.specs.declared.lexeme.Symbol.{Symbol}
 use Rattle.gp_lexer.specs.declared.lexeme.Symbol.TheVariants as s
 use Rattle.gp_lexer.specs.declared.lexeme.Lexeme.{Lexeme}
-use Rattle.gp_lexer.specs.declared.lexeme.Lexeme.TheVariants.{Symbol as Fixed, Word, Number, Big, Text}
+use Rattle.gp_lexer.specs.declared.lexeme.Lexeme.TheVariants.{Symbol as Sign, Word, Number, Big, Text}
 use Rattle.gp_grammar.specs.declared.level.Level.{Level}
 use Rattle.gp_grammar.specs.declared.level.Level.TheVariants as l
 use Rattle.gp_grammar.specs.declared.op.Op.{Op}
@@ -155,14 +155,14 @@ module _ (t : Lexeme) (m m' : Lexemes) where
       go (x ∷ front) lt = more x front (omega arith)
 
   identifier-one : (x : Lexeme) → x ≡ t → Same (identifier (x ∷ m)) (identifier (x ∷ m')) ⊎ Past (identifier (x ∷ m))
-  identifier-one (Fixed symbol) e = inl (here _ e)
+  identifier-one (Sign symbol) e = inl (here _ e)
   identifier-one (Word word) e = inr (omega arith)
   identifier-one (Number n) e = inl (here _ e)
   identifier-one Big e = inl (here _ e)
   identifier-one (Text bytes) e = inl (here _ e)
 
   identifier-more : (x : Lexeme) (front : Lexemes) → Same (identifier (x ∷ (front ++ (t ∷ m)))) (identifier (x ∷ (front ++ (t ∷ m')))) ⊎ Past (identifier (x ∷ (front ++ (t ∷ m))))
-  identifier-more (Fixed symbol) front = inl (there _ front)
+  identifier-more (Sign symbol) front = inl (there _ front)
   identifier-more (Word word) front = inl (refl, after front)
   identifier-more (Number n) front = inl (there _ front)
   identifier-more Big front = inl (there _ front)
@@ -170,7 +170,7 @@ module _ (t : Lexeme) (m m' : Lexemes) where
 
   identifier-falls : (ts : Lexemes) → Falls ts (identifier ts)
   identifier-falls [] = omega arith
-  identifier-falls (Fixed symbol ∷ ts) = omega arith
+  identifier-falls (Sign symbol ∷ ts) = omega arith
   identifier-falls (Word word ∷ ts) = omega arith
   identifier-falls (Number n ∷ ts) = omega arith
   identifier-falls (Big ∷ ts) = omega arith
@@ -190,7 +190,7 @@ module _ (t : Lexeme) (m m' : Lexemes) where
   with_rest-along (Some o) a b h = (refl, h)
 
   next_operator-head : (ops : Symbol → Option Op) (x : Lexeme) (a b : Lexemes) → SameRest a b ⊎ (length a ≤ length m) → OperatorAlong (next_operator ops (x ∷ a)) (next_operator ops (x ∷ b))
-  next_operator-head ops (Fixed symbol) a b h = with_rest-along (ops symbol) a b h
+  next_operator-head ops (Sign symbol) a b h = with_rest-along (ops symbol) a b h
   next_operator-head ops (Word word) a b h = tt
   next_operator-head ops (Number n) a b h = tt
   next_operator-head ops Big a b h = tt
@@ -291,21 +291,21 @@ module _ (t : Lexeme) (m m' : Lexemes) where
     local-choice = local-expect n s.When _ (local-bind n term _ w (λ x. local-expect n s.Then _ (local-bind n term _ w (λ y. local-expect n s.Else _ (local-bind n term _ w (λ z.
         local-expect n s.End (λ rest. Ok (case x y z, rest)) (local-ok n (case x y z))))))))
 
-    primary_by-one : (symbol : Symbol) → Fixed symbol ≡ t → length m < n → Same (r.primary term (Fixed symbol ∷ m)) (r.primary term (Fixed symbol ∷ m')) ⊎ Past (r.primary term (Fixed symbol ∷ m))
+    primary_by-one : (symbol : Symbol) → Sign symbol ≡ t → length m < n → Same (r.primary term (Sign symbol ∷ m)) (r.primary term (Sign symbol ∷ m')) ⊎ Past (r.primary term (Sign symbol ∷ m))
     primary_by-one s.Null e lt = inr (omega arith)
     primary_by-one s.Open e lt = inr (falls-past m (r.brackets term m) (omega arith) (local-brackets.falls m lt))
     primary_by-one s.Case e lt = inr (falls-past m (r.choice term m) (omega arith) (local-choice.falls m lt))
     primary_by-one _ e lt = inl (here _ e)
 
     primary-one : (x : Lexeme) → x ≡ t → length m < n → Same (r.primary term (x ∷ m)) (r.primary term (x ∷ m')) ⊎ Past (r.primary term (x ∷ m))
-    primary-one (Fixed symbol) e lt = primary_by-one symbol e lt
+    primary-one (Sign symbol) e lt = primary_by-one symbol e lt
     primary-one (Word word) e lt = inr (falls-past m (r.column word m) (omega arith) ((local-col n word).falls m lt))
     primary-one (Number k) e lt = inr (omega arith)
     primary-one Big e lt = inl (here _ e)
     primary-one (Text bytes) e lt = inr (omega arith)
 
     primary_by-more : (symbol : Symbol) (front : Lexemes) → length (front ++ (t ∷ m)) < n
-        → Same (r.primary term (Fixed symbol ∷ (front ++ (t ∷ m)))) (r.primary term (Fixed symbol ∷ (front ++ (t ∷ m')))) ⊎ Past (r.primary term (Fixed symbol ∷ (front ++ (t ∷ m))))
+        → Same (r.primary term (Sign symbol ∷ (front ++ (t ∷ m)))) (r.primary term (Sign symbol ∷ (front ++ (t ∷ m')))) ⊎ Past (r.primary term (Sign symbol ∷ (front ++ (t ∷ m))))
     primary_by-more s.Null front lt = inl (refl, after front)
     primary_by-more s.Open front lt = local-brackets.along _ _ lt (after front)
     primary_by-more s.Case front lt = local-choice.along _ _ lt (after front)
@@ -313,21 +313,21 @@ module _ (t : Lexeme) (m m' : Lexemes) where
 
     primary-more : (x : Lexeme) (front : Lexemes) → length (front ++ (t ∷ m)) < n
         → Same (r.primary term (x ∷ (front ++ (t ∷ m)))) (r.primary term (x ∷ (front ++ (t ∷ m')))) ⊎ Past (r.primary term (x ∷ (front ++ (t ∷ m))))
-    primary-more (Fixed symbol) front lt = primary_by-more symbol front lt
+    primary-more (Sign symbol) front lt = primary_by-more symbol front lt
     primary-more (Word word) front lt = (local-col n word).along _ _ lt (after front)
     primary-more (Number k) front lt = inl (refl, after front)
     primary-more Big front lt = inl (there _ front)
     primary-more (Text bytes) front lt = inl (refl, after front)
 
-    primary_by-falls : (symbol : Symbol) (ts : Lexemes) → length ts < n → Falls (Fixed symbol ∷ ts) (r.primary term (Fixed symbol ∷ ts))
+    primary_by-falls : (symbol : Symbol) (ts : Lexemes) → length ts < n → Falls (Sign symbol ∷ ts) (r.primary term (Sign symbol ∷ ts))
     primary_by-falls s.Null ts lt = omega arith
-    primary_by-falls s.Open ts lt = falls-less ts (Fixed s.Open ∷ ts) (r.brackets term ts) (omega arith) (local-brackets.falls ts lt)
-    primary_by-falls s.Case ts lt = falls-less ts (Fixed s.Case ∷ ts) (r.choice term ts) (omega arith) (local-choice.falls ts lt)
+    primary_by-falls s.Open ts lt = falls-less ts (Sign s.Open ∷ ts) (r.brackets term ts) (omega arith) (local-brackets.falls ts lt)
+    primary_by-falls s.Case ts lt = falls-less ts (Sign s.Case ∷ ts) (r.choice term ts) (omega arith) (local-choice.falls ts lt)
     primary_by-falls _ ts lt = omega arith
 
     primary-falls : (ts : Lexemes) → length ts < suc n → Falls ts (r.primary term ts)
     primary-falls [] lt = omega arith
-    primary-falls (Fixed symbol ∷ ts) lt = primary_by-falls symbol ts (omega arith)
+    primary-falls (Sign symbol ∷ ts) lt = primary_by-falls symbol ts (omega arith)
     primary-falls (Word word ∷ ts) lt = falls-less ts (Word word ∷ ts) (r.column word ts) (omega arith) ((local-col n word).falls ts (omega arith))
     primary-falls (Number k ∷ ts) lt = omega arith
     primary-falls (Big ∷ ts) lt = omega arith

@@ -6,7 +6,7 @@ use Rattle.gp_lexer.specs.contracts.lexeme.Symbol.{the_type}
 use Rattle.gp_lexer.specs.declared.lexeme.Symbol.{Symbol}
 use Rattle.gp_lexer.specs.declared.lexeme.Symbol.TheVariants as s
 use Rattle.gp_lexer.specs.declared.lexeme.Lexeme.{Lexeme}
-use Rattle.gp_lexer.specs.declared.lexeme.Lexeme.TheVariants.{Symbol as Fixed, Word, Number, Big, Text}
+use Rattle.gp_lexer.specs.declared.lexeme.Lexeme.TheVariants.{Symbol as Sign, Word, Number, Big, Text}
 use Rattle.gp_grammar.specs.declared.level.Level.{Level}
 use Rattle.gp_grammar.specs.declared.level.Level.TheVariants as l
 use Rattle.gp_grammar.specs.declared.op.Op.{Op}
@@ -79,8 +79,8 @@ sound-bind P Q ts (Err rest) f h k =
 
 -- ---- symbols
 
-same-sign : (symbol : Symbol) (t : Lexeme) → is_symbol symbol t ≡ true → t ≡ Fixed symbol
-same-sign symbol (Fixed other) h = ap (λ x. Fixed x) (same_true the_type (search rules) other symbol h)
+same-sign : (symbol : Symbol) (t : Lexeme) → is_symbol symbol t ≡ true → t ≡ Sign symbol
+same-sign symbol (Sign other) h = ap (λ x. Sign x) (same_true the_type (search rules) other symbol h)
 same-sign symbol (Word word) h = cc
 same-sign symbol (Number n) h = cc
 same-sign symbol Big h = cc
@@ -90,24 +90,24 @@ if-some : (b : Bool) (ts rest : Lexemes) → cond b (Some ts) None ≡ Some rest
 if-some true ts rest h = (refl, cc)
 if-some false ts rest h = cc
 
-pub strip-split : (symbol : Symbol) (ts rest : Lexemes) → strip symbol ts ≡ Some rest → ts ≡ Fixed symbol ∷ rest
+pub strip-split : (symbol : Symbol) (ts rest : Lexemes) → strip symbol ts ≡ Some rest → ts ≡ Sign symbol ∷ rest
 strip-split symbol [] rest h = cc
 strip-split symbol (t ∷ ts) rest h =
     let w : (is_symbol symbol t ≡ true) × (ts ≡ rest) = if-some (is_symbol symbol t) ts rest h in
-    let a : t ≡ Fixed symbol = same-sign symbol t w.0 in
+    let a : t ≡ Sign symbol = same-sign symbol t w.0 in
     let b : ts ≡ rest = w.1 in
     cc
 
 expected-sound : {B : Type 0} (symbol : Symbol) (Q : Lexemes → B → Type 0) (ts : Lexemes) (f : Lexemes → Outcome (B × Lexemes)) (o : Option Lexemes) → strip symbol ts ≡ o
-    → ((rest : Lexemes) → Sound (λ b y. Q (Fixed symbol ∷ b) y) rest (f rest)) → Sound Q ts (expected ts o >>= f)
+    → ((rest : Lexemes) → Sound (λ b y. Q (Sign symbol ∷ b) y) rest (f rest)) → Sound Q ts (expected ts o >>= f)
 expected-sound symbol Q ts f None e k =
-    let s : Sentence (λ b y. Q (Fixed symbol ∷ b) y) = sentence (λ b y. Q (Fixed symbol ∷ b) y) [] (f []) (k []) in
-    sound-err Q ts (record { lexemes = Fixed symbol ∷ s.lexemes; tree = s.tree; is = s.is })
+    let s : Sentence (λ b y. Q (Sign symbol ∷ b) y) = sentence (λ b y. Q (Sign symbol ∷ b) y) [] (f []) (k []) in
+    sound-err Q ts (record { lexemes = Sign symbol ∷ s.lexemes; tree = s.tree; is = s.is })
 expected-sound symbol Q ts f (Some rest) e k =
-    sound-at Q ts (Fixed symbol ∷ rest) (f rest) (strip-split symbol ts rest e) (sound-shift Q (Fixed symbol ∷ []) rest (f rest) (k rest))
+    sound-at Q ts (Sign symbol ∷ rest) (f rest) (strip-split symbol ts rest e) (sound-shift Q (Sign symbol ∷ []) rest (f rest) (k rest))
 
 pub expect-sound : {B : Type 0} (symbol : Symbol) (Q : Lexemes → B → Type 0) (ts : Lexemes) (f : Lexemes → Outcome (B × Lexemes))
-    → ((rest : Lexemes) → Sound (λ b y. Q (Fixed symbol ∷ b) y) rest (f rest)) → Sound Q ts (expect symbol ts >>= f)
+    → ((rest : Lexemes) → Sound (λ b y. Q (Sign symbol ∷ b) y) rest (f rest)) → Sound Q ts (expect symbol ts >>= f)
 unfolding expect
 expect-sound symbol Q ts f k = expected-sound symbol Q ts f (strip symbol ts) refl k
 
@@ -120,7 +120,7 @@ identifier-sound Q ts f k = sound-bind (λ b word. b ≡ Word word ∷ []) Q ts 
     some_name = record { lexemes = Word [] ∷ []; tree = []; is = refl }
     one : (ts : Lexemes) → Sound (λ b word. b ≡ Word word ∷ []) ts (identifier ts)
     one [] = sound-err _ [] some_name
-    one (Fixed symbol ∷ ts) = sound-err _ _ some_name
+    one (Sign symbol ∷ ts) = sound-err _ _ some_name
     one (Word word ∷ ts) = record { used = Word word ∷ []; split = refl; is = refl }
     one (Number n ∷ ts) = sound-err _ _ some_name
     one (Big ∷ ts) = sound-err _ _ some_name
@@ -130,7 +130,7 @@ identifier-sound Q ts f k = sound-bind (λ b word. b ≡ Word word ∷ []) Q ts 
 
 pub record OperatorAt (ops : Symbol → Option Op) (ts : Lexemes) (o : Op × Lexemes) : Type 0 where
   pub symbol : Symbol
-  pub split : ts ≡ Fixed symbol ∷ o.1
+  pub split : ts ≡ Sign symbol ∷ o.1
   pub is : ops symbol ≡ Some o.0
 
 with_rest-split : (symbol : Symbol) (ts : Lexemes) (found : Option Op) (o : Op × Lexemes) → with_rest ts found ≡ Some o → (found ≡ Some o.0) × (ts ≡ o.1)
@@ -139,9 +139,9 @@ with_rest-split symbol ts (Some op) o h = let e : (op, ts) ≡ o = cc in (ap (λ
 
 pub next_operator-split : (ops : Symbol → Option Op) (ts : Lexemes) (o : Op × Lexemes) → next_operator ops ts ≡ Some o → OperatorAt ops ts o
 next_operator-split ops [] o h = cc
-next_operator-split ops (Fixed symbol ∷ ts) o h =
+next_operator-split ops (Sign symbol ∷ ts) o h =
     let w : (ops symbol ≡ Some o.0) × (ts ≡ o.1) = with_rest-split symbol ts (ops symbol) o h in
-    record { symbol = symbol; split = ap (λ x. Fixed symbol ∷ x) w.1; is = w.0 }
+    record { symbol = symbol; split = ap (λ x. Sign symbol ∷ x) w.1; is = w.0 }
 next_operator-split ops (Word word ∷ ts) o h = cc
 next_operator-split ops (Number n ∷ ts) o h = cc
 next_operator-split ops (Big ∷ ts) o h = cc
@@ -162,12 +162,12 @@ chain_step-sound at part sound front left is next more ts None e = sound-ok (Aft
 chain_step-sound at part sound front left is next more ts (Some o) e =
     let w : OperatorAt (operator_of at) ts o = next_operator-split (operator_of at) ts o e in
     let f : Term × Lexemes → Outcome (Term × Lexemes) = λ r. next (binary o.0 left r.0) r.1 in
-    sound-at (After at front) ts (Fixed w.symbol ∷ o.1) (part o.1 >>= f) w.split
-        (sound-shift (After at front) (Fixed w.symbol ∷ []) o.1 (part o.1 >>= f)
-            (sound-bind (Builds (operand at)) (λ b y. Builds (g.operations at) (front ++ (Fixed w.symbol ∷ b)) y) o.1 (part o.1) f (sound o.1)
-                (λ used rest y h. sound-phrase (After at (front ++ (Fixed w.symbol ∷ used))) (λ b z. Builds (g.operations at) (front ++ (Fixed w.symbol ∷ (used ++ b))) z) rest (f (y, rest))
-                    (λ b z i. is-along (g.operations at) _ _ z (append_assoc front (Fixed w.symbol ∷ used) b) i)
-                    (more (front ++ (Fixed w.symbol ∷ used)) (binary o.0 left y) rest (built.operation at o.0 w.symbol front used left y w.is is h)))))
+    sound-at (After at front) ts (Sign w.symbol ∷ o.1) (part o.1 >>= f) w.split
+        (sound-shift (After at front) (Sign w.symbol ∷ []) o.1 (part o.1 >>= f)
+            (sound-bind (Builds (operand at)) (λ b y. Builds (g.operations at) (front ++ (Sign w.symbol ∷ b)) y) o.1 (part o.1) f (sound o.1)
+                (λ used rest y h. sound-phrase (After at (front ++ (Sign w.symbol ∷ used))) (λ b z. Builds (g.operations at) (front ++ (Sign w.symbol ∷ (used ++ b))) z) rest (f (y, rest))
+                    (λ b z i. is-along (g.operations at) _ _ z (append_assoc front (Sign w.symbol ∷ used) b) i)
+                    (more (front ++ (Sign w.symbol ∷ used)) (binary o.0 left y) rest (built.operation at o.0 w.symbol front used left y w.is is h)))))
 
 chain_within-sound : (at : Level) (part : Parser Term) → ((ts : Lexemes) → Sound (Builds (operand at)) ts (part ts)) → (n : ℕ) (front : Lexemes) (left : Term) (ts : Lexemes)
     → Builds (g.operations at) front left → Sound (After at front) ts (r.chain_within (operator_of at) part n left ts)
@@ -187,9 +187,9 @@ joined-sound at part sound ts =
 column_with-sound : (word : List ℕ) (ts : Lexemes) (o : Option Lexemes) → strip s.Dot ts ≡ o → Sound (λ b y. Builds g.primary (Word word ∷ b) y) ts (r.column_with word ts o)
 column_with-sound word ts None e = sound-ok _ ts (col None word) (built.column word)
 column_with-sound word ts (Some rest) e =
-    sound-at _ ts (Fixed s.Dot ∷ rest) (r.column_with word ts (Some rest)) (strip-split s.Dot ts rest e)
-        (sound-shift (λ b y. Builds g.primary (Word word ∷ b) y) (Fixed s.Dot ∷ []) rest (identifier rest >>= (λ r. Ok (col (Some word) r.0, r.1)))
-            (identifier-sound (λ b y. Builds g.primary (Word word ∷ Fixed s.Dot ∷ b) y) rest (λ r. Ok (col (Some word) r.0, r.1))
+    sound-at _ ts (Sign s.Dot ∷ rest) (r.column_with word ts (Some rest)) (strip-split s.Dot ts rest e)
+        (sound-shift (λ b y. Builds g.primary (Word word ∷ b) y) (Sign s.Dot ∷ []) rest (identifier rest >>= (λ r. Ok (col (Some word) r.0, r.1)))
+            (identifier-sound (λ b y. Builds g.primary (Word word ∷ Sign s.Dot ∷ b) y) rest (λ r. Ok (col (Some word) r.0, r.1))
                 (λ name rest. sound-ok _ rest (col (Some word) name) (built.qualified_column word name))))
 
 pub column-sound : (word : List ℕ) (ts : Lexemes) → Sound (λ b y. Builds g.primary (Word word ∷ b) y) ts (r.column word ts)
@@ -198,38 +198,38 @@ column-sound word ts = column_with-sound word ts (strip s.Dot ts) refl
 
 -- IS and perhaps NOT, before NULL or TRUE
 pub record Tests (front : Lexemes) (left : Term) (is : Bool) : Type 0 where
-  pub of_null : Builds g.test (front ++ (Fixed s.Null ∷ [])) (is_null left is)
-  pub of_true : Builds g.test (front ++ (Fixed s.True ∷ [])) (is_true left is)
+  pub of_null : Builds g.test (front ++ (Sign s.Null ∷ [])) (is_null left is)
+  pub of_true : Builds g.test (front ++ (Sign s.True ∷ [])) (is_true left is)
 
 truth_test-sound : (front : Lexemes) (left : Term) (is : Bool) → Tests front left is → (ts : Lexemes) (o : Option Lexemes) → strip s.Null ts ≡ o
     → Sound (λ b y. Builds g.test (front ++ b) y) ts (r.truth_test left is ts o)
 truth_test-sound front left is h ts None e =
     expect-sound s.True (λ b y. Builds g.test (front ++ b) y) ts (λ rest. Ok (is_true left is, rest)) (λ rest. sound-ok _ rest (is_true left is) h.of_true)
 truth_test-sound front left is h ts (Some rest) e =
-    record { used = Fixed s.Null ∷ []; split = strip-split s.Null ts rest e; is = h.of_null }
+    record { used = Sign s.Null ∷ []; split = strip-split s.Null ts rest e; is = h.of_null }
 
 value_test-sound : (front : Lexemes) (left : Term) (is : Bool) → Tests front left is → (ts : Lexemes) → Sound (λ b y. Builds g.test (front ++ b) y) ts (r.value_test left is ts)
 unfolding r.value_test
 value_test-sound front left is h ts = truth_test-sound front left is h ts (strip s.Null ts) refl
 
 is_test-sound : (a : Lexemes) (left : Term) → Builds g.comparison a left → (ts : Lexemes) (o : Option Lexemes) → strip s.Not ts ≡ o
-    → Sound (λ b y. Builds g.test (a ++ (Fixed s.Is ∷ b)) y) ts (r.is_test left ts o)
+    → Sound (λ b y. Builds g.test (a ++ (Sign s.Is ∷ b)) y) ts (r.is_test left ts o)
 is_test-sound a left is ts None e =
-    sound-phrase (λ b y. Builds g.test ((a ++ (Fixed s.Is ∷ [])) ++ b) y) _ ts (r.value_test left true ts) (λ b y i. is-along g.test _ _ y (append_assoc a (Fixed s.Is ∷ []) b) i)
-        (value_test-sound (a ++ (Fixed s.Is ∷ [])) left true (record { of_null = rw append_assoc (built.null_test a left is); of_true = rw append_assoc (built.true_test a left is) }) ts)
+    sound-phrase (λ b y. Builds g.test ((a ++ (Sign s.Is ∷ [])) ++ b) y) _ ts (r.value_test left true ts) (λ b y i. is-along g.test _ _ y (append_assoc a (Sign s.Is ∷ []) b) i)
+        (value_test-sound (a ++ (Sign s.Is ∷ [])) left true (record { of_null = rw append_assoc (built.null_test a left is); of_true = rw append_assoc (built.true_test a left is) }) ts)
 is_test-sound a left is ts (Some rest) e =
-    sound-at _ ts (Fixed s.Not ∷ rest) (r.value_test left false rest) (strip-split s.Not ts rest e)
-        (sound-shift (λ b y. Builds g.test (a ++ (Fixed s.Is ∷ b)) y) (Fixed s.Not ∷ []) rest (r.value_test left false rest)
-            (sound-phrase (λ b y. Builds g.test ((a ++ (Fixed s.Is ∷ Fixed s.Not ∷ [])) ++ b) y) _ rest (r.value_test left false rest) (λ b y i. is-along g.test _ _ y (append_assoc a (Fixed s.Is ∷ Fixed s.Not ∷ []) b) i)
-                (value_test-sound (a ++ (Fixed s.Is ∷ Fixed s.Not ∷ [])) left false
+    sound-at _ ts (Sign s.Not ∷ rest) (r.value_test left false rest) (strip-split s.Not ts rest e)
+        (sound-shift (λ b y. Builds g.test (a ++ (Sign s.Is ∷ b)) y) (Sign s.Not ∷ []) rest (r.value_test left false rest)
+            (sound-phrase (λ b y. Builds g.test ((a ++ (Sign s.Is ∷ Sign s.Not ∷ [])) ++ b) y) _ rest (r.value_test left false rest) (λ b y i. is-along g.test _ _ y (append_assoc a (Sign s.Is ∷ Sign s.Not ∷ []) b) i)
+                (value_test-sound (a ++ (Sign s.Is ∷ Sign s.Not ∷ [])) left false
                     (record { of_null = rw append_assoc (built.not_null_test a left is); of_true = rw append_assoc (built.not_true_test a left is) }) rest)))
 
 optional_test-sound : (a : Lexemes) (left : Term) → Builds g.comparison a left → (ts : Lexemes) (o : Option Lexemes) → strip s.Is ts ≡ o
     → Sound (λ b y. Builds g.test (a ++ b) y) ts (r.optional_test left ts o)
 optional_test-sound a left is ts None e = sound-ok _ ts left (rw append-nil (built.no_test a left is))
 optional_test-sound a left is ts (Some rest) e =
-    sound-at _ ts (Fixed s.Is ∷ rest) (r.is_test left rest (strip s.Not rest)) (strip-split s.Is ts rest e)
-        (sound-shift (λ b y. Builds g.test (a ++ b) y) (Fixed s.Is ∷ []) rest (r.is_test left rest (strip s.Not rest)) (is_test-sound a left is rest (strip s.Not rest) refl))
+    sound-at _ ts (Sign s.Is ∷ rest) (r.is_test left rest (strip s.Not rest)) (strip-split s.Is ts rest e)
+        (sound-shift (λ b y. Builds g.test (a ++ b) y) (Sign s.Is ∷ []) rest (r.is_test left rest (strip s.Not rest)) (is_test-sound a left is rest (strip s.Not rest) refl))
 
 -- ---- the readers, over a reader of terms that takes terms
 
@@ -237,31 +237,31 @@ a_zero : Sentence (Builds g.primary)
 a_zero = record { lexemes = Number 0 ∷ []; tree = int (pos 0); is = built.number 0 }
 
 module _ (f : Parser Term) (sound : (ts : Lexemes) → Sound BuildsTerm ts (f ts)) where
-  brackets-sound : (ts : Lexemes) → Sound (λ b y. Builds g.primary (Fixed s.Open ∷ b) y) ts (r.brackets f ts)
+  brackets-sound : (ts : Lexemes) → Sound (λ b y. Builds g.primary (Sign s.Open ∷ b) y) ts (r.brackets f ts)
   unfolding r.brackets
   brackets-sound ts =
-      sound-bind BuildsTerm (λ b y. Builds g.primary (Fixed s.Open ∷ b) y) ts (f ts) (λ i. expect s.Close i.1 >>= (λ rest. Ok (i.0, rest))) (sound ts)
-          (λ used rest x is. expect-sound s.Close (λ b y. Builds g.primary (Fixed s.Open ∷ (used ++ b)) y) rest (λ rest. Ok (x, rest))
+      sound-bind BuildsTerm (λ b y. Builds g.primary (Sign s.Open ∷ b) y) ts (f ts) (λ i. expect s.Close i.1 >>= (λ rest. Ok (i.0, rest))) (sound ts)
+          (λ used rest x is. expect-sound s.Close (λ b y. Builds g.primary (Sign s.Open ∷ (used ++ b)) y) rest (λ rest. Ok (x, rest))
               (λ rest. sound-ok _ rest x (built.brackets used x is)))
 
-  choice-sound : (ts : Lexemes) → Sound (λ b y. Builds g.primary (Fixed s.Case ∷ b) y) ts (r.choice f ts)
+  choice-sound : (ts : Lexemes) → Sound (λ b y. Builds g.primary (Sign s.Case ∷ b) y) ts (r.choice f ts)
   unfolding r.choice
   choice-sound ts =
-      expect-sound s.When (λ b y. Builds g.primary (Fixed s.Case ∷ b) y) ts _ (λ ts1. sound-bind BuildsTerm (λ b y. Builds g.primary (Fixed s.Case ∷ Fixed s.When ∷ b) y) ts1 (f ts1) _ (sound ts1) (λ a ts2 x ha.
-      expect-sound s.Then (λ b y. Builds g.primary (Fixed s.Case ∷ Fixed s.When ∷ (a ++ b)) y) ts2 _ (λ ts3. sound-bind BuildsTerm (λ b y. Builds g.primary (Fixed s.Case ∷ Fixed s.When ∷ (a ++ (Fixed s.Then ∷ b))) y) ts3 (f ts3) _ (sound ts3) (λ b ts4 y hb.
-      expect-sound s.Else (λ c z. Builds g.primary (Fixed s.Case ∷ Fixed s.When ∷ (a ++ (Fixed s.Then ∷ (b ++ c)))) z) ts4 _ (λ ts5. sound-bind BuildsTerm (λ c z. Builds g.primary (Fixed s.Case ∷ Fixed s.When ∷ (a ++ (Fixed s.Then ∷ (b ++ (Fixed s.Else ∷ c))))) z) ts5 (f ts5) _ (sound ts5) (λ c ts6 z hc.
-      expect-sound s.End (λ d t. Builds g.primary (Fixed s.Case ∷ Fixed s.When ∷ (a ++ (Fixed s.Then ∷ (b ++ (Fixed s.Else ∷ (c ++ d)))))) t) ts6 (λ rest. Ok (case x y z, rest)) (λ ts7.
+      expect-sound s.When (λ b y. Builds g.primary (Sign s.Case ∷ b) y) ts _ (λ ts1. sound-bind BuildsTerm (λ b y. Builds g.primary (Sign s.Case ∷ Sign s.When ∷ b) y) ts1 (f ts1) _ (sound ts1) (λ a ts2 x ha.
+      expect-sound s.Then (λ b y. Builds g.primary (Sign s.Case ∷ Sign s.When ∷ (a ++ b)) y) ts2 _ (λ ts3. sound-bind BuildsTerm (λ b y. Builds g.primary (Sign s.Case ∷ Sign s.When ∷ (a ++ (Sign s.Then ∷ b))) y) ts3 (f ts3) _ (sound ts3) (λ b ts4 y hb.
+      expect-sound s.Else (λ c z. Builds g.primary (Sign s.Case ∷ Sign s.When ∷ (a ++ (Sign s.Then ∷ (b ++ c)))) z) ts4 _ (λ ts5. sound-bind BuildsTerm (λ c z. Builds g.primary (Sign s.Case ∷ Sign s.When ∷ (a ++ (Sign s.Then ∷ (b ++ (Sign s.Else ∷ c))))) z) ts5 (f ts5) _ (sound ts5) (λ c ts6 z hc.
+      expect-sound s.End (λ d t. Builds g.primary (Sign s.Case ∷ Sign s.When ∷ (a ++ (Sign s.Then ∷ (b ++ (Sign s.Else ∷ (c ++ d)))))) t) ts6 (λ rest. Ok (case x y z, rest)) (λ ts7.
       sound-ok _ ts7 (case x y z) (built.choice a b c x y z ha hb hc))))))))
 
-  primary_by-sound : (symbol : Symbol) (ts : Lexemes) → Sound (Builds g.primary) (Fixed symbol ∷ ts) (r.primary_by f symbol (Fixed symbol ∷ ts) ts)
-  primary_by-sound s.Null ts = record { used = Fixed s.Null ∷ []; split = refl; is = built.null_literal }
-  primary_by-sound s.Open ts = sound-shift (Builds g.primary) (Fixed s.Open ∷ []) ts (r.brackets f ts) (brackets-sound ts)
-  primary_by-sound s.Case ts = sound-shift (Builds g.primary) (Fixed s.Case ∷ []) ts (r.choice f ts) (choice-sound ts)
+  primary_by-sound : (symbol : Symbol) (ts : Lexemes) → Sound (Builds g.primary) (Sign symbol ∷ ts) (r.primary_by f symbol (Sign symbol ∷ ts) ts)
+  primary_by-sound s.Null ts = record { used = Sign s.Null ∷ []; split = refl; is = built.null_literal }
+  primary_by-sound s.Open ts = sound-shift (Builds g.primary) (Sign s.Open ∷ []) ts (r.brackets f ts) (brackets-sound ts)
+  primary_by-sound s.Case ts = sound-shift (Builds g.primary) (Sign s.Case ∷ []) ts (r.choice f ts) (choice-sound ts)
   primary_by-sound _ ts = sound-err (Builds g.primary) _ a_zero
 
   primary-sound : (ts : Lexemes) → Sound (Builds g.primary) ts (r.primary f ts)
   primary-sound [] = sound-err (Builds g.primary) _ a_zero
-  primary-sound (Fixed symbol ∷ ts) = primary_by-sound symbol ts
+  primary-sound (Sign symbol ∷ ts) = primary_by-sound symbol ts
   primary-sound (Word word ∷ ts) = sound-shift (Builds g.primary) (Word word ∷ []) ts (r.column word ts) (column-sound word ts)
   primary-sound (Number n ∷ ts) = record { used = Number n ∷ []; split = refl; is = built.number n }
   primary-sound (Big ∷ ts) = sound-err (Builds g.primary) _ a_zero
@@ -270,9 +270,9 @@ module _ (f : Parser Term) (sound : (ts : Lexemes) → Sound BuildsTerm ts (f ts
   signed-sound : (ts : Lexemes) (o : Option Lexemes) → strip s.Minus ts ≡ o → Sound (Builds g.factor) ts (r.signed f ts o)
   signed-sound ts None e = sound-phrase (Builds g.primary) (Builds g.factor) ts (r.primary f ts) (λ b y i. built.not_signed b y i) (primary-sound ts)
   signed-sound ts (Some rest) e =
-      sound-at (Builds g.factor) ts (Fixed s.Minus ∷ rest) _ (strip-split s.Minus ts rest e)
-          (sound-shift (Builds g.factor) (Fixed s.Minus ∷ []) rest (r.primary f rest >>= (λ r. Ok (neg r.0, r.1)))
-              (sound-bind (Builds g.primary) (λ b y. Builds g.factor (Fixed s.Minus ∷ b) y) rest (r.primary f rest) (λ r. Ok (neg r.0, r.1)) (primary-sound rest)
+      sound-at (Builds g.factor) ts (Sign s.Minus ∷ rest) _ (strip-split s.Minus ts rest e)
+          (sound-shift (Builds g.factor) (Sign s.Minus ∷ []) rest (r.primary f rest >>= (λ r. Ok (neg r.0, r.1)))
+              (sound-bind (Builds g.primary) (λ b y. Builds g.factor (Sign s.Minus ∷ b) y) rest (r.primary f rest) (λ r. Ok (neg r.0, r.1)) (primary-sound rest)
                   (λ used rest x is. sound-ok _ rest (neg x) (rw append-nil (built.signed used x is)))))
 
   factor-sound : (ts : Lexemes) → Sound (Builds g.factor) ts (r.factor f ts)
@@ -287,9 +287,9 @@ module _ (f : Parser Term) (sound : (ts : Lexemes) → Sound BuildsTerm ts (f ts
   compared-sound a left is ts None e = sound-ok _ ts left (rw append-nil (built.not_compared a left is))
   compared-sound a left is ts (Some o) e =
       let w : OperatorAt comparison_of ts o = next_operator-split comparison_of ts o e in
-      sound-at _ ts (Fixed w.symbol ∷ o.1) _ w.split
-          (sound-shift (λ b y. Builds g.comparison (a ++ b) y) (Fixed w.symbol ∷ []) o.1 (r.sum f o.1 >>= (λ r. Ok (binary o.0 left r.0, r.1)))
-              (sound-bind (Builds (g.operations l.Sum)) (λ b y. Builds g.comparison (a ++ (Fixed w.symbol ∷ b)) y) o.1 (r.sum f o.1) (λ r. Ok (binary o.0 left r.0, r.1)) (sum-sound o.1)
+      sound-at _ ts (Sign w.symbol ∷ o.1) _ w.split
+          (sound-shift (λ b y. Builds g.comparison (a ++ b) y) (Sign w.symbol ∷ []) o.1 (r.sum f o.1 >>= (λ r. Ok (binary o.0 left r.0, r.1)))
+              (sound-bind (Builds (g.operations l.Sum)) (λ b y. Builds g.comparison (a ++ (Sign w.symbol ∷ b)) y) o.1 (r.sum f o.1) (λ r. Ok (binary o.0 left r.0, r.1)) (sum-sound o.1)
                   (λ used rest x h. sound-ok _ rest (binary o.0 left x) (rw append-nil (built.compared o.0 w.symbol a used left x w.is is h)))))
 
   test-sound : (ts : Lexemes) → Sound (Builds g.test) ts (r.test f ts)
@@ -304,9 +304,9 @@ module _ (f : Parser Term) (sound : (ts : Lexemes) → Sound BuildsTerm ts (f ts
   negated-sound : (ts : Lexemes) (o : Option Lexemes) → strip s.Not ts ≡ o → Sound (Builds g.negation) ts (r.negated f ts o)
   negated-sound ts None e = sound-phrase (Builds g.test) (Builds g.negation) ts (r.test f ts) (λ b y i. built.not_negated b y i) (test-sound ts)
   negated-sound ts (Some rest) e =
-      sound-at (Builds g.negation) ts (Fixed s.Not ∷ rest) _ (strip-split s.Not ts rest e)
-          (sound-shift (Builds g.negation) (Fixed s.Not ∷ []) rest (r.test f rest >>= (λ r. Ok (not r.0, r.1)))
-              (sound-bind (Builds g.test) (λ b y. Builds g.negation (Fixed s.Not ∷ b) y) rest (r.test f rest) (λ r. Ok (not r.0, r.1)) (test-sound rest)
+      sound-at (Builds g.negation) ts (Sign s.Not ∷ rest) _ (strip-split s.Not ts rest e)
+          (sound-shift (Builds g.negation) (Sign s.Not ∷ []) rest (r.test f rest >>= (λ r. Ok (not r.0, r.1)))
+              (sound-bind (Builds g.test) (λ b y. Builds g.negation (Sign s.Not ∷ b) y) rest (r.test f rest) (λ r. Ok (not r.0, r.1)) (test-sound rest)
                   (λ used rest x is. sound-ok _ rest (not x) (rw append-nil (built.negated used x is)))))
 
   negation-sound : (ts : Lexemes) → Sound (Builds g.negation) ts (r.negation f ts)

@@ -6,7 +6,7 @@ use Rattle.gp_base.specs.declared.table.Column.{Column}
 use Rattle.gp_base.specs.declared.table.Kind.TheVariants as kind
 use Rattle.gp_lexer.specs.declared.lexeme.Symbol.{Symbol}
 use Rattle.gp_lexer.specs.declared.lexeme.Symbol.TheVariants as s
-use Rattle.gp_lexer.specs.declared.lexeme.Lexeme.TheVariants.{Symbol as Fixed, Word, Number, Big, Text}
+use Rattle.gp_lexer.specs.declared.lexeme.Lexeme.TheVariants.{Symbol as Sign, Word, Number, Big, Text}
 use Rattle.gp_grammar.specs.Syntax as y
 use Rattle.gp_grammar.specs.Syntax.{Lexemes, Bytes, Term, SetTerm, Item, Items, Block, Query, Command, ScriptLine}
 use Rattle.gp_grammar.specs.CommandGrammar.{session_of}
@@ -64,7 +64,7 @@ negative [] = Err []
 negative (Number zero ∷ ts) = Ok (cell.Int (pos 0), ts)
 negative (Number (suc n) ∷ ts) = Ok (cell.Int (negsuc n), ts)
 negative (Big ∷ ts) = Ok (cell.Int (negsuc (2 ^ 63 - 1)), ts)
-negative (Fixed symbol ∷ ts) = Err (Fixed symbol ∷ ts)
+negative (Sign symbol ∷ ts) = Err (Sign symbol ∷ ts)
 negative (Word word ∷ ts) = Err (Word word ∷ ts)
 negative (Text bytes ∷ ts) = Err (Text bytes ∷ ts)
 
@@ -75,7 +75,7 @@ literal_by _ whole ts = Err whole
 
 abbrev pub literal : Parser Cell
 literal [] = Err []
-literal (Fixed symbol ∷ ts) = literal_by symbol (Fixed symbol ∷ ts) ts
+literal (Sign symbol ∷ ts) = literal_by symbol (Sign symbol ∷ ts) ts
 literal (Number n ∷ ts) = Ok (cell.Int (pos n), ts)
 literal (Text bytes ∷ ts) = Ok (cell.Text bytes, ts)
 literal (Word word ∷ ts) = Err (Word word ∷ ts)
@@ -91,7 +91,7 @@ named table name = record { table = table; name = name }
 abbrev pub optional_name : Bytes → Parser Item
 optional_name table [] = Ok (named table table, [])
 optional_name table (Word name ∷ ts) = Ok (named table name, ts)
-optional_name table (Fixed symbol ∷ ts) = Ok (named table table, Fixed symbol ∷ ts)
+optional_name table (Sign symbol ∷ ts) = Ok (named table table, Sign symbol ∷ ts)
 optional_name table (Number n ∷ ts) = Ok (named table table, Number n ∷ ts)
 optional_name table (Big ∷ ts) = Ok (named table table, Big ∷ ts)
 optional_name table (Text bytes ∷ ts) = Ok (named table table, Text bytes ∷ ts)
@@ -159,7 +159,7 @@ command_by _ whole ts = Err whole
 
 abbrev pub command : Parser Command
 command [] = Err []
-command (Fixed symbol ∷ ts) = command_by symbol (Fixed symbol ∷ ts) ts
+command (Sign symbol ∷ ts) = command_by symbol (Sign symbol ∷ ts) ts
 command (Word word ∷ ts) = Err (Word word ∷ ts)
 command (Number n ∷ ts) = Err (Number n ∷ ts)
 command (Big ∷ ts) = Err (Big ∷ ts)
@@ -173,7 +173,7 @@ in_session session = s.Colon then (λ rest. command rest >>= (λ r. Ok (record {
 abbrev pub session_command : Parser ScriptLine
 session_command [] = Err []
 session_command (Word name ∷ ts) = by_option (session_of name) (Err (Word name ∷ ts)) (λ session. in_session session ts)
-session_command (Fixed symbol ∷ ts) = Err (Fixed symbol ∷ ts)
+session_command (Sign symbol ∷ ts) = Err (Sign symbol ∷ ts)
 session_command (Number n ∷ ts) = Err (Number n ∷ ts)
 session_command (Big ∷ ts) = Err (Big ∷ ts)
 session_command (Text bytes ∷ ts) = Err (Text bytes ∷ ts)

@@ -2,17 +2,17 @@
 use Rattle.std.specs.Prelude.{ℕ, zero, suc, Bool, true, false, [], ◌∷◌, if◌then◌else◌}
 use Rattle.gp_lexer.specs.declared.lexeme.Symbol.TheVariants as s
 use Rattle.gp_lexer.specs.declared.lexeme.Lexeme.{Lexeme}
-use Rattle.gp_lexer.specs.declared.lexeme.Lexeme.TheVariants.{Symbol as Fixed}
+use Rattle.gp_lexer.specs.declared.lexeme.Lexeme.TheVariants.{Symbol as Sign}
 use Rattle.gp_grammar.specs.Syntax.{Lexemes}
 
 abbrev pub opens : Lexeme → Bool
-opens (Fixed s.Open) = true
-opens (Fixed s.Case) = true
+opens (Sign s.Open) = true
+opens (Sign s.Case) = true
 opens _ = false
 
 abbrev pub closes : Lexeme → Bool
-closes (Fixed s.Close) = true
-closes (Fixed s.End) = true
+closes (Sign s.Close) = true
+closes (Sign s.End) = true
 closes _ = false
 
 -- one more is open, where there is room

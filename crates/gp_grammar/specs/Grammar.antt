@@ -3,7 +3,7 @@
 use Rattle.std.specs.Prelude.{◌≡◌, ℕ, pos, true, false, [], ◌∷◌, ◌++◌, Some, None}
 use Rattle.gp_lexer.specs.declared.lexeme.Symbol.{Symbol}
 use Rattle.gp_lexer.specs.declared.lexeme.Symbol.TheVariants as s
-use Rattle.gp_lexer.specs.declared.lexeme.Lexeme.TheVariants.{Symbol as Fixed, Word, Number, Text}
+use Rattle.gp_lexer.specs.declared.lexeme.Lexeme.TheVariants.{Symbol as Sign, Word, Number, Text}
 use Rattle.gp_grammar.specs.declared.level.Level.{Level}
 use Rattle.gp_grammar.specs.declared.level.Level.TheVariants as l
 use Rattle.gp_grammar.specs.declared.op.Op.{Op}
@@ -25,29 +25,29 @@ operand l.Product = factor
 -- the grammar derives these lexemes from the nonterminal, with this term
 pub data Derives : Phrase → Lexemes → Term → Type 0 where
   operation : (at : Level) (o : Op) (symbol : Symbol) (a b : Lexemes) (x y : Term) → operator_of at symbol ≡ Some o
-      → Derives (operations at) a x → Derives (operand at) b y → Derives (operations at) (a ++ (Fixed symbol ∷ b)) (binary o x y)
+      → Derives (operations at) a x → Derives (operand at) b y → Derives (operations at) (a ++ (Sign symbol ∷ b)) (binary o x y)
   one_operand : (at : Level) (a : Lexemes) (x : Term) → Derives (operand at) a x → Derives (operations at) a x
-  negated : (a : Lexemes) (x : Term) → Derives test a x → Derives negation (Fixed s.Not ∷ a) (not x)
+  negated : (a : Lexemes) (x : Term) → Derives test a x → Derives negation (Sign s.Not ∷ a) (not x)
   not_negated : (a : Lexemes) (x : Term) → Derives test a x → Derives negation a x
-  null_test : (a : Lexemes) (x : Term) → Derives comparison a x → Derives test (a ++ (Fixed s.Is ∷ Fixed s.Null ∷ [])) (is_null x true)
-  not_null_test : (a : Lexemes) (x : Term) → Derives comparison a x → Derives test (a ++ (Fixed s.Is ∷ Fixed s.Not ∷ Fixed s.Null ∷ [])) (is_null x false)
-  true_test : (a : Lexemes) (x : Term) → Derives comparison a x → Derives test (a ++ (Fixed s.Is ∷ Fixed s.True ∷ [])) (is_true x true)
-  not_true_test : (a : Lexemes) (x : Term) → Derives comparison a x → Derives test (a ++ (Fixed s.Is ∷ Fixed s.Not ∷ Fixed s.True ∷ [])) (is_true x false)
+  null_test : (a : Lexemes) (x : Term) → Derives comparison a x → Derives test (a ++ (Sign s.Is ∷ Sign s.Null ∷ [])) (is_null x true)
+  not_null_test : (a : Lexemes) (x : Term) → Derives comparison a x → Derives test (a ++ (Sign s.Is ∷ Sign s.Not ∷ Sign s.Null ∷ [])) (is_null x false)
+  true_test : (a : Lexemes) (x : Term) → Derives comparison a x → Derives test (a ++ (Sign s.Is ∷ Sign s.True ∷ [])) (is_true x true)
+  not_true_test : (a : Lexemes) (x : Term) → Derives comparison a x → Derives test (a ++ (Sign s.Is ∷ Sign s.Not ∷ Sign s.True ∷ [])) (is_true x false)
   no_test : (a : Lexemes) (x : Term) → Derives comparison a x → Derives test a x
   compared : (o : Op) (symbol : Symbol) (a b : Lexemes) (x y : Term) → comparison_of symbol ≡ Some o
-      → Derives (operations l.Sum) a x → Derives (operations l.Sum) b y → Derives comparison (a ++ (Fixed symbol ∷ b)) (binary o x y)
+      → Derives (operations l.Sum) a x → Derives (operations l.Sum) b y → Derives comparison (a ++ (Sign symbol ∷ b)) (binary o x y)
   not_compared : (a : Lexemes) (x : Term) → Derives (operations l.Sum) a x → Derives comparison a x
-  signed : (a : Lexemes) (x : Term) → Derives primary a x → Derives factor (Fixed s.Minus ∷ a) (neg x)
+  signed : (a : Lexemes) (x : Term) → Derives primary a x → Derives factor (Sign s.Minus ∷ a) (neg x)
   not_signed : (a : Lexemes) (x : Term) → Derives primary a x → Derives factor a x
   number : (n : ℕ) → Derives primary (Number n ∷ []) (int (pos n))
   text_literal : (bytes : Bytes) → Derives primary (Text bytes ∷ []) (text bytes)
-  null_literal : Derives primary (Fixed s.Null ∷ []) null
+  null_literal : Derives primary (Sign s.Null ∷ []) null
   column : (name : Bytes) → Derives primary (Word name ∷ []) (col None name)
-  qualified_column : (item name : Bytes) → Derives primary (Word item ∷ Fixed s.Dot ∷ Word name ∷ []) (col (Some item) name)
-  brackets : (a : Lexemes) (x : Term) → Derives (operations l.Disjunction) a x → Derives primary (Fixed s.Open ∷ (a ++ (Fixed s.Close ∷ []))) x
+  qualified_column : (item name : Bytes) → Derives primary (Word item ∷ Sign s.Dot ∷ Word name ∷ []) (col (Some item) name)
+  brackets : (a : Lexemes) (x : Term) → Derives (operations l.Disjunction) a x → Derives primary (Sign s.Open ∷ (a ++ (Sign s.Close ∷ []))) x
   choice : (a b c : Lexemes) (x y z : Term) → Derives (operations l.Disjunction) a x → Derives (operations l.Disjunction) b y
       → Derives (operations l.Disjunction) c z
-      → Derives primary (Fixed s.Case ∷ Fixed s.When ∷ (a ++ (Fixed s.Then ∷ (b ++ (Fixed s.Else ∷ (c ++ (Fixed s.End ∷ []))))))) (case x y z)
+      → Derives primary (Sign s.Case ∷ Sign s.When ∷ (a ++ (Sign s.Then ∷ (b ++ (Sign s.Else ∷ (c ++ (Sign s.End ∷ []))))))) (case x y z)
 
 -- the lexemes are a term
 abbrev pub IsTerm : Lexemes → Term → Type 0

@@ -6,7 +6,7 @@ use Rattle.gp_lexer.specs.contracts.lexeme.Symbol.{the_type}
 use Rattle.gp_lexer.specs.declared.lexeme.Symbol.{Symbol}
 use Rattle.gp_lexer.specs.declared.lexeme.Symbol.TheVariants as s
 use Rattle.gp_lexer.specs.declared.lexeme.Lexeme.{Lexeme}
-use Rattle.gp_lexer.specs.declared.lexeme.Lexeme.TheVariants.{Symbol as Fixed, Word, Number, Big, Text}
+use Rattle.gp_lexer.specs.declared.lexeme.Lexeme.TheVariants.{Symbol as Sign, Word, Number, Big, Text}
 use Rattle.gp_grammar.specs.declared.level.Level.{Level}
 use Rattle.gp_grammar.specs.declared.level.Level.TheVariants as l
 use Rattle.gp_grammar.specs.declared.op.Op.{Op}
@@ -33,7 +33,7 @@ by_option (Some x) none some = some x
 -- ---- symbols and names
 
 abbrev pub is_symbol : Symbol → Lexeme → Bool
-is_symbol symbol (Fixed other) = sameb the_type other symbol
+is_symbol symbol (Sign other) = sameb the_type other symbol
 is_symbol symbol (Word name) = false
 is_symbol symbol (Number n) = false
 is_symbol symbol Big = false
@@ -55,7 +55,7 @@ expect symbol ts = expected ts (strip symbol ts)
 -- a word that is no reserved word
 abbrev pub identifier : Parser Bytes
 identifier [] = Err []
-identifier (Fixed symbol ∷ ts) = Err (Fixed symbol ∷ ts)
+identifier (Sign symbol ∷ ts) = Err (Sign symbol ∷ ts)
 identifier (Word word ∷ ts) = Ok (word, ts)
 identifier (Number n ∷ ts) = Err (Number n ∷ ts)
 identifier (Big ∷ ts) = Err (Big ∷ ts)
@@ -70,7 +70,7 @@ with_rest ts (Some op) = Some (op, ts)
 -- the operator that is the first lexeme, and the lexemes behind it
 abbrev pub next_operator : (Symbol → Option Op) → Lexemes → Option (Op × Lexemes)
 next_operator ops [] = None
-next_operator ops (Fixed symbol ∷ ts) = with_rest ts (ops symbol)
+next_operator ops (Sign symbol ∷ ts) = with_rest ts (ops symbol)
 next_operator ops (Word word ∷ ts) = None
 next_operator ops (Number n ∷ ts) = None
 next_operator ops (Big ∷ ts) = None
@@ -142,7 +142,7 @@ module _ (term : Parser Term) where
 
   abbrev pub primary : Parser Term
   primary [] = Err []
-  primary (Fixed symbol ∷ ts) = primary_by symbol (Fixed symbol ∷ ts) ts
+  primary (Sign symbol ∷ ts) = primary_by symbol (Sign symbol ∷ ts) ts
   primary (Word word ∷ ts) = column word ts
   primary (Number n ∷ ts) = Ok (int (pos n), ts)
   primary (Big ∷ ts) = Err (Big ∷ ts)

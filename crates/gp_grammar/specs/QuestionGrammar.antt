@@ -3,7 +3,7 @@
 use Rattle.std.specs.Prelude.{◌≡◌, ℕ, ◌^◌, ◌≤◌, true, false, List, [], ◌∷◌, ◌++◌, Option, Some, None, codes, if◌then◌else◌, ◌&&◌, nat_lt, ◌==◌}
 use Rattle.std.specs.Str.Parse.{digits_value}
 use Rattle.gp_lexer.specs.declared.lexeme.Symbol.TheVariants as s
-use Rattle.gp_lexer.specs.declared.lexeme.Lexeme.TheVariants.{Symbol as Fixed, Word, Number}
+use Rattle.gp_lexer.specs.declared.lexeme.Lexeme.TheVariants.{Symbol as Sign, Word, Number}
 use Rattle.gp_grammar.specs.declared.semiring_name.SemiringName.{SemiringName}
 use Rattle.gp_grammar.specs.declared.semiring_name.SemiringName.TheVariants as semiring
 use Rattle.gp_grammar.specs.declared.token_kind.TokenKind.{TokenKind}
@@ -14,9 +14,9 @@ use Rattle.gp_grammar.specs.Syntax.{Lexemes, Bytes, State, Pattern, Rule, rule_o
 use Rattle.gp_grammar.specs.CommandGrammar.{IsList, comma, IsQuery, Closed, is_number_without_zero}
 
 pub data IsState : Lexemes → State → Type 0 where
-  as_of : (v : ℕ) → IsState (Fixed s.As ∷ Word (codes "of") ∷ Number v ∷ []) (y.as_of v)
+  as_of : (v : ℕ) → IsState (Sign s.As ∷ Word (codes "of") ∷ Number v ∷ []) (y.as_of v)
   after : (t k : ℕ) → IsState (Word (codes "reenact") ∷ Number t ∷ Word (codes "after") ∷ Number k ∷ []) (y.after t k)
-  commit : (t : ℕ) → IsState (Word (codes "reenact") ∷ Number t ∷ Fixed s.Commit ∷ []) (y.State.commit t)
+  commit : (t : ℕ) → IsState (Word (codes "reenact") ∷ Number t ∷ Sign s.Commit ∷ []) (y.State.commit t)
 
 pub data IsSemiring : Lexemes → SemiringName → Type 0 where
   count : IsSemiring (Word (codes "count") ∷ []) semiring.Count
@@ -47,20 +47,20 @@ pub data IsPattern : Lexemes → Pattern → Type 0 where
   transaction : (name : Bytes) (kind : TokenKind) (t : ℕ) → pattern_name name ≡ Some (kind, Some t)
       → IsPattern (Word name ∷ []) (record { kind = kind; t = Some t; k = None; n = None })
   statement : (name : Bytes) (kind : TokenKind) (t k : ℕ) → pattern_name name ≡ Some (kind, Some t) → k ≤ MAX_PATTERN_NUMBER
-      → IsPattern (Word name ∷ Fixed s.Dot ∷ Number k ∷ []) (record { kind = kind; t = Some t; k = Some k; n = None })
+      → IsPattern (Word name ∷ Sign s.Dot ∷ Number k ∷ []) (record { kind = kind; t = Some t; k = Some k; n = None })
   row : (name : Bytes) (t k n : ℕ) → pattern_name name ≡ Some (token.I, Some t) → k ≤ MAX_PATTERN_NUMBER → n ≤ MAX_PATTERN_NUMBER
-      → IsPattern (Word name ∷ Fixed s.Dot ∷ Number k ∷ Fixed s.Dot ∷ Number n ∷ []) (record { kind = token.I; t = Some t; k = Some k; n = Some n })
+      → IsPattern (Word name ∷ Sign s.Dot ∷ Number k ∷ Sign s.Dot ∷ Number n ∷ []) (record { kind = token.I; t = Some t; k = Some k; n = Some n })
 
 pub data IsRule : Lexemes → Rule → Type 0 where
-  rule : (a : Lexemes) (pattern : Pattern) (value : ℕ) → IsPattern a pattern → IsRule (a ++ (Fixed s.Eq ∷ Number value ∷ [])) (rule_of pattern value)
+  rule : (a : Lexemes) (pattern : Pattern) (value : ℕ) → IsPattern a pattern → IsRule (a ++ (Sign s.Eq ∷ Number value ∷ [])) (rule_of pattern value)
 
 pub data IsRules : Lexemes → Rules → Type 0 where
   no_rules : IsRules [] (record { rules = []; other = None })
-  only_else : (n : ℕ) → IsRules (Fixed s.Open ∷ Fixed s.Else ∷ Number n ∷ Fixed s.Close ∷ []) (record { rules = []; other = Some n })
+  only_else : (n : ℕ) → IsRules (Sign s.Open ∷ Sign s.Else ∷ Number n ∷ Sign s.Close ∷ []) (record { rules = []; other = Some n })
   only_rules : (a : Lexemes) (xs : List Rule) → IsList comma IsRule a xs
-      → IsRules (Fixed s.Open ∷ (a ++ (Fixed s.Close ∷ []))) (record { rules = xs; other = None })
+      → IsRules (Sign s.Open ∷ (a ++ (Sign s.Close ∷ []))) (record { rules = xs; other = None })
   rules_and_else : (a : Lexemes) (xs : List Rule) (n : ℕ) → IsList comma IsRule a xs
-      → IsRules (Fixed s.Open ∷ (a ++ (Fixed s.Comma ∷ Fixed s.Else ∷ Number n ∷ Fixed s.Close ∷ []))) (record { rules = xs; other = Some n })
+      → IsRules (Sign s.Open ∷ (a ++ (Sign s.Comma ∷ Sign s.Else ∷ Number n ∷ Sign s.Close ∷ []))) (record { rules = xs; other = Some n })
 
 pub data IsHow : Lexemes → How → Type 0 where
   rows : IsHow [] y.rows

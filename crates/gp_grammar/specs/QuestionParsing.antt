@@ -3,7 +3,7 @@ use Rattle.std.specs.Prelude.{◌≡◌, ℕ, zero, suc, Bool, true, false, List
 use Rattle.std.specs.Str.{bytes_eq}
 use Rattle.gp_lexer.specs.declared.lexeme.Symbol.TheVariants as s
 use Rattle.gp_lexer.specs.declared.lexeme.Lexeme.{Lexeme}
-use Rattle.gp_lexer.specs.declared.lexeme.Lexeme.TheVariants.{Symbol as Fixed, Word, Number, Big, Text}
+use Rattle.gp_lexer.specs.declared.lexeme.Lexeme.TheVariants.{Symbol as Sign, Word, Number, Big, Text}
 use Rattle.gp_grammar.specs.declared.semiring_name.SemiringName.{SemiringName}
 use Rattle.gp_grammar.specs.declared.semiring_name.SemiringName.TheVariants as semiring
 use Rattle.gp_grammar.specs.declared.token_kind.TokenKind.{TokenKind}
@@ -19,7 +19,7 @@ use Rattle.gp_grammar.specs.CommandParsing.{◌then◌, where_next, fail, accept
 
 abbrev pub is_word : Bytes → Lexeme → Bool
 is_word text (Word word) = bytes_eq text word
-is_word text (Fixed symbol) = false
+is_word text (Sign symbol) = false
 is_word text (Number n) = false
 is_word text Big = false
 is_word text (Text bytes) = false
@@ -39,7 +39,7 @@ expect_word text p = where_word text p fail
 abbrev pub number_if : (ℕ → Bool) → Parser ℕ
 number_if fits [] = Err []
 number_if fits (Number n ∷ ts) = if fits n then Ok (n, ts) else Err (Number n ∷ ts)
-number_if fits (Fixed symbol ∷ ts) = Err (Fixed symbol ∷ ts)
+number_if fits (Sign symbol ∷ ts) = Err (Sign symbol ∷ ts)
 number_if fits (Word word ∷ ts) = Err (Word word ∷ ts)
 number_if fits (Big ∷ ts) = Err (Big ∷ ts)
 number_if fits (Text bytes ∷ ts) = Err (Text bytes ∷ ts)
@@ -80,7 +80,7 @@ pattern_parts (kind, Some t) = where_next s.Dot (λ ts. pattern_number ts >>= (�
 abbrev pub pattern : Parser Pattern
 pattern [] = Err []
 pattern (Word name ∷ ts) = by_option (pattern_name name) (Err (Word name ∷ ts)) (λ kind. pattern_parts kind ts)
-pattern (Fixed symbol ∷ ts) = Err (Fixed symbol ∷ ts)
+pattern (Sign symbol ∷ ts) = Err (Sign symbol ∷ ts)
 pattern (Number n ∷ ts) = Err (Number n ∷ ts)
 pattern (Big ∷ ts) = Err (Big ∷ ts)
 pattern (Text bytes ∷ ts) = Err (Text bytes ∷ ts)
