@@ -14,3 +14,5 @@ pub mod CommandCompleteness
 pub mod LocalCombinators
 pub mod CommandLocality
 pub mod QuestionSoundness
+pub mod QuestionCompleteness
+pub mod QuestionLocality
