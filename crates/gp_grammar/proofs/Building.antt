@@ -11,13 +11,9 @@ use Rattle.gp_grammar.specs.Syntax.{Lexemes, Bytes, Term}
 use Rattle.gp_grammar.specs.Operators.{operator_of, comparison_of}
 use Rattle.gp_grammar.specs.Capping as c
 use Rattle.gp_grammar.specs.Capping.{capped}
+use Rattle.gp_grammar.specs.Laws.{Built}
 use Rattle.gp_grammar.specs.Grammar as g
 use Rattle.gp_grammar.specs.Grammar.{Phrase, Derives, operand}
-
-pub record Built {A : Type 0} (Is : Lexemes → A → Type 0) (cap : A → A) (lexemes : Lexemes) (built : A) : Type 0 where
-  pub tree : A
-  pub is : Is lexemes tree
-  pub same : built ≡ cap tree
 
 abbrev pub Builds : Phrase → Lexemes → Term → Type 0
 Builds p = Built (Derives p) capped

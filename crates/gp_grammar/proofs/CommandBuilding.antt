@@ -10,7 +10,8 @@ use Rattle.gp_grammar.specs.Capping.{capped, capped_set, capped_items, capped_bl
 use Rattle.gp_grammar.specs.Grammar.{IsTerm}
 use Rattle.gp_grammar.specs.CommandGrammar as g
 use Rattle.gp_grammar.specs.CommandGrammar.{IsList, comma, IsItem, IsItems, IsWhere, IsBlock, IsQuery, IsSetTerm, IsCommand, session_of, IsSessionCommand, Closed}
-use Rattle.gp_grammar.proofs.Building.{Built, BuildsTerm}
+use Rattle.gp_grammar.specs.Laws.{Built}
+use Rattle.gp_grammar.proofs.Building.{BuildsTerm}
 
 -- a list of built parts is built for a list
 pub list-built : {A : Type 0} {separator : Lexemes} {Is : Lexemes → A → Type 0} {cap : A → A} {a : Lexemes} {ys : List A}

@@ -16,7 +16,8 @@ use Rattle.gp_grammar.specs.CommandGrammar.{IsList, comma, union_all, IsColumn, 
 use Rattle.gp_grammar.specs.Parsing.{Outcome, Parser, ◌>>=◌, by_option, identifier, term}
 use Rattle.gp_grammar.specs.CommandParsing as c
 use Rattle.gp_grammar.specs.CommandParsing.{◌then◌, accept, separated, push, named}
-use Rattle.gp_grammar.proofs.Building.{Built, BuildsTerm}
+use Rattle.gp_grammar.specs.Laws.{Built}
+use Rattle.gp_grammar.proofs.Building.{BuildsTerm}
 use Rattle.gp_grammar.proofs.CommandBuilding as built
 use Rattle.gp_grammar.proofs.CommandBuilding.{BuildsWhere, BuildsItems, BuildsBlock, BuildsQuery, BuildsSetTerm, BuildsCommand, BuildsSession, as_is}
 use Rattle.gp_grammar.proofs.Soundness.{Parsed, Viable, Sentence, Sound, sound-ok, sound-err, sound-at, sound-shift, sound-bind, sound-phrase, expect-sound, identifier-sound, term-sound}

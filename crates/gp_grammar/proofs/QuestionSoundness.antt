@@ -25,7 +25,7 @@ use Rattle.gp_grammar.specs.Parsing.{Outcome, Parser, ◌>>=◌, by_option, iden
 use Rattle.gp_grammar.specs.CommandParsing.{◌then◌, where_next, fail, accept, push, query}
 use Rattle.gp_grammar.specs.QuestionParsing as q
 use Rattle.gp_grammar.specs.QuestionParsing.{is_word, strip_word, where_word, expect_word, number_if, number, pattern_of}
-use Rattle.gp_grammar.proofs.Building.{Built}
+use Rattle.gp_grammar.specs.Laws.{Built}
 use Rattle.gp_grammar.proofs.CommandBuilding.{BuildsQuery}
 use Rattle.gp_grammar.proofs.Soundness.{Parsed, Viable, Sentence, Sound, sentence, sound-ok, sound-err, sound-at, sound-shift, sound-bind, sound-phrase, expect-sound, identifier-sound}
 use Rattle.gp_grammar.proofs.SoundCombinators.{next-sound, closed-sound}

@@ -7,7 +7,7 @@ use Rattle.gp_grammar.specs.Parsing.{Outcome, Parser, ◌>>=◌, ended, whole}
 use Rattle.gp_grammar.specs.Places.{NoneGoesOn, Stops}
 use Rattle.gp_grammar.proofs.Soundness.{Parsed, Viable, Sound}
 use Rattle.gp_grammar.proofs.Locality.{Local, Same, SameRest, Past}
-use Rattle.gp_grammar.proofs.Building.{Built}
+use Rattle.gp_grammar.specs.Laws.{Built}
 
 no-end : (front : Lexemes) (t : Lexeme) (m : Lexemes) → [] ≡ front ++ (t ∷ m) → ⊥
 no-end [] t m e = cc

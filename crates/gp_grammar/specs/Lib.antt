@@ -7,6 +7,7 @@ pub mod Places
 pub mod Depth
 pub mod Limits
 pub mod LineReading
+pub mod Laws
 pub mod Canonical
 pub mod Capping
 pub mod Parsing

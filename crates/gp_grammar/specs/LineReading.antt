@@ -1,6 +1,6 @@
 -- Part of the statement: what a line is read as, or its refusal, which is the first fault in the order of the tests: length, encoding,
 -- lexemes, open brackets, syntax, shape.
-use Rattle.std.specs.Prelude.{◌≡◌, ℕ, ◌+◌, ◌-◌, ◌≤◌, ◌<◌, Bool, true, false, List, [], ◌∷◌, length, Option, Some, None, Result, Ok, Err, if◌then◌else◌, nat_lt, ◌==◌, slice_index_or}
+use Rattle.std.specs.Prelude.{◌≡◌, ◌≢◌, ℕ, ◌+◌, ◌-◌, ◌≤◌, ◌<◌, Bool, true, false, List, [], ◌∷◌, length, Option, Some, None, Result, Ok, Err, if◌then◌else◌, nat_lt, ◌==◌, slice_index_or}
 use Rattle.std.specs.Str.Lossy.{utf8_valid_len}
 use Rattle.gp_grammar.specs.declared.limits.TheConstants.{MAX_LINE_LENGTH, MAX_OPEN}
 use Rattle.gp_grammar.specs.Syntax.{Lexemes, Bytes, Command, ScriptLine, Question}
@@ -27,20 +27,41 @@ Lexed = Result (Lexemes × List ℕ) ℕ
 abbrev pub column_of : Lexemes → List ℕ → ℕ → Lexemes → ℕ
 column_of lexemes columns end rest = slice_index_or columns (length lexemes - length rest) end
 
-module _ {A : Type 0} (Is : Lexemes → A → Type 0) (shape : A → Shape) where
-  -- the lexemes of a text, after the lexical tests, are read as this
-  pub record ReadsLexemes (lexemes : Lexemes) (x : A) : Type 0 where
-    pub shallow : is_too_deep MAX_OPEN lexemes ≡ false
-    pub derived : Is lexemes x
-    pub within : passed_limit (shape x) ≡ None
+module _ (lexed : Bytes → Lexed) where
+  -- a text is UTF-8, and these are its lexemes and their columns
+  pub record HasLexemes (bytes : Bytes) (lexemes : Lexemes) (columns : List ℕ) : Type 0 where
+    pub utf8 : utf8_valid_len bytes ≡ length bytes
+    pub found : lexed bytes ≡ Ok (lexemes, columns)
 
-  -- they are refused: for open brackets, for syntax or for a limit, in this order
-  pub data RefusesLexemes (lexemes : Lexemes) (columns : List ℕ) (end : ℕ) : Fault → Type 0 where
-    deep : is_too_deep MAX_OPEN lexemes ≡ true → RefusesLexemes lexemes columns end (over depth)
-    stopped : (rest : Lexemes) → is_too_deep MAX_OPEN lexemes ≡ false → Stops Is lexemes rest
-        → RefusesLexemes lexemes columns end (syntax (column_of lexemes columns end rest))
-    limited : (x : A) (limit : Limit) → is_too_deep MAX_OPEN lexemes ≡ false → Is lexemes x → passed_limit (shape x) ≡ Some limit
-        → RefusesLexemes lexemes columns end (over limit)
+  module _ {A : Type 0} (Is : Lexemes → A → Type 0) (shape : A → Shape) where
+    -- a text is read as this
+    pub record ReadsText (bytes : Bytes) (x : A) : Type 0 where
+      pub lexemes : Lexemes
+      pub columns : List ℕ
+      pub lexical : HasLexemes bytes lexemes columns
+      pub shallow : is_too_deep MAX_OPEN lexemes ≡ false
+      pub derived : Is lexemes x
+      pub within : passed_limit (shape x) ≡ None
+
+    -- a text is refused, each time after the tests before
+    pub data RefusesText (bytes : Bytes) : Fault → Type 0 where
+      encoding : utf8_valid_len bytes ≢ length bytes → RefusesText bytes not_utf8
+      unlexed : (column : ℕ) → utf8_valid_len bytes ≡ length bytes → lexed bytes ≡ Err column → RefusesText bytes (lexical column)
+      deep : (lexemes : Lexemes) (columns : List ℕ) → HasLexemes bytes lexemes columns → is_too_deep MAX_OPEN lexemes ≡ true → RefusesText bytes (over depth)
+      stopped : (lexemes rest : Lexemes) (columns : List ℕ) → HasLexemes bytes lexemes columns → is_too_deep MAX_OPEN lexemes ≡ false → Stops Is lexemes rest
+          → RefusesText bytes (syntax (column_of lexemes columns (length bytes + 1) rest))
+      limited : (lexemes : Lexemes) (columns : List ℕ) (x : A) (limit : Limit) → HasLexemes bytes lexemes columns → is_too_deep MAX_OPEN lexemes ≡ false
+          → Is lexemes x → passed_limit (shape x) ≡ Some limit → RefusesText bytes (over limit)
+
+    -- a line is read as this
+    pub record ReadsLine (bytes : Bytes) (x : A) : Type 0 where
+      pub short : length bytes ≤ MAX_LINE_LENGTH
+      pub text : ReadsText bytes x
+
+    -- a line is refused
+    pub data RefusesLine (bytes : Bytes) : Fault → Type 0 where
+      long : MAX_LINE_LENGTH < length bytes → RefusesLine bytes too_long
+      refused : (fault : Fault) → length bytes ≤ MAX_LINE_LENGTH → RefusesText bytes fault → RefusesLine bytes fault
 
 -- ---- reading as functions
 
@@ -60,11 +81,10 @@ abbrev pub read_lexed : {A : Type 0} → Parser A → (A → Shape) → ℕ → 
 read_lexed parser shape end (Err column) = Err (lexical column)
 read_lexed parser shape end (Ok l) = read_lexemes parser shape l.0 l.1 end
 
--- over the lexer
-module _ (lexemes_of : Bytes → Lexed) where
+module _ (lexed : Bytes → Lexed) where
   abbrev pub read_text : {A : Type 0} → Parser A → (A → Shape) → Bytes → Result A Fault
   read_text parser shape bytes =
-      if utf8_valid_len bytes == length bytes then read_lexed parser shape (length bytes + 1) (lexemes_of bytes) else Err not_utf8
+      if utf8_valid_len bytes == length bytes then read_lexed parser shape (length bytes + 1) (lexed bytes) else Err not_utf8
 
   abbrev pub read_line : {A : Type 0} → Parser A → (A → Shape) → Bytes → Result A Fault
   read_line parser shape bytes = if nat_lt MAX_LINE_LENGTH (length bytes) then Err too_long else read_text parser shape bytes

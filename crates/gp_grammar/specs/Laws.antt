@@ -1,0 +1,44 @@
+-- Part of the statement: what the laws say of a parser, a grammar and the definitions of reading.
+use Rattle.std.specs.Prelude.{◌≡◌, ◌↔◌, ℕ, List, [], ◌∷◌, Option, None, Ok, Err}
+use Rattle.gp_grammar.specs.Syntax.{Lexemes, Bytes}
+use Rattle.gp_grammar.specs.Places.{Stops}
+use Rattle.gp_grammar.specs.Limits.{Shape, passed_limit}
+use Rattle.gp_grammar.specs.Parsing.{Parser, whole}
+use Rattle.gp_grammar.specs.LineReading.{Fault, Lexed, ReadsText, RefusesText, ReadsLine, RefusesLine, read_text, read_line}
+
+-- the parser builds this: a tree that the grammar derives, capped
+pub record Built {A : Type 0} (Is : Lexemes → A → Type 0) (cap : A → A) (lexemes : Lexemes) (built : A) : Type 0 where
+  pub tree : A
+  pub is : Is lexemes tree
+  pub same : built ≡ cap tree
+
+module _ {A : Type 0} (parser : Parser A) (Is : Lexemes → A → Type 0) (cap : A → A) (shape : A → Shape) where
+  -- the parser takes whole lines that the grammar derives, and no others
+  abbrev pub ParsesExactly : Type 0
+  ParsesExactly = (lexemes : Lexemes) (built : A) → (whole parser lexemes ≡ Ok built) ↔ Built Is cap lexemes built
+
+  -- on all others it stops, and where the grammar places the fault
+  abbrev pub StopsExactly : Type 0
+  StopsExactly = (lexemes rest : Lexemes) → (whole parser lexemes ≡ Err rest) ↔ Stops Is lexemes rest
+
+  -- within the limits the grammar derives lexemes in one way at most
+  abbrev pub IsUnambiguous : Type 0
+  IsUnambiguous = (lexemes : Lexemes) (x y : A) → Is lexemes x → Is lexemes y → passed_limit (shape x) ≡ None → x ≡ y
+
+  -- capping changes nothing within the limits, and no limit that is passed
+  pub record CapsFairly : Type 0 where
+    pub limit : (x : A) → passed_limit (shape (cap x)) ≡ passed_limit (shape x)
+    pub exact : (x : A) → passed_limit (shape x) ≡ None → cap x ≡ x
+
+  module _ (lexed : Bytes → Lexed) where
+    abbrev pub ReadsTextsExactly : Type 0
+    ReadsTextsExactly = (bytes : Bytes) (x : A) → (read_text lexed parser shape bytes ≡ Ok x) ↔ ReadsText lexed Is shape bytes x
+
+    abbrev pub RefusesTextsExactly : Type 0
+    RefusesTextsExactly = (bytes : Bytes) (fault : Fault) → (read_text lexed parser shape bytes ≡ Err fault) ↔ RefusesText lexed Is shape bytes fault
+
+    abbrev pub ReadsLinesExactly : Type 0
+    ReadsLinesExactly = (bytes : Bytes) (x : A) → (read_line lexed parser shape bytes ≡ Ok x) ↔ ReadsLine lexed Is shape bytes x
+
+    abbrev pub RefusesLinesExactly : Type 0
+    RefusesLinesExactly = (bytes : Bytes) (fault : Fault) → (read_line lexed parser shape bytes ≡ Err fault) ↔ RefusesLine lexed Is shape bytes fault
