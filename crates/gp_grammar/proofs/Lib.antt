@@ -16,3 +16,6 @@ pub mod CommandLocality
 pub mod QuestionSoundness
 pub mod QuestionCompleteness
 pub mod QuestionLocality
+pub mod PlaceLemmas
+pub mod ParserLaws
+pub mod ShapeLemmas
