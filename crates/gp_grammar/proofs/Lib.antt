@@ -19,3 +19,4 @@ pub mod QuestionLocality
 pub mod PlaceLemmas
 pub mod ParserLaws
 pub mod ShapeLemmas
+pub mod LineLaws
