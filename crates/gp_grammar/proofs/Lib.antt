@@ -20,3 +20,6 @@ pub mod PlaceLemmas
 pub mod ParserLaws
 pub mod ShapeLemmas
 pub mod LineLaws
+pub mod CanonicalTerms
+pub mod CanonicalDepth
+pub mod CanonicalCommands
