@@ -23,16 +23,16 @@ use Rattle.gp_grammar.proofs.CanonicalTerms.{lift, canonical-derived}
 
 -- ---- lists
 
-IsNonEmpty : {A : Type 0} → List A → Type 0
+pub IsNonEmpty : {A : Type 0} → List A → Type 0
 IsNonEmpty [] = ⊥
 IsNonEmpty (x ∷ xs) = Unit {0}
 
-snoc-nonempty : {A : Type 0} (xs : List A) (x : A) → IsNonEmpty (xs ++ x ∷ [])
+pub snoc-nonempty : {A : Type 0} (xs : List A) (x : A) → IsNonEmpty (xs ++ x ∷ [])
 unfolding IsNonEmpty
 snoc-nonempty [] x = tt
 snoc-nonempty (y ∷ xs) x = tt
 
-list-nonempty : {A : Type 0} {separator : Lexemes} {Is : Lexemes → A → Type 0} {a : Lexemes} {xs : List A} → IsList separator Is a xs → IsNonEmpty xs
+pub list-nonempty : {A : Type 0} {separator : Lexemes} {Is : Lexemes → A → Type 0} {a : Lexemes} {xs : List A} → IsList separator Is a xs → IsNonEmpty xs
 unfolding IsNonEmpty
 list-nonempty (g.one a x i) = tt
 list-nonempty (g.more a b xs x i j) = snoc-nonempty xs x
@@ -41,7 +41,7 @@ flat_map-snoc : {A : Type 0} (f : A → Lexemes) (xs : List A) (x : A) → flat_
 flat_map-snoc f [] x = append-nil (f x)
 flat_map-snoc f (y ∷ xs) x = ap (λ z. f y ++ z) (flat_map-snoc f xs x) ∙ sym (append_assoc (f y) (flat_map f xs) (f x))
 
-joined-snoc : {A : Type 0} (separator : Lexemes) (lexemes : A → Lexemes) (xs : List A) (x : A) → IsNonEmpty xs
+pub joined-snoc : {A : Type 0} (separator : Lexemes) (lexemes : A → Lexemes) (xs : List A) (x : A) → IsNonEmpty xs
     → joined_lexemes separator lexemes (xs ++ x ∷ []) ≡ joined_lexemes separator lexemes xs ++ (separator ++ lexemes x)
 unfolding IsNonEmpty
 joined-snoc separator lexemes [] x h = absurd h

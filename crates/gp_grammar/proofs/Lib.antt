@@ -23,3 +23,5 @@ pub mod LineLaws
 pub mod CanonicalTerms
 pub mod CanonicalDepth
 pub mod CanonicalCommands
+pub mod CanonicalSource
+pub mod CanonicalCommandDepth

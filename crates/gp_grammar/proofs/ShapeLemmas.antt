@@ -18,7 +18,7 @@ AreExact : List Term → Type 0
 AreExact [] = Unit {0}
 AreExact (x ∷ xs) = (capped x ≡ x) × AreExact xs
 
-some_large : List Term → Bool
+pub some_large : List Term → Bool
 some_large xs = some_above MAX_NODES (map nodes xs)
 
 ltb-from : (n m : ℕ) → n < m → ltb n m ≡ true
@@ -49,7 +49,7 @@ unfolding some_large
 some_large-same [] = refl
 some_large-same (x ∷ xs) = ap (λ b. b || some_large (map capped xs)) (large-same x) ∙ ap (λ b. is_large x || b) (some_large-same xs)
 
-or-false : (a b : Bool) → a || b ≡ false → (a ≡ false) × (b ≡ false)
+pub or-false : (a b : Bool) → a || b ≡ false → (a ≡ false) × (b ≡ false)
 or-false true b h = cc
 or-false false b h = (refl, h)
 
@@ -75,10 +75,10 @@ exact-split (x ∷ xs) ys h = let w : AreExact xs × AreExact ys = exact-split x
 abbrev capped_shape : Shape → Shape
 capped_shape shape = record { columns = shape.columns; from = shape.from; branches = shape.branches; values = shape.values; terms = map capped shape.terms }
 
-abbrev first_limit : Bool → Bool → Bool → Bool → Bool → Bool → Option Limit
+abbrev pub first_limit : Bool → Bool → Bool → Bool → Bool → Bool → Option Limit
 first_limit c f b v n d = cond c (Some l.columns) (cond f (Some l.from) (cond b (Some l.branches) (cond v (Some l.values) (cond n (Some l.node_count) (cond d (Some l.depth) None)))))
 
-of_shape : (s : Shape) → passed_limit s ≡ first_limit (some_above MAX_COLUMNS s.columns) (some_above MAX_FROM s.from) (ltb MAX_BRANCHES s.branches) (ltb MAX_VALUES s.values)
+pub of_shape : (s : Shape) → passed_limit s ≡ first_limit (some_above MAX_COLUMNS s.columns) (some_above MAX_FROM s.from) (ltb MAX_BRANCHES s.branches) (ltb MAX_VALUES s.values)
     (some_large s.terms) (some_above MAX_LEVELS (map levels s.terms))
 unfolding some_large
 of_shape s = refl
