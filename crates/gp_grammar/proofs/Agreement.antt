@@ -87,11 +87,11 @@ chain_step-agree : (n m : ℕ) (ops : Symbol → Option Op) (p q : Parser Term) 
     → ((x : Term) (us : Lexemes) → length us < length ts → Agree (suc (length us)) (f x us) (g x us))
     → (o : Option (Op × Lexemes)) → IfSome o (λ o. length o.1 < length ts)
     → Agree (suc (length ts)) (by_option o (Ok (left, ts)) (λ o. p o.1 >>= (λ r. f (binary o.0 left r.0) r.1)))
-        (by_option o (Ok (left, ts)) (λ o. q o.1 >>= (λ r. g (binary o.0 left r.0) r.1)))
+    (by_option o (Ok (left, ts)) (λ o. q o.1 >>= (λ r. g (binary o.0 left r.0) r.1)))
 chain_step-agree n m ops p q left ts f g agrees lt next None h = agree-refl _ (Ok (left, ts)) (omega arith)
 chain_step-agree n m ops p q left ts f g agrees lt next (Some o) h =
     agree-bind (length o.1) (suc (length ts)) (p o.1) (q o.1) (λ r. f (binary o.0 left r.0) r.1) (λ r. g (binary o.0 left r.0) r.1) (agrees o.1 (omega arith))
-        (λ r lt'. agree-weaken (suc (length r.1)) (suc (length ts)) (f (binary o.0 left r.0) r.1) (g (binary o.0 left r.0) r.1) (omega arith) (next (binary o.0 left r.0) r.1 (omega arith)))
+    (λ r lt'. agree-weaken (suc (length r.1)) (suc (length ts)) (f (binary o.0 left r.0) r.1) (g (binary o.0 left r.0) r.1) (omega arith) (next (binary o.0 left r.0) r.1 (omega arith)))
 
 pub chain_within-agree : (n : ℕ) (ops : Symbol → Option Op) (p q : Parser Term) → AgreeBelow n p q → (j k : ℕ) (left : Term) (ts : Lexemes) → length ts < n
     → length ts ≤ j → length ts ≤ k → Agree (suc (length ts)) (chain_within ops p j left ts) (chain_within ops q k left ts)
@@ -103,14 +103,14 @@ chain_within-agree n ops p q agrees (suc j) zero left [] lt a b = agree-refl _ (
 chain_within-agree n ops p q agrees (suc j) zero left (t ∷ ts) lt a b = absurd (omega arith)
 chain_within-agree n ops p q agrees (suc j) (suc k) left ts lt a b =
     chain_step-agree n n ops p q left ts (chain_within ops p j) (chain_within ops q k) agrees lt
-        (λ x us lt'. chain_within-agree n ops p q agrees j k x us (omega arith) (omega arith) (omega arith)) (next_operator ops ts) (next_operator-less ops ts)
+    (λ x us lt'. chain_within-agree n ops p q agrees j k x us (omega arith) (omega arith) (omega arith)) (next_operator ops ts) (next_operator-less ops ts)
 
 pub joined-agree : (n : ℕ) (ops : Symbol → Option Op) (p q : Parser Term) → AgreeBelow n p q → AgreeBelow n (joined ops p) (joined ops q)
 unfolding joined chain
 joined-agree n ops p q agrees ts lt =
     agree-bind (length ts) (length ts) (p ts) (q ts) (λ r. chain ops p r.0 r.1) (λ r. chain ops q r.0 r.1) (agrees ts lt)
-        (λ r lt'. agree-weaken (suc (length r.1)) (length ts) (chain ops p r.0 r.1) (chain ops q r.0 r.1) (omega arith)
-            (chain_within-agree n ops p q agrees (length r.1) (length r.1) r.0 r.1 (omega arith) (omega arith) (omega arith)))
+    (λ r lt'. agree-weaken (suc (length r.1)) (length ts) (chain ops p r.0 r.1) (chain ops q r.0 r.1) (omega arith)
+    (chain_within-agree n ops p q agrees (length r.1) (length r.1) r.0 r.1 (omega arith) (omega arith) (omega arith)))
 
 -- ---- what stands strip a term
 
@@ -119,7 +119,7 @@ column_with-agree : (word : List ℕ) (ts : Lexemes) (o : Option Lexemes) → If
 column_with-agree word ts None h = agree-refl _ (Ok (col None word, ts)) (omega arith)
 column_with-agree word ts (Some rest) h =
     agree-bind (length rest) (suc (length ts)) (identifier rest) (identifier rest) (λ r. Ok (col (Some word) r.0, r.1)) (λ r. Ok (col (Some word) r.0, r.1))
-        (identifier-agree rest) (λ r lt. agree-refl _ (Ok (col (Some word) r.0, r.1)) (omega arith))
+    (identifier-agree rest) (λ r lt. agree-refl _ (Ok (col (Some word) r.0, r.1)) (omega arith))
 
 pub column-agree : (word : List ℕ) (ts : Lexemes) → Agree (suc (length ts)) (column word ts) (column word ts)
 unfolding column
@@ -129,7 +129,7 @@ truth_test-agree : (left : Term) (is : Bool) (ts : Lexemes) (o : Option Lexemes)
     → Agree (length ts) (truth_test left is ts o) (truth_test left is ts o)
 truth_test-agree left is ts None h =
     rest-bind (length ts) (length ts) (expect s.True ts) (expect s.True ts) (λ rest. Ok (is_true left is, rest)) (λ rest. Ok (is_true left is, rest))
-        (expect-agree s.True ts) (λ rest lt. agree-refl _ (Ok (is_true left is, rest)) lt)
+    (expect-agree s.True ts) (λ rest lt. agree-refl _ (Ok (is_true left is, rest)) lt)
 truth_test-agree left is ts (Some rest) h = agree-refl _ (Ok (is_null left is, rest)) h
 
 pub value_test-agree : (left : Term) (is : Bool) (ts : Lexemes) → Agree (length ts) (value_test left is ts) (value_test left is ts)
@@ -146,7 +146,7 @@ pub optional_test-agree : (left : Term) (ts : Lexemes) (o : Option Lexemes) → 
 optional_test-agree left ts None h = agree-refl _ (Ok (left, ts)) (omega arith)
 optional_test-agree left ts (Some rest) h =
     agree-weaken (length rest) (suc (length ts)) (is_test left rest (strip s.Not rest)) (is_test left rest (strip s.Not rest)) (omega arith)
-        (is_test-agree left rest (strip s.Not rest) (strip-less s.Not rest))
+    (is_test-agree left rest (strip s.Not rest) (strip-less s.Not rest))
 
 -- ---- readers that call others in brackets
 
@@ -155,8 +155,8 @@ module _ (n : ℕ) (f g : Parser Term) (agrees : AgreeBelow n f g) where
   unfolding brackets
   brackets-agree ts lt =
       agree-bind (length ts) (length ts) (f ts) (g ts) (λ i. expect s.Close i.1 >>= (λ rest. Ok (i.0, rest))) (λ i. expect s.Close i.1 >>= (λ rest. Ok (i.0, rest))) (agrees ts lt)
-          (λ i lt'. rest-bind (length i.1) (length ts) (expect s.Close i.1) (expect s.Close i.1) (λ rest. Ok (i.0, rest)) (λ rest. Ok (i.0, rest)) (expect-agree s.Close i.1)
-              (λ rest lt''. agree-refl _ (Ok (i.0, rest)) (omega arith)))
+      (λ i lt'. rest-bind (length i.1) (length ts) (expect s.Close i.1) (expect s.Close i.1) (λ rest. Ok (i.0, rest)) (λ rest. Ok (i.0, rest)) (expect-agree s.Close i.1)
+      (λ rest lt''. agree-refl _ (Ok (i.0, rest)) (omega arith)))
 
   -- strip a symbol, and the term that stands there
   term_behind-agree : {B : Type 0} (symbol : Symbol) (ts : Lexemes) (h k : Term × Lexemes → Outcome (B × Lexemes)) → length ts < suc n
@@ -164,16 +164,16 @@ module _ (n : ℕ) (f g : Parser Term) (agrees : AgreeBelow n f g) where
       → Agree (length ts) (expect symbol ts >>= (λ rest. f rest >>= h)) (expect symbol ts >>= (λ rest. g rest >>= k))
   term_behind-agree symbol ts h k lt next =
       rest-bind (length ts) (length ts) (expect symbol ts) (expect symbol ts) (λ rest. f rest >>= h) (λ rest. g rest >>= k) (expect-agree symbol ts)
-          (λ rest lt'. agree-bind (length rest) (length ts) (f rest) (g rest) h k (agrees rest (omega arith)) (λ r lt''. next r (omega arith)))
+      (λ rest lt'. agree-bind (length rest) (length ts) (f rest) (g rest) h k (agrees rest (omega arith)) (λ r lt''. next r (omega arith)))
 
   choice-agree : AgreeBelow (suc n) (choice f) (choice g)
   unfolding choice
   choice-agree ts lt = term_behind-agree s.When ts _ _ lt
       (λ w a. agree-weaken (length w.1) (length ts) _ _ (omega arith) (term_behind-agree s.Then w.1 _ _ (omega arith)
-          (λ x b. agree-weaken (length x.1) (length w.1) _ _ (omega arith) (term_behind-agree s.Else x.1 _ _ (omega arith)
-              (λ y c. agree-weaken (length y.1) (length x.1) _ _ (omega arith)
-                  (rest-bind (length y.1) (length y.1) (expect s.End y.1) (expect s.End y.1) (λ rest. Ok (case w.0 x.0 y.0, rest)) (λ rest. Ok (case w.0 x.0 y.0, rest)) (expect-agree s.End y.1)
-                      (λ rest d. agree-refl _ (Ok (case w.0 x.0 y.0, rest)) d)))))))
+      (λ x b. agree-weaken (length x.1) (length w.1) _ _ (omega arith) (term_behind-agree s.Else x.1 _ _ (omega arith)
+      (λ y c. agree-weaken (length y.1) (length x.1) _ _ (omega arith)
+      (rest-bind (length y.1) (length y.1) (expect s.End y.1) (expect s.End y.1) (λ rest. Ok (case w.0 x.0 y.0, rest)) (λ rest. Ok (case w.0 x.0 y.0, rest)) (expect-agree s.End y.1)
+      (λ rest d. agree-refl _ (Ok (case w.0 x.0 y.0, rest)) d)))))))
 
   primary_by-agree : (symbol : Symbol) (whole ts : Lexemes) → length ts < n → Agree (suc (length ts)) (primary_by f symbol whole ts) (primary_by g symbol whole ts)
   primary_by-agree s.Null whole ts lt = agree-refl _ (Ok (null, ts)) (omega arith)
@@ -193,7 +193,7 @@ module _ (n : ℕ) (f g : Parser Term) (agrees : AgreeBelow n f g) where
   signed-agree ts None lt h = primary-agree ts lt
   signed-agree ts (Some rest) lt h =
       agree-bind (length rest) (length ts) (primary f rest) (primary g rest) (λ r. Ok (neg r.0, r.1)) (λ r. Ok (neg r.0, r.1)) (primary-agree rest (omega arith))
-          (λ r lt'. agree-refl _ (Ok (neg r.0, r.1)) (omega arith))
+      (λ r lt'. agree-refl _ (Ok (neg r.0, r.1)) (omega arith))
 
   factor-agree : AgreeBelow (suc n) (factor f) (factor g)
   unfolding factor
@@ -207,26 +207,26 @@ module _ (n : ℕ) (f g : Parser Term) (agrees : AgreeBelow n f g) where
   compared-agree left ts None lt h = agree-refl _ (Ok (left, ts)) (omega arith)
   compared-agree left ts (Some o) lt h =
       agree-bind (length o.1) (suc (length ts)) (sum f o.1) (sum g o.1) (λ r. Ok (binary o.0 left r.0, r.1)) (λ r. Ok (binary o.0 left r.0, r.1)) (sum-agree o.1 (omega arith))
-          (λ r lt'. agree-refl _ (Ok (binary o.0 left r.0, r.1)) (omega arith))
+      (λ r lt'. agree-refl _ (Ok (binary o.0 left r.0, r.1)) (omega arith))
 
   test-agree : AgreeBelow (suc n) (test f) (test g)
   unfolding test
   test-agree ts lt =
       agree-bind (length ts) (length ts) (sum f ts) (sum g ts)
-          (λ r. compared f r.0 r.1 (next_operator comparison_of r.1) >>= (λ b. optional_test b.0 b.1 (strip s.Is b.1)))
-          (λ r. compared g r.0 r.1 (next_operator comparison_of r.1) >>= (λ b. optional_test b.0 b.1 (strip s.Is b.1)))
-          (sum-agree ts lt)
-          (λ r a. agree-bind (suc (length r.1)) (length ts) (compared f r.0 r.1 (next_operator comparison_of r.1)) (compared g r.0 r.1 (next_operator comparison_of r.1))
-              (λ b. optional_test b.0 b.1 (strip s.Is b.1)) (λ b. optional_test b.0 b.1 (strip s.Is b.1))
-              (compared-agree r.0 r.1 (next_operator comparison_of r.1) (omega arith) (next_operator-less comparison_of r.1))
-              (λ b c. agree-weaken (suc (length b.1)) (length ts) (optional_test b.0 b.1 (strip s.Is b.1)) (optional_test b.0 b.1 (strip s.Is b.1)) (omega arith)
-                  (optional_test-agree b.0 b.1 (strip s.Is b.1) (strip-less s.Is b.1))))
+      (λ r. compared f r.0 r.1 (next_operator comparison_of r.1) >>= (λ b. optional_test b.0 b.1 (strip s.Is b.1)))
+      (λ r. compared g r.0 r.1 (next_operator comparison_of r.1) >>= (λ b. optional_test b.0 b.1 (strip s.Is b.1)))
+      (sum-agree ts lt)
+      (λ r a. agree-bind (suc (length r.1)) (length ts) (compared f r.0 r.1 (next_operator comparison_of r.1)) (compared g r.0 r.1 (next_operator comparison_of r.1))
+      (λ b. optional_test b.0 b.1 (strip s.Is b.1)) (λ b. optional_test b.0 b.1 (strip s.Is b.1))
+      (compared-agree r.0 r.1 (next_operator comparison_of r.1) (omega arith) (next_operator-less comparison_of r.1))
+      (λ b c. agree-weaken (suc (length b.1)) (length ts) (optional_test b.0 b.1 (strip s.Is b.1)) (optional_test b.0 b.1 (strip s.Is b.1)) (omega arith)
+      (optional_test-agree b.0 b.1 (strip s.Is b.1) (strip-less s.Is b.1))))
 
   negated-agree : (ts : Lexemes) (o : Option Lexemes) → length ts < suc n → IfSome o (λ rest. length rest < length ts) → Agree (length ts) (negated f ts o) (negated g ts o)
   negated-agree ts None lt h = test-agree ts lt
   negated-agree ts (Some rest) lt h =
       agree-bind (length rest) (length ts) (test f rest) (test g rest) (λ r. Ok (not r.0, r.1)) (λ r. Ok (not r.0, r.1)) (test-agree rest (omega arith))
-          (λ r lt'. agree-refl _ (Ok (not r.0, r.1)) (omega arith))
+      (λ r lt'. agree-refl _ (Ok (not r.0, r.1)) (omega arith))
 
   negation-agree : AgreeBelow (suc n) (negation f) (negation g)
   unfolding negation
@@ -285,9 +285,9 @@ chain-some at left (t ∷ ts) o h =
     let p : Parser Term = operand term at in
     rw h
     (agree-bind (length o.1) (suc (length o.1)) (p o.1) (p o.1) (λ r. chain_within ops p (length ts) (binary o.0 left r.0) r.1)
-        (λ r. chain_within ops p (length r.1) (binary o.0 left r.0) r.1) (operand-agrees at (suc (length o.1)) o.1 (omega arith))
-        (λ r a. agree-weaken (suc (length r.1)) (suc (length o.1)) (chain_within ops p (length ts) (binary o.0 left r.0) r.1) (chain_within ops p (length r.1) (binary o.0 left r.0) r.1) (omega arith)
-            (chain_within-agree (suc (length r.1)) ops p p (operand-agrees at (suc (length r.1))) (length ts) (length r.1) (binary o.0 left r.0) r.1 (omega arith) (omega arith) (omega arith)))).same
+    (λ r. chain_within ops p (length r.1) (binary o.0 left r.0) r.1) (operand-agrees at (suc (length o.1)) o.1 (omega arith))
+    (λ r a. agree-weaken (suc (length r.1)) (suc (length o.1)) (chain_within ops p (length ts) (binary o.0 left r.0) r.1) (chain_within ops p (length r.1) (binary o.0 left r.0) r.1) (omega arith)
+    (chain_within-agree (suc (length r.1)) ops p p (operand-agrees at (suc (length r.1))) (length ts) (length r.1) (binary o.0 left r.0) r.1 (omega arith) (omega arith) (omega arith)))).same
 
 pub ruleset chain_steps = (chain-none, chain-some, term-unfolds)
 

@@ -105,8 +105,8 @@ block-even : (x : Block) → AreShallow (listed x.items ++ terms_of_condition x.
 block-even x h =
     let w : AreShallow (listed x.items) × AreShallow (terms_of_condition x.cond) = shallow-split (listed x.items) (terms_of_condition x.cond) h in
     let tail : Even (Sign s.From ∷ (listed_lexemes item_lexemes x.from ++ condition_lexemes x.cond)) =
-        both MAX_OPEN (listed_lexemes item_lexemes x.from) (condition_lexemes x.cond) (list-even MAX_OPEN (Sign s.Comma ∷ []) item_lexemes (comma-balanced MAX_OPEN) (item-even MAX_OPEN) x.from)
-            (condition-even x.cond w.1) in
+    both MAX_OPEN (listed_lexemes item_lexemes x.from) (condition_lexemes x.cond) (list-even MAX_OPEN (Sign s.Comma ∷ []) item_lexemes (comma-balanced MAX_OPEN) (item-even MAX_OPEN) x.from)
+    (condition-even x.cond w.1) in
     both MAX_OPEN (items_lexemes x.items) (Sign s.From ∷ (listed_lexemes item_lexemes x.from ++ condition_lexemes x.cond)) (items-even x.items w.0) tail
 
 blocks-flat : (q : Query) → AreShallow (terms_of_query q) → Even (flat_map (λ y. Sign s.Union ∷ Sign s.All ∷ block_lexemes y) q)

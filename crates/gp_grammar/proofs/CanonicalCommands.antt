@@ -109,7 +109,7 @@ condition-canonical _ _ (g.present a x i) = g.present (term_lexemes x) x (term-c
 block-canonical : (a : Lexemes) (x : Block) → IsBlock a x → IsBlock (block_lexemes x) x
 block-canonical _ _ (g.block a b w items from cond i j k) =
     g.block (items_lexemes items) (listed_lexemes item_lexemes from) (condition_lexemes cond) items from cond (items-canonical a items i)
-        (list-canonical comma IsItem item_lexemes item-canonical j) (condition-canonical w cond k)
+    (list-canonical comma IsItem item_lexemes item-canonical j) (condition-canonical w cond k)
 
 query-canonical : (a : Lexemes) (x : Query) → IsQuery a x → IsQuery (query_lexemes x) x
 query-canonical a x i = list-canonical union_all IsBlock block_lexemes block-canonical i

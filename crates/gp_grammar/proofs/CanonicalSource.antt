@@ -71,10 +71,17 @@ module _ (P : Lexeme → Type 0) (sign : (symbol : Symbol) → P (Sign symbol)) 
   term-every (t.brackets a x i) h = term-every i (inner a h)
   term-every (t.choice a b c x y z i j k) h =
       let u : Every (b ++ (Sign s.Else ∷ (c ++ (Sign s.End ∷ [])))) = (second a (Sign s.Then ∷ (b ++ (Sign s.Else ∷ (c ++ (Sign s.End ∷ []))))) h.1.1).1 in
-      let v : Every (c ++ (Sign s.End ∷ [])) = (second b (Sign s.Else ∷ (c ++ (Sign s.End ∷ []))) u).1 in
-      (sign s.Case, (sign s.When, both (term_lexemes x) _ (term-every i (first a (Sign s.Then ∷ (b ++ (Sign s.Else ∷ (c ++ (Sign s.End ∷ []))))) h.1.1))
-          (sign s.Then, both (term_lexemes y) _ (term-every j (first b (Sign s.Else ∷ (c ++ (Sign s.End ∷ []))) u))
-              (sign s.Else, both (term_lexemes z) (Sign s.End ∷ []) (term-every k (first c (Sign s.End ∷ []) v)) (sign s.End, tt)))))
+      let v : Every (c ++ (Sign s.End ∷ [])) = (second b (Sign s.Else ∷ (c ++ (Sign s.End ∷ []))) u).1 in (
+        sign s.Case,
+        (
+          sign s.When,
+          both (term_lexemes x) _ (term-every i (first a (Sign s.Then ∷ (b ++ (Sign s.Else ∷ (c ++ (Sign s.End ∷ []))))) h.1.1)) (
+            sign s.Then,
+            both (term_lexemes y) _ (term-every j (first b (Sign s.Else ∷ (c ++ (Sign s.End ∷ []))) u))
+                (sign s.Else, both (term_lexemes z) (Sign s.End ∷ []) (term-every k (first c (Sign s.End ∷ []) v)) (sign s.End, tt)),
+          ),
+        ),
+      )
 
   list-every : {A : Type 0} (separator : Lexemes) (Is : Lexemes → A → Type 0) (lexemes : A → Lexemes) → Every separator
       → ((a : Lexemes) (x : A) → Is a x → Every a → Every (lexemes x)) → {a : Lexemes} {xs : List A} → IsList separator Is a xs → Every a → Every (joined_lexemes separator lexemes xs)
@@ -82,8 +89,8 @@ module _ (P : Lexeme → Type 0) (sign : (symbol : Symbol) → P (Sign symbol)) 
   list-every separator Is lexemes w k (g.more a b xs x i j) h =
       let F : Lexemes → Type 0 = λ z. Every z in
       subst F (sym (joined-snoc separator lexemes xs x (list-nonempty i)))
-          (both (joined_lexemes separator lexemes xs) (separator ++ lexemes x) (list-every separator Is lexemes w k i (first a (separator ++ b) h))
-              (both separator (lexemes x) w (k b x j (second separator b (second a (separator ++ b) h)))))
+      (both (joined_lexemes separator lexemes xs) (separator ++ lexemes x) (list-every separator Is lexemes w k i (first a (separator ++ b) h))
+      (both separator (lexemes x) w (k b x j (second separator b (second a (separator ++ b) h)))))
 
   every-comma : Every comma
   every-comma = (sign s.Comma, tt)
@@ -126,10 +133,14 @@ module _ (P : Lexeme → Type 0) (sign : (symbol : Symbol) → P (Sign symbol)) 
 
   block-every : (a : Lexemes) (x : Block) → IsBlock a x → Every a → Every (block_lexemes x)
   block-every _ _ (g.block a b w items from cond i j k) h =
-      let u : Every (b ++ w) = (second a (Sign s.From ∷ (b ++ w)) h.1).1 in
-      (sign s.Select, both (items_lexemes items) _ (items-every a items i (first a (Sign s.From ∷ (b ++ w)) h.1))
-          (sign s.From, both (listed_lexemes item_lexemes from) (condition_lexemes cond) (list-every comma IsItem item_lexemes every-comma item-every j (first b w u))
-              (condition-every w cond k (second b w u))))
+      let u : Every (b ++ w) = (second a (Sign s.From ∷ (b ++ w)) h.1).1 in (
+        sign s.Select,
+        both (items_lexemes items) _ (items-every a items i (first a (Sign s.From ∷ (b ++ w)) h.1)) (
+          sign s.From,
+          both (listed_lexemes item_lexemes from) (condition_lexemes cond) (list-every comma IsItem item_lexemes every-comma item-every j (first b w u))
+              (condition-every w cond k (second b w u)),
+        ),
+      )
 
   query-every : (a : Lexemes) (x : Query) → IsQuery a x → Every a → Every (query_lexemes x)
   query-every a x i h = list-every union_all IsBlock block_lexemes (sign s.Union, (sign s.All, tt)) block-every i h
@@ -138,14 +149,31 @@ module _ (P : Lexeme → Type 0) (sign : (symbol : Symbol) → P (Sign symbol)) 
   set-every _ _ (g.set_term name a x i) h = (h.0, (sign s.Eq, term-every i h.1.1))
 
   pub command-every : (a : Lexemes) (x : Command) → IsCommand a x → Every a → Every (command_lexemes x)
-  command-every _ _ (g.create name a cols i) h = (sign s.Create, (sign s.Table, (h.1.1.0,
-      in_brackets (listed_lexemes column_definition_lexemes cols) (list-every comma IsColumn column_definition_lexemes every-comma column-every i (inner a h.1.1.1)))))
+  command-every _ _ (g.create name a cols i) h = (
+    sign s.Create,
+    (
+      sign s.Table,
+      (
+        h.1.1.0,
+        in_brackets (listed_lexemes column_definition_lexemes cols) (list-every comma IsColumn column_definition_lexemes every-comma column-every i (inner a h.1.1.1)),
+      ),
+    ),
+  )
   command-every _ _ g.begin h = h
   command-every _ _ g.commit h = h
   command-every _ _ g.rollback h = h
   command-every _ _ (g.insert table a rows i) h = (sign s.Insert, (sign s.Into, (h.1.1.0, (sign s.Values, list-every comma IsTuple tuple_lexemes every-comma tuple-every i h.1.1.1.1))))
   command-every _ _ (g.insert_select table a x i) h = (sign s.Insert, (sign s.Into, (h.1.1.0, query-every a x i h.1.1.1)))
-  command-every _ _ (g.update table a w sets cond i j) h = (sign s.Update, (h.1.0, (sign s.Set, both (listed_lexemes set_lexemes sets) (condition_lexemes cond)
-      (list-every comma IsSetTerm set_lexemes every-comma set-every i (first a w h.1.1.1)) (condition-every w cond j (second a w h.1.1.1)))))
+  command-every _ _ (g.update table a w sets cond i j) h = (
+    sign s.Update,
+    (
+      h.1.0,
+      (
+        sign s.Set,
+        both (listed_lexemes set_lexemes sets) (condition_lexemes cond)
+            (list-every comma IsSetTerm set_lexemes every-comma set-every i (first a w h.1.1.1)) (condition-every w cond j (second a w h.1.1.1)),
+      ),
+    ),
+  )
   command-every _ _ (g.delete table w cond i) h = (sign s.Delete, (sign s.From, (h.1.1.0, condition-every w cond i h.1.1.1)))
   command-every _ _ (g.select a x i) h = query-every a x i h

@@ -85,7 +85,7 @@ case-by x y z a b c f g h false true r d e i = kept (syntax.case x y z) y b g (o
 case-by x y z a b c f g h false false true d e i = kept (syntax.case x y z) z c h (omega arith) (ltb-true MAX_NODES (nodes c) i)
 case-by x y z a b c f g h false false false d e i =
     equal-fair (syntax.case x y z) (syntax.case a b c) (ap (λ w. syntax.case w b c) (same-small x a f d) ∙ ap (λ w. syntax.case x w c) (same-small y b g e)
-        ∙ ap (λ w. syntax.case x y w) (same-small z c h i))
+    ∙ ap (λ w. syntax.case x y w) (same-small z c h i))
 
 binary-fair : (o : Op) (x y : Term) → Fair x (capped x) → Fair y (capped y) → Fair (syntax.binary o x y) (binary o (capped x) (capped y))
 unfolding binary

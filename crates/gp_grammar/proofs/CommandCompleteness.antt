@@ -79,10 +79,12 @@ shrinks-literal = record { below = below }
     behind_sign (Sign symbol ∷ ts) = tt
     behind_sign (Word word ∷ ts) = tt
     behind_sign (Text bytes ∷ ts) = tt
+
     by_symbol : (symbol : Symbol) (ts : Lexemes) → Below (length (Sign symbol ∷ ts)) (c.literal_by symbol (Sign symbol ∷ ts) ts)
     by_symbol s.Null ts = omega arith
     by_symbol s.Minus ts = behind_sign ts
     by_symbol _ ts = tt
+
     below : (ts : Lexemes) → Below (length ts) (c.literal ts)
     below [] = tt
     below (Sign symbol ∷ ts) = by_symbol symbol ts
@@ -129,7 +131,7 @@ shrinks-block : Shrinks c.block
 unfolding c.block
 shrinks-block = shrinks-then s.Select _ (keeps-bind c.items _ keeps-items (λ items. shrinks-keeps _ (shrinks-then s.From _
     (keeps-bind (separated c.item) _ (shrinks-keeps _ (shrinks-separated c.item shrinks-item)) (λ from. keeps-bind c.condition _ keeps-condition
-        (λ cond. keeps-accept (record { items = items; from = from; cond = cond })))))))
+    (λ cond. keeps-accept (record { items = items; from = from; cond = cond })))))))
 
 pub shrinks-all : Shrinks (s.All then c.block)
 shrinks-all = shrinks-then s.All c.block (shrinks-keeps _ shrinks-block)
@@ -263,9 +265,9 @@ block-complete _ _ (g.block a b w items from cond i j k) rest h =
     let e : EndsList (w ++ rest) = ends-list w cond k rest h in
     ap (λ z. c.block (Sign s.Select ∷ z)) (block-split a b w rest)
     ∙ block-of (a ++ (Sign s.From ∷ (b ++ (w ++ rest)))) (b ++ (w ++ rest)) (w ++ rest) rest (capped_items items) from (option_map capped cond)
-        (items-complete a items i (Sign s.From ∷ (b ++ (w ++ rest))) (omega arith) refl)
-        (separated-exact IsItem c.item shrinks-item NoAlias (λ ts table. refl) item-complete b from j (w ++ rest) e.no_alias e.no_comma)
-        (condition-complete w cond k rest h.loose h.no_where)
+    (items-complete a items i (Sign s.From ∷ (b ++ (w ++ rest))) (omega arith) refl)
+    (separated-exact IsItem c.item shrinks-item NoAlias (λ ts table. refl) item-complete b from j (w ++ rest) e.no_alias e.no_comma)
+    (condition-complete w cond k rest h.loose h.no_where)
 
 union-ends : (ts : Lexemes) → EndsBlock (Sign s.Union ∷ ts)
 union-ends ts = record { loose = omega arith; no_comma = refl; no_where = refl; no_alias = λ table. refl }
@@ -340,8 +342,8 @@ command-complete _ _ (g.update table a w sets cond i j) rest h =
     let e : EndsList (w ++ rest) = ends-list w cond j rest h.block in
     ap (λ z. c.command (Sign s.Update ∷ Word table ∷ Sign s.Set ∷ z)) (append_assoc a w rest)
     ∙ update-of table (a ++ (w ++ rest)) (w ++ rest) rest (map capped_set sets) (option_map capped cond)
-        (separated-complete IsSetTerm capped_set c.set_term shrinks-set_term Loose (λ ts. omega arith) set_term-complete a sets i (w ++ rest) e.loose e.no_comma)
-        (condition-complete w cond j rest h.block.loose h.block.no_where)
+    (separated-complete IsSetTerm capped_set c.set_term shrinks-set_term Loose (λ ts. omega arith) set_term-complete a sets i (w ++ rest) e.loose e.no_comma)
+    (condition-complete w cond j rest h.block.loose h.block.no_where)
 command-complete _ _ (g.delete table w cond i) rest h = delete-of table (w ++ rest) rest (option_map capped cond) (condition-complete w cond i rest h.block.loose h.block.no_where)
 command-complete _ _ (g.select a xs i) rest h = select-begins i rest ∙ ap (λ p. p >>= (λ r. Ok (syntax.select r.0, r.1))) (query-complete a xs i rest h)
 

@@ -213,7 +213,7 @@ module _ (t : Lexeme) (m m' : Lexemes) where
   unfolding c.block
   local-block n = local-expect t m m' n s.Select _ (local-bind t m m' n c.items _ (local-items n) (λ items. local-expect t m m' n s.From _
       (local-bind t m m' n (separated c.item) _ (local-separated t m m' c.item shrinks-item n (local-item n)) (λ from.
-          local-bind t m m' n c.condition _ (local-condition n) (λ cond. local-ok t m m' n (record { items = items; from = from; cond = cond }))))))
+      local-bind t m m' n c.condition _ (local-condition n) (λ cond. local-ok t m m' n (record { items = items; from = from; cond = cond }))))))
 
   pub local-query : Good c.query
   unfolding c.query
@@ -229,20 +229,20 @@ module _ (t : Lexeme) (m m' : Lexemes) where
   unfolding c.create
   local-create n = local-expect t m m' n s.Table _ (local-bind t m m' n identifier _ (local-identifier t m m' n) (λ name.
       local-bind t m m' n (in_brackets (separated c.column)) _ (local-in_brackets t m m' (separated c.column) n (local-separated t m m' c.column shrinks-column n (local-column n)))
-          (λ cols. local-ok t m m' n (syntax.create (record { name = name; cols = cols })))))
+      (λ cols. local-ok t m m' n (syntax.create (record { name = name; cols = cols })))))
 
   local-insert : Good c.insert
   unfolding c.insert
   local-insert n = local-expect t m m' n s.Into _ (local-bind t m m' n identifier _ (local-identifier t m m' n) (λ table.
       local-next-all t m m' s.Values (λ rest. separated c.tuple rest >>= (λ r. Ok (syntax.insert table r.0, r.1))) (λ rest. c.query rest >>= (λ r. Ok (syntax.insert_select table r.0, r.1)))
-          (λ n. local-bind t m m' n (separated c.tuple) _ (local-separated t m m' c.tuple shrinks-tuple n (local-tuple n)) (λ rows. local-ok t m m' n (syntax.insert table rows)))
-          (λ n. local-bind t m m' n c.query _ (local-query n) (λ xs. local-ok t m m' n (syntax.insert_select table xs))) n))
+      (λ n. local-bind t m m' n (separated c.tuple) _ (local-separated t m m' c.tuple shrinks-tuple n (local-tuple n)) (λ rows. local-ok t m m' n (syntax.insert table rows)))
+      (λ n. local-bind t m m' n c.query _ (local-query n) (λ xs. local-ok t m m' n (syntax.insert_select table xs))) n))
 
   local-update : Good c.update
   unfolding c.update
   local-update n = local-bind t m m' n identifier _ (local-identifier t m m' n) (λ table. local-expect t m m' n s.Set _
       (local-bind t m m' n (separated c.set_term) _ (local-separated t m m' c.set_term shrinks-set_term n (local-set_term n)) (λ sets.
-          local-bind t m m' n c.condition _ (local-condition n) (λ cond. local-ok t m m' n (syntax.update table sets cond)))))
+      local-bind t m m' n c.condition _ (local-condition n) (λ cond. local-ok t m m' n (syntax.update table sets cond)))))
 
   local-delete : Good c.delete
   unfolding c.delete

@@ -84,7 +84,7 @@ items-sound : (ts : Lexemes) → Sound BuildsItems ts (c.items ts)
 unfolding c.items
 items-sound ts = next-sound s.Star BuildsItems (accept syntax.star) (λ ts. separated term ts >>= (λ r. Ok (syntax.list r.0, r.1))) ts (λ ts1. sound-ok _ ts1 syntax.star built.star)
     (sound-bind (IsList comma BuildsTerm) BuildsItems ts (separated term ts) (λ r. Ok (syntax.list r.0, r.1)) (separated-sound BuildsTerm term term-sound ts)
-        (λ a ts1 xs i. sound-ok (λ b y. BuildsItems (a ++ b) y) ts1 (syntax.list xs) (rw append-nil (built.terms a xs i))))
+    (λ a ts1 xs i. sound-ok (λ b y. BuildsItems (a ++ b) y) ts1 (syntax.list xs) (rw append-nil (built.terms a xs i))))
 
 condition-sound : (ts : Lexemes) → Sound BuildsWhere ts (c.condition ts)
 unfolding c.condition
@@ -123,44 +123,44 @@ set_term-sound : (ts : Lexemes) → Sound BuildsSetTerm ts (c.set_term ts)
 unfolding c.set_term
 set_term-sound ts = identifier-sound BuildsSetTerm ts _ (λ col ts1. expect-sound s.Eq (λ b y. BuildsSetTerm (Word col ∷ b) y) ts1 _ (λ ts2.
     sound-bind BuildsTerm (λ b y. BuildsSetTerm (Word col ∷ Sign s.Eq ∷ b) y) ts2 (term ts2) _ (term-sound ts2)
-        (λ a ts3 x i. sound-ok _ ts3 (record { col = col; term = x }) (rw append-nil (built.set_term col a x i)))))
+    (λ a ts3 x i. sound-ok _ ts3 (record { col = col; term = x }) (rw append-nil (built.set_term col a x i)))))
 
 create-sound : (ts : Lexemes) → Sound (λ b y. BuildsCommand (Sign s.Create ∷ b) y) ts (c.create ts)
 unfolding c.create
 create-sound ts = expect-sound s.Table (λ b y. BuildsCommand (Sign s.Create ∷ b) y) ts _ (λ ts1.
     identifier-sound (λ b y. BuildsCommand (Sign s.Create ∷ Sign s.Table ∷ b) y) ts1 _ (λ name ts2.
     sound-bind (λ b cols. (BuildsCommand (Sign s.Create ∷ Sign s.Table ∷ Word name ∷ b) (syntax.create (record { name = name; cols = cols }))))
-        (λ b y. BuildsCommand (Sign s.Create ∷ Sign s.Table ∷ Word name ∷ b) y) ts2 (c.in_brackets (separated c.column) ts2) _
-        (in_brackets-sound (IsList comma IsColumn) _ (separated c.column) (λ a cols i. as_is _ _ (g.create name a cols i) refl) (separated-sound IsColumn c.column column-sound) ts2)
-        (λ b ts3 cols i. sound-ok _ ts3 (syntax.create (record { name = name; cols = cols })) (rw append-nil i))))
+    (λ b y. BuildsCommand (Sign s.Create ∷ Sign s.Table ∷ Word name ∷ b) y) ts2 (c.in_brackets (separated c.column) ts2) _
+    (in_brackets-sound (IsList comma IsColumn) _ (separated c.column) (λ a cols i. as_is _ _ (g.create name a cols i) refl) (separated-sound IsColumn c.column column-sound) ts2)
+    (λ b ts3 cols i. sound-ok _ ts3 (syntax.create (record { name = name; cols = cols })) (rw append-nil i))))
 
 insert-sound : (ts : Lexemes) → Sound (λ b y. BuildsCommand (Sign s.Insert ∷ b) y) ts (c.insert ts)
 unfolding c.insert
 insert-sound ts = expect-sound s.Into (λ b y. BuildsCommand (Sign s.Insert ∷ b) y) ts _ (λ ts1.
     identifier-sound (λ b y. BuildsCommand (Sign s.Insert ∷ Sign s.Into ∷ b) y) ts1 _ (λ table ts2.
     next-sound s.Values (λ b y. BuildsCommand (Sign s.Insert ∷ Sign s.Into ∷ Word table ∷ b) y)
-        (λ rest. separated c.tuple rest >>= (λ r. Ok (syntax.insert table r.0, r.1))) (λ rest. c.query rest >>= (λ r. Ok (syntax.insert_select table r.0, r.1))) ts2
-        (λ ts3. sound-bind (IsList comma IsTuple) (λ b y. BuildsCommand (Sign s.Insert ∷ Sign s.Into ∷ Word table ∷ Sign s.Values ∷ b) y) ts3 (separated c.tuple ts3) _
-            (separated-sound IsTuple c.tuple tuple-sound ts3)
-            (λ a ts4 rows i. sound-ok _ ts4 (syntax.insert table rows) (rw append-nil (as_is _ _ (g.insert table a rows i) refl))))
-        (sound-bind BuildsQuery (λ b y. BuildsCommand (Sign s.Insert ∷ Sign s.Into ∷ Word table ∷ b) y) ts2 (c.query ts2) _ (query-sound ts2)
-            (λ a ts3 xs i. sound-ok _ ts3 (syntax.insert_select table xs) (rw append-nil (built.insert_select table a xs i))))))
+    (λ rest. separated c.tuple rest >>= (λ r. Ok (syntax.insert table r.0, r.1))) (λ rest. c.query rest >>= (λ r. Ok (syntax.insert_select table r.0, r.1))) ts2
+    (λ ts3. sound-bind (IsList comma IsTuple) (λ b y. BuildsCommand (Sign s.Insert ∷ Sign s.Into ∷ Word table ∷ Sign s.Values ∷ b) y) ts3 (separated c.tuple ts3) _
+    (separated-sound IsTuple c.tuple tuple-sound ts3)
+    (λ a ts4 rows i. sound-ok _ ts4 (syntax.insert table rows) (rw append-nil (as_is _ _ (g.insert table a rows i) refl))))
+    (sound-bind BuildsQuery (λ b y. BuildsCommand (Sign s.Insert ∷ Sign s.Into ∷ Word table ∷ b) y) ts2 (c.query ts2) _ (query-sound ts2)
+    (λ a ts3 xs i. sound-ok _ ts3 (syntax.insert_select table xs) (rw append-nil (built.insert_select table a xs i))))))
 
 update-sound : (ts : Lexemes) → Sound (λ b y. BuildsCommand (Sign s.Update ∷ b) y) ts (c.update ts)
 unfolding c.update
 update-sound ts = identifier-sound (λ b y. BuildsCommand (Sign s.Update ∷ b) y) ts _ (λ table ts1.
     expect-sound s.Set (λ b y. BuildsCommand (Sign s.Update ∷ Word table ∷ b) y) ts1 _ (λ ts2.
     sound-bind (IsList comma BuildsSetTerm) (λ b y. BuildsCommand (Sign s.Update ∷ Word table ∷ Sign s.Set ∷ b) y) ts2 (separated c.set_term ts2) _
-        (separated-sound BuildsSetTerm c.set_term set_term-sound ts2) (λ a ts3 sets i.
+    (separated-sound BuildsSetTerm c.set_term set_term-sound ts2) (λ a ts3 sets i.
     sound-bind BuildsWhere (λ b y. BuildsCommand (Sign s.Update ∷ Word table ∷ Sign s.Set ∷ (a ++ b)) y) ts3 (c.condition ts3) _ (condition-sound ts3)
-        (λ w ts4 cond j. sound-ok _ ts4 (syntax.update table sets cond) (let z : w ++ [] ≡ w = append-nil w in rw z (built.update table a w sets cond i j))))))
+    (λ w ts4 cond j. sound-ok _ ts4 (syntax.update table sets cond) (let z : w ++ [] ≡ w = append-nil w in rw z (built.update table a w sets cond i j))))))
 
 delete-sound : (ts : Lexemes) → Sound (λ b y. BuildsCommand (Sign s.Delete ∷ b) y) ts (c.delete ts)
 unfolding c.delete
 delete-sound ts = expect-sound s.From (λ b y. BuildsCommand (Sign s.Delete ∷ b) y) ts _ (λ ts1.
     identifier-sound (λ b y. BuildsCommand (Sign s.Delete ∷ Sign s.From ∷ b) y) ts1 _ (λ table ts2.
     sound-bind BuildsWhere (λ b y. BuildsCommand (Sign s.Delete ∷ Sign s.From ∷ Word table ∷ b) y) ts2 (c.condition ts2) _ (condition-sound ts2)
-        (λ w ts3 cond i. sound-ok _ ts3 (syntax.delete table cond) (rw append-nil (built.delete table w cond i)))))
+    (λ w ts3 cond i. sound-ok _ ts3 (syntax.delete table cond) (rw append-nil (built.delete table w cond i)))))
 
 a_begin : Sentence BuildsCommand
 a_begin = record { lexemes = Sign s.Begin ∷ []; tree = syntax.begin; is = as_is _ _ g.begin refl }
@@ -196,7 +196,7 @@ session-sound name ts None e = sound-err BuildsSession _ a_line
 session-sound name ts (Some session) e = sound-shift BuildsSession (Word name ∷ []) ts (c.in_session session ts)
     (expect-sound s.Colon (λ b y. BuildsSession (Word name ∷ b) y) ts _ (λ ts1.
     sound-bind BuildsCommand (λ b y. BuildsSession (Word name ∷ Sign s.Colon ∷ b) y) ts1 (c.command ts1) _ (command-sound ts1)
-        (λ a ts2 x i. sound-ok _ ts2 (record { session = session; command = x }) (rw append-nil (built.in_session name session a x e i)))))
+    (λ a ts2 x i. sound-ok _ ts2 (record { session = session; command = x }) (rw append-nil (built.in_session name session a x e i)))))
 
 session_command-sound : (ts : Lexemes) → Sound BuildsSession ts (c.session_command ts)
 session_command-sound [] = sound-err BuildsSession _ a_line

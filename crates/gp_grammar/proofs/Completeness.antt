@@ -316,8 +316,8 @@ moved p ts us out e h = ap (λ z. reads p z) e ∙ h
 pub complete : {p : Phrase} {a : Lexemes} {x : Term} → Derives p a x → (rest : Lexemes) → first_binds rest ≤ rank p → reads p (a ++ rest) ≡ finish p (capped x) rest
 complete (g.operation at o symbol a b x y e i j) rest h =
     moved (g.operations at) _ _ _ (append_assoc a (Sign symbol ∷ b) rest)
-        (chain-step at (capped x) (capped y) (Sign symbol ∷ (b ++ rest)) (b ++ rest) rest o _ (complete i (Sign symbol ∷ (b ++ rest)) (omega (arith, op-binds at symbol o e)))
-            (ap (λ f. with_rest (b ++ rest) f) e) (part-is at (b ++ rest) ∙ complete j rest (operand-rank at _ h) ∙ operand-finish at (capped y) rest h))
+    (chain-step at (capped x) (capped y) (Sign symbol ∷ (b ++ rest)) (b ++ rest) rest o _ (complete i (Sign symbol ∷ (b ++ rest)) (omega (arith, op-binds at symbol o e)))
+    (ap (λ f. with_rest (b ++ rest) f) e) (part-is at (b ++ rest) ∙ complete j rest (operand-rank at _ h) ∙ operand-finish at (capped y) rest h))
 complete (g.one_operand at a x i) rest h = level-of at (a ++ rest) rest (capped x) (part-is at (a ++ rest) ∙ complete i rest (operand-rank at _ h) ∙ operand-finish at (capped x) rest h)
 complete (g.negated a x i) rest h = negation-not (a ++ rest) rest (capped x) (complete i rest h)
 complete (g.not_negated a x i) rest h = negation-plain (a ++ rest) rest (capped x) (no-not i tt rest) (complete i rest h)
@@ -332,8 +332,8 @@ complete (g.not_true_test a x i) rest h = moved g.test _ _ _ (append_assoc a (Si
 complete (g.no_test a x i) rest h = test-of (a ++ rest) rest (capped x) (complete i rest (omega arith)) ∙ ap (λ o. r.optional_test (capped x) rest o) (no-is rest (omega arith))
 complete (g.compared o symbol a b x y e i j) rest h = moved g.comparison _ _ _ (append_assoc a (Sign symbol ∷ b) rest)
     (compared-both _ (b ++ rest) rest symbol o (capped x) (capped y) e
-        (sum-of _ _ (capped x) (complete i (Sign symbol ∷ (b ++ rest)) (omega (arith, cmp-binds symbol o e))) (omega (arith, cmp-binds symbol o e)))
-        (sum-of (b ++ rest) rest (capped y) (complete j rest (omega arith)) (omega arith)))
+    (sum-of _ _ (capped x) (complete i (Sign symbol ∷ (b ++ rest)) (omega (arith, cmp-binds symbol o e))) (omega (arith, cmp-binds symbol o e)))
+    (sum-of (b ++ rest) rest (capped y) (complete j rest (omega arith)) (omega arith)))
 complete (g.not_compared a x i) rest h = compared-plain (a ++ rest) rest (capped x) (sum-of (a ++ rest) rest (capped x) (complete i rest (omega arith)) (omega arith)) (no-comparison_of rest (omega arith))
 complete (g.signed a x i) rest h = factor-minus (a ++ rest) rest (capped x) (complete i rest h)
 complete (g.not_signed a x i) rest h = factor-plain (a ++ rest) rest (capped x) (no-minus i rest) (complete i rest h)
@@ -346,9 +346,9 @@ complete (g.brackets a x i) rest h = moved g.primary _ _ _ (ap (λ z. Sign s.Ope
     (brackets-of (a ++ (Sign s.Close ∷ rest)) rest (capped x) (term-of _ _ (capped x) (complete i (Sign s.Close ∷ rest) (omega arith)) (omega arith)))
 complete (g.choice a b c x y z i j k) rest h = moved g.primary _ _ _ (ap (λ u. Sign s.Case ∷ Sign s.When ∷ u) (simp append_assoc))
     (choice-of (a ++ (Sign s.Then ∷ (b ++ (Sign s.Else ∷ (c ++ (Sign s.End ∷ rest)))))) (b ++ (Sign s.Else ∷ (c ++ (Sign s.End ∷ rest)))) (c ++ (Sign s.End ∷ rest)) rest (capped x) (capped y) (capped z)
-        (term-of _ _ (capped x) (complete i (Sign s.Then ∷ (b ++ (Sign s.Else ∷ (c ++ (Sign s.End ∷ rest))))) (omega arith)) (omega arith))
-        (term-of _ _ (capped y) (complete j (Sign s.Else ∷ (c ++ (Sign s.End ∷ rest))) (omega arith)) (omega arith))
-        (term-of _ _ (capped z) (complete k (Sign s.End ∷ rest) (omega arith)) (omega arith)))
+    (term-of _ _ (capped x) (complete i (Sign s.Then ∷ (b ++ (Sign s.Else ∷ (c ++ (Sign s.End ∷ rest))))) (omega arith)) (omega arith))
+    (term-of _ _ (capped y) (complete j (Sign s.Else ∷ (c ++ (Sign s.End ∷ rest))) (omega arith)) (omega arith))
+    (term-of _ _ (capped z) (complete k (Sign s.End ∷ rest) (omega arith)) (omega arith)))
 
 -- a term is read whole, where nothing strip it could go on with it
 pub term-complete : (a : Lexemes) (x : Term) → IsTerm a x → (rest : Lexemes) → first_binds rest < 1 → term (a ++ rest) ≡ Ok (capped x, rest)

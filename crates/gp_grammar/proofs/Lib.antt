@@ -25,3 +25,4 @@ pub mod CanonicalDepth
 pub mod CanonicalCommands
 pub mod CanonicalSource
 pub mod CanonicalCommandDepth
+pub mod CanonicalLaws

@@ -82,7 +82,7 @@ module _ (t : Lexeme) (m m' : Lexemes) where
       where
         go : (o : Option (Parser A)) → choose x ≡ o
             → Same t m m' (by_option o (other (x ∷ (front ++ (t ∷ m)))) (λ p. p (front ++ (t ∷ m)))) (by_option o (other (x ∷ (front ++ (t ∷ m')))) (λ p. p (front ++ (t ∷ m'))))
-                ⊎ Past t m m' (by_option o (other (x ∷ (front ++ (t ∷ m)))) (λ p. p (front ++ (t ∷ m))))
+            ⊎ Past t m m' (by_option o (other (x ∷ (front ++ (t ∷ m)))) (λ p. p (front ++ (t ∷ m))))
         go None d = w.along (x ∷ (front ++ (t ∷ m))) (x ∷ (front ++ (t ∷ m'))) (omega arith) (there t m m' x front)
         go (Some p) d = (chosen x p d).along (front ++ (t ∷ m)) (front ++ (t ∷ m')) lt (after t m m' front)
 
@@ -141,10 +141,10 @@ module _ (t : Lexeme) (m m' : Lexemes) where
     local-many-below zero h found = local-zero (many (strip symbol) item step found)
     local-many-below (suc k) h found =
         local-same t m m' (suc k) (many_step symbol item step shrinks found) (many (strip symbol) item step found) (many-unfolds symbol item step shrinks found)
-            (local-next k symbol (λ rest. item rest >>= (λ r. many (strip symbol) item step (step found r.0) r.1)) (accept found)
-                (local-bind t m m' k item (λ r. many (strip symbol) item step (step found r.0) r.1) (local-weaken t m m' n k item (omega arith) w)
-                    (λ x. local-many-below k (omega arith) (step found x)))
-                (local-ok t m m' (suc k) found))
+        (local-next k symbol (λ rest. item rest >>= (λ r. many (strip symbol) item step (step found r.0) r.1)) (accept found)
+        (local-bind t m m' k item (λ r. many (strip symbol) item step (step found r.0) r.1) (local-weaken t m m' n k item (omega arith) w)
+        (λ x. local-many-below k (omega arith) (step found x)))
+        (local-ok t m m' (suc k) found))
 
     pub local-many : (found : S) → Local t m m' n (many (strip symbol) item step found)
     local-many found = local-many-below n (omega arith) found

@@ -257,9 +257,9 @@ module _ (t : Lexeme) (m m' : Lexemes) where
   local-chain at n w (suc k) h left =
       let p : Parser Term = r.operand term at in
       local-same (suc k) (λ ts. chain_of at p left ts (next_operator (operator_of at) ts)) (r.chain (operator_of at) p left) (chain-is at left)
-          (local-next_operator k (operator_of at) (chain_of at p left) (λ o ts. p ts >>= (λ x. r.chain (operator_of at) p (binary o left x.0) x.1)) (local-ok (suc k) left)
-              (λ o. local-bind k p (λ x. r.chain (operator_of at) p (binary o left x.0) x.1) (local-weaken n k p (omega arith) w) (λ x. local-chain at n w k (omega arith) (binary o left x)))
-              (λ ts o. refl))
+      (local-next_operator k (operator_of at) (chain_of at p left) (λ o ts. p ts >>= (λ x. r.chain (operator_of at) p (binary o left x.0) x.1)) (local-ok (suc k) left)
+      (λ o. local-bind k p (λ x. r.chain (operator_of at) p (binary o left x.0) x.1) (local-weaken n k p (omega arith) w) (λ x. local-chain at n w k (omega arith) (binary o left x)))
+      (λ ts o. refl))
 
   local-operations : (at : Level) (n : ℕ) → Local n (r.operand term at) → Local n (r.operations term at)
   unfolding r.joined
@@ -347,7 +347,7 @@ module _ (t : Lexeme) (m m' : Lexemes) where
     unfolding r.test
     local-test = local-bind (suc n) (r.sum term) _ local-sum (λ x. local-bind (suc n) (λ ts. r.compared term x ts (next_operator comparison_of ts)) (λ b. r.optional_test b.0 b.1 (strip s.Is b.1))
         (local-next_operator n comparison_of (r.compared term x) (λ o ts. r.sum term ts >>= (λ y. Ok (binary o x y.0, y.1))) (local-ok (suc n) x)
-            (λ o. local-bind n (r.sum term) _ (local-weaken (suc n) n (r.sum term) (omega arith) local-sum) (λ y. local-ok n (binary o x y))) (λ ts o. refl))
+        (λ o. local-bind n (r.sum term) _ (local-weaken (suc n) n (r.sum term) (omega arith) local-sum) (λ y. local-ok n (binary o x y))) (λ ts o. refl))
         (λ y. local-optional_test (suc n) y))
 
     local-negation : Local (suc n) (r.negation term)

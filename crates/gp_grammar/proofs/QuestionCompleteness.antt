@@ -34,6 +34,7 @@ shrinks-number_if fits = record { below = below }
     by : (n : ℕ) (ts : Lexemes) (b : Bool) → Below (length (Number n ∷ ts)) (cond b (Ok (n, ts)) (Err (Number n ∷ ts)))
     by n ts true = omega arith
     by n ts false = tt
+
     below : (ts : Lexemes) → Below (length ts) (number_if fits ts)
     below [] = tt
     below (Number n ∷ ts) = by n ts (fits n)
@@ -61,9 +62,11 @@ shrinks-pattern = record { below = below }
     weaker : (n m : ℕ) (o : Outcome (Pattern × Lexemes)) → n ≤ m → Below n o → Below m o
     weaker n m (Ok r) h k = omega arith
     weaker n m (Err e) h k = tt
+
     by : (name : Bytes) (ts : Lexemes) (o : Option (TokenKind × Option ℕ)) → Below (length (Word name ∷ ts)) (by_option o (Err (Word name ∷ ts)) (λ kind. q.pattern_parts kind ts))
     by name ts None = tt
     by name ts (Some p) = weaker (suc (length ts)) (length (Word name ∷ ts)) (q.pattern_parts p ts) (omega arith) ((keeps-parts p).below ts)
+
     below : (ts : Lexemes) → Below (length ts) (q.pattern ts)
     below [] = tt
     below (Word name ∷ ts) = by name ts (pattern_name name)
@@ -106,12 +109,12 @@ rules-agree zero k found ts a b = absurd (omega arith)
 rules-agree (suc j) zero found ts a b = absurd (omega arith)
 rules-agree (suc j) (suc k) found ts a b =
     agree-bind (length ts) (length ts) (q.rule ts) (q.rule ts) _ _ (agree-refl (length ts) (q.rule ts) (shrinks-rule.below ts))
-        (λ r lt. agree-weaken (length r.1) (length ts) _ _ (omega arith)
-            (option-agree r.1 (strip s.Comma r.1) (end_of_rules (push found r.0) r.1) (where_next s.Else (q.else_number (push found r.0)) (q.rules_within j (push found r.0)))
-                (where_next s.Else (q.else_number (push found r.0)) (q.rules_within k (push found r.0))) (strip-less s.Comma r.1)
-                (agree-refl (length r.1) (end_of_rules (push found r.0) r.1) ((shrinks-end (push found r.0)).below r.1))
-                (λ rest lt2. agree-weaken (length rest) (length r.1) _ _ (omega arith)
-                    (else-agree (push found r.0) (q.rules_within j (push found r.0)) (q.rules_within k (push found r.0)) rest (rules-agree j k (push found r.0) rest (omega arith) (omega arith))))))
+    (λ r lt. agree-weaken (length r.1) (length ts) _ _ (omega arith)
+    (option-agree r.1 (strip s.Comma r.1) (end_of_rules (push found r.0) r.1) (where_next s.Else (q.else_number (push found r.0)) (q.rules_within j (push found r.0)))
+    (where_next s.Else (q.else_number (push found r.0)) (q.rules_within k (push found r.0))) (strip-less s.Comma r.1)
+    (agree-refl (length r.1) (end_of_rules (push found r.0) r.1) ((shrinks-end (push found r.0)).below r.1))
+    (λ rest lt2. agree-weaken (length rest) (length r.1) _ _ (omega arith)
+    (else-agree (push found r.0) (q.rules_within j (push found r.0)) (q.rules_within k (push found r.0)) rest (rules-agree j k (push found r.0) rest (omega arith) (omega arith))))))
 
 -- behind a rule: a comma and more, or the end
 abbrev pub after_rule : List Rule → Parser Rules
@@ -121,13 +124,13 @@ pub rules_from-unfolds : (found : List Rule) (ts : Lexemes) → q.rules_from fou
 unfolding q.rules_from q.rules_within
 rules_from-unfolds found ts =
     (agree-bind (length ts) (length ts) (q.rule ts) (q.rule ts) _ _ (agree-refl (length ts) (q.rule ts) (shrinks-rule.below ts))
-        (λ r lt. agree-weaken (length r.1) (length ts) _ _ (omega arith)
-            (option-agree r.1 (strip s.Comma r.1) (end_of_rules (push found r.0) r.1) (where_next s.Else (q.else_number (push found r.0)) (q.rules_within (length ts) (push found r.0)))
-                (where_next s.Else (q.else_number (push found r.0)) (q.rules_from (push found r.0))) (strip-less s.Comma r.1)
-                (agree-refl (length r.1) (end_of_rules (push found r.0) r.1) ((shrinks-end (push found r.0)).below r.1))
-                (λ rest lt2. agree-weaken (length rest) (length r.1) _ _ (omega arith)
-                    (else-agree (push found r.0) (q.rules_within (length ts) (push found r.0)) (q.rules_from (push found r.0)) rest
-                        (rules-agree (length ts) (suc (length rest)) (push found r.0) rest (omega arith) (omega arith))))))).same
+    (λ r lt. agree-weaken (length r.1) (length ts) _ _ (omega arith)
+    (option-agree r.1 (strip s.Comma r.1) (end_of_rules (push found r.0) r.1) (where_next s.Else (q.else_number (push found r.0)) (q.rules_within (length ts) (push found r.0)))
+    (where_next s.Else (q.else_number (push found r.0)) (q.rules_from (push found r.0))) (strip-less s.Comma r.1)
+    (agree-refl (length r.1) (end_of_rules (push found r.0) r.1) ((shrinks-end (push found r.0)).below r.1))
+    (λ rest lt2. agree-weaken (length rest) (length r.1) _ _ (omega arith)
+    (else-agree (push found r.0) (q.rules_within (length ts) (push found r.0)) (q.rules_from (push found r.0)) rest
+    (rules-agree (length ts) (suc (length rest)) (push found r.0) rest (omega arith) (omega arith))))))).same
 
 -- ---- what is derived is parsed
 
@@ -177,7 +180,7 @@ rule-of p n ts rest e = ap (λ o. o >>= (λ pattern. expect s.Eq pattern.1 >>= (
 rule-complete : (a : Lexemes) (x : Rule) → IsRule a x → (rest : Lexemes) → q.rule (a ++ rest) ≡ Ok (x, rest)
 rule-complete _ _ (g.rule a p n i) rest =
     rule-of p n ((a ++ (Sign s.Eq ∷ Number n ∷ [])) ++ rest) rest
-        (ap q.pattern (append_assoc a (Sign s.Eq ∷ Number n ∷ []) rest) ∙ pattern-complete a p i (Sign s.Eq ∷ Number n ∷ rest) refl)
+    (ap q.pattern (append_assoc a (Sign s.Eq ∷ Number n ∷ []) rest) ∙ pattern-complete a p i (Sign s.Eq ∷ Number n ∷ rest) refl)
 
 no-else-pattern : {a : Lexemes} {x : Pattern} → IsPattern a x → (rest : Lexemes) → strip s.Else (a ++ rest) ≡ None
 no-else-pattern (g.kind name kind e) rest = refl
@@ -217,7 +220,7 @@ rules-complete _ _ (g.only_rules a xs i) rest n =
 rules-complete _ _ (g.rules_and_else a xs k i) rest n =
     ap (λ z. q.rules (Sign s.Open ∷ z)) (append_assoc a (Sign s.Comma ∷ Sign s.Else ∷ Number k ∷ Sign s.Close ∷ []) rest)
     ∙ rules-of (a ++ (Sign s.Comma ∷ Sign s.Else ∷ Number k ∷ Sign s.Close ∷ rest)) rest (record { rules = xs; other = Some k })
-        (no-else-list i (Sign s.Comma ∷ Sign s.Else ∷ Number k ∷ Sign s.Close ∷ rest)) (rules_from-complete i (Sign s.Comma ∷ Sign s.Else ∷ Number k ∷ Sign s.Close ∷ rest))
+    (no-else-list i (Sign s.Comma ∷ Sign s.Else ∷ Number k ∷ Sign s.Close ∷ rest)) (rules_from-complete i (Sign s.Comma ∷ Sign s.Else ∷ Number k ∷ Sign s.Close ∷ rest))
 
 -- what begins a state
 record BeginsState (ts : Lexemes) : Type 0 where
@@ -246,7 +249,7 @@ how-complete : (a : Lexemes) (x : How) → IsHow a x → (rest : Lexemes) → Be
 unfolding q.how
 how-complete _ _ g.rows rest h =
     ap (λ o. by_option o (where_word (codes "provenance") (expect_word (codes "of") (accept syntax.provenance)) (where_word (codes "value") q.value (accept syntax.rows)) rest)
-        (where_word (codes "provenance") (expect_word (codes "of") (accept (syntax.explain true))) (accept (syntax.explain false)))) h.no_explain
+    (where_word (codes "provenance") (expect_word (codes "of") (accept (syntax.explain true))) (accept (syntax.explain false)))) h.no_explain
     ∙ ap (λ o. by_option o (where_word (codes "value") q.value (accept syntax.rows) rest) (expect_word (codes "of") (accept syntax.provenance))) h.no_provenance
     ∙ ap (λ o. by_option o (Ok (syntax.rows, rest)) q.value) h.no_value
 how-complete _ _ g.provenance rest h = refl
@@ -255,7 +258,7 @@ how-complete _ _ g.explain_provenance rest h = refl
 how-complete _ _ (g.value a b k r i j) rest h =
     ap (λ z. q.value (Word (codes "in") ∷ z)) (value-split a b rest)
     ∙ value-of (a ++ (b ++ (Word (codes "of") ∷ rest))) (b ++ (Word (codes "of") ∷ rest)) rest k r (semiring-complete a k i (b ++ (Word (codes "of") ∷ rest)))
-        (rules-complete b r j (Word (codes "of") ∷ rest) refl)
+    (rules-complete b r j (Word (codes "of") ∷ rest) refl)
 
 -- a question that asks is none of the others
 record BeginsAsk (ts : Lexemes) : Type 0 where
@@ -284,7 +287,7 @@ open-of : (ts rest : Lexemes) (x : Question) → BeginsAsk ts → q.ask ts ≡ O
 unfolding q.open_question
 open-of ts rest x h e =
     ap (λ o. by_option o (where_word (codes "versions") (expect_word (codes "of") (λ ts. identifier ts >>= (λ table. Ok (syntax.versions table.0, table.1)))) q.ask ts)
-        (λ ts. number ts >>= (λ t. Ok (syntax.log t.0, t.1)))) h.no_log
+    (λ ts. number ts >>= (λ t. Ok (syntax.log t.0, t.1)))) h.no_log
     ∙ ap (λ o. by_option o (q.ask ts) (expect_word (codes "of") (λ ts. identifier ts >>= (λ table. Ok (syntax.versions table.0, table.1))))) h.no_versions
     ∙ e
 
@@ -296,8 +299,8 @@ open_question-complete _ _ (g.ask a b c how state xs i j k) rest h =
     let f : BeginsState (b ++ (c ++ rest)) = begins-state b state j (c ++ rest) in
     ap q.open_question (ask-split a b c rest)
     ∙ open-of (a ++ (b ++ (c ++ rest))) rest (syntax.ask how state (map capped_block xs)) (begins-ask a how i (b ++ (c ++ rest)) f)
-        (ask-of (a ++ (b ++ (c ++ rest))) (b ++ (c ++ rest)) (c ++ rest) rest how state (map capped_block xs) (how-complete a how i (b ++ (c ++ rest)) f)
-            (state-complete b state j (c ++ rest)) (query-complete c xs k rest h))
+    (ask-of (a ++ (b ++ (c ++ rest))) (b ++ (c ++ rest)) (c ++ rest) rest how state (map capped_block xs) (how-complete a how i (b ++ (c ++ rest)) f)
+    (state-complete b state j (c ++ rest)) (query-complete c xs k rest h))
 
 pub whole-question : (a : Lexemes) (x : Question) → Closed IsOpenQuestion a x → q.question a ≡ Ok (capped_question x, [])
 whole-question = closed-complete IsOpenQuestion capped_question q.open_question open_question-complete

@@ -68,11 +68,11 @@ module _ (t : Lexeme) (m m' : Lexemes) where
   unfolding q.state
   good-state = local-next-all t m m' s.As (expect_word (codes "of") (λ ts. number ts >>= (λ v. Ok (syntax.as_of v.0, v.1))))
       (expect_word (codes "reenact") (λ ts. number ts >>= (λ t. where_next s.Commit (accept (syntax.State.commit t.0))
-          (expect_word (codes "after") (λ rest. number rest >>= (λ k. Ok (syntax.after t.0 k.0, k.1)))) t.1)))
+      (expect_word (codes "after") (λ rest. number rest >>= (λ k. Ok (syntax.after t.0 k.0, k.1)))) t.1)))
       (good-expect (codes "of") _ (good-bind number _ good-number (λ v. good-ok (syntax.as_of v))))
       (good-expect (codes "reenact") _ (good-bind number _ good-number (λ x. local-next-all t m m' s.Commit (accept (syntax.State.commit x))
-          (expect_word (codes "after") (λ rest. number rest >>= (λ k. Ok (syntax.after x k.0, k.1)))) (good-ok (syntax.State.commit x))
-          (good-expect (codes "after") _ (good-bind number _ good-number (λ k. good-ok (syntax.after x k)))))))
+      (expect_word (codes "after") (λ rest. number rest >>= (λ k. Ok (syntax.after x k.0, k.1)))) (good-ok (syntax.State.commit x))
+      (good-expect (codes "after") _ (good-bind number _ good-number (λ k. good-ok (syntax.after x k)))))))
 
   good-semiring : Good q.semiring_name
   unfolding q.semiring_name
@@ -125,7 +125,7 @@ module _ (t : Lexeme) (m m' : Lexemes) where
   local-rules_from zero found = local-zero t m m' (q.rules_from found)
   local-rules_from (suc n) found = local-same t m m' (suc n) (λ ts. q.rule ts >>= (λ r. after_rule (push found r.0) r.1)) (q.rules_from found) (rules_from-unfolds found)
       (local-bind t m m' (suc n) q.rule _ (good-rule (suc n)) (λ x. local-next t m m' n s.Comma (where_next s.Else (q.else_number (push found x)) (q.rules_from (push found x)))
-          (s.Close then accept (record { rules = push found x; other = None })) (else-below n (push found x) (local-rules_from n (push found x))) (good-end (push found x) (suc n))))
+      (s.Close then accept (record { rules = push found x; other = None })) (else-below n (push found x) (local-rules_from n (push found x))) (good-end (push found x) (suc n))))
 
   good-rules : Good q.rules
   unfolding q.rules
@@ -142,7 +142,7 @@ module _ (t : Lexeme) (m m' : Lexemes) where
   good-how = local-word-all t m m' (codes "explain") _ _
       (local-word-all t m m' (codes "provenance") _ _ (good-expect (codes "of") (accept (syntax.explain true)) (good-ok (syntax.explain true))) (good-ok (syntax.explain false)))
       (local-word-all t m m' (codes "provenance") _ _ (good-expect (codes "of") (accept syntax.provenance) (good-ok syntax.provenance))
-          (local-word-all t m m' (codes "value") q.value (accept syntax.rows) good-value (good-ok syntax.rows)))
+      (local-word-all t m m' (codes "value") q.value (accept syntax.rows) good-value (good-ok syntax.rows)))
 
   good-ask : Good q.ask
   unfolding q.ask
@@ -154,7 +154,7 @@ module _ (t : Lexeme) (m m' : Lexemes) where
       (where_word (codes "versions") (expect_word (codes "of") (λ ts. identifier ts >>= (λ table. Ok (syntax.versions table.0, table.1)))) q.ask)
       (good-bind number _ good-number (λ x. good-ok (syntax.log x)))
       (local-word-all t m m' (codes "versions") (expect_word (codes "of") (λ ts. identifier ts >>= (λ table. Ok (syntax.versions table.0, table.1)))) q.ask
-          (good-expect (codes "of") _ (good-bind identifier _ (λ n. local-identifier t m m' n) (λ table. good-ok (syntax.versions table)))) good-ask)
+      (good-expect (codes "of") _ (good-bind identifier _ (λ n. local-identifier t m m' n) (λ table. good-ok (syntax.versions table)))) good-ask)
 
   pub local-question : Good q.question
   local-question n = local-closed t m m' q.open_question n (good-open_question n)

@@ -80,9 +80,11 @@ number_if-one fits z ts = go ts
   where
     zero_number : Sentence (IsNumber fits)
     zero_number = record { lexemes = Number 0 ∷ []; tree = 0; is = record { is = refl; small = z } }
+
     by : (n : ℕ) (ts : Lexemes) (b : Bool) → fits n ≡ b → Sound (IsNumber fits) (Number n ∷ ts) (cond b (Ok (n, ts)) (Err (Number n ∷ ts)))
     by n ts true e = record { used = Number n ∷ []; split = refl; is = record { is = refl; small = e } }
     by n ts false e = sound-err (IsNumber fits) _ zero_number
+
     go : (ts : Lexemes) → Sound (IsNumber fits) ts (number_if fits ts)
     go [] = sound-err (IsNumber fits) _ zero_number
     go (Number n ∷ ts) = by n ts (fits n) refl
@@ -106,17 +108,17 @@ state-sound : (ts : Lexemes) → Sound IsState ts (q.state ts)
 unfolding q.state
 state-sound ts = next-sound s.As IsState (expect_word (codes "of") (λ ts. number ts >>= (λ v. Ok (syntax.as_of v.0, v.1))))
     (expect_word (codes "reenact") (λ ts. number ts >>= (λ t. where_next s.Commit (accept (syntax.State.commit t.0))
-        (expect_word (codes "after") (λ rest. number rest >>= (λ k. Ok (syntax.after t.0 k.0, k.1)))) t.1))) ts
+    (expect_word (codes "after") (λ rest. number rest >>= (λ k. Ok (syntax.after t.0 k.0, k.1)))) t.1))) ts
     (λ ts1. expect_word-sound (codes "of") (λ b y. IsState (Sign s.As ∷ b) y) _ ts1 (λ ts2.
-        number-sound (λ b y. IsState (Sign s.As ∷ Word (codes "of") ∷ b) y) ts2 _ (λ v ts3. sound-ok _ ts3 (syntax.as_of v) (g.as_of v))))
+    number-sound (λ b y. IsState (Sign s.As ∷ Word (codes "of") ∷ b) y) ts2 _ (λ v ts3. sound-ok _ ts3 (syntax.as_of v) (g.as_of v))))
     (expect_word-sound (codes "reenact") IsState _ ts (λ ts1.
-        number-sound (λ b y. IsState (Word (codes "reenact") ∷ b) y) ts1 _ (λ t ts2.
-        next-sound s.Commit (λ b y. IsState (Word (codes "reenact") ∷ Number t ∷ b) y) (accept (syntax.State.commit t))
-            (expect_word (codes "after") (λ rest. number rest >>= (λ k. Ok (syntax.after t k.0, k.1)))) ts2
-            (λ ts3. sound-ok _ ts3 (syntax.State.commit t) (g.commit t))
-            (expect_word-sound (codes "after") (λ b y. IsState (Word (codes "reenact") ∷ Number t ∷ b) y) _ ts2 (λ ts3.
-                number-sound (λ b y. IsState (Word (codes "reenact") ∷ Number t ∷ Word (codes "after") ∷ b) y) ts3 _
-                    (λ k ts4. sound-ok _ ts4 (syntax.after t k) (g.after t k)))))))
+    number-sound (λ b y. IsState (Word (codes "reenact") ∷ b) y) ts1 _ (λ t ts2.
+    next-sound s.Commit (λ b y. IsState (Word (codes "reenact") ∷ Number t ∷ b) y) (accept (syntax.State.commit t))
+    (expect_word (codes "after") (λ rest. number rest >>= (λ k. Ok (syntax.after t k.0, k.1)))) ts2
+    (λ ts3. sound-ok _ ts3 (syntax.State.commit t) (g.commit t))
+    (expect_word-sound (codes "after") (λ b y. IsState (Word (codes "reenact") ∷ Number t ∷ b) y) _ ts2 (λ ts3.
+    number-sound (λ b y. IsState (Word (codes "reenact") ∷ Number t ∷ Word (codes "after") ∷ b) y) ts3 _
+    (λ k ts4. sound-ok _ ts4 (syntax.after t k) (g.after t k)))))))
 
 a_semiring : Sentence IsSemiring
 a_semiring = record { lexemes = Word (codes "count") ∷ []; tree = semiring.Count; is = g.count }
@@ -125,11 +127,11 @@ semiring-sound : (ts : Lexemes) → Sound IsSemiring ts (q.semiring_name ts)
 unfolding q.semiring_name
 semiring-sound ts =
     word-sound (codes "count") IsSemiring (accept semiring.Count) (where_word (codes "bool") (accept semiring.Bool) (where_word (codes "cost") (accept semiring.Cost)
-        (where_word (codes "level") (accept semiring.Level) (where_word (codes "poly") (accept semiring.Poly) fail)))) ts (λ ts1. sound-ok _ ts1 semiring.Count g.count)
+    (where_word (codes "level") (accept semiring.Level) (where_word (codes "poly") (accept semiring.Poly) fail)))) ts (λ ts1. sound-ok _ ts1 semiring.Count g.count)
     (word-sound (codes "bool") IsSemiring (accept semiring.Bool) (where_word (codes "cost") (accept semiring.Cost)
-        (where_word (codes "level") (accept semiring.Level) (where_word (codes "poly") (accept semiring.Poly) fail))) ts (λ ts1. sound-ok _ ts1 semiring.Bool g.bool)
+    (where_word (codes "level") (accept semiring.Level) (where_word (codes "poly") (accept semiring.Poly) fail))) ts (λ ts1. sound-ok _ ts1 semiring.Bool g.bool)
     (word-sound (codes "cost") IsSemiring (accept semiring.Cost) (where_word (codes "level") (accept semiring.Level) (where_word (codes "poly") (accept semiring.Poly) fail)) ts
-        (λ ts1. sound-ok _ ts1 semiring.Cost g.cost)
+    (λ ts1. sound-ok _ ts1 semiring.Cost g.cost)
     (word-sound (codes "level") IsSemiring (accept semiring.Level) (where_word (codes "poly") (accept semiring.Poly) fail) ts (λ ts1. sound-ok _ ts1 semiring.Level g.level)
     (word-sound (codes "poly") IsSemiring (accept semiring.Poly) fail ts (λ ts1. sound-ok _ ts1 semiring.Poly g.poly) (sound-err IsSemiring ts a_semiring)))))
 
@@ -140,7 +142,7 @@ row-sound : (name : Bytes) (kind : TokenKind) (t k : ℕ) → pattern_name name 
 row-sound name token.I t k e h ts = next-sound s.Dot (λ b y. IsPattern (Word name ∷ Sign s.Dot ∷ Number k ∷ b) y)
     (λ ts. q.pattern_number ts >>= (λ n. Ok (pattern_of token.I (Some t) (Some k) (Some n.0), n.1))) (accept (pattern_of token.I (Some t) (Some k) None)) ts
     (λ ts1. number_if-sound (λ n. nat_le n MAX_PATTERN_NUMBER) refl (λ b y. IsPattern (Word name ∷ Sign s.Dot ∷ Number k ∷ Sign s.Dot ∷ b) y) ts1 _
-        (λ n ts2 f. sound-ok _ ts2 (pattern_of token.I (Some t) (Some k) (Some n)) (g.row name t k n e h (leb-true n MAX_PATTERN_NUMBER f))))
+    (λ n ts2 f. sound-ok _ ts2 (pattern_of token.I (Some t) (Some k) (Some n)) (g.row name t k n e h (leb-true n MAX_PATTERN_NUMBER f))))
     (sound-ok _ ts (pattern_of token.I (Some t) (Some k) None) (g.statement name token.I t k e h))
 row-sound name token.Q t k e h ts = sound-ok _ ts (pattern_of token.Q (Some t) (Some k) None) (g.statement name token.Q t k e h)
 row-sound name token.U t k e h ts = sound-ok _ ts (pattern_of token.U (Some t) (Some k) None) (g.statement name token.U t k e h)
@@ -150,7 +152,7 @@ parts-sound name (kind, None) e ts = sound-ok _ ts (pattern_of kind None None No
 parts-sound name (kind, Some t) e ts = next-sound s.Dot (λ b y. IsPattern (Word name ∷ b) y) (λ ts. q.pattern_number ts >>= (λ k. q.pattern_row kind t k.0 k.1))
     (accept (pattern_of kind (Some t) None None)) ts
     (λ ts1. number_if-sound (λ n. nat_le n MAX_PATTERN_NUMBER) refl (λ b y. IsPattern (Word name ∷ Sign s.Dot ∷ b) y) ts1 _
-        (λ k ts2 f. row-sound name kind t k e (leb-true k MAX_PATTERN_NUMBER f) ts2))
+    (λ k ts2 f. row-sound name kind t k e (leb-true k MAX_PATTERN_NUMBER f) ts2))
     (sound-ok _ ts (pattern_of kind (Some t) None None) (g.transaction name kind t e))
 
 a_pattern : Sentence IsPattern
@@ -173,7 +175,7 @@ rule-sound : (ts : Lexemes) → Sound IsRule ts (q.rule ts)
 unfolding q.rule
 rule-sound ts = sound-bind IsPattern IsRule ts (q.pattern ts) _ (pattern-sound ts) (λ a ts1 p i.
     expect-sound s.Eq (λ b y. IsRule (a ++ b) y) ts1 _ (λ ts2. number-sound (λ b y. IsRule (a ++ (Sign s.Eq ∷ b)) y) ts2 _
-        (λ n ts3. sound-ok _ ts3 (rule_of p n) (g.rule a p n i))))
+    (λ n ts3. sound-ok _ ts3 (rule_of p n) (g.rule a p n i))))
 
 -- one more rule may follow
 Extends : Lexemes → List Rule → Type 0
@@ -195,8 +197,8 @@ else-sound : (front a : Lexemes) (found : List Rule) → IsList comma IsRule (fr
     → Sound (λ b y. InRules front (a ++ (Sign s.Comma ∷ Sign s.Else ∷ b)) y) ts (q.else_number found ts)
 else-sound front a found i ts = number-sound (λ b y. InRules front (a ++ (Sign s.Comma ∷ Sign s.Else ∷ b)) y) ts _ (λ n ts1.
     expect-sound s.Close (λ b y. InRules front (a ++ (Sign s.Comma ∷ Sign s.Else ∷ Number n ∷ b)) y) ts1 (accept (record { rules = found; other = Some n }))
-        (λ ts2. sound-ok _ ts2 (record { rules = found; other = Some n })
-            (along-rules _ _ _ (append_assoc front a (Sign s.Comma ∷ Sign s.Else ∷ Number n ∷ Sign s.Close ∷ [])) (g.rules_and_else (front ++ a) found n i))))
+    (λ ts2. sound-ok _ ts2 (record { rules = found; other = Some n })
+    (along-rules _ _ _ (append_assoc front a (Sign s.Comma ∷ Sign s.Else ∷ Number n ∷ Sign s.Close ∷ [])) (g.rules_and_else (front ++ a) found n i))))
 
 a_rule : IsRule (Word (codes "i") ∷ Sign s.Eq ∷ Number 0 ∷ []) (rule_of (pattern_of token.I None None None) 0)
 a_rule = g.rule (Word (codes "i") ∷ []) (pattern_of token.I None None None) 0 (g.kind (codes "i") token.I refl)
@@ -215,14 +217,14 @@ rules_within-sound zero front found k ts = sound-err (InRules front) ts (some_ru
 rules_within-sound (suc n) front found k ts =
     sound-bind IsRule (InRules front) ts (q.rule ts) _ (rule-sound ts) (λ a ts1 x i.
     next-sound s.Comma (λ b y. InRules front (a ++ b) y) (where_next s.Else (q.else_number (push found x)) (q.rules_within n (push found x)))
-        (s.Close then accept (record { rules = push found x; other = None })) ts1
-        (λ ts2. next-sound s.Else (λ b y. InRules front (a ++ (Sign s.Comma ∷ b)) y) (q.else_number (push found x)) (q.rules_within n (push found x)) ts2
-            (λ ts3. else-sound front a (push found x) (k a x i) ts3)
-            (sound-phrase (InRules (front ++ (a ++ (Sign s.Comma ∷ [])))) (λ b y. InRules front (a ++ (Sign s.Comma ∷ b)) y) ts2 (q.rules_within n (push found x) ts2)
-                (λ b y j. along-rules _ _ y (simp append_assoc) j)
-                (rules_within-sound n (front ++ (a ++ (Sign s.Comma ∷ []))) (push found x) (extends-more front a found x (k a x i)) ts2)))
-        (expect-sound s.Close (λ b y. InRules front (a ++ b) y) ts1 (accept (record { rules = push found x; other = None }))
-            (λ ts2. sound-ok _ ts2 (record { rules = push found x; other = None }) (along-rules _ _ _ (append_assoc front a (Sign s.Close ∷ [])) (g.only_rules (front ++ a) (push found x) (k a x i))))))
+    (s.Close then accept (record { rules = push found x; other = None })) ts1
+    (λ ts2. next-sound s.Else (λ b y. InRules front (a ++ (Sign s.Comma ∷ b)) y) (q.else_number (push found x)) (q.rules_within n (push found x)) ts2
+    (λ ts3. else-sound front a (push found x) (k a x i) ts3)
+    (sound-phrase (InRules (front ++ (a ++ (Sign s.Comma ∷ [])))) (λ b y. InRules front (a ++ (Sign s.Comma ∷ b)) y) ts2 (q.rules_within n (push found x) ts2)
+    (λ b y j. along-rules _ _ y (simp append_assoc) j)
+    (rules_within-sound n (front ++ (a ++ (Sign s.Comma ∷ []))) (push found x) (extends-more front a found x (k a x i)) ts2)))
+    (expect-sound s.Close (λ b y. InRules front (a ++ b) y) ts1 (accept (record { rules = push found x; other = None }))
+    (λ ts2. sound-ok _ ts2 (record { rules = push found x; other = None }) (along-rules _ _ _ (append_assoc front a (Sign s.Close ∷ [])) (g.only_rules (front ++ a) (push found x) (k a x i))))))
 
 extends-none : Extends [] []
 unfolding Extends
@@ -236,10 +238,10 @@ rules-sound : (ts : Lexemes) → Sound IsRules ts (q.rules ts)
 unfolding q.rules
 rules-sound ts = next-sound s.Open IsRules (where_next s.Else (q.else_number []) (q.rules_from [])) (accept (record { rules = []; other = None })) ts
     (λ ts1. next-sound s.Else (λ b y. IsRules (Sign s.Open ∷ b) y) (q.else_number []) (q.rules_from []) ts1
-        (λ ts2. number-sound (λ b y. IsRules (Sign s.Open ∷ Sign s.Else ∷ b) y) ts2 _ (λ n ts3.
-            expect-sound s.Close (λ b y. IsRules (Sign s.Open ∷ Sign s.Else ∷ Number n ∷ b) y) ts3 (accept (record { rules = []; other = Some n }))
-                (λ ts4. sound-ok _ ts4 (record { rules = []; other = Some n }) (g.only_else n))))
-        (rules_from-sound ts1))
+    (λ ts2. number-sound (λ b y. IsRules (Sign s.Open ∷ Sign s.Else ∷ b) y) ts2 _ (λ n ts3.
+    expect-sound s.Close (λ b y. IsRules (Sign s.Open ∷ Sign s.Else ∷ Number n ∷ b) y) ts3 (accept (record { rules = []; other = Some n }))
+    (λ ts4. sound-ok _ ts4 (record { rules = []; other = Some n }) (g.only_else n))))
+    (rules_from-sound ts1))
     (sound-ok IsRules ts (record { rules = []; other = None }) g.no_rules)
 
 -- ---- questions
@@ -250,19 +252,19 @@ value-sound ts = expect_word-sound (codes "in") (λ b y. IsHow (Word (codes "val
     sound-bind IsSemiring (λ b y. IsHow (Word (codes "value") ∷ Word (codes "in") ∷ b) y) ts1 (q.semiring_name ts1) _ (semiring-sound ts1) (λ a ts2 k i.
     sound-bind IsRules (λ b y. IsHow (Word (codes "value") ∷ Word (codes "in") ∷ (a ++ b)) y) ts2 (q.rules ts2) _ (rules-sound ts2) (λ b ts3 r j.
     expect_word-sound (codes "of") (λ c y. IsHow (Word (codes "value") ∷ Word (codes "in") ∷ (a ++ (b ++ c))) y) (accept (syntax.value k r.rules r.other)) ts3
-        (λ ts4. sound-ok _ ts4 (syntax.value k r.rules r.other) (g.value a b k r i j)))))
+    (λ ts4. sound-ok _ ts4 (syntax.value k r.rules r.other) (g.value a b k r i j)))))
 
 how-sound : (ts : Lexemes) → Sound IsHow ts (q.how ts)
 unfolding q.how
 how-sound ts =
     word-sound (codes "explain") IsHow (where_word (codes "provenance") (expect_word (codes "of") (accept (syntax.explain true))) (accept (syntax.explain false)))
-        (where_word (codes "provenance") (expect_word (codes "of") (accept syntax.provenance)) (where_word (codes "value") q.value (accept syntax.rows))) ts
-        (λ ts1. word-sound (codes "provenance") (λ b y. IsHow (Word (codes "explain") ∷ b) y) (expect_word (codes "of") (accept (syntax.explain true))) (accept (syntax.explain false)) ts1
-            (λ ts2. expect_word-sound (codes "of") (λ b y. IsHow (Word (codes "explain") ∷ Word (codes "provenance") ∷ b) y) (accept (syntax.explain true)) ts2
-                (λ ts3. sound-ok _ ts3 (syntax.explain true) g.explain_provenance))
-            (sound-ok _ ts1 (syntax.explain false) g.explain))
+    (where_word (codes "provenance") (expect_word (codes "of") (accept syntax.provenance)) (where_word (codes "value") q.value (accept syntax.rows))) ts
+    (λ ts1. word-sound (codes "provenance") (λ b y. IsHow (Word (codes "explain") ∷ b) y) (expect_word (codes "of") (accept (syntax.explain true))) (accept (syntax.explain false)) ts1
+    (λ ts2. expect_word-sound (codes "of") (λ b y. IsHow (Word (codes "explain") ∷ Word (codes "provenance") ∷ b) y) (accept (syntax.explain true)) ts2
+    (λ ts3. sound-ok _ ts3 (syntax.explain true) g.explain_provenance))
+    (sound-ok _ ts1 (syntax.explain false) g.explain))
     (word-sound (codes "provenance") IsHow (expect_word (codes "of") (accept syntax.provenance)) (where_word (codes "value") q.value (accept syntax.rows)) ts
-        (λ ts1. expect_word-sound (codes "of") (λ b y. IsHow (Word (codes "provenance") ∷ b) y) (accept syntax.provenance) ts1 (λ ts2. sound-ok _ ts2 syntax.provenance g.provenance))
+    (λ ts1. expect_word-sound (codes "of") (λ b y. IsHow (Word (codes "provenance") ∷ b) y) (accept syntax.provenance) ts1 (λ ts2. sound-ok _ ts2 syntax.provenance g.provenance))
     (word-sound (codes "value") IsHow q.value (accept syntax.rows) ts value-sound (sound-ok IsHow ts syntax.rows g.rows)))
 
 asks : (a b c : Lexemes) (how : How) (state : State) (xs : Query) → IsHow a how → IsState b state → BuildsQuery c xs → BuildsQuestion (a ++ (b ++ c)) (syntax.ask how state xs)
@@ -277,19 +279,19 @@ unfolding q.ask
 ask-sound ts = sound-bind IsHow BuildsQuestion ts (q.how ts) _ (how-sound ts) (λ a ts1 how i.
     sound-bind IsState (λ b y. BuildsQuestion (a ++ b) y) ts1 (q.state ts1) _ (state-sound ts1) (λ b ts2 state j.
     sound-bind BuildsQuery (λ c y. BuildsQuestion (a ++ (b ++ c)) y) ts2 (query ts2) _ (query-sound ts2)
-        (λ c ts3 xs k. sound-ok _ ts3 (syntax.ask how state xs) (let z : c ++ [] ≡ c = append-nil c in rw z (asks a b c how state xs i j k)))))
+    (λ c ts3 xs k. sound-ok _ ts3 (syntax.ask how state xs) (let z : c ++ [] ≡ c = append-nil c in rw z (asks a b c how state xs i j k)))))
 
 open_question-sound : (ts : Lexemes) → Sound BuildsQuestion ts (q.open_question ts)
 unfolding q.open_question
 open_question-sound ts =
     word-sound (codes "log") BuildsQuestion (λ ts. number ts >>= (λ t. Ok (syntax.log t.0, t.1)))
-        (where_word (codes "versions") (expect_word (codes "of") (λ ts. identifier ts >>= (λ table. Ok (syntax.versions table.0, table.1)))) q.ask) ts
-        (λ ts1. number-sound (λ b y. BuildsQuestion (Word (codes "log") ∷ b) y) ts1 _ (λ t ts2. sound-ok _ ts2 (syntax.log t) (record { tree = syntax.log t; is = g.log t; same = refl })))
+    (where_word (codes "versions") (expect_word (codes "of") (λ ts. identifier ts >>= (λ table. Ok (syntax.versions table.0, table.1)))) q.ask) ts
+    (λ ts1. number-sound (λ b y. BuildsQuestion (Word (codes "log") ∷ b) y) ts1 _ (λ t ts2. sound-ok _ ts2 (syntax.log t) (record { tree = syntax.log t; is = g.log t; same = refl })))
     (word-sound (codes "versions") BuildsQuestion (expect_word (codes "of") (λ ts. identifier ts >>= (λ table. Ok (syntax.versions table.0, table.1)))) q.ask ts
-        (λ ts1. expect_word-sound (codes "of") (λ b y. BuildsQuestion (Word (codes "versions") ∷ b) y) _ ts1 (λ ts2.
-            identifier-sound (λ b y. BuildsQuestion (Word (codes "versions") ∷ Word (codes "of") ∷ b) y) ts2 _
-                (λ table ts3. sound-ok _ ts3 (syntax.versions table) (record { tree = syntax.versions table; is = g.versions table; same = refl }))))
-        (ask-sound ts))
+    (λ ts1. expect_word-sound (codes "of") (λ b y. BuildsQuestion (Word (codes "versions") ∷ b) y) _ ts1 (λ ts2.
+    identifier-sound (λ b y. BuildsQuestion (Word (codes "versions") ∷ Word (codes "of") ∷ b) y) ts2 _
+    (λ table ts3. sound-ok _ ts3 (syntax.versions table) (record { tree = syntax.versions table; is = g.versions table; same = refl }))))
+    (ask-sound ts))
 
 pub question-sound : (ts : Lexemes) → Sound (Closed BuildsQuestion) ts (q.question ts)
 question-sound = closed-sound BuildsQuestion q.open_question open_question-sound

@@ -8,8 +8,15 @@ use Rattle.gp_grammar.specs.declared.limits.TheConstants.{MAX_COLUMNS, MAX_FROM,
 use Rattle.gp_grammar.specs.Syntax as syntax
 use Rattle.gp_grammar.specs.Syntax.{Term, SetTerm, Item, Items, Block, Query, Command, ScriptLine, Question}
 use Rattle.gp_grammar.specs.Limits as l
-use Rattle.gp_grammar.specs.Limits.{Limit, Shape, nodes, levels, some_above, passed_limit, terms_of_condition, listed, terms_of_query, query_shape, shape_of_terms, command_shape, line_shape, question_shape}
+use Rattle.gp_grammar.specs.Limits.{Limit, Shape, nodes, levels, some_above, passed_limit, terms_of_condition, listed, terms_of_query, query_shape, shape_of_terms, term_shape, command_shape, line_shape, question_shape}
 use Rattle.gp_grammar.specs.Capping.{is_large, capped, capped_set, capped_items, capped_block, capped_command, capped_line, capped_question}
+use Rattle.gp_grammar.specs.Grammar.{IsTerm}
+use Rattle.gp_grammar.specs.CommandGrammar.{IsCommand, IsScriptLine}
+use Rattle.gp_grammar.specs.QuestionGrammar.{IsQuestion}
+use Rattle.gp_grammar.specs.Parsing.{term}
+use Rattle.gp_grammar.specs.CommandParsing.{command, script_line}
+use Rattle.gp_grammar.specs.QuestionParsing.{question}
+use Rattle.gp_grammar.specs.Laws.{CapsFairly}
 use Rattle.gp_grammar.proofs.CappingLemmas.{Fair, capped-fair}
 
 -- ---- terms
@@ -40,6 +47,7 @@ large-same x = by (is_large x) refl
   where
     f : Fair x (capped x)
     f = capped-fair x
+
     by : (b : Bool) → is_large x ≡ b → is_large (capped x) ≡ b
     by true e = ltb-from MAX_NODES (nodes (capped x)) (f.large (ltb-true MAX_NODES (nodes x) e))
     by false e = ap is_large (f.small (ltb-false MAX_NODES (nodes x) e)) ∙ e
@@ -92,9 +100,9 @@ pub capped-limit : (s : Shape) → passed_limit (capped_shape s) ≡ passed_limi
 capped-limit s =
     of_shape (capped_shape s)
     ∙ ap (λ n. first_limit (some_above MAX_COLUMNS s.columns) (some_above MAX_FROM s.from) (ltb MAX_BRANCHES s.branches) (ltb MAX_VALUES s.values) n
-        (some_above MAX_LEVELS (map levels (map capped s.terms)))) (some_large-same s.terms)
+    (some_above MAX_LEVELS (map levels (map capped s.terms)))) (some_large-same s.terms)
     ∙ ap (λ z. cond (some_above MAX_COLUMNS s.columns) (Some l.columns) (cond (some_above MAX_FROM s.from) (Some l.from) (cond (ltb MAX_BRANCHES s.branches) (Some l.branches)
-        (cond (ltb MAX_VALUES s.values) (Some l.values) z)))) (last-same (some_large s.terms) (map capped s.terms) s.terms (λ e. exact-map s.terms (exact-terms s.terms e)))
+    (cond (ltb MAX_VALUES s.values) (Some l.values) z)))) (last-same (some_large s.terms) (map capped s.terms) s.terms (λ e. exact-map s.terms (exact-terms s.terms e)))
     ∙ sym (of_shape s)
 
 none-small : (c f b v n d : Bool) → first_limit c f b v n d ≡ None → n ≡ false
@@ -224,13 +232,10 @@ line-exact x h = ap (λ z. record { session = x.session; command = z }) (command
 
 -- ---- terms and questions
 
-term_shape : Term → Shape
-term_shape x = shape_of_terms (x ∷ [])
-
-pub term-limit : (x : Term) → passed_limit (shape_of_terms (capped x ∷ [])) ≡ passed_limit (shape_of_terms (x ∷ []))
+pub term-limit : (x : Term) → passed_limit (term_shape (capped x)) ≡ passed_limit (term_shape x)
 term-limit x = capped-limit (shape_of_terms (x ∷ []))
 
-pub term-exact : (x : Term) → passed_limit (shape_of_terms (x ∷ [])) ≡ None → capped x ≡ x
+pub term-exact : (x : Term) → passed_limit (term_shape x) ≡ None → capped x ≡ x
 unfolding AreExact
 term-exact x h = (within-exact (shape_of_terms (x ∷ [])) h).0
 
@@ -243,3 +248,15 @@ pub question-exact : (x : Question) → passed_limit (question_shape x) ≡ None
 question-exact (syntax.log t) h = refl
 question-exact (syntax.versions table) h = refl
 question-exact (syntax.ask how state q) h = ap (λ z. syntax.ask how state z) (exact-query q (within-exact (query_shape q) h))
+
+pub terms-fair : CapsFairly term IsTerm capped term_shape
+terms-fair = record { limit = term-limit; exact = term-exact }
+
+pub commands-fair : CapsFairly command IsCommand capped_command command_shape
+commands-fair = record { limit = command-limit; exact = command-exact }
+
+pub lines-fair : CapsFairly script_line IsScriptLine capped_line line_shape
+lines-fair = record { limit = λ x. command-limit x.command; exact = line-exact }
+
+pub questions-fair : CapsFairly question IsQuestion capped_question question_shape
+questions-fair = record { limit = question-limit; exact = question-exact }

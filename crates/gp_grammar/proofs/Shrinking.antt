@@ -35,12 +35,16 @@ bind-below n m (Ok r) f h k = k r h
 bind-below n m (Err e) f h k = tt
 
 pub shrinks-bind : {A B : Type 0} (p : Parser A) (f : A × Lexemes → Outcome (B × Lexemes)) → Shrinks p → ((x : A) → Keeps (λ ts. f (x, ts))) → Shrinks (λ ts. p ts >>= f)
-shrinks-bind p f w k = record { below = λ ts. bind-below (length ts) (length ts) (p ts) f (w.below ts)
-    (λ r lt. below-weaken (suc (length r.1)) (length ts) (f r) (omega arith) ((k r.0).below r.1)) }
+shrinks-bind p f w k = record {
+  below = λ ts. bind-below (length ts) (length ts) (p ts) f (w.below ts)
+      (λ r lt. below-weaken (suc (length r.1)) (length ts) (f r) (omega arith) ((k r.0).below r.1));
+}
 
 pub keeps-bind : {A B : Type 0} (p : Parser A) (f : A × Lexemes → Outcome (B × Lexemes)) → Keeps p → ((x : A) → Keeps (λ ts. f (x, ts))) → Keeps (λ ts. p ts >>= f)
-keeps-bind p f w k = record { below = λ ts. bind-below (suc (length ts)) (suc (length ts)) (p ts) f (w.below ts)
-    (λ r lt. below-weaken (suc (length r.1)) (suc (length ts)) (f r) (omega arith) ((k r.0).below r.1)) }
+keeps-bind p f w k = record {
+  below = λ ts. bind-below (suc (length ts)) (suc (length ts)) (p ts) f (w.below ts)
+      (λ r lt. below-weaken (suc (length r.1)) (suc (length ts)) (f r) (omega arith) ((k r.0).below r.1));
+}
 
 option-below : {B : Type 0} (n m : ℕ) (o : Option Lexemes) (none : Outcome (B × Lexemes)) (some : Parser B) → IfSome o (λ rest. length rest < n)
     → Below m none → ((rest : Lexemes) → length rest < n → Below m (some rest)) → Below m (by_option o none some)
@@ -48,12 +52,16 @@ option-below n m None none some h w k = w
 option-below n m (Some rest) none some h w k = k rest h
 
 pub shrinks-next : {A : Type 0} (symbol : Symbol) (some none : Parser A) → Keeps some → Shrinks none → Shrinks (where_next symbol some none)
-shrinks-next symbol some none w k = record { below = λ ts. option-below (length ts) (length ts) (strip symbol ts) (none ts) some (strip-less symbol ts) (k.below ts)
-    (λ rest lt. below-weaken (suc (length rest)) (length ts) (some rest) (omega arith) (w.below rest)) }
+shrinks-next symbol some none w k = record {
+  below = λ ts. option-below (length ts) (length ts) (strip symbol ts) (none ts) some (strip-less symbol ts) (k.below ts)
+      (λ rest lt. below-weaken (suc (length rest)) (length ts) (some rest) (omega arith) (w.below rest));
+}
 
 pub keeps-next : {A : Type 0} (symbol : Symbol) (some none : Parser A) → Keeps some → Keeps none → Keeps (where_next symbol some none)
-keeps-next symbol some none w k = record { below = λ ts. option-below (length ts) (suc (length ts)) (strip symbol ts) (none ts) some (strip-less symbol ts) (k.below ts)
-    (λ rest lt. below-weaken (suc (length rest)) (suc (length ts)) (some rest) (omega arith) (w.below rest)) }
+keeps-next symbol some none w k = record {
+  below = λ ts. option-below (length ts) (suc (length ts)) (strip symbol ts) (none ts) some (strip-less symbol ts) (k.below ts)
+      (λ rest lt. below-weaken (suc (length rest)) (suc (length ts)) (some rest) (omega arith) (w.below rest));
+}
 
 expected-below : {B : Type 0} (n m : ℕ) (ts : Lexemes) (o : Option Lexemes) (f : Parser B) → IfSome o (λ rest. length rest < n)
     → ((rest : Lexemes) → length rest < n → Below m (f rest)) → Below m (expected ts o >>= f)
@@ -62,8 +70,10 @@ expected-below n m ts (Some rest) f h k = k rest h
 
 pub shrinks-then : {A : Type 0} (symbol : Symbol) (f : Parser A) → Keeps f → Shrinks (λ ts. expect symbol ts >>= f)
 unfolding expect
-shrinks-then symbol f w = record { below = λ ts. expected-below (length ts) (length ts) ts (strip symbol ts) f (strip-less symbol ts)
-    (λ rest lt. below-weaken (suc (length rest)) (length ts) (f rest) (omega arith) (w.below rest)) }
+shrinks-then symbol f w = record {
+  below = λ ts. expected-below (length ts) (length ts) ts (strip symbol ts) f (strip-less symbol ts)
+      (λ rest lt. below-weaken (suc (length rest)) (length ts) (f rest) (omega arith) (w.below rest));
+}
 
 pub shrinks-identifier : Shrinks identifier
 shrinks-identifier = record { below = λ ts. (identifier-agree ts).below }
@@ -80,11 +90,11 @@ module _ {S A : Type 0} (symbol : Symbol) (item : Parser A) (step : S → A → 
   repeat_step : (ts : Lexemes) (found : S) (f g : S → Parser S) → ((x : S) (us : Lexemes) → length us < length ts → Agree (suc (length us)) (f x us) (g x us))
       → (o : Option Lexemes) → IfSome o (λ rest. length rest < length ts)
       → Agree (suc (length ts)) (by_option o (Ok (found, ts)) (λ rest. item rest >>= (λ r. f (step found r.0) r.1)))
-          (by_option o (Ok (found, ts)) (λ rest. item rest >>= (λ r. g (step found r.0) r.1)))
+      (by_option o (Ok (found, ts)) (λ rest. item rest >>= (λ r. g (step found r.0) r.1)))
   repeat_step ts found f g agrees None h = agree-refl _ (Ok (found, ts)) (omega arith)
   repeat_step ts found f g agrees (Some rest) h =
       agree-bind (length rest) (suc (length ts)) (item rest) (item rest) (λ r. f (step found r.0) r.1) (λ r. g (step found r.0) r.1) (item-agree rest)
-          (λ r lt. agree-weaken (suc (length r.1)) (suc (length ts)) (f (step found r.0) r.1) (g (step found r.0) r.1) (omega arith) (agrees (step found r.0) r.1 (omega arith)))
+      (λ r lt. agree-weaken (suc (length r.1)) (suc (length ts)) (f (step found r.0) r.1) (g (step found r.0) r.1) (omega arith) (agrees (step found r.0) r.1 (omega arith)))
 
   repeat-agree : (j k : ℕ) (found : S) (ts : Lexemes) → length ts ≤ j → length ts ≤ k
       → Agree (suc (length ts)) (repeat (strip symbol) item step j found ts) (repeat (strip symbol) item step k found ts)
@@ -96,7 +106,7 @@ module _ {S A : Type 0} (symbol : Symbol) (item : Parser A) (step : S → A → 
   repeat-agree (suc j) zero found (t ∷ ts) a b = absurd (omega arith)
   repeat-agree (suc j) (suc k) found ts a b =
       repeat_step ts found (repeat (strip symbol) item step j) (repeat (strip symbol) item step k)
-          (λ x us lt. repeat-agree j k x us (omega arith) (omega arith)) (strip symbol ts) (strip-less symbol ts)
+      (λ x us lt. repeat-agree j k x us (omega arith) (omega arith)) (strip symbol ts) (strip-less symbol ts)
 
   pub keeps-many : (found : S) → Keeps (many (strip symbol) item step found)
   unfolding many
@@ -116,9 +126,9 @@ module _ {S A : Type 0} (symbol : Symbol) (item : Parser A) (step : S → A → 
       let lt : length rest < length (t ∷ ts) = subst P h (strip-less symbol (t ∷ ts)) in
       rw h
       (agree-bind (length rest) (suc (length rest)) (item rest) (item rest) (λ r. repeat (strip symbol) item step (length ts) (step found r.0) r.1)
-          (λ r. repeat (strip symbol) item step (length r.1) (step found r.0) r.1) (item-agree rest)
-          (λ r a. agree-weaken (suc (length r.1)) (suc (length rest)) _ _ (omega arith)
-              (repeat-agree (length ts) (length r.1) (step found r.0) r.1 (omega arith) (omega arith)))).same
+      (λ r. repeat (strip symbol) item step (length r.1) (step found r.0) r.1) (item-agree rest)
+      (λ r a. agree-weaken (suc (length r.1)) (suc (length rest)) _ _ (omega arith)
+      (repeat-agree (length ts) (length r.1) (step found r.0) r.1 (omega arith) (omega arith)))).same
 
   abbrev pub many_step : S → Parser S
   many_step found ts = by_option (strip symbol ts) (Ok (found, ts)) (λ rest. item rest >>= (λ r. many (strip symbol) item step (step found r.0) r.1))

@@ -37,11 +37,11 @@ module _ {A : Type 0} (separator : Lexemes) (Is : Lexemes → A → Type 0) (sym
   repeat_step front found is next k ts (Some rest) e =
       let f : A × Lexemes → Outcome (List A × Lexemes) = λ r. next (push found r.0) r.1 in
       sound-at (Behind front) ts (Sign symbol ∷ rest) (item rest >>= f) (strip-split symbol ts rest e)
-          (sound-shift (Behind front) (Sign symbol ∷ []) rest (item rest >>= f)
-              (sound-bind Next (λ b ys. IsList separator Is (front ++ (Sign symbol ∷ b)) ys) rest (item rest) f (sound rest)
-                  (λ used rest2 x h. sound-phrase (Behind (front ++ (Sign symbol ∷ used))) (λ b ys. IsList separator Is (front ++ (Sign symbol ∷ (used ++ b))) ys) rest2 (f (x, rest2))
-                      (λ b ys i. let P : Lexemes → Type 0 = λ z. IsList separator Is z ys in subst P (append_assoc front (Sign symbol ∷ used) b) i)
-                      (k (front ++ (Sign symbol ∷ used)) (push found x) rest2 (extend front used found x is h)))))
+      (sound-shift (Behind front) (Sign symbol ∷ []) rest (item rest >>= f)
+      (sound-bind Next (λ b ys. IsList separator Is (front ++ (Sign symbol ∷ b)) ys) rest (item rest) f (sound rest)
+      (λ used rest2 x h. sound-phrase (Behind (front ++ (Sign symbol ∷ used))) (λ b ys. IsList separator Is (front ++ (Sign symbol ∷ (used ++ b))) ys) rest2 (f (x, rest2))
+      (λ b ys i. let P : Lexemes → Type 0 = λ z. IsList separator Is z ys in subst P (append_assoc front (Sign symbol ∷ used) b) i)
+      (k (front ++ (Sign symbol ∷ used)) (push found x) rest2 (extend front used found x is h)))))
 
   repeat-sound : (n : ℕ) (front : Lexemes) (found : List A) (ts : Lexemes) → IsList separator Is front found
       → Sound (Behind front) ts (repeat (strip symbol) item push n found ts)
@@ -75,4 +75,4 @@ in_brackets-sound P Q p k w ts = expect-sound s.Open Q ts _ (λ ts1. sound-bind 
 pub closed-sound : {A : Type 0} (Is : Lexemes → A → Type 0) (p : Parser A) → ((ts : Lexemes) → Sound Is ts (p ts)) → (ts : Lexemes) → Sound (Closed Is) ts (closed p ts)
 closed-sound Is p w ts = sound-bind Is (Closed Is) ts (p ts) _ (w ts) (λ a ts1 x i.
     next-sound s.Semicolon (λ b y. Closed Is (a ++ b) y) (accept x) (accept x) ts1 (λ ts2. sound-ok _ ts2 x (g.semicolon a x i))
-        (sound-ok (λ b y. Closed Is (a ++ b) y) ts1 x (rw append-nil (g.open_end a x i))))
+    (sound-ok (λ b y. Closed Is (a ++ b) y) ts1 x (rw append-nil (g.open_end a x i))))

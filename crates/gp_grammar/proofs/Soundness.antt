@@ -118,6 +118,7 @@ identifier-sound Q ts f k = sound-bind (λ b word. b ≡ Word word ∷ []) Q ts 
   where
     some_name : Sentence {A = List ℕ} (λ b word. b ≡ Word word ∷ [])
     some_name = record { lexemes = Word [] ∷ []; tree = []; is = refl }
+
     one : (ts : Lexemes) → Sound (λ b word. b ≡ Word word ∷ []) ts (identifier ts)
     one [] = sound-err _ [] some_name
     one (Sign symbol ∷ ts) = sound-err _ _ some_name
@@ -163,11 +164,11 @@ chain_step-sound at part sound front left is next more ts (Some o) e =
     let w : OperatorAt (operator_of at) ts o = next_operator-split (operator_of at) ts o e in
     let f : Term × Lexemes → Outcome (Term × Lexemes) = λ r. next (binary o.0 left r.0) r.1 in
     sound-at (After at front) ts (Sign w.symbol ∷ o.1) (part o.1 >>= f) w.split
-        (sound-shift (After at front) (Sign w.symbol ∷ []) o.1 (part o.1 >>= f)
-            (sound-bind (Builds (operand at)) (λ b y. Builds (g.operations at) (front ++ (Sign w.symbol ∷ b)) y) o.1 (part o.1) f (sound o.1)
-                (λ used rest y h. sound-phrase (After at (front ++ (Sign w.symbol ∷ used))) (λ b z. Builds (g.operations at) (front ++ (Sign w.symbol ∷ (used ++ b))) z) rest (f (y, rest))
-                    (λ b z i. is-along (g.operations at) _ _ z (append_assoc front (Sign w.symbol ∷ used) b) i)
-                    (more (front ++ (Sign w.symbol ∷ used)) (binary o.0 left y) rest (built.operation at o.0 w.symbol front used left y w.is is h)))))
+    (sound-shift (After at front) (Sign w.symbol ∷ []) o.1 (part o.1 >>= f)
+    (sound-bind (Builds (operand at)) (λ b y. Builds (g.operations at) (front ++ (Sign w.symbol ∷ b)) y) o.1 (part o.1) f (sound o.1)
+    (λ used rest y h. sound-phrase (After at (front ++ (Sign w.symbol ∷ used))) (λ b z. Builds (g.operations at) (front ++ (Sign w.symbol ∷ (used ++ b))) z) rest (f (y, rest))
+    (λ b z i. is-along (g.operations at) _ _ z (append_assoc front (Sign w.symbol ∷ used) b) i)
+    (more (front ++ (Sign w.symbol ∷ used)) (binary o.0 left y) rest (built.operation at o.0 w.symbol front used left y w.is is h)))))
 
 chain_within-sound : (at : Level) (part : Parser Term) → ((ts : Lexemes) → Sound (Builds (operand at)) ts (part ts)) → (n : ℕ) (front : Lexemes) (left : Term) (ts : Lexemes)
     → Builds (g.operations at) front left → Sound (After at front) ts (r.chain_within (operator_of at) part n left ts)
@@ -180,7 +181,7 @@ pub joined-sound : (at : Level) (part : Parser Term) → ((ts : Lexemes) → Sou
 unfolding r.joined r.chain
 joined-sound at part sound ts =
     sound-bind (Builds (operand at)) (Builds (g.operations at)) ts (part ts) (λ x. r.chain (operator_of at) part x.0 x.1) (sound ts)
-        (λ used rest x is. chain_within-sound at part sound (length rest) used x rest (built.one_operand at used x is))
+    (λ used rest x is. chain_within-sound at part sound (length rest) used x rest (built.one_operand at used x is))
 
 -- ---- what stands strip a term
 
@@ -188,9 +189,9 @@ column_with-sound : (word : List ℕ) (ts : Lexemes) (o : Option Lexemes) → st
 column_with-sound word ts None e = sound-ok _ ts (col None word) (built.column word)
 column_with-sound word ts (Some rest) e =
     sound-at _ ts (Sign s.Dot ∷ rest) (r.column_with word ts (Some rest)) (strip-split s.Dot ts rest e)
-        (sound-shift (λ b y. Builds g.primary (Word word ∷ b) y) (Sign s.Dot ∷ []) rest (identifier rest >>= (λ r. Ok (col (Some word) r.0, r.1)))
-            (identifier-sound (λ b y. Builds g.primary (Word word ∷ Sign s.Dot ∷ b) y) rest (λ r. Ok (col (Some word) r.0, r.1))
-                (λ name rest. sound-ok _ rest (col (Some word) name) (built.qualified_column word name))))
+    (sound-shift (λ b y. Builds g.primary (Word word ∷ b) y) (Sign s.Dot ∷ []) rest (identifier rest >>= (λ r. Ok (col (Some word) r.0, r.1)))
+    (identifier-sound (λ b y. Builds g.primary (Word word ∷ Sign s.Dot ∷ b) y) rest (λ r. Ok (col (Some word) r.0, r.1))
+    (λ name rest. sound-ok _ rest (col (Some word) name) (built.qualified_column word name))))
 
 pub column-sound : (word : List ℕ) (ts : Lexemes) → Sound (λ b y. Builds g.primary (Word word ∷ b) y) ts (r.column word ts)
 unfolding r.column
@@ -216,20 +217,20 @@ is_test-sound : (a : Lexemes) (left : Term) → Builds g.comparison a left → (
     → Sound (λ b y. Builds g.test (a ++ (Sign s.Is ∷ b)) y) ts (r.is_test left ts o)
 is_test-sound a left is ts None e =
     sound-phrase (λ b y. Builds g.test ((a ++ (Sign s.Is ∷ [])) ++ b) y) _ ts (r.value_test left true ts) (λ b y i. is-along g.test _ _ y (append_assoc a (Sign s.Is ∷ []) b) i)
-        (value_test-sound (a ++ (Sign s.Is ∷ [])) left true (record { of_null = rw append_assoc (built.null_test a left is); of_true = rw append_assoc (built.true_test a left is) }) ts)
+    (value_test-sound (a ++ (Sign s.Is ∷ [])) left true (record { of_null = rw append_assoc (built.null_test a left is); of_true = rw append_assoc (built.true_test a left is) }) ts)
 is_test-sound a left is ts (Some rest) e =
     sound-at _ ts (Sign s.Not ∷ rest) (r.value_test left false rest) (strip-split s.Not ts rest e)
-        (sound-shift (λ b y. Builds g.test (a ++ (Sign s.Is ∷ b)) y) (Sign s.Not ∷ []) rest (r.value_test left false rest)
-            (sound-phrase (λ b y. Builds g.test ((a ++ (Sign s.Is ∷ Sign s.Not ∷ [])) ++ b) y) _ rest (r.value_test left false rest) (λ b y i. is-along g.test _ _ y (append_assoc a (Sign s.Is ∷ Sign s.Not ∷ []) b) i)
-                (value_test-sound (a ++ (Sign s.Is ∷ Sign s.Not ∷ [])) left false
-                    (record { of_null = rw append_assoc (built.not_null_test a left is); of_true = rw append_assoc (built.not_true_test a left is) }) rest)))
+    (sound-shift (λ b y. Builds g.test (a ++ (Sign s.Is ∷ b)) y) (Sign s.Not ∷ []) rest (r.value_test left false rest)
+    (sound-phrase (λ b y. Builds g.test ((a ++ (Sign s.Is ∷ Sign s.Not ∷ [])) ++ b) y) _ rest (r.value_test left false rest) (λ b y i. is-along g.test _ _ y (append_assoc a (Sign s.Is ∷ Sign s.Not ∷ []) b) i)
+    (value_test-sound (a ++ (Sign s.Is ∷ Sign s.Not ∷ [])) left false
+    (record { of_null = rw append_assoc (built.not_null_test a left is); of_true = rw append_assoc (built.not_true_test a left is) }) rest)))
 
 optional_test-sound : (a : Lexemes) (left : Term) → Builds g.comparison a left → (ts : Lexemes) (o : Option Lexemes) → strip s.Is ts ≡ o
     → Sound (λ b y. Builds g.test (a ++ b) y) ts (r.optional_test left ts o)
 optional_test-sound a left is ts None e = sound-ok _ ts left (rw append-nil (built.no_test a left is))
 optional_test-sound a left is ts (Some rest) e =
     sound-at _ ts (Sign s.Is ∷ rest) (r.is_test left rest (strip s.Not rest)) (strip-split s.Is ts rest e)
-        (sound-shift (λ b y. Builds g.test (a ++ b) y) (Sign s.Is ∷ []) rest (r.is_test left rest (strip s.Not rest)) (is_test-sound a left is rest (strip s.Not rest) refl))
+    (sound-shift (λ b y. Builds g.test (a ++ b) y) (Sign s.Is ∷ []) rest (r.is_test left rest (strip s.Not rest)) (is_test-sound a left is rest (strip s.Not rest) refl))
 
 -- ---- the readers, over a reader of terms that takes terms
 
@@ -241,8 +242,8 @@ module _ (f : Parser Term) (sound : (ts : Lexemes) → Sound BuildsTerm ts (f ts
   unfolding r.brackets
   brackets-sound ts =
       sound-bind BuildsTerm (λ b y. Builds g.primary (Sign s.Open ∷ b) y) ts (f ts) (λ i. expect s.Close i.1 >>= (λ rest. Ok (i.0, rest))) (sound ts)
-          (λ used rest x is. expect-sound s.Close (λ b y. Builds g.primary (Sign s.Open ∷ (used ++ b)) y) rest (λ rest. Ok (x, rest))
-              (λ rest. sound-ok _ rest x (built.brackets used x is)))
+      (λ used rest x is. expect-sound s.Close (λ b y. Builds g.primary (Sign s.Open ∷ (used ++ b)) y) rest (λ rest. Ok (x, rest))
+      (λ rest. sound-ok _ rest x (built.brackets used x is)))
 
   choice-sound : (ts : Lexemes) → Sound (λ b y. Builds g.primary (Sign s.Case ∷ b) y) ts (r.choice f ts)
   unfolding r.choice
@@ -271,9 +272,9 @@ module _ (f : Parser Term) (sound : (ts : Lexemes) → Sound BuildsTerm ts (f ts
   signed-sound ts None e = sound-phrase (Builds g.primary) (Builds g.factor) ts (r.primary f ts) (λ b y i. built.not_signed b y i) (primary-sound ts)
   signed-sound ts (Some rest) e =
       sound-at (Builds g.factor) ts (Sign s.Minus ∷ rest) _ (strip-split s.Minus ts rest e)
-          (sound-shift (Builds g.factor) (Sign s.Minus ∷ []) rest (r.primary f rest >>= (λ r. Ok (neg r.0, r.1)))
-              (sound-bind (Builds g.primary) (λ b y. Builds g.factor (Sign s.Minus ∷ b) y) rest (r.primary f rest) (λ r. Ok (neg r.0, r.1)) (primary-sound rest)
-                  (λ used rest x is. sound-ok _ rest (neg x) (rw append-nil (built.signed used x is)))))
+      (sound-shift (Builds g.factor) (Sign s.Minus ∷ []) rest (r.primary f rest >>= (λ r. Ok (neg r.0, r.1)))
+      (sound-bind (Builds g.primary) (λ b y. Builds g.factor (Sign s.Minus ∷ b) y) rest (r.primary f rest) (λ r. Ok (neg r.0, r.1)) (primary-sound rest)
+      (λ used rest x is. sound-ok _ rest (neg x) (rw append-nil (built.signed used x is)))))
 
   factor-sound : (ts : Lexemes) → Sound (Builds g.factor) ts (r.factor f ts)
   unfolding r.factor
@@ -288,26 +289,26 @@ module _ (f : Parser Term) (sound : (ts : Lexemes) → Sound BuildsTerm ts (f ts
   compared-sound a left is ts (Some o) e =
       let w : OperatorAt comparison_of ts o = next_operator-split comparison_of ts o e in
       sound-at _ ts (Sign w.symbol ∷ o.1) _ w.split
-          (sound-shift (λ b y. Builds g.comparison (a ++ b) y) (Sign w.symbol ∷ []) o.1 (r.sum f o.1 >>= (λ r. Ok (binary o.0 left r.0, r.1)))
-              (sound-bind (Builds (g.operations l.Sum)) (λ b y. Builds g.comparison (a ++ (Sign w.symbol ∷ b)) y) o.1 (r.sum f o.1) (λ r. Ok (binary o.0 left r.0, r.1)) (sum-sound o.1)
-                  (λ used rest x h. sound-ok _ rest (binary o.0 left x) (rw append-nil (built.compared o.0 w.symbol a used left x w.is is h)))))
+      (sound-shift (λ b y. Builds g.comparison (a ++ b) y) (Sign w.symbol ∷ []) o.1 (r.sum f o.1 >>= (λ r. Ok (binary o.0 left r.0, r.1)))
+      (sound-bind (Builds (g.operations l.Sum)) (λ b y. Builds g.comparison (a ++ (Sign w.symbol ∷ b)) y) o.1 (r.sum f o.1) (λ r. Ok (binary o.0 left r.0, r.1)) (sum-sound o.1)
+      (λ used rest x h. sound-ok _ rest (binary o.0 left x) (rw append-nil (built.compared o.0 w.symbol a used left x w.is is h)))))
 
   test-sound : (ts : Lexemes) → Sound (Builds g.test) ts (r.test f ts)
   unfolding r.test
   test-sound ts =
       sound-bind (Builds (g.operations l.Sum)) (Builds g.test) ts (r.sum f ts) _ (sum-sound ts) (λ a rest x is.
-          sound-bind (λ b y. Builds g.comparison (a ++ b) y) (λ b y. Builds g.test (a ++ b) y) rest (r.compared f x rest (next_operator comparison_of rest)) (λ b. r.optional_test b.0 b.1 (strip s.Is b.1))
-              (compared-sound a x is rest (next_operator comparison_of rest) refl)
-              (λ b rest2 y is2. sound-phrase (λ c z. Builds g.test ((a ++ b) ++ c) z) (λ c z. Builds g.test (a ++ (b ++ c)) z) rest2 (r.optional_test y rest2 (strip s.Is rest2)) (λ c z i. rw (← append_assoc) i)
-                  (optional_test-sound (a ++ b) y is2 rest2 (strip s.Is rest2) refl)))
+      sound-bind (λ b y. Builds g.comparison (a ++ b) y) (λ b y. Builds g.test (a ++ b) y) rest (r.compared f x rest (next_operator comparison_of rest)) (λ b. r.optional_test b.0 b.1 (strip s.Is b.1))
+      (compared-sound a x is rest (next_operator comparison_of rest) refl)
+      (λ b rest2 y is2. sound-phrase (λ c z. Builds g.test ((a ++ b) ++ c) z) (λ c z. Builds g.test (a ++ (b ++ c)) z) rest2 (r.optional_test y rest2 (strip s.Is rest2)) (λ c z i. rw (← append_assoc) i)
+      (optional_test-sound (a ++ b) y is2 rest2 (strip s.Is rest2) refl)))
 
   negated-sound : (ts : Lexemes) (o : Option Lexemes) → strip s.Not ts ≡ o → Sound (Builds g.negation) ts (r.negated f ts o)
   negated-sound ts None e = sound-phrase (Builds g.test) (Builds g.negation) ts (r.test f ts) (λ b y i. built.not_negated b y i) (test-sound ts)
   negated-sound ts (Some rest) e =
       sound-at (Builds g.negation) ts (Sign s.Not ∷ rest) _ (strip-split s.Not ts rest e)
-          (sound-shift (Builds g.negation) (Sign s.Not ∷ []) rest (r.test f rest >>= (λ r. Ok (not r.0, r.1)))
-              (sound-bind (Builds g.test) (λ b y. Builds g.negation (Sign s.Not ∷ b) y) rest (r.test f rest) (λ r. Ok (not r.0, r.1)) (test-sound rest)
-                  (λ used rest x is. sound-ok _ rest (not x) (rw append-nil (built.negated used x is)))))
+      (sound-shift (Builds g.negation) (Sign s.Not ∷ []) rest (r.test f rest >>= (λ r. Ok (not r.0, r.1)))
+      (sound-bind (Builds g.test) (λ b y. Builds g.negation (Sign s.Not ∷ b) y) rest (r.test f rest) (λ r. Ok (not r.0, r.1)) (test-sound rest)
+      (λ used rest x is. sound-ok _ rest (not x) (rw append-nil (built.negated used x is)))))
 
   negation-sound : (ts : Lexemes) → Sound (Builds g.negation) ts (r.negation f ts)
   unfolding r.negation

@@ -68,7 +68,11 @@ module _ {A : Type 0} where
     stops-by ts rest (Ok (x, t ∷ m)) h w e =
         let f : (t ∷ m) ≡ rest = cc in
         let s : Stops Is ts (t ∷ m) = record {
-          prefix = w.used; split = w.split; more = []; tree = x; begins = rw append-nil w.is;
+          prefix = w.used;
+          split = w.split;
+          more = [];
+          tree = x;
+          begins = rw append-nil w.is;
           none = λ m' y i. ok-conflict t m m' x y (p (w.used ++ (t ∷ m'))) (complete (w.used ++ (t ∷ m')) y i) (along t m m' w.used ts (Ok (x, t ∷ m)) w.split h);
         } in
         let P : Lexemes → Type 0 = λ z. Stops Is ts z in subst P f s

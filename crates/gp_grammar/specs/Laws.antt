@@ -1,9 +1,18 @@
 -- Part of the statement: what the laws say of a parser, a grammar and the definitions of reading.
-use Rattle.std.specs.Prelude.{◌≡◌, ◌↔◌, ℕ, List, [], ◌∷◌, Option, None, Ok, Err}
-use Rattle.gp_grammar.specs.Syntax.{Lexemes, Bytes}
+use Rattle.std.specs.Prelude.{◌≡◌, ◌↔◌, ℕ, List, [], ◌∷◌, Option, None, Ok, Err, false}
+use Rattle.std.specs.List.{AllByRecursion, Contains}
+use Rattle.gp_lexer.specs.declared.lexeme.Symbol.{Symbol}
+use Rattle.gp_lexer.specs.declared.lexeme.Lexeme.{Lexeme}
+use Rattle.gp_lexer.specs.declared.lexeme.Lexeme.TheVariants.{Symbol as Sign, Big}
+use Rattle.gp_grammar.specs.declared.limits.TheConstants.{MAX_OPEN}
+use Rattle.gp_grammar.specs.Syntax.{Lexemes, Bytes, Command}
+use Rattle.gp_grammar.specs.CommandGrammar.{IsCommand}
 use Rattle.gp_grammar.specs.Places.{Stops}
-use Rattle.gp_grammar.specs.Limits.{Shape, passed_limit}
+use Rattle.gp_grammar.specs.Depth.{is_too_deep}
+use Rattle.gp_grammar.specs.Limits.{Shape, passed_limit, command_shape}
+use Rattle.gp_grammar.specs.Canonical.{command_lexemes}
 use Rattle.gp_grammar.specs.Parsing.{Parser, whole}
+use Rattle.gp_grammar.specs.CommandParsing.{command}
 use Rattle.gp_grammar.specs.LineReading.{Fault, Lexed, ReadsText, RefusesText, ReadsLine, RefusesLine, read_text, read_line}
 
 -- the parser builds this: a tree that the grammar derives, capped
@@ -42,3 +51,27 @@ module _ {A : Type 0} (parser : Parser A) (Is : Lexemes → A → Type 0) (cap :
 
     abbrev pub RefusesLinesExactly : Type 0
     RefusesLinesExactly = (bytes : Bytes) (fault : Fault) → (read_line lexed parser shape bytes ≡ Err fault) ↔ RefusesLine lexed Is shape bytes fault
+
+-- ---- canonical lexemes
+
+-- the grammar derives a command from its canonical lexemes
+abbrev pub CanonicalIsDerived : Type 0
+CanonicalIsDerived = (lexemes : Lexemes) (x : Command) → IsCommand lexemes x → IsCommand (command_lexemes x) x
+
+-- within the limits they are parsed as this command again
+abbrev pub CanonicalIsParsed : Type 0
+CanonicalIsParsed = (lexemes : Lexemes) (x : Command) → IsCommand lexemes x → passed_limit (command_shape x) ≡ None → whole command (command_lexemes x) ≡ Ok x
+
+-- and open no more brackets than a line may
+abbrev pub CanonicalIsShallow : Type 0
+CanonicalIsShallow = (x : Command) → passed_limit (command_shape x) ≡ None → is_too_deep MAX_OPEN (command_lexemes x) ≡ false
+
+-- a lexeme that needs no source, or is one of these
+pub data ComesFrom (source : Lexemes) : Lexeme → Type 0 where
+  symbol : (symbol : Symbol) → ComesFrom source (Sign symbol)
+  big : ComesFrom source Big
+  copied : (lexeme : Lexeme) → Contains source lexeme → ComesFrom source lexeme
+
+-- every name, number and text in them is in the lexemes that the command was derived from
+abbrev pub CanonicalIsCopied : Type 0
+CanonicalIsCopied = (lexemes : Lexemes) (x : Command) → IsCommand lexemes x → AllByRecursion (ComesFrom lexemes) (command_lexemes x)

@@ -67,6 +67,9 @@ query_shape blocks = record {
 abbrev pub shape_of_terms : List Term → Shape
 shape_of_terms terms = record { columns = []; from = []; branches = 0; values = 0; terms = terms }
 
+abbrev pub term_shape : Term → Shape
+term_shape x = shape_of_terms (x ∷ [])
+
 abbrev pub command_shape : Command → Shape
 command_shape (y.create table) = record { columns = length table.cols ∷ []; from = []; branches = 0; values = 0; terms = [] }
 command_shape y.begin = shape_of_terms []

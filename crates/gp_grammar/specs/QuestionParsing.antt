@@ -52,7 +52,7 @@ number = number_if (λ n. true)
 unfoldable pub state : Parser State
 state = where_next s.As (expect_word (codes "of") (λ ts. number ts >>= (λ v. Ok (y.as_of v.0, v.1))))
     (expect_word (codes "reenact") (λ ts. number ts >>= (λ t. where_next s.Commit (accept (y.State.commit t.0))
-        (expect_word (codes "after") (λ rest. number rest >>= (λ k. Ok (y.after t.0 k.0, k.1)))) t.1)))
+    (expect_word (codes "after") (λ rest. number rest >>= (λ k. Ok (y.after t.0 k.0, k.1)))) t.1)))
 
 unfoldable pub semiring_name : Parser SemiringName
 semiring_name = where_word (codes "count") (accept semiring.Count) (where_word (codes "bool") (accept semiring.Bool)

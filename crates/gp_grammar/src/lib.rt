@@ -10,16 +10,22 @@
 //! The parser that runs cites the functions, as in `ensures { Parses command_of result (command tokens.now) }`.
 #![tactic(auto)]
 
+mod laws;
 mod level;
 mod limits;
 mod op;
 mod semiring_name;
 mod token_kind;
 
+pub use laws::{
+    canonical_lexemes_are_parsed, command_texts_are_read, commands_are_parsed,
+    questions_are_parsed, questions_are_read, script_lines_are_parsed, script_lines_are_read,
+    terms_are_parsed,
+};
 pub use level::Level;
 pub use limits::{
-    MAX_BRANCHES, MAX_COLUMNS, MAX_FROM, MAX_LEVELS, MAX_LINE_LENGTH, MAX_NODES, MAX_OPEN, MAX_PATTERN_NUMBER,
-    MAX_SESSION, MAX_VALUES,
+    MAX_BRANCHES, MAX_COLUMNS, MAX_FROM, MAX_LEVELS, MAX_LINE_LENGTH, MAX_NODES, MAX_OPEN,
+    MAX_PATTERN_NUMBER, MAX_SESSION, MAX_VALUES,
 };
 pub use op::Op;
 pub use semiring_name::SemiringName;
