@@ -13,7 +13,7 @@ use Rattle.gp_grammar.specs.Limits.{Shape, passed_limit, command_shape}
 use Rattle.gp_grammar.specs.Canonical.{command_lexemes}
 use Rattle.gp_grammar.specs.Parsing.{Parser, whole}
 use Rattle.gp_grammar.specs.CommandParsing.{command}
-use Rattle.gp_grammar.specs.LineReading.{Fault, Lexed, ReadsText, RefusesText, ReadsLine, RefusesLine, read_text, read_line}
+use Rattle.gp_grammar.specs.LineReading.{Fault, ReadsText, RefusesText, ReadsLine, RefusesLine, read_text, read_line}
 
 -- the parser builds this: a tree that the grammar derives, capped
 pub record Built {A : Type 0} (Is : Lexemes → A → Type 0) (cap : A → A) (lexemes : Lexemes) (built : A) : Type 0 where
@@ -39,18 +39,17 @@ module _ {A : Type 0} (parser : Parser A) (Is : Lexemes → A → Type 0) (cap :
     pub limit : (x : A) → passed_limit (shape (cap x)) ≡ passed_limit (shape x)
     pub exact : (x : A) → passed_limit (shape x) ≡ None → cap x ≡ x
 
-  module _ (lexed : Bytes → Lexed) where
-    abbrev pub ReadsTextsExactly : Type 0
-    ReadsTextsExactly = (bytes : Bytes) (x : A) → (read_text lexed parser shape bytes ≡ Ok x) ↔ ReadsText lexed Is shape bytes x
+  abbrev pub ReadsTextsExactly : Type 0
+  ReadsTextsExactly = (bytes : Bytes) (x : A) → (read_text parser shape bytes ≡ Ok x) ↔ ReadsText Is shape bytes x
 
-    abbrev pub RefusesTextsExactly : Type 0
-    RefusesTextsExactly = (bytes : Bytes) (fault : Fault) → (read_text lexed parser shape bytes ≡ Err fault) ↔ RefusesText lexed Is shape bytes fault
+  abbrev pub RefusesTextsExactly : Type 0
+  RefusesTextsExactly = (bytes : Bytes) (fault : Fault) → (read_text parser shape bytes ≡ Err fault) ↔ RefusesText Is shape bytes fault
 
-    abbrev pub ReadsLinesExactly : Type 0
-    ReadsLinesExactly = (bytes : Bytes) (x : A) → (read_line lexed parser shape bytes ≡ Ok x) ↔ ReadsLine lexed Is shape bytes x
+  abbrev pub ReadsLinesExactly : Type 0
+  ReadsLinesExactly = (bytes : Bytes) (x : A) → (read_line parser shape bytes ≡ Ok x) ↔ ReadsLine Is shape bytes x
 
-    abbrev pub RefusesLinesExactly : Type 0
-    RefusesLinesExactly = (bytes : Bytes) (fault : Fault) → (read_line lexed parser shape bytes ≡ Err fault) ↔ RefusesLine lexed Is shape bytes fault
+  abbrev pub RefusesLinesExactly : Type 0
+  RefusesLinesExactly = (bytes : Bytes) (fault : Fault) → (read_line parser shape bytes ≡ Err fault) ↔ RefusesLine Is shape bytes fault
 
 -- ---- canonical lexemes
 

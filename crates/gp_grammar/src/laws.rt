@@ -1,6 +1,5 @@
 //! The laws of the grammar, each as a public function that does nothing.
 
-ghost use Rattle.gp_grammar.specs.Syntax.{Bytes};
 ghost use Rattle.gp_grammar.specs.Grammar.{IsTerm};
 ghost use Rattle.gp_grammar.specs.CommandGrammar.{IsCommand, IsScriptLine};
 ghost use Rattle.gp_grammar.specs.QuestionGrammar.{IsQuestion};
@@ -9,7 +8,6 @@ ghost use Rattle.gp_grammar.specs.Capping.{capped, capped_command, capped_line, 
 ghost use Rattle.gp_grammar.specs.Parsing.{term};
 ghost use Rattle.gp_grammar.specs.CommandParsing.{command, script_line};
 ghost use Rattle.gp_grammar.specs.QuestionParsing.{question};
-ghost use Rattle.gp_grammar.specs.LineReading.{Lexed};
 ghost use Rattle.gp_grammar.specs.Laws.{ParsesExactly, StopsExactly, IsUnambiguous, CapsFairly, ReadsTextsExactly, RefusesTextsExactly, ReadsLinesExactly, RefusesLinesExactly, CanonicalIsDerived, CanonicalIsParsed, CanonicalIsShallow, CanonicalIsCopied};
 
 /// The parser of terms takes the lines that the grammar derives, stops on the others at the place of the fault, and
@@ -46,22 +44,22 @@ pub fn questions_are_parsed()
 {}
 
 /// A text is read as a command exactly where its lexemes are derived and pass every test, and it is refused exactly for
-/// the first fault in the order of the tests, whatever the lexer.
+/// the first fault in the order of the tests.
 pub fn command_texts_are_read()
-    ensures reads { (lexed : Bytes → Lexed) → ReadsTextsExactly command IsCommand capped_command command_shape lexed }
-    ensures refuses { (lexed : Bytes → Lexed) → RefusesTextsExactly command IsCommand capped_command command_shape lexed }
+    ensures reads { ReadsTextsExactly command IsCommand capped_command command_shape }
+    ensures refuses { RefusesTextsExactly command IsCommand capped_command command_shape }
 {}
 
 /// The same for the lines of scripts, which have a greatest length.
 pub fn script_lines_are_read()
-    ensures reads { (lexed : Bytes → Lexed) → ReadsLinesExactly script_line IsScriptLine capped_line line_shape lexed }
-    ensures refuses { (lexed : Bytes → Lexed) → RefusesLinesExactly script_line IsScriptLine capped_line line_shape lexed }
+    ensures reads { ReadsLinesExactly script_line IsScriptLine capped_line line_shape }
+    ensures refuses { RefusesLinesExactly script_line IsScriptLine capped_line line_shape }
 {}
 
 /// The same for questions.
 pub fn questions_are_read()
-    ensures reads { (lexed : Bytes → Lexed) → ReadsLinesExactly question IsQuestion capped_question question_shape lexed }
-    ensures refuses { (lexed : Bytes → Lexed) → RefusesLinesExactly question IsQuestion capped_question question_shape lexed }
+    ensures reads { ReadsLinesExactly question IsQuestion capped_question question_shape }
+    ensures refuses { RefusesLinesExactly question IsQuestion capped_question question_shape }
 {}
 
 /// The canonical lexemes of a command that the grammar derives are derived as this command and, within the limits,

@@ -8,4 +8,4 @@ use Rattle.gp_grammar.proofs.ShapeLemmas.{commands-fair}
 use Rattle.gp_grammar.proofs.laws.command_texts_are_read.Goals as goal
 
 pub returns : goal.returns
-returns c = record { reads = λ lexed. line.texts-read command IsCommand capped_command command_shape lawful-command commands-fair lexed; refuses = λ lexed. line.texts-refused command IsCommand capped_command command_shape lawful-command commands-fair lexed }
+returns c = record { reads = line.texts-read command IsCommand capped_command command_shape lawful-command commands-fair; refuses = line.texts-refused command IsCommand capped_command command_shape lawful-command commands-fair }

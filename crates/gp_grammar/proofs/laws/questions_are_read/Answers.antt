@@ -8,4 +8,4 @@ use Rattle.gp_grammar.proofs.ShapeLemmas.{questions-fair}
 use Rattle.gp_grammar.proofs.laws.questions_are_read.Goals as goal
 
 pub returns : goal.returns
-returns c = record { reads = λ lexed. line.lines-read question IsQuestion capped_question question_shape lawful-question questions-fair lexed; refuses = λ lexed. line.lines-refused question IsQuestion capped_question question_shape lawful-question questions-fair lexed }
+returns c = record { reads = line.lines-read question IsQuestion capped_question question_shape lawful-question questions-fair; refuses = line.lines-refused question IsQuestion capped_question question_shape lawful-question questions-fair }
