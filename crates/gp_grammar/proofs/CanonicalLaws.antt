@@ -1,8 +1,8 @@
 -- The laws of canonical lexemes.
 use Rattle.std.proofs.Common.{◌≡◌, ℕ, zero, suc, ◌<◌, ◌+◌, List, [], ◌∷◌, ◌++◌, length, None, Ok, refl, sym, ap, subst, ◌∙◌, arith}
-use Rattle.std.specs.List.{AllByRecursion, Contains}
-use Rattle.std.proofs.lemmas.List.Elements.{Contains-append_right}
+use Rattle.std.specs.List.{AllByRecursion}
 use Rattle.gp_lexer.specs.declared.lexeme.Lexeme.{Lexeme}
+use Rattle.gp_lexer.specs.Lexemes.{IsProper, AreProper}
 use Rattle.gp_grammar.specs.Syntax.{Lexemes, Command}
 use Rattle.gp_grammar.specs.Capping.{capped_command}
 use Rattle.gp_grammar.specs.CommandGrammar.{IsCommand}
@@ -10,8 +10,7 @@ use Rattle.gp_grammar.specs.Limits.{command_shape, passed_limit}
 use Rattle.gp_grammar.specs.Canonical.{command_lexemes}
 use Rattle.gp_grammar.specs.Parsing.{whole}
 use Rattle.gp_grammar.specs.CommandParsing.{command}
-use Rattle.gp_grammar.specs.Laws as laws
-use Rattle.gp_grammar.specs.Laws.{CanonicalIsDerived, CanonicalIsParsed, CanonicalIsShallow, CanonicalIsCopied, ComesFrom}
+use Rattle.gp_grammar.specs.Laws.{CanonicalIsDerived, CanonicalIsParsed, CanonicalIsShallow, CanonicalIsProper}
 use Rattle.gp_grammar.proofs.ParserLaws.{lawful-command}
 use Rattle.gp_grammar.proofs.ShapeLemmas.{command-exact}
 use Rattle.gp_grammar.proofs.CanonicalCommands.{command-canonical}
@@ -29,18 +28,13 @@ parsed ts x i h =
 pub shallow : CanonicalIsShallow
 shallow = command-shallow
 
-more-sources : (t x : Lexeme) (source : Lexemes) → ComesFrom source x → ComesFrom (t ∷ source) x
-more-sources t _ source (laws.symbol symbol) = laws.symbol symbol
-more-sources t _ source laws.big = laws.big
-more-sources t x source (laws.copied _ c) = laws.copied x (Contains-append_right (t ∷ []) source x c)
+every-proper : (ts : Lexemes) → AreProper ts → AllByRecursion IsProper ts
+every-proper [] h = tt
+every-proper (t ∷ ts) h = (h.0, every-proper ts h.1)
 
-all-more : (t : Lexeme) (source ts : Lexemes) → AllByRecursion (ComesFrom source) ts → AllByRecursion (ComesFrom (t ∷ source)) ts
-all-more t source [] h = tt
-all-more t source (x ∷ ts) h = (more-sources t x source h.0, all-more t source ts h.1)
+proper-every : (ts : Lexemes) → AllByRecursion IsProper ts → AreProper ts
+proper-every [] h = tt
+proper-every (t ∷ ts) h = (h.0, proper-every ts h.1)
 
-all-own : (ts : Lexemes) → AllByRecursion (ComesFrom ts) ts
-all-own [] = tt
-all-own (t ∷ ts) = (laws.copied t (0, omega arith, refl), all-more t ts ts (all-own ts))
-
-pub copied : CanonicalIsCopied
-copied ts x i = command-every (ComesFrom ts) (λ symbol. laws.symbol symbol) laws.big ts x i (all-own ts)
+pub proper : CanonicalIsProper
+proper ts x i h = proper-every (command_lexemes x) (command-every IsProper (λ symbol. tt) tt ts x i (every-proper ts h))

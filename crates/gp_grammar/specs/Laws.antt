@@ -1,9 +1,6 @@
 -- Part of the statement: what the laws say of a parser, a grammar and the definitions of reading.
 use Rattle.std.specs.Prelude.{◌≡◌, ◌↔◌, ℕ, List, [], ◌∷◌, Option, None, Ok, Err, false}
-use Rattle.std.specs.List.{AllByRecursion, Contains}
-use Rattle.gp_lexer.specs.declared.lexeme.Symbol.{Symbol}
-use Rattle.gp_lexer.specs.declared.lexeme.Lexeme.{Lexeme}
-use Rattle.gp_lexer.specs.declared.lexeme.Lexeme.TheVariants.{Symbol as Sign, Big}
+use Rattle.gp_lexer.specs.Lexemes.{AreProper}
 use Rattle.gp_grammar.specs.declared.limits.TheConstants.{MAX_OPEN}
 use Rattle.gp_grammar.specs.Syntax.{Lexemes, Bytes, Command}
 use Rattle.gp_grammar.specs.CommandGrammar.{IsCommand}
@@ -65,12 +62,6 @@ CanonicalIsParsed = (lexemes : Lexemes) (x : Command) → IsCommand lexemes x �
 abbrev pub CanonicalIsShallow : Type 0
 CanonicalIsShallow = (x : Command) → passed_limit (command_shape x) ≡ None → is_too_deep MAX_OPEN (command_lexemes x) ≡ false
 
--- a lexeme that needs no source, or is one of these
-pub data ComesFrom (source : Lexemes) : Lexeme → Type 0 where
-  symbol : (symbol : Symbol) → ComesFrom source (Sign symbol)
-  big : ComesFrom source Big
-  copied : (lexeme : Lexeme) → Contains source lexeme → ComesFrom source lexeme
-
--- every name, number and text in them is in the lexemes that the command was derived from
-abbrev pub CanonicalIsCopied : Type 0
-CanonicalIsCopied = (lexemes : Lexemes) (x : Command) → IsCommand lexemes x → AllByRecursion (ComesFrom lexemes) (command_lexemes x)
+-- and are lexemes that a line can hold, where those are that the command was derived from
+abbrev pub CanonicalIsProper : Type 0
+CanonicalIsProper = (lexemes : Lexemes) (x : Command) → IsCommand lexemes x → AreProper lexemes → AreProper (command_lexemes x)

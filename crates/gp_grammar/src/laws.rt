@@ -8,7 +8,9 @@ ghost use Rattle.gp_grammar.specs.Capping.{capped, capped_command, capped_line, 
 ghost use Rattle.gp_grammar.specs.Parsing.{term};
 ghost use Rattle.gp_grammar.specs.CommandParsing.{command, script_line};
 ghost use Rattle.gp_grammar.specs.QuestionParsing.{question};
-ghost use Rattle.gp_grammar.specs.Laws.{ParsesExactly, StopsExactly, IsUnambiguous, CapsFairly, ReadsTextsExactly, RefusesTextsExactly, ReadsLinesExactly, RefusesLinesExactly, CanonicalIsDerived, CanonicalIsParsed, CanonicalIsShallow, CanonicalIsCopied};
+ghost use Rattle.gp_grammar.specs.Laws.{ParsesExactly, StopsExactly, IsUnambiguous, CapsFairly};
+ghost use Rattle.gp_grammar.specs.Laws.{ReadsTextsExactly, RefusesTextsExactly, ReadsLinesExactly, RefusesLinesExactly};
+ghost use Rattle.gp_grammar.specs.Laws.{CanonicalIsDerived, CanonicalIsParsed, CanonicalIsShallow, CanonicalIsProper};
 
 /// The parser of terms takes the lines that the grammar derives, stops on the others at the place of the fault, and
 /// within the limits there is one way to derive a line. Capping changes no term within the limits and no refusal.
@@ -63,10 +65,10 @@ pub fn questions_are_read()
 {}
 
 /// The canonical lexemes of a command that the grammar derives are derived as this command and, within the limits,
-/// parsed as it. They have no name, number or text but the command's own.
+/// parsed as it. They can be written in a line again, where the lexemes were of one.
 pub fn canonical_lexemes_are_parsed()
     ensures derived { CanonicalIsDerived }
     ensures parsed { CanonicalIsParsed }
     ensures shallow { CanonicalIsShallow }
-    ensures copied { CanonicalIsCopied }
+    ensures proper { CanonicalIsProper }
 {}
