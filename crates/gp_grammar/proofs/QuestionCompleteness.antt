@@ -1,0 +1,306 @@
+-- What the grammar of questions derives is parsed.
+use Rattle.std.proofs.Common.{◌≡◌, ℕ, zero, suc, ◌+◌, ◌<◌, ◌≤◌, Bool, true, false, cond, List, [], ◌∷◌, ◌++◌, map, length, Option, Some, None, Ok, Err, IfSome, refl, sym, ap, subst, arith, ◌∙◌, append_assoc}
+use Rattle.std.specs.Prelude.{codes, nat_le}
+use Rattle.std.proofs.lemmas.List.{append-nil}
+use Rattle.std.proofs.lemmas.Bool.{le-leb}
+use Rattle.gp_lexer.specs.declared.lexeme.Symbol.{Symbol}
+use Rattle.gp_lexer.specs.declared.lexeme.Symbol.TheVariants as s
+use Rattle.gp_lexer.specs.declared.lexeme.Lexeme.{Lexeme}
+use Rattle.gp_lexer.specs.declared.lexeme.Lexeme.TheVariants.{Symbol as Sign, Word, Number, Big, Text}
+use Rattle.gp_grammar.specs.declared.semiring_name.SemiringName.{SemiringName}
+use Rattle.gp_grammar.specs.declared.token_kind.TokenKind.{TokenKind}
+use Rattle.gp_grammar.specs.declared.token_kind.TokenKind.TheVariants as token
+use Rattle.gp_grammar.specs.declared.limits.TheConstants.{MAX_PATTERN_NUMBER}
+use Rattle.gp_grammar.specs.Syntax as syntax
+use Rattle.gp_grammar.specs.Syntax.{Lexemes, Bytes, State, Pattern, Rule, rule_of, Rules, How, Query, Question}
+use Rattle.gp_grammar.specs.Capping.{capped_block, capped_question}
+use Rattle.gp_grammar.specs.CommandGrammar as l
+use Rattle.gp_grammar.specs.CommandGrammar.{IsList, comma, IsQuery, Closed}
+use Rattle.gp_grammar.specs.QuestionGrammar as g
+use Rattle.gp_grammar.specs.QuestionGrammar.{IsState, IsSemiring, IsPattern, IsRule, IsRules, IsHow, IsOpenQuestion, pattern_name}
+use Rattle.gp_grammar.specs.Parsing.{Outcome, Parser, ◌>>=◌, by_option, strip, expect, identifier}
+use Rattle.gp_grammar.specs.CommandParsing.{◌then◌, where_next, fail, accept, push, query}
+use Rattle.gp_grammar.specs.QuestionParsing as q
+use Rattle.gp_grammar.specs.QuestionParsing.{strip_word, where_word, expect_word, number_if, number, pattern_of}
+use Rattle.gp_grammar.proofs.Agreement.{Agree, agree-refl, agree-bind, agree-weaken, strip-less}
+use Rattle.gp_grammar.proofs.Shrinking.{Below, Shrinks, Keeps, shrinks-keeps, keeps-accept, shrinks-fail, shrinks-bind, keeps-bind, shrinks-next, keeps-next, shrinks-then}
+use Rattle.gp_grammar.proofs.CommandCompleteness.{EndsBlock, EndsQuery, query-complete, closed-complete}
+
+-- ---- the parser of rules shrinks, and its bound does not matter
+
+pub shrinks-number_if : (fits : ℕ → Bool) → Shrinks (number_if fits)
+shrinks-number_if fits = record { below = below }
+  where
+    by : (n : ℕ) (ts : Lexemes) (b : Bool) → Below (length (Number n ∷ ts)) (cond b (Ok (n, ts)) (Err (Number n ∷ ts)))
+    by n ts true = omega arith
+    by n ts false = tt
+
+    below : (ts : Lexemes) → Below (length ts) (number_if fits ts)
+    below [] = tt
+    below (Number n ∷ ts) = by n ts (fits n)
+    below (Sign symbol ∷ ts) = tt
+    below (Word word ∷ ts) = tt
+    below (Big ∷ ts) = tt
+    below (Text bytes ∷ ts) = tt
+
+keeps-row : (kind : TokenKind) (t k : ℕ) → Keeps (q.pattern_row kind t k)
+keeps-row token.I t k = keeps-next s.Dot (λ ts. q.pattern_number ts >>= (λ n. Ok (pattern_of token.I (Some t) (Some k) (Some n.0), n.1))) (accept (pattern_of token.I (Some t) (Some k) None))
+    (shrinks-keeps _ (shrinks-bind q.pattern_number _ (shrinks-number_if (λ n. nat_le n MAX_PATTERN_NUMBER)) (λ n. keeps-accept (pattern_of token.I (Some t) (Some k) (Some n)))))
+    (keeps-accept (pattern_of token.I (Some t) (Some k) None))
+keeps-row token.Q t k = keeps-accept (pattern_of token.Q (Some t) (Some k) None)
+keeps-row token.U t k = keeps-accept (pattern_of token.U (Some t) (Some k) None)
+
+keeps-parts : (p : TokenKind × Option ℕ) → Keeps (q.pattern_parts p)
+keeps-parts (kind, None) = keeps-accept (pattern_of kind None None None)
+keeps-parts (kind, Some t) = keeps-next s.Dot (λ ts. q.pattern_number ts >>= (λ k. q.pattern_row kind t k.0 k.1)) (accept (pattern_of kind (Some t) None None))
+    (shrinks-keeps _ (shrinks-bind q.pattern_number _ (shrinks-number_if (λ n. nat_le n MAX_PATTERN_NUMBER)) (λ k. keeps-row kind t k)))
+    (keeps-accept (pattern_of kind (Some t) None None))
+
+shrinks-pattern : Shrinks q.pattern
+shrinks-pattern = record { below = below }
+  where
+    weaker : (n m : ℕ) (o : Outcome (Pattern × Lexemes)) → n ≤ m → Below n o → Below m o
+    weaker n m (Ok r) h k = omega arith
+    weaker n m (Err e) h k = tt
+
+    by : (name : Bytes) (ts : Lexemes) (o : Option (TokenKind × Option ℕ)) → Below (length (Word name ∷ ts)) (by_option o (Err (Word name ∷ ts)) (λ kind. q.pattern_parts kind ts))
+    by name ts None = tt
+    by name ts (Some p) = weaker (suc (length ts)) (length (Word name ∷ ts)) (q.pattern_parts p ts) (omega arith) ((keeps-parts p).below ts)
+
+    below : (ts : Lexemes) → Below (length ts) (q.pattern ts)
+    below [] = tt
+    below (Word name ∷ ts) = by name ts (pattern_name name)
+    below (Sign symbol ∷ ts) = tt
+    below (Number n ∷ ts) = tt
+    below (Big ∷ ts) = tt
+    below (Text bytes ∷ ts) = tt
+
+pub shrinks-rule : Shrinks q.rule
+unfolding q.rule
+shrinks-rule = shrinks-bind q.pattern _ shrinks-pattern (λ p. shrinks-keeps _ (shrinks-then s.Eq _
+    (keeps-bind number _ (shrinks-keeps _ (shrinks-number_if (λ n. true))) (λ n. keeps-accept (rule_of p n)))))
+
+abbrev end_of_rules : List Rule → Parser Rules
+end_of_rules found = s.Close then accept (record { rules = found; other = None })
+
+shrinks-end : (found : List Rule) → Shrinks (end_of_rules found)
+shrinks-end found = shrinks-then s.Close (accept (record { rules = found; other = None })) (keeps-accept (record { rules = found; other = None }))
+
+shrinks-else : (found : List Rule) → Shrinks (q.else_number found)
+shrinks-else found = shrinks-bind number _ (shrinks-number_if (λ n. true))
+    (λ n. shrinks-keeps _ (shrinks-then s.Close (accept (record { rules = found; other = Some n })) (keeps-accept (record { rules = found; other = Some n }))))
+
+option-agree : {A : Type 0} (ts : Lexemes) (o : Option Lexemes) (none : Outcome (A × Lexemes)) (f g : Parser A) → IfSome o (λ rest. length rest < length ts)
+    → Agree (length ts) none none → ((rest : Lexemes) → length rest < length ts → Agree (length ts) (f rest) (g rest)) → Agree (length ts) (by_option o none f) (by_option o none g)
+option-agree ts None none f g h w k = w
+option-agree ts (Some rest) none f g h w k = k rest h
+
+else-agree : (found : List Rule) (f g : Parser Rules) (ts : Lexemes) → Agree (length ts) (f ts) (g ts) → Agree (length ts) (where_next s.Else (q.else_number found) f ts) (where_next s.Else (q.else_number found) g ts)
+else-agree found f g ts h = by (strip s.Else ts) (strip-less s.Else ts)
+  where
+    by : (o : Option Lexemes) → IfSome o (λ rest. length rest < length ts) → Agree (length ts) (by_option o (f ts) (q.else_number found)) (by_option o (g ts) (q.else_number found))
+    by None lt = h
+    by (Some rest) lt = agree-weaken (length rest) (length ts) (q.else_number found rest) (q.else_number found rest) (omega arith)
+        (agree-refl (length rest) (q.else_number found rest) ((shrinks-else found).below rest))
+
+rules-agree : (j k : ℕ) (found : List Rule) (ts : Lexemes) → length ts < j → length ts < k → Agree (length ts) (q.rules_within j found ts) (q.rules_within k found ts)
+unfolding q.rules_within
+rules-agree zero k found ts a b = absurd (omega arith)
+rules-agree (suc j) zero found ts a b = absurd (omega arith)
+rules-agree (suc j) (suc k) found ts a b =
+    agree-bind (length ts) (length ts) (q.rule ts) (q.rule ts) _ _ (agree-refl (length ts) (q.rule ts) (shrinks-rule.below ts))
+    (λ r lt. agree-weaken (length r.1) (length ts) _ _ (omega arith)
+    (option-agree r.1 (strip s.Comma r.1) (end_of_rules (push found r.0) r.1) (where_next s.Else (q.else_number (push found r.0)) (q.rules_within j (push found r.0)))
+    (where_next s.Else (q.else_number (push found r.0)) (q.rules_within k (push found r.0))) (strip-less s.Comma r.1)
+    (agree-refl (length r.1) (end_of_rules (push found r.0) r.1) ((shrinks-end (push found r.0)).below r.1))
+    (λ rest lt2. agree-weaken (length rest) (length r.1) _ _ (omega arith)
+    (else-agree (push found r.0) (q.rules_within j (push found r.0)) (q.rules_within k (push found r.0)) rest (rules-agree j k (push found r.0) rest (omega arith) (omega arith))))))
+
+-- behind a rule: a comma and more, or the end
+abbrev pub after_rule : List Rule → Parser Rules
+after_rule found = where_next s.Comma (where_next s.Else (q.else_number found) (q.rules_from found)) (s.Close then accept (record { rules = found; other = None }))
+
+pub rules_from-unfolds : (found : List Rule) (ts : Lexemes) → q.rules_from found ts ≡ q.rule ts >>= (λ r. after_rule (push found r.0) r.1)
+unfolding q.rules_from q.rules_within
+rules_from-unfolds found ts =
+    (agree-bind (length ts) (length ts) (q.rule ts) (q.rule ts) _ _ (agree-refl (length ts) (q.rule ts) (shrinks-rule.below ts))
+    (λ r lt. agree-weaken (length r.1) (length ts) _ _ (omega arith)
+    (option-agree r.1 (strip s.Comma r.1) (end_of_rules (push found r.0) r.1) (where_next s.Else (q.else_number (push found r.0)) (q.rules_within (length ts) (push found r.0)))
+    (where_next s.Else (q.else_number (push found r.0)) (q.rules_from (push found r.0))) (strip-less s.Comma r.1)
+    (agree-refl (length r.1) (end_of_rules (push found r.0) r.1) ((shrinks-end (push found r.0)).below r.1))
+    (λ rest lt2. agree-weaken (length rest) (length r.1) _ _ (omega arith)
+    (else-agree (push found r.0) (q.rules_within (length ts) (push found r.0)) (q.rules_from (push found r.0)) rest
+    (rules-agree (length ts) (suc (length rest)) (push found r.0) rest (omega arith) (omega arith))))))).same
+
+-- ---- what is derived is parsed
+
+semiring-complete : (a : Lexemes) (x : SemiringName) → IsSemiring a x → (rest : Lexemes) → q.semiring_name (a ++ rest) ≡ Ok (x, rest)
+unfolding q.semiring_name
+semiring-complete _ _ g.count rest = refl
+semiring-complete _ _ g.bool rest = refl
+semiring-complete _ _ g.cost rest = refl
+semiring-complete _ _ g.level rest = refl
+semiring-complete _ _ g.poly rest = refl
+
+state-complete : (a : Lexemes) (x : State) → IsState a x → (rest : Lexemes) → q.state (a ++ rest) ≡ Ok (x, rest)
+unfolding q.state
+state-complete _ _ (g.as_of v) rest = refl
+state-complete _ _ (g.after t k) rest = refl
+state-complete _ _ (g.commit t) rest = refl
+
+pattern_number-of : (k : ℕ) (ts : Lexemes) → k ≤ MAX_PATTERN_NUMBER → q.pattern_number (Number k ∷ ts) ≡ Ok (k, ts)
+pattern_number-of k ts h = ap (λ b. cond b (Ok (k, ts)) (Err (Number k ∷ ts))) (le-leb k MAX_PATTERN_NUMBER h)
+
+name-of : (name : Bytes) (p : TokenKind × Option ℕ) (ts : Lexemes) → pattern_name name ≡ Some p → q.pattern (Word name ∷ ts) ≡ q.pattern_parts p ts
+name-of name p ts e = ap (λ o. by_option o (Err (Word name ∷ ts)) (λ kind. q.pattern_parts kind ts)) e
+
+row-of : (kind : TokenKind) (t k : ℕ) (rest : Lexemes) → strip s.Dot rest ≡ None → q.pattern_row kind t k rest ≡ Ok (pattern_of kind (Some t) (Some k) None, rest)
+row-of token.I t k rest n = ap (λ o. by_option o (Ok (pattern_of token.I (Some t) (Some k) None, rest)) (λ ts. q.pattern_number ts >>= (λ n. Ok (pattern_of token.I (Some t) (Some k) (Some n.0), n.1)))) n
+row-of token.Q t k rest n = refl
+row-of token.U t k rest n = refl
+
+pattern-complete : (a : Lexemes) (x : Pattern) → IsPattern a x → (rest : Lexemes) → strip s.Dot rest ≡ None → q.pattern (a ++ rest) ≡ Ok (x, rest)
+pattern-complete _ _ (g.kind name kind e) rest n = name-of name (kind, None) rest e
+pattern-complete _ _ (g.transaction name kind t e) rest n =
+    name-of name (kind, Some t) rest e
+    ∙ ap (λ o. by_option o (Ok (pattern_of kind (Some t) None None, rest)) (λ ts. q.pattern_number ts >>= (λ k. q.pattern_row kind t k.0 k.1))) n
+pattern-complete _ _ (g.statement name kind t k e h) rest n =
+    name-of name (kind, Some t) (Sign s.Dot ∷ Number k ∷ rest) e
+    ∙ ap (λ p. p >>= (λ k. q.pattern_row kind t k.0 k.1)) (pattern_number-of k rest h)
+    ∙ row-of kind t k rest n
+pattern-complete _ _ (g.row name t k m e h i) rest n =
+    name-of name (token.I, Some t) (Sign s.Dot ∷ Number k ∷ Sign s.Dot ∷ Number m ∷ rest) e
+    ∙ ap (λ p. p >>= (λ k. q.pattern_row token.I t k.0 k.1)) (pattern_number-of k (Sign s.Dot ∷ Number m ∷ rest) h)
+    ∙ ap (λ p. p >>= (λ n. Ok (pattern_of token.I (Some t) (Some k) (Some n.0), n.1))) (pattern_number-of m rest i)
+
+rule-of : (p : Pattern) (n : ℕ) (ts rest : Lexemes) → q.pattern ts ≡ Ok (p, Sign s.Eq ∷ Number n ∷ rest) → q.rule ts ≡ Ok (rule_of p n, rest)
+unfolding q.rule expect
+rule-of p n ts rest e = ap (λ o. o >>= (λ pattern. expect s.Eq pattern.1 >>= (λ rest. number rest >>= (λ value. Ok (rule_of pattern.0 value.0, value.1))))) e
+
+rule-complete : (a : Lexemes) (x : Rule) → IsRule a x → (rest : Lexemes) → q.rule (a ++ rest) ≡ Ok (x, rest)
+rule-complete _ _ (g.rule a p n i) rest =
+    rule-of p n ((a ++ (Sign s.Eq ∷ Number n ∷ [])) ++ rest) rest
+    (ap q.pattern (append_assoc a (Sign s.Eq ∷ Number n ∷ []) rest) ∙ pattern-complete a p i (Sign s.Eq ∷ Number n ∷ rest) refl)
+
+no-else-pattern : {a : Lexemes} {x : Pattern} → IsPattern a x → (rest : Lexemes) → strip s.Else (a ++ rest) ≡ None
+no-else-pattern (g.kind name kind e) rest = refl
+no-else-pattern (g.transaction name kind t e) rest = refl
+no-else-pattern (g.statement name kind t k e h) rest = refl
+no-else-pattern (g.row name t k m e h i) rest = refl
+
+no-else : {a : Lexemes} {x : Rule} → IsRule a x → (rest : Lexemes) → strip s.Else (a ++ rest) ≡ None
+no-else (g.rule a p n i) rest = ap (strip s.Else) (append_assoc a (Sign s.Eq ∷ Number n ∷ []) rest) ∙ no-else-pattern i (Sign s.Eq ∷ Number n ∷ rest)
+
+no-else-list : {a : Lexemes} {xs : List Rule} → IsList comma IsRule a xs → (rest : Lexemes) → strip s.Else (a ++ rest) ≡ None
+no-else-list (l.one a x i) rest = no-else i rest
+no-else-list (l.more a b xs x i j) rest = ap (strip s.Else) (append_assoc a (Sign s.Comma ∷ b) rest) ∙ no-else-list i (Sign s.Comma ∷ (b ++ rest))
+
+rules_from-complete : {a : Lexemes} {xs : List Rule} → IsList comma IsRule a xs → (rest : Lexemes) → q.rules_from [] (a ++ rest) ≡ after_rule xs rest
+rules_from-complete (l.one a x i) rest = rules_from-unfolds [] (a ++ rest) ∙ ap (λ o. o >>= (λ r. after_rule (push [] r.0) r.1)) (rule-complete a x i rest)
+rules_from-complete (l.more a b xs x i j) rest =
+    ap (q.rules_from []) (append_assoc a (Sign s.Comma ∷ b) rest)
+    ∙ rules_from-complete i (Sign s.Comma ∷ (b ++ rest))
+    ∙ ap (λ o. by_option o (q.rules_from xs (b ++ rest)) (q.else_number xs)) (no-else j rest)
+    ∙ rules_from-unfolds xs (b ++ rest)
+    ∙ ap (λ o. o >>= (λ r. after_rule (push xs r.0) r.1)) (rule-complete b x j rest)
+
+-- nothing but OF follows the rules, so that an opening bracket is theirs
+rules-of : (ts : Lexemes) (rest : Lexemes) (x : Rules) → strip s.Else ts ≡ None → q.rules_from [] ts ≡ Ok (x, rest) → q.rules (Sign s.Open ∷ ts) ≡ Ok (x, rest)
+unfolding q.rules
+rules-of ts rest x n e = ap (λ o. by_option o (q.rules_from [] ts) (q.else_number [])) n ∙ e
+
+rules-complete : (a : Lexemes) (x : Rules) → IsRules a x → (rest : Lexemes) → strip s.Open rest ≡ None → q.rules (a ++ rest) ≡ Ok (x, rest)
+unfolding q.rules expect
+rules-complete _ _ g.no_rules rest n =
+    ap (λ o. by_option o (Ok (record { rules = []; other = None }, rest)) (where_next s.Else (q.else_number []) (q.rules_from []))) n
+rules-complete _ _ (g.only_else k) rest n = refl
+rules-complete _ _ (g.only_rules a xs i) rest n =
+    ap (λ z. q.rules (Sign s.Open ∷ z)) (append_assoc a (Sign s.Close ∷ []) rest)
+    ∙ rules-of (a ++ (Sign s.Close ∷ rest)) rest (record { rules = xs; other = None }) (no-else-list i (Sign s.Close ∷ rest)) (rules_from-complete i (Sign s.Close ∷ rest))
+rules-complete _ _ (g.rules_and_else a xs k i) rest n =
+    ap (λ z. q.rules (Sign s.Open ∷ z)) (append_assoc a (Sign s.Comma ∷ Sign s.Else ∷ Number k ∷ Sign s.Close ∷ []) rest)
+    ∙ rules-of (a ++ (Sign s.Comma ∷ Sign s.Else ∷ Number k ∷ Sign s.Close ∷ rest)) rest (record { rules = xs; other = Some k })
+    (no-else-list i (Sign s.Comma ∷ Sign s.Else ∷ Number k ∷ Sign s.Close ∷ rest)) (rules_from-complete i (Sign s.Comma ∷ Sign s.Else ∷ Number k ∷ Sign s.Close ∷ rest))
+
+-- what begins a state
+record BeginsState (ts : Lexemes) : Type 0 where
+  no_explain : strip_word (codes "explain") ts ≡ None
+  no_provenance : strip_word (codes "provenance") ts ≡ None
+  no_value : strip_word (codes "value") ts ≡ None
+  no_log : strip_word (codes "log") ts ≡ None
+  no_versions : strip_word (codes "versions") ts ≡ None
+
+begins-state : (b : Lexemes) (x : State) → IsState b x → (rest : Lexemes) → BeginsState (b ++ rest)
+begins-state _ _ (g.as_of v) rest = record { no_explain = refl; no_provenance = refl; no_value = refl; no_log = refl; no_versions = refl }
+begins-state _ _ (g.after t k) rest = record { no_explain = refl; no_provenance = refl; no_value = refl; no_log = refl; no_versions = refl }
+begins-state _ _ (g.commit t) rest = record { no_explain = refl; no_provenance = refl; no_value = refl; no_log = refl; no_versions = refl }
+
+value-of : (ts us rest : Lexemes) (k : SemiringName) (r : Rules) → q.semiring_name ts ≡ Ok (k, us) → q.rules us ≡ Ok (r, Word (codes "of") ∷ rest)
+    → q.value (Word (codes "in") ∷ ts) ≡ Ok (syntax.value k r.rules r.other, rest)
+unfolding q.value
+value-of ts us rest k r e f =
+    ap (λ o. o >>= (λ semiring. q.rules semiring.1 >>= (λ rules. expect_word (codes "of") (accept (syntax.value semiring.0 rules.0.rules rules.0.other)) rules.1))) e
+    ∙ ap (λ o. o >>= (λ rules. expect_word (codes "of") (accept (syntax.value k rules.0.rules rules.0.other)) rules.1)) f
+
+value-split : (a b rest : Lexemes) → (a ++ (b ++ (Word (codes "of") ∷ []))) ++ rest ≡ a ++ (b ++ (Word (codes "of") ∷ rest))
+value-split a b rest = simp append_assoc
+
+how-complete : (a : Lexemes) (x : How) → IsHow a x → (rest : Lexemes) → BeginsState rest → q.how (a ++ rest) ≡ Ok (x, rest)
+unfolding q.how
+how-complete _ _ g.rows rest h =
+    ap (λ o. by_option o (where_word (codes "provenance") (expect_word (codes "of") (accept syntax.provenance)) (where_word (codes "value") q.value (accept syntax.rows)) rest)
+    (where_word (codes "provenance") (expect_word (codes "of") (accept (syntax.explain true))) (accept (syntax.explain false)))) h.no_explain
+    ∙ ap (λ o. by_option o (where_word (codes "value") q.value (accept syntax.rows) rest) (expect_word (codes "of") (accept syntax.provenance))) h.no_provenance
+    ∙ ap (λ o. by_option o (Ok (syntax.rows, rest)) q.value) h.no_value
+how-complete _ _ g.provenance rest h = refl
+how-complete _ _ g.explain rest h = ap (λ o. by_option o (Ok (syntax.explain false, rest)) (expect_word (codes "of") (accept (syntax.explain true)))) h.no_provenance
+how-complete _ _ g.explain_provenance rest h = refl
+how-complete _ _ (g.value a b k r i j) rest h =
+    ap (λ z. q.value (Word (codes "in") ∷ z)) (value-split a b rest)
+    ∙ value-of (a ++ (b ++ (Word (codes "of") ∷ rest))) (b ++ (Word (codes "of") ∷ rest)) rest k r (semiring-complete a k i (b ++ (Word (codes "of") ∷ rest)))
+    (rules-complete b r j (Word (codes "of") ∷ rest) refl)
+
+-- a question that asks is none of the others
+record BeginsAsk (ts : Lexemes) : Type 0 where
+  no_log : strip_word (codes "log") ts ≡ None
+  no_versions : strip_word (codes "versions") ts ≡ None
+
+begins-ask : (a : Lexemes) (x : How) → IsHow a x → (rest : Lexemes) → BeginsState rest → BeginsAsk (a ++ rest)
+begins-ask _ _ g.rows rest h = record { no_log = h.no_log; no_versions = h.no_versions }
+begins-ask _ _ g.provenance rest h = record { no_log = refl; no_versions = refl }
+begins-ask _ _ g.explain rest h = record { no_log = refl; no_versions = refl }
+begins-ask _ _ g.explain_provenance rest h = record { no_log = refl; no_versions = refl }
+begins-ask _ _ (g.value a b k r i j) rest h = record { no_log = refl; no_versions = refl }
+
+ask-of : (ts us ws rest : Lexemes) (how : How) (state : State) (xs : Query) → q.how ts ≡ Ok (how, us) → q.state us ≡ Ok (state, ws) → query ws ≡ Ok (xs, rest)
+    → q.ask ts ≡ Ok (syntax.ask how state xs, rest)
+unfolding q.ask
+ask-of ts us ws rest how state xs e f h =
+    ap (λ o. o >>= (λ how. q.state how.1 >>= (λ state. query state.1 >>= (λ xs. Ok (syntax.ask how.0 state.0 xs.0, xs.1))))) e
+    ∙ ap (λ o. o >>= (λ state. query state.1 >>= (λ xs. Ok (syntax.ask how state.0 xs.0, xs.1)))) f
+    ∙ ap (λ o. o >>= (λ xs. Ok (syntax.ask how state xs.0, xs.1))) h
+
+ask-split : (a b c rest : Lexemes) → (a ++ (b ++ c)) ++ rest ≡ a ++ (b ++ (c ++ rest))
+ask-split a b c rest = simp append_assoc
+
+open-of : (ts rest : Lexemes) (x : Question) → BeginsAsk ts → q.ask ts ≡ Ok (x, rest) → q.open_question ts ≡ Ok (x, rest)
+unfolding q.open_question
+open-of ts rest x h e =
+    ap (λ o. by_option o (where_word (codes "versions") (expect_word (codes "of") (λ ts. identifier ts >>= (λ table. Ok (syntax.versions table.0, table.1)))) q.ask ts)
+    (λ ts. number ts >>= (λ t. Ok (syntax.log t.0, t.1)))) h.no_log
+    ∙ ap (λ o. by_option o (q.ask ts) (expect_word (codes "of") (λ ts. identifier ts >>= (λ table. Ok (syntax.versions table.0, table.1))))) h.no_versions
+    ∙ e
+
+open_question-complete : (a : Lexemes) (x : Question) → IsOpenQuestion a x → (rest : Lexemes) → EndsQuery rest → q.open_question (a ++ rest) ≡ Ok (capped_question x, rest)
+unfolding q.open_question
+open_question-complete _ _ (g.log t) rest h = refl
+open_question-complete _ _ (g.versions table) rest h = refl
+open_question-complete _ _ (g.ask a b c how state xs i j k) rest h =
+    let f : BeginsState (b ++ (c ++ rest)) = begins-state b state j (c ++ rest) in
+    ap q.open_question (ask-split a b c rest)
+    ∙ open-of (a ++ (b ++ (c ++ rest))) rest (syntax.ask how state (map capped_block xs)) (begins-ask a how i (b ++ (c ++ rest)) f)
+    (ask-of (a ++ (b ++ (c ++ rest))) (b ++ (c ++ rest)) (c ++ rest) rest how state (map capped_block xs) (how-complete a how i (b ++ (c ++ rest)) f)
+    (state-complete b state j (c ++ rest)) (query-complete c xs k rest h))
+
+pub whole-question : (a : Lexemes) (x : Question) → Closed IsOpenQuestion a x → q.question a ≡ Ok (capped_question x, [])
+whole-question = closed-complete IsOpenQuestion capped_question q.open_question open_question-complete

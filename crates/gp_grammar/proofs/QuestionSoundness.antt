@@ -1,0 +1,297 @@
+-- The parser of questions is sound, and what it leaves before a fault begins a question.
+use Rattle.std.proofs.Common.{◌≡◌, ℕ, zero, suc, ◌≤◌, Bool, true, false, cond, List, [], ◌∷◌, ◌++◌, map, length, Option, Some, None, Ok, Err, refl, sym, ap, subst, arith, ◌∙◌, append_assoc}
+use Rattle.std.specs.Prelude.{codes, nat_le}
+use Rattle.std.specs.Str.{bytes_eq}
+use Rattle.std.proofs.lemmas.List.{append-nil}
+use Rattle.std.proofs.lemmas.Bool.{leb-true}
+use Rattle.std.proofs.lemmas.Slice.Eq.{bytes_eq-Decides}
+use Rattle.gp_lexer.specs.declared.lexeme.Symbol.{Symbol}
+use Rattle.gp_lexer.specs.declared.lexeme.Symbol.TheVariants as s
+use Rattle.gp_lexer.specs.declared.lexeme.Lexeme.{Lexeme}
+use Rattle.gp_lexer.specs.declared.lexeme.Lexeme.TheVariants.{Symbol as Sign, Word, Number, Big, Text}
+use Rattle.gp_grammar.specs.declared.semiring_name.SemiringName.{SemiringName}
+use Rattle.gp_grammar.specs.declared.semiring_name.SemiringName.TheVariants as semiring
+use Rattle.gp_grammar.specs.declared.token_kind.TokenKind.{TokenKind}
+use Rattle.gp_grammar.specs.declared.token_kind.TokenKind.TheVariants as token
+use Rattle.gp_grammar.specs.declared.limits.TheConstants.{MAX_PATTERN_NUMBER}
+use Rattle.gp_grammar.specs.Syntax as syntax
+use Rattle.gp_grammar.specs.Syntax.{Lexemes, Bytes, State, Pattern, Rule, rule_of, Rules, How, Query, Question}
+use Rattle.gp_grammar.specs.Capping.{capped_block, capped_question}
+use Rattle.gp_grammar.specs.CommandGrammar as l
+use Rattle.gp_grammar.specs.CommandGrammar.{IsList, comma, Closed}
+use Rattle.gp_grammar.specs.QuestionGrammar as g
+use Rattle.gp_grammar.specs.QuestionGrammar.{IsState, IsSemiring, IsPattern, IsRule, IsRules, IsHow, IsOpenQuestion, pattern_name}
+use Rattle.gp_grammar.specs.Parsing.{Outcome, Parser, ◌>>=◌, by_option, identifier}
+use Rattle.gp_grammar.specs.CommandParsing.{◌then◌, where_next, fail, accept, push, query}
+use Rattle.gp_grammar.specs.QuestionParsing as q
+use Rattle.gp_grammar.specs.QuestionParsing.{is_word, strip_word, where_word, expect_word, number_if, number, pattern_of}
+use Rattle.gp_grammar.specs.Laws.{Built}
+use Rattle.gp_grammar.proofs.CommandBuilding.{BuildsQuery}
+use Rattle.gp_grammar.proofs.Soundness.{Parsed, Viable, Sentence, Sound, sentence, sound-ok, sound-err, sound-at, sound-shift, sound-bind, sound-phrase, expect-sound, identifier-sound}
+use Rattle.gp_grammar.proofs.SoundCombinators.{next-sound, closed-sound}
+use Rattle.gp_grammar.proofs.CommandSoundness.{query-sound}
+
+abbrev pub BuildsQuestion : Lexemes → Question → Type 0
+BuildsQuestion = Built IsOpenQuestion capped_question
+
+-- ---- words and numbers
+
+same-word : (text : Bytes) (t : Lexeme) → is_word text t ≡ true → t ≡ Word text
+same-word text (Word word) h = ap (λ z. Word z) (sym ((bytes_eq-Decides text word).0 h))
+same-word text (Sign symbol) h = cc
+same-word text (Number n) h = cc
+same-word text Big h = cc
+same-word text (Text bytes) h = cc
+
+if-some : (b : Bool) (ts rest : Lexemes) → cond b (Some ts) None ≡ Some rest → (b ≡ true) × (ts ≡ rest)
+if-some true ts rest h = (refl, cc)
+if-some false ts rest h = cc
+
+word-split : (text : Bytes) (ts rest : Lexemes) → strip_word text ts ≡ Some rest → ts ≡ Word text ∷ rest
+word-split text [] rest h = cc
+word-split text (t ∷ ts) rest h =
+    let w : (is_word text t ≡ true) × (ts ≡ rest) = if-some (is_word text t) ts rest h in
+    let a : t ≡ Word text = same-word text t w.0 in
+    let b : ts ≡ rest = w.1 in
+    cc
+
+option-sound : {B : Type 0} (text : Bytes) (Q : Lexemes → B → Type 0) (some none : Parser B) (ts : Lexemes) (o : Option Lexemes) → strip_word text ts ≡ o
+    → ((rest : Lexemes) → Sound (λ b y. Q (Word text ∷ b) y) rest (some rest)) → Sound Q ts (none ts) → Sound Q ts (by_option o (none ts) some)
+option-sound text Q some none ts None e k n = n
+option-sound text Q some none ts (Some rest) e k n =
+    sound-at Q ts (Word text ∷ rest) (some rest) (word-split text ts rest e) (sound-shift Q (Word text ∷ []) rest (some rest) (k rest))
+
+word-sound : {B : Type 0} (text : Bytes) (Q : Lexemes → B → Type 0) (some none : Parser B) (ts : Lexemes)
+    → ((rest : Lexemes) → Sound (λ b y. Q (Word text ∷ b) y) rest (some rest)) → Sound Q ts (none ts) → Sound Q ts (where_word text some none ts)
+word-sound text Q some none ts k n = option-sound text Q some none ts (strip_word text ts) refl k n
+
+expect_word-sound : {B : Type 0} (text : Bytes) (Q : Lexemes → B → Type 0) (some : Parser B) (ts : Lexemes)
+    → ((rest : Lexemes) → Sound (λ b y. Q (Word text ∷ b) y) rest (some rest)) → Sound Q ts (expect_word text some ts)
+expect_word-sound text Q some ts k =
+    let w : Sentence (λ b y. Q (Word text ∷ b) y) = sentence (λ b y. Q (Word text ∷ b) y) [] (some []) (k []) in
+    word-sound text Q some fail ts k (sound-err Q ts (record { lexemes = Word text ∷ w.lexemes; tree = w.tree; is = w.is }))
+
+record IsNumber (fits : ℕ → Bool) (ts : Lexemes) (n : ℕ) : Type 0 where
+  is : ts ≡ Number n ∷ []
+  small : fits n ≡ true
+
+number_if-one : (fits : ℕ → Bool) → fits 0 ≡ true → (ts : Lexemes) → Sound (IsNumber fits) ts (number_if fits ts)
+number_if-one fits z ts = go ts
+  where
+    zero_number : Sentence (IsNumber fits)
+    zero_number = record { lexemes = Number 0 ∷ []; tree = 0; is = record { is = refl; small = z } }
+
+    by : (n : ℕ) (ts : Lexemes) (b : Bool) → fits n ≡ b → Sound (IsNumber fits) (Number n ∷ ts) (cond b (Ok (n, ts)) (Err (Number n ∷ ts)))
+    by n ts true e = record { used = Number n ∷ []; split = refl; is = record { is = refl; small = e } }
+    by n ts false e = sound-err (IsNumber fits) _ zero_number
+
+    go : (ts : Lexemes) → Sound (IsNumber fits) ts (number_if fits ts)
+    go [] = sound-err (IsNumber fits) _ zero_number
+    go (Number n ∷ ts) = by n ts (fits n) refl
+    go (Sign symbol ∷ ts) = sound-err (IsNumber fits) _ zero_number
+    go (Word word ∷ ts) = sound-err (IsNumber fits) _ zero_number
+    go (Big ∷ ts) = sound-err (IsNumber fits) _ zero_number
+    go (Text bytes ∷ ts) = sound-err (IsNumber fits) _ zero_number
+
+number_if-sound : {B : Type 0} (fits : ℕ → Bool) → fits 0 ≡ true → (Q : Lexemes → B → Type 0) (ts : Lexemes) (f : ℕ × Lexemes → Outcome (B × Lexemes))
+    → ((n : ℕ) (rest : Lexemes) → fits n ≡ true → Sound (λ b y. Q (Number n ∷ b) y) rest (f (n, rest))) → Sound Q ts (number_if fits ts >>= f)
+number_if-sound fits z Q ts f k = sound-bind (IsNumber fits) Q ts (number_if fits ts) f (number_if-one fits z ts)
+    (λ used rest n h. let F : Lexemes → Type 0 = λ u. Sound (λ b y. Q (u ++ b) y) rest (f (n, rest)) in subst F (sym h.is) (k n rest h.small))
+
+number-sound : {B : Type 0} (Q : Lexemes → B → Type 0) (ts : Lexemes) (f : ℕ × Lexemes → Outcome (B × Lexemes))
+    → ((n : ℕ) (rest : Lexemes) → Sound (λ b y. Q (Number n ∷ b) y) rest (f (n, rest))) → Sound Q ts (number ts >>= f)
+number-sound Q ts f k = number_if-sound (λ n. true) refl Q ts f (λ n rest h. k n rest)
+
+-- ---- states and semirings
+
+state-sound : (ts : Lexemes) → Sound IsState ts (q.state ts)
+unfolding q.state
+state-sound ts = next-sound s.As IsState (expect_word (codes "of") (λ ts. number ts >>= (λ v. Ok (syntax.as_of v.0, v.1))))
+    (expect_word (codes "reenact") (λ ts. number ts >>= (λ t. where_next s.Commit (accept (syntax.State.commit t.0))
+    (expect_word (codes "after") (λ rest. number rest >>= (λ k. Ok (syntax.after t.0 k.0, k.1)))) t.1))) ts
+    (λ ts1. expect_word-sound (codes "of") (λ b y. IsState (Sign s.As ∷ b) y) _ ts1 (λ ts2.
+    number-sound (λ b y. IsState (Sign s.As ∷ Word (codes "of") ∷ b) y) ts2 _ (λ v ts3. sound-ok _ ts3 (syntax.as_of v) (g.as_of v))))
+    (expect_word-sound (codes "reenact") IsState _ ts (λ ts1.
+    number-sound (λ b y. IsState (Word (codes "reenact") ∷ b) y) ts1 _ (λ t ts2.
+    next-sound s.Commit (λ b y. IsState (Word (codes "reenact") ∷ Number t ∷ b) y) (accept (syntax.State.commit t))
+    (expect_word (codes "after") (λ rest. number rest >>= (λ k. Ok (syntax.after t k.0, k.1)))) ts2
+    (λ ts3. sound-ok _ ts3 (syntax.State.commit t) (g.commit t))
+    (expect_word-sound (codes "after") (λ b y. IsState (Word (codes "reenact") ∷ Number t ∷ b) y) _ ts2 (λ ts3.
+    number-sound (λ b y. IsState (Word (codes "reenact") ∷ Number t ∷ Word (codes "after") ∷ b) y) ts3 _
+    (λ k ts4. sound-ok _ ts4 (syntax.after t k) (g.after t k)))))))
+
+a_semiring : Sentence IsSemiring
+a_semiring = record { lexemes = Word (codes "count") ∷ []; tree = semiring.Count; is = g.count }
+
+semiring-sound : (ts : Lexemes) → Sound IsSemiring ts (q.semiring_name ts)
+unfolding q.semiring_name
+semiring-sound ts =
+    word-sound (codes "count") IsSemiring (accept semiring.Count) (where_word (codes "bool") (accept semiring.Bool) (where_word (codes "cost") (accept semiring.Cost)
+    (where_word (codes "level") (accept semiring.Level) (where_word (codes "poly") (accept semiring.Poly) fail)))) ts (λ ts1. sound-ok _ ts1 semiring.Count g.count)
+    (word-sound (codes "bool") IsSemiring (accept semiring.Bool) (where_word (codes "cost") (accept semiring.Cost)
+    (where_word (codes "level") (accept semiring.Level) (where_word (codes "poly") (accept semiring.Poly) fail))) ts (λ ts1. sound-ok _ ts1 semiring.Bool g.bool)
+    (word-sound (codes "cost") IsSemiring (accept semiring.Cost) (where_word (codes "level") (accept semiring.Level) (where_word (codes "poly") (accept semiring.Poly) fail)) ts
+    (λ ts1. sound-ok _ ts1 semiring.Cost g.cost)
+    (word-sound (codes "level") IsSemiring (accept semiring.Level) (where_word (codes "poly") (accept semiring.Poly) fail) ts (λ ts1. sound-ok _ ts1 semiring.Level g.level)
+    (word-sound (codes "poly") IsSemiring (accept semiring.Poly) fail ts (λ ts1. sound-ok _ ts1 semiring.Poly g.poly) (sound-err IsSemiring ts a_semiring)))))
+
+-- ---- patterns and rules
+
+row-sound : (name : Bytes) (kind : TokenKind) (t k : ℕ) → pattern_name name ≡ Some (kind, Some t) → k ≤ MAX_PATTERN_NUMBER → (ts : Lexemes)
+    → Sound (λ b y. IsPattern (Word name ∷ Sign s.Dot ∷ Number k ∷ b) y) ts (q.pattern_row kind t k ts)
+row-sound name token.I t k e h ts = next-sound s.Dot (λ b y. IsPattern (Word name ∷ Sign s.Dot ∷ Number k ∷ b) y)
+    (λ ts. q.pattern_number ts >>= (λ n. Ok (pattern_of token.I (Some t) (Some k) (Some n.0), n.1))) (accept (pattern_of token.I (Some t) (Some k) None)) ts
+    (λ ts1. number_if-sound (λ n. nat_le n MAX_PATTERN_NUMBER) refl (λ b y. IsPattern (Word name ∷ Sign s.Dot ∷ Number k ∷ Sign s.Dot ∷ b) y) ts1 _
+    (λ n ts2 f. sound-ok _ ts2 (pattern_of token.I (Some t) (Some k) (Some n)) (g.row name t k n e h (leb-true n MAX_PATTERN_NUMBER f))))
+    (sound-ok _ ts (pattern_of token.I (Some t) (Some k) None) (g.statement name token.I t k e h))
+row-sound name token.Q t k e h ts = sound-ok _ ts (pattern_of token.Q (Some t) (Some k) None) (g.statement name token.Q t k e h)
+row-sound name token.U t k e h ts = sound-ok _ ts (pattern_of token.U (Some t) (Some k) None) (g.statement name token.U t k e h)
+
+parts-sound : (name : Bytes) (p : TokenKind × Option ℕ) → pattern_name name ≡ Some p → (ts : Lexemes) → Sound (λ b y. IsPattern (Word name ∷ b) y) ts (q.pattern_parts p ts)
+parts-sound name (kind, None) e ts = sound-ok _ ts (pattern_of kind None None None) (g.kind name kind e)
+parts-sound name (kind, Some t) e ts = next-sound s.Dot (λ b y. IsPattern (Word name ∷ b) y) (λ ts. q.pattern_number ts >>= (λ k. q.pattern_row kind t k.0 k.1))
+    (accept (pattern_of kind (Some t) None None)) ts
+    (λ ts1. number_if-sound (λ n. nat_le n MAX_PATTERN_NUMBER) refl (λ b y. IsPattern (Word name ∷ Sign s.Dot ∷ b) y) ts1 _
+    (λ k ts2 f. row-sound name kind t k e (leb-true k MAX_PATTERN_NUMBER f) ts2))
+    (sound-ok _ ts (pattern_of kind (Some t) None None) (g.transaction name kind t e))
+
+a_pattern : Sentence IsPattern
+a_pattern = record { lexemes = Word (codes "i") ∷ []; tree = pattern_of token.I None None None; is = g.kind (codes "i") token.I refl }
+
+named-sound : (name : Bytes) (ts : Lexemes) (o : Option (TokenKind × Option ℕ)) → pattern_name name ≡ o
+    → Sound IsPattern (Word name ∷ ts) (by_option o (Err (Word name ∷ ts)) (λ kind. q.pattern_parts kind ts))
+named-sound name ts None e = sound-err IsPattern _ a_pattern
+named-sound name ts (Some p) e = sound-shift IsPattern (Word name ∷ []) ts (q.pattern_parts p ts) (parts-sound name p e ts)
+
+pattern-sound : (ts : Lexemes) → Sound IsPattern ts (q.pattern ts)
+pattern-sound [] = sound-err IsPattern _ a_pattern
+pattern-sound (Word name ∷ ts) = named-sound name ts (pattern_name name) refl
+pattern-sound (Sign symbol ∷ ts) = sound-err IsPattern _ a_pattern
+pattern-sound (Number n ∷ ts) = sound-err IsPattern _ a_pattern
+pattern-sound (Big ∷ ts) = sound-err IsPattern _ a_pattern
+pattern-sound (Text bytes ∷ ts) = sound-err IsPattern _ a_pattern
+
+rule-sound : (ts : Lexemes) → Sound IsRule ts (q.rule ts)
+unfolding q.rule
+rule-sound ts = sound-bind IsPattern IsRule ts (q.pattern ts) _ (pattern-sound ts) (λ a ts1 p i.
+    expect-sound s.Eq (λ b y. IsRule (a ++ b) y) ts1 _ (λ ts2. number-sound (λ b y. IsRule (a ++ (Sign s.Eq ∷ b)) y) ts2 _
+    (λ n ts3. sound-ok _ ts3 (rule_of p n) (g.rule a p n i))))
+
+-- one more rule may follow
+Extends : Lexemes → List Rule → Type 0
+Extends front found = (b : Lexemes) (x : Rule) → IsRule b x → IsList comma IsRule (front ++ b) (push found x)
+
+abbrev InRules : Lexemes → Lexemes → Rules → Type 0
+InRules front b y = IsRules (Sign s.Open ∷ (front ++ b)) y
+
+along-rules : (a b : Lexemes) (y : Rules) → a ≡ b → IsRules (Sign s.Open ∷ a) y → IsRules (Sign s.Open ∷ b) y
+along-rules a b y e i = let F : Lexemes → Type 0 = λ z. IsRules (Sign s.Open ∷ z) y in subst F e i
+
+extends-more : (front a : Lexemes) (found : List Rule) (x : Rule) → IsList comma IsRule (front ++ a) (push found x) → Extends (front ++ (a ++ (Sign s.Comma ∷ []))) (push found x)
+unfolding Extends
+extends-more front a found x i b z j =
+    let F : Lexemes → Type 0 = λ u. IsList comma IsRule u (push (push found x) z) in
+    subst F (simp append_assoc) (l.more (front ++ a) b (push found x) z i j)
+
+else-sound : (front a : Lexemes) (found : List Rule) → IsList comma IsRule (front ++ a) found → (ts : Lexemes)
+    → Sound (λ b y. InRules front (a ++ (Sign s.Comma ∷ Sign s.Else ∷ b)) y) ts (q.else_number found ts)
+else-sound front a found i ts = number-sound (λ b y. InRules front (a ++ (Sign s.Comma ∷ Sign s.Else ∷ b)) y) ts _ (λ n ts1.
+    expect-sound s.Close (λ b y. InRules front (a ++ (Sign s.Comma ∷ Sign s.Else ∷ Number n ∷ b)) y) ts1 (accept (record { rules = found; other = Some n }))
+    (λ ts2. sound-ok _ ts2 (record { rules = found; other = Some n })
+    (along-rules _ _ _ (append_assoc front a (Sign s.Comma ∷ Sign s.Else ∷ Number n ∷ Sign s.Close ∷ [])) (g.rules_and_else (front ++ a) found n i))))
+
+a_rule : IsRule (Word (codes "i") ∷ Sign s.Eq ∷ Number 0 ∷ []) (rule_of (pattern_of token.I None None None) 0)
+a_rule = g.rule (Word (codes "i") ∷ []) (pattern_of token.I None None None) 0 (g.kind (codes "i") token.I refl)
+
+some_rules : (front : Lexemes) (found : List Rule) → Extends front found → Sentence (InRules front)
+unfolding Extends
+some_rules front found k = record {
+  lexemes = Word (codes "i") ∷ Sign s.Eq ∷ Number 0 ∷ Sign s.Close ∷ [];
+  tree = record { rules = push found (rule_of (pattern_of token.I None None None) 0); other = None };
+  is = along-rules _ _ _ (append_assoc front (Word (codes "i") ∷ Sign s.Eq ∷ Number 0 ∷ []) (Sign s.Close ∷ [])) (g.only_rules (front ++ (Word (codes "i") ∷ Sign s.Eq ∷ Number 0 ∷ [])) _ (k _ _ a_rule));
+}
+
+rules_within-sound : (n : ℕ) (front : Lexemes) (found : List Rule) → Extends front found → (ts : Lexemes) → Sound (InRules front) ts (q.rules_within n found ts)
+unfolding q.rules_within Extends
+rules_within-sound zero front found k ts = sound-err (InRules front) ts (some_rules front found k)
+rules_within-sound (suc n) front found k ts =
+    sound-bind IsRule (InRules front) ts (q.rule ts) _ (rule-sound ts) (λ a ts1 x i.
+    next-sound s.Comma (λ b y. InRules front (a ++ b) y) (where_next s.Else (q.else_number (push found x)) (q.rules_within n (push found x)))
+    (s.Close then accept (record { rules = push found x; other = None })) ts1
+    (λ ts2. next-sound s.Else (λ b y. InRules front (a ++ (Sign s.Comma ∷ b)) y) (q.else_number (push found x)) (q.rules_within n (push found x)) ts2
+    (λ ts3. else-sound front a (push found x) (k a x i) ts3)
+    (sound-phrase (InRules (front ++ (a ++ (Sign s.Comma ∷ [])))) (λ b y. InRules front (a ++ (Sign s.Comma ∷ b)) y) ts2 (q.rules_within n (push found x) ts2)
+    (λ b y j. along-rules _ _ y (simp append_assoc) j)
+    (rules_within-sound n (front ++ (a ++ (Sign s.Comma ∷ []))) (push found x) (extends-more front a found x (k a x i)) ts2)))
+    (expect-sound s.Close (λ b y. InRules front (a ++ b) y) ts1 (accept (record { rules = push found x; other = None }))
+    (λ ts2. sound-ok _ ts2 (record { rules = push found x; other = None }) (along-rules _ _ _ (append_assoc front a (Sign s.Close ∷ [])) (g.only_rules (front ++ a) (push found x) (k a x i))))))
+
+extends-none : Extends [] []
+unfolding Extends
+extends-none b x i = l.one b x i
+
+rules_from-sound : (ts : Lexemes) → Sound (InRules []) ts (q.rules_from [] ts)
+unfolding q.rules_from
+rules_from-sound ts = rules_within-sound (suc (length ts)) [] [] extends-none ts
+
+rules-sound : (ts : Lexemes) → Sound IsRules ts (q.rules ts)
+unfolding q.rules
+rules-sound ts = next-sound s.Open IsRules (where_next s.Else (q.else_number []) (q.rules_from [])) (accept (record { rules = []; other = None })) ts
+    (λ ts1. next-sound s.Else (λ b y. IsRules (Sign s.Open ∷ b) y) (q.else_number []) (q.rules_from []) ts1
+    (λ ts2. number-sound (λ b y. IsRules (Sign s.Open ∷ Sign s.Else ∷ b) y) ts2 _ (λ n ts3.
+    expect-sound s.Close (λ b y. IsRules (Sign s.Open ∷ Sign s.Else ∷ Number n ∷ b) y) ts3 (accept (record { rules = []; other = Some n }))
+    (λ ts4. sound-ok _ ts4 (record { rules = []; other = Some n }) (g.only_else n))))
+    (rules_from-sound ts1))
+    (sound-ok IsRules ts (record { rules = []; other = None }) g.no_rules)
+
+-- ---- questions
+
+value-sound : (ts : Lexemes) → Sound (λ b y. IsHow (Word (codes "value") ∷ b) y) ts (q.value ts)
+unfolding q.value
+value-sound ts = expect_word-sound (codes "in") (λ b y. IsHow (Word (codes "value") ∷ b) y) _ ts (λ ts1.
+    sound-bind IsSemiring (λ b y. IsHow (Word (codes "value") ∷ Word (codes "in") ∷ b) y) ts1 (q.semiring_name ts1) _ (semiring-sound ts1) (λ a ts2 k i.
+    sound-bind IsRules (λ b y. IsHow (Word (codes "value") ∷ Word (codes "in") ∷ (a ++ b)) y) ts2 (q.rules ts2) _ (rules-sound ts2) (λ b ts3 r j.
+    expect_word-sound (codes "of") (λ c y. IsHow (Word (codes "value") ∷ Word (codes "in") ∷ (a ++ (b ++ c))) y) (accept (syntax.value k r.rules r.other)) ts3
+    (λ ts4. sound-ok _ ts4 (syntax.value k r.rules r.other) (g.value a b k r i j)))))
+
+how-sound : (ts : Lexemes) → Sound IsHow ts (q.how ts)
+unfolding q.how
+how-sound ts =
+    word-sound (codes "explain") IsHow (where_word (codes "provenance") (expect_word (codes "of") (accept (syntax.explain true))) (accept (syntax.explain false)))
+    (where_word (codes "provenance") (expect_word (codes "of") (accept syntax.provenance)) (where_word (codes "value") q.value (accept syntax.rows))) ts
+    (λ ts1. word-sound (codes "provenance") (λ b y. IsHow (Word (codes "explain") ∷ b) y) (expect_word (codes "of") (accept (syntax.explain true))) (accept (syntax.explain false)) ts1
+    (λ ts2. expect_word-sound (codes "of") (λ b y. IsHow (Word (codes "explain") ∷ Word (codes "provenance") ∷ b) y) (accept (syntax.explain true)) ts2
+    (λ ts3. sound-ok _ ts3 (syntax.explain true) g.explain_provenance))
+    (sound-ok _ ts1 (syntax.explain false) g.explain))
+    (word-sound (codes "provenance") IsHow (expect_word (codes "of") (accept syntax.provenance)) (where_word (codes "value") q.value (accept syntax.rows)) ts
+    (λ ts1. expect_word-sound (codes "of") (λ b y. IsHow (Word (codes "provenance") ∷ b) y) (accept syntax.provenance) ts1 (λ ts2. sound-ok _ ts2 syntax.provenance g.provenance))
+    (word-sound (codes "value") IsHow q.value (accept syntax.rows) ts value-sound (sound-ok IsHow ts syntax.rows g.rows)))
+
+asks : (a b c : Lexemes) (how : How) (state : State) (xs : Query) → IsHow a how → IsState b state → BuildsQuery c xs → BuildsQuestion (a ++ (b ++ c)) (syntax.ask how state xs)
+asks a b c how state xs i j k = record {
+  tree = syntax.ask how state k.tree;
+  is = g.ask a b c how state k.tree i j k.is;
+  same = ap (λ z. syntax.ask how state z) k.same;
+}
+
+ask-sound : (ts : Lexemes) → Sound BuildsQuestion ts (q.ask ts)
+unfolding q.ask
+ask-sound ts = sound-bind IsHow BuildsQuestion ts (q.how ts) _ (how-sound ts) (λ a ts1 how i.
+    sound-bind IsState (λ b y. BuildsQuestion (a ++ b) y) ts1 (q.state ts1) _ (state-sound ts1) (λ b ts2 state j.
+    sound-bind BuildsQuery (λ c y. BuildsQuestion (a ++ (b ++ c)) y) ts2 (query ts2) _ (query-sound ts2)
+    (λ c ts3 xs k. sound-ok _ ts3 (syntax.ask how state xs) (let z : c ++ [] ≡ c = append-nil c in rw z (asks a b c how state xs i j k)))))
+
+open_question-sound : (ts : Lexemes) → Sound BuildsQuestion ts (q.open_question ts)
+unfolding q.open_question
+open_question-sound ts =
+    word-sound (codes "log") BuildsQuestion (λ ts. number ts >>= (λ t. Ok (syntax.log t.0, t.1)))
+    (where_word (codes "versions") (expect_word (codes "of") (λ ts. identifier ts >>= (λ table. Ok (syntax.versions table.0, table.1)))) q.ask) ts
+    (λ ts1. number-sound (λ b y. BuildsQuestion (Word (codes "log") ∷ b) y) ts1 _ (λ t ts2. sound-ok _ ts2 (syntax.log t) (record { tree = syntax.log t; is = g.log t; same = refl })))
+    (word-sound (codes "versions") BuildsQuestion (expect_word (codes "of") (λ ts. identifier ts >>= (λ table. Ok (syntax.versions table.0, table.1)))) q.ask ts
+    (λ ts1. expect_word-sound (codes "of") (λ b y. BuildsQuestion (Word (codes "versions") ∷ b) y) _ ts1 (λ ts2.
+    identifier-sound (λ b y. BuildsQuestion (Word (codes "versions") ∷ Word (codes "of") ∷ b) y) ts2 _
+    (λ table ts3. sound-ok _ ts3 (syntax.versions table) (record { tree = syntax.versions table; is = g.versions table; same = refl }))))
+    (ask-sound ts))
+
+pub question-sound : (ts : Lexemes) → Sound (Closed BuildsQuestion) ts (q.question ts)
+question-sound = closed-sound BuildsQuestion q.open_question open_question-sound

@@ -1,0 +1,262 @@
+-- Capping keeps the first limit that is passed, and a command within the limits.
+use Rattle.std.proofs.Common.{◌≡◌, ℕ, ◌+◌, ◌<◌, ◌≤◌, Bool, true, false, cond, ltb, List, [], ◌∷◌, ◌++◌, length, map, Option, Some, None, refl, sym, ap, subst, ◌∙◌, arith}
+use Rattle.std.specs.Prelude.{option_map, ◌||◌}
+use Rattle.std.specs.List.{flat_map, list_any}
+use Rattle.std.proofs.lemmas.List.{map-append, length-map}
+use Rattle.std.proofs.lemmas.Bool.{ltb-false, ltb-true}
+use Rattle.gp_grammar.specs.declared.limits.TheConstants.{MAX_COLUMNS, MAX_FROM, MAX_BRANCHES, MAX_VALUES, MAX_NODES, MAX_LEVELS}
+use Rattle.gp_grammar.specs.Syntax as syntax
+use Rattle.gp_grammar.specs.Syntax.{Term, SetTerm, Item, Items, Block, Query, Command, ScriptLine, Question}
+use Rattle.gp_grammar.specs.Limits as l
+use Rattle.gp_grammar.specs.Limits.{Limit, Shape, nodes, levels, some_above, passed_limit, terms_of_condition, listed, terms_of_query, query_shape, shape_of_terms, term_shape, command_shape, line_shape, question_shape}
+use Rattle.gp_grammar.specs.Capping.{is_large, capped, capped_set, capped_items, capped_block, capped_command, capped_line, capped_question}
+use Rattle.gp_grammar.specs.Grammar.{IsTerm}
+use Rattle.gp_grammar.specs.CommandGrammar.{IsCommand, IsScriptLine}
+use Rattle.gp_grammar.specs.QuestionGrammar.{IsQuestion}
+use Rattle.gp_grammar.specs.Parsing.{term}
+use Rattle.gp_grammar.specs.CommandParsing.{command, script_line}
+use Rattle.gp_grammar.specs.QuestionParsing.{question}
+use Rattle.gp_grammar.specs.Laws.{CapsFairly}
+use Rattle.gp_grammar.proofs.CappingLemmas.{Fair, capped-fair}
+
+-- ---- terms
+
+AreExact : List Term → Type 0
+AreExact [] = Unit {0}
+AreExact (x ∷ xs) = (capped x ≡ x) × AreExact xs
+
+pub some_large : List Term → Bool
+some_large xs = some_above MAX_NODES (map nodes xs)
+
+ltb-from : (n m : ℕ) → n < m → ltb n m ≡ true
+ltb-from n m h = by (ltb n m) refl
+  where
+    by : (b : Bool) → ltb n m ≡ b → b ≡ true
+    by true e = refl
+    by false e = let k : m ≤ n = ltb-false n m e in absurd (omega arith)
+
+ltb-not : (n m : ℕ) → m ≤ n → ltb n m ≡ false
+ltb-not n m h = by (ltb n m) refl
+  where
+    by : (b : Bool) → ltb n m ≡ b → b ≡ false
+    by true e = let k : n < m = ltb-true n m e in absurd (omega arith)
+    by false e = refl
+
+large-same : (x : Term) → is_large (capped x) ≡ is_large x
+large-same x = by (is_large x) refl
+  where
+    f : Fair x (capped x)
+    f = capped-fair x
+
+    by : (b : Bool) → is_large x ≡ b → is_large (capped x) ≡ b
+    by true e = ltb-from MAX_NODES (nodes (capped x)) (f.large (ltb-true MAX_NODES (nodes x) e))
+    by false e = ap is_large (f.small (ltb-false MAX_NODES (nodes x) e)) ∙ e
+
+some_large-same : (xs : List Term) → some_large (map capped xs) ≡ some_large xs
+unfolding some_large
+some_large-same [] = refl
+some_large-same (x ∷ xs) = ap (λ b. b || some_large (map capped xs)) (large-same x) ∙ ap (λ b. is_large x || b) (some_large-same xs)
+
+pub or-false : (a b : Bool) → a || b ≡ false → (a ≡ false) × (b ≡ false)
+or-false true b h = cc
+or-false false b h = (refl, h)
+
+exact-terms : (xs : List Term) → some_large xs ≡ false → AreExact xs
+unfolding some_large AreExact
+exact-terms [] h = tt
+exact-terms (x ∷ xs) h =
+    let w : (is_large x ≡ false) × (some_large xs ≡ false) = or-false (is_large x) (some_large xs) h in
+    ((capped-fair x).small (ltb-false MAX_NODES (nodes x) w.0), exact-terms xs w.1)
+
+exact-map : (xs : List Term) → AreExact xs → map capped xs ≡ xs
+unfolding AreExact
+exact-map [] h = refl
+exact-map (x ∷ xs) h = ap (λ z. z ∷ map capped xs) h.0 ∙ ap (λ z. x ∷ z) (exact-map xs h.1)
+
+exact-split : (xs ys : List Term) → AreExact (xs ++ ys) → AreExact xs × AreExact ys
+unfolding AreExact
+exact-split [] ys h = (tt, h)
+exact-split (x ∷ xs) ys h = let w : AreExact xs × AreExact ys = exact-split xs ys h.1 in ((h.0, w.0), w.1)
+
+-- ---- the limits
+
+abbrev capped_shape : Shape → Shape
+capped_shape shape = record { columns = shape.columns; from = shape.from; branches = shape.branches; values = shape.values; terms = map capped shape.terms }
+
+abbrev pub first_limit : Bool → Bool → Bool → Bool → Bool → Bool → Option Limit
+first_limit c f b v n d = cond c (Some l.columns) (cond f (Some l.from) (cond b (Some l.branches) (cond v (Some l.values) (cond n (Some l.node_count) (cond d (Some l.depth) None)))))
+
+pub of_shape : (s : Shape) → passed_limit s ≡ first_limit (some_above MAX_COLUMNS s.columns) (some_above MAX_FROM s.from) (ltb MAX_BRANCHES s.branches) (ltb MAX_VALUES s.values)
+    (some_large s.terms) (some_above MAX_LEVELS (map levels s.terms))
+unfolding some_large
+of_shape s = refl
+
+last-same : (n : Bool) (xs ys : List Term) → (n ≡ false → xs ≡ ys)
+    → cond n (Some l.node_count) (cond (some_above MAX_LEVELS (map levels xs)) (Some l.depth) None) ≡ cond n (Some l.node_count) (cond (some_above MAX_LEVELS (map levels ys)) (Some l.depth) None)
+last-same true xs ys h = refl
+last-same false xs ys h = ap (λ z. cond (some_above MAX_LEVELS (map levels z)) (Some l.depth) None) (h refl)
+
+pub capped-limit : (s : Shape) → passed_limit (capped_shape s) ≡ passed_limit s
+capped-limit s =
+    of_shape (capped_shape s)
+    ∙ ap (λ n. first_limit (some_above MAX_COLUMNS s.columns) (some_above MAX_FROM s.from) (ltb MAX_BRANCHES s.branches) (ltb MAX_VALUES s.values) n
+    (some_above MAX_LEVELS (map levels (map capped s.terms)))) (some_large-same s.terms)
+    ∙ ap (λ z. cond (some_above MAX_COLUMNS s.columns) (Some l.columns) (cond (some_above MAX_FROM s.from) (Some l.from) (cond (ltb MAX_BRANCHES s.branches) (Some l.branches)
+    (cond (ltb MAX_VALUES s.values) (Some l.values) z)))) (last-same (some_large s.terms) (map capped s.terms) s.terms (λ e. exact-map s.terms (exact-terms s.terms e)))
+    ∙ sym (of_shape s)
+
+none-small : (c f b v n d : Bool) → first_limit c f b v n d ≡ None → n ≡ false
+none-small true f b v n d h = cc
+none-small false true b v n d h = cc
+none-small false false true v n d h = cc
+none-small false false false true n d h = cc
+none-small false false false false true d h = cc
+none-small false false false false false d h = refl
+
+within-exact : (s : Shape) → passed_limit s ≡ None → AreExact s.terms
+within-exact s h = exact-terms s.terms (none-small _ _ _ _ _ _ (sym (of_shape s) ∙ h))
+
+-- ---- queries
+
+listed-length : (items : Items) → length (listed (capped_items items)) ≡ length (listed items)
+listed-length syntax.star = refl
+listed-length (syntax.list xs) = length-map xs capped
+
+listed-terms : (items : Items) → listed (capped_items items) ≡ map capped (listed items)
+listed-terms syntax.star = refl
+listed-terms (syntax.list xs) = refl
+
+condition-terms : (cond : Option Term) → terms_of_condition (option_map capped cond) ≡ map capped (terms_of_condition cond)
+condition-terms None = refl
+condition-terms (Some x) = refl
+
+query-columns : (q : Query) → map (λ (block : Block). length (listed block.items)) (map capped_block q) ≡ map (λ (block : Block). length (listed block.items)) q
+query-columns [] = refl
+query-columns (b ∷ q) = ap (λ z. z ∷ map (λ (block : Block). length (listed block.items)) (map capped_block q)) (listed-length b.items) ∙ ap (λ z. length (listed b.items) ∷ z) (query-columns q)
+
+query-from : (q : Query) → map (λ (block : Block). length block.from) (map capped_block q) ≡ map (λ (block : Block). length block.from) q
+query-from [] = refl
+query-from (b ∷ q) = ap (λ z. length b.from ∷ z) (query-from q)
+
+block-terms : (b : Block) → listed (capped_items b.items) ++ terms_of_condition (option_map capped b.cond) ≡ map capped (listed b.items ++ terms_of_condition b.cond)
+block-terms b =
+    ap (λ z. z ++ terms_of_condition (option_map capped b.cond)) (listed-terms b.items)
+    ∙ ap (λ z. map capped (listed b.items) ++ z) (condition-terms b.cond)
+    ∙ sym (map-append capped (listed b.items) (terms_of_condition b.cond))
+
+query-terms : (q : Query) → terms_of_query (map capped_block q) ≡ map capped (terms_of_query q)
+query-terms [] = refl
+query-terms (b ∷ q) =
+    ap (λ z. z ++ terms_of_query (map capped_block q)) (block-terms b)
+    ∙ ap (λ z. map capped (listed b.items ++ terms_of_condition b.cond) ++ z) (query-terms q)
+    ∙ sym (map-append capped (listed b.items ++ terms_of_condition b.cond) (terms_of_query q))
+
+query-shape : (q : Query) → query_shape (map capped_block q) ≡ capped_shape (query_shape q)
+query-shape q =
+    ap (λ z. record { columns = z; from = map (λ (block : Block). length block.from) (map capped_block q); branches = length (map capped_block q); values = 0; terms = terms_of_query (map capped_block q) }) (query-columns q)
+    ∙ ap (λ z. record { columns = (query_shape q).columns; from = z; branches = length (map capped_block q); values = 0; terms = terms_of_query (map capped_block q) }) (query-from q)
+    ∙ ap (λ z. record { columns = (query_shape q).columns; from = (query_shape q).from; branches = z; values = 0; terms = terms_of_query (map capped_block q) }) (length-map q capped_block)
+    ∙ ap (λ z. record { columns = (query_shape q).columns; from = (query_shape q).from; branches = length q; values = 0; terms = z }) (query-terms q)
+
+exact-items : (items : Items) → AreExact (listed items) → capped_items items ≡ items
+exact-items syntax.star h = refl
+exact-items (syntax.list xs) h = ap (λ z. syntax.list z) (exact-map xs h)
+
+exact-condition : (cond : Option Term) → AreExact (terms_of_condition cond) → option_map capped cond ≡ cond
+unfolding AreExact
+exact-condition None h = refl
+exact-condition (Some x) h = ap (λ z. Some z) h.0
+
+exact-block : (b : Block) → AreExact (listed b.items ++ terms_of_condition b.cond) → capped_block b ≡ b
+exact-block b h =
+    let w : AreExact (listed b.items) × AreExact (terms_of_condition b.cond) = exact-split (listed b.items) (terms_of_condition b.cond) h in
+    ap (λ z. record { items = z; from = b.from; cond = option_map capped b.cond }) (exact-items b.items w.0)
+    ∙ ap (λ z. record { items = b.items; from = b.from; cond = z }) (exact-condition b.cond w.1)
+
+exact-query : (q : Query) → AreExact (terms_of_query q) → map capped_block q ≡ q
+exact-query [] h = refl
+exact-query (b ∷ q) h =
+    let w : AreExact (listed b.items ++ terms_of_condition b.cond) × AreExact (terms_of_query q) = exact-split (listed b.items ++ terms_of_condition b.cond) (terms_of_query q) h in
+    ap (λ z. z ∷ map capped_block q) (exact-block b w.0) ∙ ap (λ z. b ∷ z) (exact-query q w.1)
+
+-- ---- commands
+
+set-terms : (sets : List SetTerm) → map (λ (set : SetTerm). set.term) (map capped_set sets) ≡ map capped (map (λ (set : SetTerm). set.term) sets)
+set-terms [] = refl
+set-terms (x ∷ sets) = ap (λ z. capped x.term ∷ z) (set-terms sets)
+
+update-terms : (sets : List SetTerm) (cond : Option Term)
+    → map (λ (set : SetTerm). set.term) (map capped_set sets) ++ terms_of_condition (option_map capped cond) ≡ map capped (map (λ (set : SetTerm). set.term) sets ++ terms_of_condition cond)
+update-terms sets cond =
+    ap (λ z. z ++ terms_of_condition (option_map capped cond)) (set-terms sets)
+    ∙ ap (λ z. map capped (map (λ (set : SetTerm). set.term) sets) ++ z) (condition-terms cond)
+    ∙ sym (map-append capped (map (λ (set : SetTerm). set.term) sets) (terms_of_condition cond))
+
+pub command-shape : (c : Command) → command_shape (capped_command c) ≡ capped_shape (command_shape c)
+command-shape (syntax.create table) = refl
+command-shape syntax.begin = refl
+command-shape syntax.Command.commit = refl
+command-shape syntax.rollback = refl
+command-shape (syntax.insert table rows) = refl
+command-shape (syntax.insert_select table q) = query-shape q
+command-shape (syntax.update table sets cond) = ap shape_of_terms (update-terms sets cond)
+command-shape (syntax.delete table cond) = ap shape_of_terms (condition-terms cond)
+command-shape (syntax.select q) = query-shape q
+
+exact-sets : (sets : List SetTerm) → AreExact (map (λ (set : SetTerm). set.term) sets) → map capped_set sets ≡ sets
+unfolding AreExact
+exact-sets [] h = refl
+exact-sets (x ∷ sets) h = ap (λ z. record { col = x.col; term = z } ∷ map capped_set sets) h.0 ∙ ap (λ z. x ∷ z) (exact-sets sets h.1)
+
+exact-command : (c : Command) → AreExact (command_shape c).terms → capped_command c ≡ c
+exact-command (syntax.create table) h = refl
+exact-command syntax.begin h = refl
+exact-command syntax.Command.commit h = refl
+exact-command syntax.rollback h = refl
+exact-command (syntax.insert table rows) h = refl
+exact-command (syntax.insert_select table q) h = ap (λ z. syntax.insert_select table z) (exact-query q h)
+exact-command (syntax.update table sets cond) h =
+    let w : AreExact (map (λ (set : SetTerm). set.term) sets) × AreExact (terms_of_condition cond) = exact-split (map (λ (set : SetTerm). set.term) sets) (terms_of_condition cond) h in
+    ap (λ z. syntax.update table z (option_map capped cond)) (exact-sets sets w.0) ∙ ap (λ z. syntax.update table sets z) (exact-condition cond w.1)
+exact-command (syntax.delete table cond) h = ap (λ z. syntax.delete table z) (exact-condition cond h)
+exact-command (syntax.select q) h = ap (λ z. syntax.select z) (exact-query q h)
+
+pub command-limit : (c : Command) → passed_limit (command_shape (capped_command c)) ≡ passed_limit (command_shape c)
+command-limit c = ap passed_limit (command-shape c) ∙ capped-limit (command_shape c)
+
+pub command-exact : (c : Command) → passed_limit (command_shape c) ≡ None → capped_command c ≡ c
+command-exact c h = exact-command c (within-exact (command_shape c) h)
+
+pub line-exact : (x : ScriptLine) → passed_limit (line_shape x) ≡ None → capped_line x ≡ x
+line-exact x h = ap (λ z. record { session = x.session; command = z }) (command-exact x.command h)
+
+-- ---- terms and questions
+
+pub term-limit : (x : Term) → passed_limit (term_shape (capped x)) ≡ passed_limit (term_shape x)
+term-limit x = capped-limit (shape_of_terms (x ∷ []))
+
+pub term-exact : (x : Term) → passed_limit (term_shape x) ≡ None → capped x ≡ x
+unfolding AreExact
+term-exact x h = (within-exact (shape_of_terms (x ∷ [])) h).0
+
+pub question-limit : (x : Question) → passed_limit (question_shape (capped_question x)) ≡ passed_limit (question_shape x)
+question-limit (syntax.log t) = refl
+question-limit (syntax.versions table) = refl
+question-limit (syntax.ask how state q) = ap passed_limit (query-shape q) ∙ capped-limit (query_shape q)
+
+pub question-exact : (x : Question) → passed_limit (question_shape x) ≡ None → capped_question x ≡ x
+question-exact (syntax.log t) h = refl
+question-exact (syntax.versions table) h = refl
+question-exact (syntax.ask how state q) h = ap (λ z. syntax.ask how state z) (exact-query q (within-exact (query_shape q) h))
+
+pub terms-fair : CapsFairly term IsTerm capped term_shape
+terms-fair = record { limit = term-limit; exact = term-exact }
+
+pub commands-fair : CapsFairly command IsCommand capped_command command_shape
+commands-fair = record { limit = command-limit; exact = command-exact }
+
+pub lines-fair : CapsFairly script_line IsScriptLine capped_line line_shape
+lines-fair = record { limit = λ x. command-limit x.command; exact = line-exact }
+
+pub questions-fair : CapsFairly question IsQuestion capped_question question_shape
+questions-fair = record { limit = question-limit; exact = question-exact }

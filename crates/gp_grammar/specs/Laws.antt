@@ -1,0 +1,67 @@
+-- Part of the statement: what the laws say of a parser, a grammar and the definitions of reading.
+use Rattle.std.specs.Prelude.{◌≡◌, ◌↔◌, ℕ, List, [], ◌∷◌, Option, None, Ok, Err, false}
+use Rattle.gp_lexer.specs.Lexemes.{AreProper}
+use Rattle.gp_grammar.specs.declared.limits.TheConstants.{MAX_OPEN}
+use Rattle.gp_grammar.specs.Syntax.{Lexemes, Bytes, Command}
+use Rattle.gp_grammar.specs.CommandGrammar.{IsCommand}
+use Rattle.gp_grammar.specs.Places.{Stops}
+use Rattle.gp_grammar.specs.Depth.{is_too_deep}
+use Rattle.gp_grammar.specs.Limits.{Shape, passed_limit, command_shape}
+use Rattle.gp_grammar.specs.Canonical.{command_lexemes}
+use Rattle.gp_grammar.specs.Parsing.{Parser, whole}
+use Rattle.gp_grammar.specs.CommandParsing.{command}
+use Rattle.gp_grammar.specs.LineReading.{Fault, ReadsText, RefusesText, ReadsLine, RefusesLine, read_text, read_line}
+
+-- the parser builds this: a tree that the grammar derives, capped
+pub record Built {A : Type 0} (Is : Lexemes → A → Type 0) (cap : A → A) (lexemes : Lexemes) (built : A) : Type 0 where
+  pub tree : A
+  pub is : Is lexemes tree
+  pub same : built ≡ cap tree
+
+module _ {A : Type 0} (parser : Parser A) (Is : Lexemes → A → Type 0) (cap : A → A) (shape : A → Shape) where
+  -- the parser takes whole lines that the grammar derives, and no others
+  abbrev pub ParsesExactly : Type 0
+  ParsesExactly = (lexemes : Lexemes) (built : A) → (whole parser lexemes ≡ Ok built) ↔ Built Is cap lexemes built
+
+  -- on all others it stops, and where the grammar places the fault
+  abbrev pub StopsExactly : Type 0
+  StopsExactly = (lexemes rest : Lexemes) → (whole parser lexemes ≡ Err rest) ↔ Stops Is lexemes rest
+
+  -- within the limits the grammar derives lexemes in one way at most
+  abbrev pub IsUnambiguous : Type 0
+  IsUnambiguous = (lexemes : Lexemes) (x y : A) → Is lexemes x → Is lexemes y → passed_limit (shape x) ≡ None → x ≡ y
+
+  -- capping changes nothing within the limits, and no limit that is passed
+  pub record CapsFairly : Type 0 where
+    pub limit : (x : A) → passed_limit (shape (cap x)) ≡ passed_limit (shape x)
+    pub exact : (x : A) → passed_limit (shape x) ≡ None → cap x ≡ x
+
+  abbrev pub ReadsTextsExactly : Type 0
+  ReadsTextsExactly = (bytes : Bytes) (x : A) → (read_text parser shape bytes ≡ Ok x) ↔ ReadsText Is shape bytes x
+
+  abbrev pub RefusesTextsExactly : Type 0
+  RefusesTextsExactly = (bytes : Bytes) (fault : Fault) → (read_text parser shape bytes ≡ Err fault) ↔ RefusesText Is shape bytes fault
+
+  abbrev pub ReadsLinesExactly : Type 0
+  ReadsLinesExactly = (bytes : Bytes) (x : A) → (read_line parser shape bytes ≡ Ok x) ↔ ReadsLine Is shape bytes x
+
+  abbrev pub RefusesLinesExactly : Type 0
+  RefusesLinesExactly = (bytes : Bytes) (fault : Fault) → (read_line parser shape bytes ≡ Err fault) ↔ RefusesLine Is shape bytes fault
+
+-- ---- canonical lexemes
+
+-- the grammar derives a command from its canonical lexemes
+abbrev pub CanonicalIsDerived : Type 0
+CanonicalIsDerived = (lexemes : Lexemes) (x : Command) → IsCommand lexemes x → IsCommand (command_lexemes x) x
+
+-- within the limits they are parsed as this command again
+abbrev pub CanonicalIsParsed : Type 0
+CanonicalIsParsed = (lexemes : Lexemes) (x : Command) → IsCommand lexemes x → passed_limit (command_shape x) ≡ None → whole command (command_lexemes x) ≡ Ok x
+
+-- and open no more brackets than a line may
+abbrev pub CanonicalIsShallow : Type 0
+CanonicalIsShallow = (x : Command) → passed_limit (command_shape x) ≡ None → is_too_deep MAX_OPEN (command_lexemes x) ≡ false
+
+-- and are lexemes that a line can hold, where those are that the command was derived from
+abbrev pub CanonicalIsProper : Type 0
+CanonicalIsProper = (lexemes : Lexemes) (x : Command) → IsCommand lexemes x → AreProper lexemes → AreProper (command_lexemes x)

@@ -1,0 +1,15 @@
+pub mod Syntax
+pub mod Operators
+pub mod Grammar
+pub mod CommandGrammar
+pub mod QuestionGrammar
+pub mod Places
+pub mod Depth
+pub mod Limits
+pub mod LineReading
+pub mod Laws
+pub mod Canonical
+pub mod Capping
+pub mod Parsing
+pub mod CommandParsing
+pub mod QuestionParsing

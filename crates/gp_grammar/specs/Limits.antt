@@ -1,0 +1,104 @@
+-- Part of the statement: the limits on the shape of a command or a query, which are tested after the syntax, limit by limit over the whole.
+use Rattle.std.specs.Prelude.{ℕ, suc, ◌+◌, max, Bool, List, [], ◌∷◌, ◌++◌, length, map, Option, Some, None, nat_lt, if◌then◌else◌}
+use Rattle.std.specs.List.{flat_map, list_any}
+use Rattle.gp_grammar.specs.declared.limits.TheConstants.{MAX_COLUMNS, MAX_FROM, MAX_BRANCHES, MAX_VALUES, MAX_NODES, MAX_LEVELS}
+use Rattle.gp_grammar.specs.Syntax as y
+use Rattle.gp_grammar.specs.Syntax.{Term, SetTerm, Item, Items, Block, Query, Command, ScriptLine, Question}
+
+-- the literals, columns, operators and CASEs of a term; brackets are none
+abbrev pub nodes : Term → ℕ
+nodes y.null = 1
+nodes (y.int n) = 1
+nodes (y.text bytes) = 1
+nodes (y.col item name) = 1
+nodes (y.binary o a b) = nodes a + nodes b + 1
+nodes (y.neg a) = nodes a + 1
+nodes (y.not a) = nodes a + 1
+nodes (y.is_null a holds) = nodes a + 1
+nodes (y.is_true a holds) = nodes a + 1
+nodes (y.case a b c) = nodes a + nodes b + nodes c + 1
+
+-- a literal or a column has one level, any other term one more than the most of its parts
+abbrev pub levels : Term → ℕ
+levels y.null = 1
+levels (y.int n) = 1
+levels (y.text bytes) = 1
+levels (y.col item name) = 1
+levels (y.binary o a b) = suc (max (levels a) (levels b))
+levels (y.neg a) = suc (levels a)
+levels (y.not a) = suc (levels a)
+levels (y.is_null a holds) = suc (levels a)
+levels (y.is_true a holds) = suc (levels a)
+levels (y.case a b c) = suc (max (levels a) (max (levels b) (levels c)))
+
+pub data Limit : Type 0 where
+  columns from branches values node_count depth : Limit
+
+-- what the limits are on: the columns of a CREATE TABLE and of each written select list, the items of each FROM, the blocks, the tuples,
+-- and each written term
+pub record Shape : Type 0 where
+  pub columns : List ℕ
+  pub from : List ℕ
+  pub branches : ℕ
+  pub values : ℕ
+  pub terms : List Term
+
+abbrev pub terms_of_condition : Option Term → List Term
+terms_of_condition None = []
+terms_of_condition (Some x) = x ∷ []
+
+-- the terms of a select list; `*` has none
+abbrev pub listed : Items → List Term
+listed y.star = []
+listed (y.list xs) = xs
+
+abbrev pub terms_of_query : Query → List Term
+terms_of_query = flat_map (λ (block : Block). listed block.items ++ terms_of_condition block.cond)
+
+abbrev pub query_shape : Query → Shape
+query_shape blocks = record {
+  columns = map (λ (block : Block). length (listed block.items)) blocks;
+  from = map (λ (block : Block). length block.from) blocks;
+  branches = length blocks;
+  values = 0;
+  terms = terms_of_query blocks;
+}
+
+abbrev pub shape_of_terms : List Term → Shape
+shape_of_terms terms = record { columns = []; from = []; branches = 0; values = 0; terms = terms }
+
+abbrev pub term_shape : Term → Shape
+term_shape x = shape_of_terms (x ∷ [])
+
+abbrev pub command_shape : Command → Shape
+command_shape (y.create table) = record { columns = length table.cols ∷ []; from = []; branches = 0; values = 0; terms = [] }
+command_shape y.begin = shape_of_terms []
+command_shape y.Command.commit = shape_of_terms []
+command_shape y.rollback = shape_of_terms []
+command_shape (y.insert table rows) = record { columns = []; from = []; branches = 0; values = length rows; terms = [] }
+command_shape (y.insert_select table query) = query_shape query
+command_shape (y.update table sets cond) = shape_of_terms (map (λ (set : SetTerm). set.term) sets ++ terms_of_condition cond)
+command_shape (y.delete table cond) = shape_of_terms (terms_of_condition cond)
+command_shape (y.select query) = query_shape query
+
+abbrev pub line_shape : ScriptLine → Shape
+line_shape line = command_shape line.command
+
+abbrev pub question_shape : Question → Shape
+question_shape (y.log t) = shape_of_terms []
+question_shape (y.versions table) = shape_of_terms []
+question_shape (y.ask how state query) = query_shape query
+
+abbrev pub some_above : ℕ → List ℕ → Bool
+some_above most = list_any (λ n. nat_lt most n)
+
+-- the first limit, in the order of the tests, that the shape passes
+abbrev pub passed_limit : Shape → Option Limit
+passed_limit shape =
+    if some_above MAX_COLUMNS shape.columns then Some columns
+    else (if some_above MAX_FROM shape.from then Some from
+    else (if nat_lt MAX_BRANCHES shape.branches then Some branches
+    else (if nat_lt MAX_VALUES shape.values then Some values
+    else (if some_above MAX_NODES (map nodes shape.terms) then Some node_count
+    else (if some_above MAX_LEVELS (map levels shape.terms) then Some depth
+    else None)))))

@@ -1,0 +1,81 @@
+-- Part of the statement: the grammar of questions, one constructor for each rule. Most of their keywords are no reserved words, and have
+-- their meaning only at their places.
+use Rattle.std.specs.Prelude.{◌≡◌, ℕ, ◌^◌, ◌≤◌, true, false, List, [], ◌∷◌, ◌++◌, Option, Some, None, codes, if◌then◌else◌, ◌&&◌, nat_lt, ◌==◌}
+use Rattle.std.specs.Str.Parse.{digits_value}
+use Rattle.gp_lexer.specs.declared.lexeme.Symbol.TheVariants as s
+use Rattle.gp_lexer.specs.declared.lexeme.Lexeme.TheVariants.{Symbol as Sign, Word, Number}
+use Rattle.gp_grammar.specs.declared.semiring_name.SemiringName.{SemiringName}
+use Rattle.gp_grammar.specs.declared.semiring_name.SemiringName.TheVariants as semiring
+use Rattle.gp_grammar.specs.declared.token_kind.TokenKind.{TokenKind}
+use Rattle.gp_grammar.specs.declared.token_kind.TokenKind.TheVariants as token
+use Rattle.gp_grammar.specs.declared.limits.TheConstants.{MAX_PATTERN_NUMBER}
+use Rattle.gp_grammar.specs.Syntax as y
+use Rattle.gp_grammar.specs.Syntax.{Lexemes, Bytes, State, Pattern, Rule, rule_of, Rules, How, Query, Question}
+use Rattle.gp_grammar.specs.CommandGrammar.{IsList, comma, IsQuery, Closed, is_number_without_zero}
+
+pub data IsState : Lexemes → State → Type 0 where
+  as_of : (v : ℕ) → IsState (Sign s.As ∷ Word (codes "of") ∷ Number v ∷ []) (y.as_of v)
+  after : (t k : ℕ) → IsState (Word (codes "reenact") ∷ Number t ∷ Word (codes "after") ∷ Number k ∷ []) (y.after t k)
+  commit : (t : ℕ) → IsState (Word (codes "reenact") ∷ Number t ∷ Sign s.Commit ∷ []) (y.State.commit t)
+
+pub data IsSemiring : Lexemes → SemiringName → Type 0 where
+  count : IsSemiring (Word (codes "count") ∷ []) semiring.Count
+  bool : IsSemiring (Word (codes "bool") ∷ []) semiring.Bool
+  cost : IsSemiring (Word (codes "cost") ∷ []) semiring.Cost
+  level : IsSemiring (Word (codes "level") ∷ []) semiring.Level
+  poly : IsSemiring (Word (codes "poly") ∷ []) semiring.Poly
+
+-- i, q or u
+abbrev pub token_kind_of : ℕ → Option TokenKind
+token_kind_of b = if b == 105 then Some token.I else (if b == 113 then Some token.Q else (if b == 117 then Some token.U else None))
+
+abbrev pub with_transaction : Option TokenKind → Bytes → Option (TokenKind × Option ℕ)
+with_transaction None digits = None
+with_transaction (Some kind) [] = Some (kind, None)
+with_transaction (Some kind) (d ∷ ds) =
+    if is_number_without_zero (d ∷ ds) && nat_lt (digits_value 10 (d ∷ ds)) (10 ^ 9) then Some (kind, Some (digits_value 10 (d ∷ ds))) else None
+
+-- what a name means in a pattern: a kind, or a kind and a transaction of one to nine digits without leading zero
+abbrev pub pattern_name : Bytes → Option (TokenKind × Option ℕ)
+pattern_name [] = None
+pattern_name (b ∷ digits) = with_transaction (token_kind_of b) digits
+
+-- the tokens of a kind, of a transaction, of a statement, or of one row of an INSERT with VALUES
+pub data IsPattern : Lexemes → Pattern → Type 0 where
+  kind : (name : Bytes) (kind : TokenKind) → pattern_name name ≡ Some (kind, None)
+      → IsPattern (Word name ∷ []) (record { kind = kind; t = None; k = None; n = None })
+  transaction : (name : Bytes) (kind : TokenKind) (t : ℕ) → pattern_name name ≡ Some (kind, Some t)
+      → IsPattern (Word name ∷ []) (record { kind = kind; t = Some t; k = None; n = None })
+  statement : (name : Bytes) (kind : TokenKind) (t k : ℕ) → pattern_name name ≡ Some (kind, Some t) → k ≤ MAX_PATTERN_NUMBER
+      → IsPattern (Word name ∷ Sign s.Dot ∷ Number k ∷ []) (record { kind = kind; t = Some t; k = Some k; n = None })
+  row : (name : Bytes) (t k n : ℕ) → pattern_name name ≡ Some (token.I, Some t) → k ≤ MAX_PATTERN_NUMBER → n ≤ MAX_PATTERN_NUMBER
+      → IsPattern (Word name ∷ Sign s.Dot ∷ Number k ∷ Sign s.Dot ∷ Number n ∷ []) (record { kind = token.I; t = Some t; k = Some k; n = Some n })
+
+pub data IsRule : Lexemes → Rule → Type 0 where
+  rule : (a : Lexemes) (pattern : Pattern) (value : ℕ) → IsPattern a pattern → IsRule (a ++ (Sign s.Eq ∷ Number value ∷ [])) (rule_of pattern value)
+
+pub data IsRules : Lexemes → Rules → Type 0 where
+  no_rules : IsRules [] (record { rules = []; other = None })
+  only_else : (n : ℕ) → IsRules (Sign s.Open ∷ Sign s.Else ∷ Number n ∷ Sign s.Close ∷ []) (record { rules = []; other = Some n })
+  only_rules : (a : Lexemes) (xs : List Rule) → IsList comma IsRule a xs
+      → IsRules (Sign s.Open ∷ (a ++ (Sign s.Close ∷ []))) (record { rules = xs; other = None })
+  rules_and_else : (a : Lexemes) (xs : List Rule) (n : ℕ) → IsList comma IsRule a xs
+      → IsRules (Sign s.Open ∷ (a ++ (Sign s.Comma ∷ Sign s.Else ∷ Number n ∷ Sign s.Close ∷ []))) (record { rules = xs; other = Some n })
+
+pub data IsHow : Lexemes → How → Type 0 where
+  rows : IsHow [] y.rows
+  provenance : IsHow (Word (codes "provenance") ∷ Word (codes "of") ∷ []) y.provenance
+  explain : IsHow (Word (codes "explain") ∷ []) (y.explain false)
+  explain_provenance : IsHow (Word (codes "explain") ∷ Word (codes "provenance") ∷ Word (codes "of") ∷ []) (y.explain true)
+  value : (a b : Lexemes) (semiring : SemiringName) (rules : Rules) → IsSemiring a semiring → IsRules b rules
+      → IsHow (Word (codes "value") ∷ Word (codes "in") ∷ (a ++ (b ++ (Word (codes "of") ∷ [])))) (y.value semiring rules.rules rules.other)
+
+pub data IsOpenQuestion : Lexemes → Question → Type 0 where
+  log : (t : ℕ) → IsOpenQuestion (Word (codes "log") ∷ Number t ∷ []) (y.log t)
+  versions : (table : Bytes) → IsOpenQuestion (Word (codes "versions") ∷ Word (codes "of") ∷ Word table ∷ []) (y.versions table)
+  ask : (a b q : Lexemes) (how : How) (state : State) (query : Query) → IsHow a how → IsState b state → IsQuery q query
+      → IsOpenQuestion (a ++ (b ++ q)) (y.ask how state query)
+
+-- the lexemes are a question
+abbrev pub IsQuestion : Lexemes → Question → Type 0
+IsQuestion = Closed IsOpenQuestion

@@ -1,0 +1,133 @@
+-- Machinery: the parser of questions as a function.
+use Rattle.std.specs.Prelude.{◌≡◌, ℕ, zero, suc, Bool, true, false, List, [], ◌∷◌, length, Option, Some, None, Ok, Err, codes, if◌then◌else◌, nat_le}
+use Rattle.std.specs.Str.{bytes_eq}
+use Rattle.gp_lexer.specs.declared.lexeme.Symbol.TheVariants as s
+use Rattle.gp_lexer.specs.declared.lexeme.Lexeme.{Lexeme}
+use Rattle.gp_lexer.specs.declared.lexeme.Lexeme.TheVariants.{Symbol as Sign, Word, Number, Big, Text}
+use Rattle.gp_grammar.specs.declared.semiring_name.SemiringName.{SemiringName}
+use Rattle.gp_grammar.specs.declared.semiring_name.SemiringName.TheVariants as semiring
+use Rattle.gp_grammar.specs.declared.token_kind.TokenKind.{TokenKind}
+use Rattle.gp_grammar.specs.declared.token_kind.TokenKind.TheVariants as token
+use Rattle.gp_grammar.specs.declared.limits.TheConstants.{MAX_PATTERN_NUMBER}
+use Rattle.gp_grammar.specs.Syntax as y
+use Rattle.gp_grammar.specs.Syntax.{Lexemes, Bytes, State, Pattern, Rule, rule_of, Rules, How, Question}
+use Rattle.gp_grammar.specs.QuestionGrammar.{pattern_name}
+use Rattle.gp_grammar.specs.Parsing.{Outcome, Parser, ◌>>=◌, by_option, strip, expect, identifier}
+use Rattle.gp_grammar.specs.CommandParsing.{◌then◌, where_next, fail, accept, push, query, closed}
+
+-- ---- words and numbers
+
+abbrev pub is_word : Bytes → Lexeme → Bool
+is_word text (Word word) = bytes_eq text word
+is_word text (Sign symbol) = false
+is_word text (Number n) = false
+is_word text Big = false
+is_word text (Text bytes) = false
+
+-- the lexemes behind this word, where it is the first
+abbrev pub strip_word : Bytes → Lexemes → Option Lexemes
+strip_word text [] = None
+strip_word text (t ∷ ts) = if is_word text t then Some ts else None
+
+abbrev pub where_word : {A : Type 0} → Bytes → Parser A → Parser A → Parser A
+where_word text some none = λ ts. by_option (strip_word text ts) (none ts) some
+
+abbrev pub expect_word : {A : Type 0} → Bytes → Parser A → Parser A
+expect_word text p = where_word text p fail
+
+-- a number for which the test holds
+abbrev pub number_if : (ℕ → Bool) → Parser ℕ
+number_if fits [] = Err []
+number_if fits (Number n ∷ ts) = if fits n then Ok (n, ts) else Err (Number n ∷ ts)
+number_if fits (Sign symbol ∷ ts) = Err (Sign symbol ∷ ts)
+number_if fits (Word word ∷ ts) = Err (Word word ∷ ts)
+number_if fits (Big ∷ ts) = Err (Big ∷ ts)
+number_if fits (Text bytes ∷ ts) = Err (Text bytes ∷ ts)
+
+abbrev pub number : Parser ℕ
+number = number_if (λ n. true)
+
+-- ---- questions
+
+unfoldable pub state : Parser State
+state = where_next s.As (expect_word (codes "of") (λ ts. number ts >>= (λ v. Ok (y.as_of v.0, v.1))))
+    (expect_word (codes "reenact") (λ ts. number ts >>= (λ t. where_next s.Commit (accept (y.State.commit t.0))
+    (expect_word (codes "after") (λ rest. number rest >>= (λ k. Ok (y.after t.0 k.0, k.1)))) t.1)))
+
+unfoldable pub semiring_name : Parser SemiringName
+semiring_name = where_word (codes "count") (accept semiring.Count) (where_word (codes "bool") (accept semiring.Bool)
+    (where_word (codes "cost") (accept semiring.Cost) (where_word (codes "level") (accept semiring.Level)
+    (where_word (codes "poly") (accept semiring.Poly) fail))))
+
+abbrev pub pattern_number : Parser ℕ
+pattern_number = number_if (λ n. nat_le n MAX_PATTERN_NUMBER)
+
+abbrev pub pattern_of : TokenKind → Option ℕ → Option ℕ → Option ℕ → Pattern
+pattern_of kind t k n = record { kind = kind; t = t; k = k; n = n }
+
+-- only a pattern of kind i may have a third number
+abbrev pub pattern_row : TokenKind → ℕ → ℕ → Parser Pattern
+pattern_row token.I t k = where_next s.Dot (λ ts. pattern_number ts >>= (λ n. Ok (pattern_of token.I (Some t) (Some k) (Some n.0), n.1)))
+    (accept (pattern_of token.I (Some t) (Some k) None))
+pattern_row token.Q t k = accept (pattern_of token.Q (Some t) (Some k) None)
+pattern_row token.U t k = accept (pattern_of token.U (Some t) (Some k) None)
+
+-- behind the name of a pattern
+abbrev pub pattern_parts : TokenKind × Option ℕ → Parser Pattern
+pattern_parts (kind, None) = accept (pattern_of kind None None None)
+pattern_parts (kind, Some t) = where_next s.Dot (λ ts. pattern_number ts >>= (λ k. pattern_row kind t k.0 k.1)) (accept (pattern_of kind (Some t) None None))
+
+abbrev pub pattern : Parser Pattern
+pattern [] = Err []
+pattern (Word name ∷ ts) = by_option (pattern_name name) (Err (Word name ∷ ts)) (λ kind. pattern_parts kind ts)
+pattern (Sign symbol ∷ ts) = Err (Sign symbol ∷ ts)
+pattern (Number n ∷ ts) = Err (Number n ∷ ts)
+pattern (Big ∷ ts) = Err (Big ∷ ts)
+pattern (Text bytes ∷ ts) = Err (Text bytes ∷ ts)
+
+unfoldable pub rule : Parser Rule
+rule ts = do
+  pattern ← pattern ts
+  rest ← expect s.Eq pattern.1
+  value ← number rest
+  Ok (rule_of pattern.0 value.0, value.1)
+
+-- behind ELSE: its number, and the end of the rules
+abbrev pub else_number : List Rule → Parser Rules
+else_number found ts = number ts >>= (λ n. (s.Close then accept (record { rules = found; other = Some n.0 })) n.1)
+
+-- behind an opening bracket or a comma, with at most so many rules; behind a comma ELSE may follow too
+unfoldable pub rules_within : ℕ → List Rule → Parser Rules
+rules_within zero found ts = Err ts
+rules_within (suc n) found ts = rule ts >>= (λ r. where_next s.Comma (where_next s.Else (else_number (push found r.0)) (rules_within n (push found r.0)))
+    (s.Close then accept (record { rules = push found r.0; other = None })) r.1)
+
+unfoldable pub rules_from : List Rule → Parser Rules
+rules_from found ts = rules_within (suc (length ts)) found ts
+
+unfoldable pub rules : Parser Rules
+rules = where_next s.Open (where_next s.Else (else_number []) (rules_from [])) (accept (record { rules = []; other = None }))
+
+unfoldable pub value : Parser How
+value = expect_word (codes "in") (λ ts. do
+  semiring ← semiring_name ts
+  rules ← rules semiring.1
+  expect_word (codes "of") (accept (y.value semiring.0 rules.0.rules rules.0.other)) rules.1)
+
+unfoldable pub how : Parser How
+how = where_word (codes "explain") (where_word (codes "provenance") (expect_word (codes "of") (accept (y.explain true))) (accept (y.explain false)))
+    (where_word (codes "provenance") (expect_word (codes "of") (accept y.provenance)) (where_word (codes "value") value (accept y.rows)))
+
+unfoldable pub ask : Parser Question
+ask ts = do
+  how ← how ts
+  state ← state how.1
+  query ← query state.1
+  Ok (y.ask how.0 state.0 query.0, query.1)
+
+unfoldable pub open_question : Parser Question
+open_question = where_word (codes "log") (λ ts. number ts >>= (λ t. Ok (y.log t.0, t.1)))
+    (where_word (codes "versions") (expect_word (codes "of") (λ ts. identifier ts >>= (λ table. Ok (y.versions table.0, table.1)))) ask)
+
+abbrev pub question : Parser Question
+question = closed open_question

@@ -1,0 +1,105 @@
+-- Part of the statement: the abstract syntax of terms, commands and questions. The types of the parser's code are these with boxes.
+use Rattle.std.specs.Prelude.{ℕ, ℤ, Bool, List, Option}
+use Rattle.gp_base.specs.declared.cell.Cell.{Cell}
+use Rattle.gp_base.specs.declared.table.Table.{Table}
+use Rattle.gp_lexer.specs.declared.lexeme.Lexeme.{Lexeme}
+use Rattle.gp_grammar.specs.declared.op.Op.{Op}
+use Rattle.gp_grammar.specs.declared.semiring_name.SemiringName.{SemiringName}
+use Rattle.gp_grammar.specs.declared.token_kind.TokenKind.{TokenKind}
+
+abbrev pub Lexemes : Type 0
+Lexemes = List Lexeme
+
+-- names and texts are their bytes
+abbrev pub Bytes : Type 0
+Bytes = List ℕ
+
+-- a term; a column has a FROM name before it or none, and IS NULL and IS TRUE are negated where the flag is false
+pub data Term : Type 0 where
+  null : Term
+  int : ℤ → Term
+  text : Bytes → Term
+  col : Option Bytes → Bytes → Term
+  binary : Op → Term → Term → Term
+  neg not : Term → Term
+  is_null is_true : Term → Bool → Term
+  case : Term → Term → Term → Term
+
+-- one assignment of an UPDATE
+pub record SetTerm : Type 0 where
+  pub col : Bytes
+  pub term : Term
+
+-- a table of a FROM and its name there, which is the table's own where none is written
+pub record Item : Type 0 where
+  pub table : Bytes
+  pub name : Bytes
+
+-- what a SELECT lists: all columns, or terms
+pub data Items : Type 0 where
+  star : Items
+  list : List Term → Items
+
+-- a SELECT
+pub record Block : Type 0 where
+  pub items : Items
+  pub from : List Item
+  pub cond : Option Term
+
+-- blocks with UNION ALL between them
+abbrev pub Query : Type 0
+Query = List Block
+
+pub data Command : Type 0 where
+  create : Table → Command
+  begin commit rollback : Command
+  insert : Bytes → List (List Cell) → Command
+  insert_select : Bytes → Query → Command
+  update : Bytes → List SetTerm → Option Term → Command
+  delete : Bytes → Option Term → Command
+  select : Query → Command
+
+pub record ScriptLine : Type 0 where
+  pub session : ℕ
+  pub command : Command
+
+-- the state that a question asks about: a version, or a transaction after a statement or at its commit
+pub data State : Type 0 where
+  as_of : ℕ → State
+  after : ℕ → ℕ → State
+  commit : ℕ → State
+
+-- the provenance tokens of a kind, whose numbers are the given ones
+pub record Pattern : Type 0 where
+  pub kind : TokenKind
+  pub t : Option ℕ
+  pub k : Option ℕ
+  pub n : Option ℕ
+
+-- the value of the tokens of a pattern
+pub record Rule : Type 0 where
+  pub kind : TokenKind
+  pub t : Option ℕ
+  pub k : Option ℕ
+  pub n : Option ℕ
+  pub value : ℕ
+
+abbrev pub rule_of : Pattern → ℕ → Rule
+rule_of pattern value = record { kind = pattern.kind; t = pattern.t; k = pattern.k; n = pattern.n; value = value }
+
+-- rules, and the value of the tokens that none of them matches
+pub record Rules : Type 0 where
+  pub rules : List Rule
+  pub other : Option ℕ
+
+-- what a question asks for: rows, their provenance, the query that computes them (with provenance where the flag is true),
+-- or their values in a semiring
+pub data How : Type 0 where
+  rows provenance : How
+  explain : Bool → How
+  value : SemiringName → List Rule → Option ℕ → How
+
+pub data Question : Type 0 where
+  log : ℕ → Question
+  versions : Bytes → Question
+  ask : How → State → Query → Question

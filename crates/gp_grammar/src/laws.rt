@@ -1,0 +1,74 @@
+//! The laws of the grammar, each as a public function that does nothing.
+
+ghost use Rattle.gp_grammar.specs.Grammar.{IsTerm};
+ghost use Rattle.gp_grammar.specs.CommandGrammar.{IsCommand, IsScriptLine};
+ghost use Rattle.gp_grammar.specs.QuestionGrammar.{IsQuestion};
+ghost use Rattle.gp_grammar.specs.Limits.{term_shape, command_shape, line_shape, question_shape};
+ghost use Rattle.gp_grammar.specs.Capping.{capped, capped_command, capped_line, capped_question};
+ghost use Rattle.gp_grammar.specs.Parsing.{term};
+ghost use Rattle.gp_grammar.specs.CommandParsing.{command, script_line};
+ghost use Rattle.gp_grammar.specs.QuestionParsing.{question};
+ghost use Rattle.gp_grammar.specs.Laws.{ParsesExactly, StopsExactly, IsUnambiguous, CapsFairly};
+ghost use Rattle.gp_grammar.specs.Laws.{ReadsTextsExactly, RefusesTextsExactly, ReadsLinesExactly, RefusesLinesExactly};
+ghost use Rattle.gp_grammar.specs.Laws.{CanonicalIsDerived, CanonicalIsParsed, CanonicalIsShallow, CanonicalIsProper};
+
+/// The parser of terms takes the lines that the grammar derives, stops on the others at the place of the fault, and
+/// within the limits there is one way to derive a line. Capping changes no term within the limits and no refusal.
+pub fn terms_are_parsed()
+    ensures complete { ParsesExactly term IsTerm capped term_shape }
+    ensures place { StopsExactly term IsTerm capped term_shape }
+    ensures unique { IsUnambiguous term IsTerm capped term_shape }
+    ensures fair { CapsFairly term IsTerm capped term_shape }
+{}
+
+/// The same for commands.
+pub fn commands_are_parsed()
+    ensures complete { ParsesExactly command IsCommand capped_command command_shape }
+    ensures place { StopsExactly command IsCommand capped_command command_shape }
+    ensures unique { IsUnambiguous command IsCommand capped_command command_shape }
+    ensures fair { CapsFairly command IsCommand capped_command command_shape }
+{}
+
+/// The same for the lines of scripts.
+pub fn script_lines_are_parsed()
+    ensures complete { ParsesExactly script_line IsScriptLine capped_line line_shape }
+    ensures place { StopsExactly script_line IsScriptLine capped_line line_shape }
+    ensures unique { IsUnambiguous script_line IsScriptLine capped_line line_shape }
+    ensures fair { CapsFairly script_line IsScriptLine capped_line line_shape }
+{}
+
+/// The same for questions.
+pub fn questions_are_parsed()
+    ensures complete { ParsesExactly question IsQuestion capped_question question_shape }
+    ensures place { StopsExactly question IsQuestion capped_question question_shape }
+    ensures unique { IsUnambiguous question IsQuestion capped_question question_shape }
+    ensures fair { CapsFairly question IsQuestion capped_question question_shape }
+{}
+
+/// A text is read as a command exactly where its lexemes are derived and pass every test, and it is refused exactly for
+/// the first fault in the order of the tests.
+pub fn command_texts_are_read()
+    ensures reads { ReadsTextsExactly command IsCommand capped_command command_shape }
+    ensures refuses { RefusesTextsExactly command IsCommand capped_command command_shape }
+{}
+
+/// The same for the lines of scripts, which have a greatest length.
+pub fn script_lines_are_read()
+    ensures reads { ReadsLinesExactly script_line IsScriptLine capped_line line_shape }
+    ensures refuses { RefusesLinesExactly script_line IsScriptLine capped_line line_shape }
+{}
+
+/// The same for questions.
+pub fn questions_are_read()
+    ensures reads { ReadsLinesExactly question IsQuestion capped_question question_shape }
+    ensures refuses { RefusesLinesExactly question IsQuestion capped_question question_shape }
+{}
+
+/// The canonical lexemes of a command that the grammar derives are derived as this command and, within the limits,
+/// parsed as it. They can be written in a line again, where the lexemes were of one.
+pub fn canonical_lexemes_are_parsed()
+    ensures derived { CanonicalIsDerived }
+    ensures parsed { CanonicalIsParsed }
+    ensures shallow { CanonicalIsShallow }
+    ensures proper { CanonicalIsProper }
+{}
