@@ -1,3 +1,4 @@
+pub mod CatalogLemmas
 pub mod CellLemmas
 pub mod OrderLemmas
 pub mod TextLemmas

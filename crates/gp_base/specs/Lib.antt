@@ -1,3 +1,4 @@
+pub mod Catalogs
 pub mod Cells
 pub mod Names
 pub mod Order

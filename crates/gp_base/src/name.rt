@@ -3,11 +3,17 @@
 ghost use Rattle.std.specs.Prelude.{◌≡◌, ◌==◌, true, IfOk};
 ghost use Rattle.std.specs.List.{list_all, list_any, slice_split};
 ghost use Rattle.std.specs.Str.{bytes_eq};
+ghost use Rattle.std.specs.Hash as fed;
+ghost use Rattle.std.specs.Cmp.{partial_equiv_from_equiv};
+ghost use Rattle.std.specs.Cmp.Lexicographic.{nat_list_eq_equiv};
+ghost use Rattle.std.specs.Cmp.Rules.{hashing};
+ghost use Rattle.std.proofs.Common.{rules};
 ghost use Rattle.gp_base.specs.Names.{is_name, is_name_byte, is_lower_letter, is_reserved};
 
 use crate::error::NoMemory;
 use crate::sequence::Sequence;
 use std::alloc::{AllocError, Global};
+use std::hash::{Hash, Hasher};
 use std::marker::Model;
 
 /// The greatest number of bytes of a name.
@@ -67,7 +73,7 @@ pub fn is_name(bytes: &[u8]) -> bool
 }
 
 /// The name of a table or a column. Each value satisfies [`is_name`], so callers need not check it again.
-#[derive(Drop, PartialEq, Eq)]
+#[derive(Drop)]
 pub struct Name {
     bytes: Sequence<u8>,
 }
@@ -102,6 +108,30 @@ impl Name {
         ensures valid { is_name self.now ≡ true }
     {
         self.bytes.as_slice()
+    }
+}
+
+impl PartialEq for Name {
+    ghost eq = { bytes_eq };
+
+    ghost laws = { partial_equiv_from_equiv nat_list_eq_equiv };
+
+    fn eq(&self, other: &Name) -> bool {
+        self.as_bytes() == other.as_bytes()
+    }
+}
+
+impl Eq for Name {
+    ghost laws = { nat_list_eq_equiv };
+}
+
+impl Hash for Name {
+    ghost hash_input = { fed.slice fed.u8 };
+
+    ghost respects_eq = { Prim.search (hashing, rules) };
+
+    fn hash<H: Hasher>(&self, state: &mut H) {
+        self.as_bytes().hash(state);
     }
 }
 
