@@ -1,18 +1,19 @@
 -- Part of the statement: the history of a script. Each of its lines is answered from the state that the lines before it left. Past
 -- transactions are later replayed over this history (Arab and others, A Generic Provenance Middleware, TaPP 2014).
-use Rattle.std.specs.Prelude.{ℕ, ◌+◌, Bool, List, [], ◌∷◌, Option, Some, None, nat_le, if◌then◌else◌}
+use Rattle.std.specs.Prelude.{ℕ, ◌+◌, Bool, List, [], ◌∷◌, Result, Ok, Err, nat_le, if◌then◌else◌}
 use Rattle.std.specs.List.{flat_map, list_any}
 use Rattle.gp_base.specs.declared.refusal.Refusal.TheVariants.{NotBuilt}
 use Rattle.gp_base.specs.declared.table.Table.{Table}
-use Rattle.gp_syntax.specs.declared.command.Command.{Command}
+use Rattle.gp_grammar.specs.Syntax.{ScriptLine}
+use Rattle.gp_grammar.specs.LineReading.{Fault, script_line_of}
 use Rattle.gp_syntax.specs.Lines.{script_lines}
-use Rattle.gp_syntax.specs.Reading.{read_of}
+use Rattle.gp_syntax.specs.Reading.{refusal_of}
 use Rattle.gp_engine.specs.declared.reply.Reply.{Reply}
 use Rattle.gp_engine.specs.State.{State, empty_state}
 use Rattle.gp_engine.specs.Event.{event, refused}
 use Rattle.gp_engine.specs.Replies.{is_refusal, line_text}
 
--- A line is run if at most this many lines got a reply before it. Every later line is refused as not built.
+-- A line is run if at most this many lines got a reply before it. Every later line without a fault in its text is refused as not built.
 abbrev pub most_before : ℕ
 most_before = 98
 
@@ -22,14 +23,14 @@ pub record NumberedReply : Type 0 where
   pub tables : List Table
   pub reply : Reply
 
--- the outcome of a line that holds this command of session 1, or no command
-abbrev pub outcome : State → ℕ → Option Command → State × Reply
-outcome state number None = refused state NotBuilt
-outcome state number (Some command) = event state number 1 command
+-- the outcome of a line that is read as this, and is run or comes too late; a fault in its text is refused in any case
+abbrev pub outcome_of : Bool → State → ℕ → Result ScriptLine Fault → State × Reply
+outcome_of runs state number (Err fault) = refused state (refusal_of fault)
+outcome_of runs state number (Ok line) = if runs then event state number line.session line.command else refused state NotBuilt
 
 -- the outcome of a line, which is run or comes too late
 abbrev pub outcome_if : Bool → State → ℕ × List ℕ → State × Reply
-outcome_if runs state line = if runs then outcome state line.0 (read_of line.1) else refused state NotBuilt
+outcome_if runs state line = outcome_of runs state line.0 (script_line_of line.1)
 
 -- the outcome of a line before which so many lines got a reply
 abbrev pub line_outcome : ℕ → State → ℕ × List ℕ → State × Reply

@@ -5,8 +5,9 @@ use Rattle.std.specs.Prelude.{◌≡◌, ℕ, ◌+◌, ◌&&◌, List, [], ◌�
 use Rattle.gp_base.specs.declared.cell.Cell.{Cell}
 use Rattle.gp_base.specs.declared.refusal.Refusal.TheVariants.{NotBuilt, E09, E10}
 use Rattle.gp_base.specs.declared.table.Table.{Table}
-use Rattle.gp_syntax.specs.declared.command.Command.{Command}
-use Rattle.gp_syntax.specs.declared.command.Command.TheVariants.{Create, Begin, Commit, Insert, Select}
+use Rattle.gp_grammar.specs.Syntax.{Command}
+use Rattle.gp_engine.specs.declared.step.Step.{Step}
+use Rattle.gp_engine.specs.declared.step.Step.TheVariants.{Create, Begin, Commit, Insert, Select}
 use Rattle.gp_engine.specs.declared.reply.Reply.{Reply}
 use Rattle.gp_engine.specs.declared.reply.Reply.TheVariants as reply
 use Rattle.gp_engine.specs.State.{State, Running, Accepted, Database, rows_of, running_of, newest}
@@ -60,8 +61,8 @@ pub record Follows (old new : Kept) (line session : ℕ) (command : Command) (an
   pub reply : (state : State) → old ≡ kept state → answer ≡ (event state line session command).1
   pub state : (state : State) → old ≡ kept state → new ≡ kept (event state line session command).0
 
--- what a supported command does to the kept state, but for the line number, outside a transaction or inside this one
-abbrev pub kept_answer : Kept → Option ℕ → Command → Kept × Reply
+-- what a supported step does to the kept state, but for the line number, outside a transaction or inside this one
+abbrev pub kept_answer : Kept → Option ℕ → Step → Kept × Reply
 kept_answer k None (Create table) = (record k { tables = k.tables ++ table ∷ [] }, reply.Created (length k.tables))
 kept_answer k None Begin =
     (record k { transactions = k.transactions + 1; running = Some (k.transactions + 1) }, reply.Began (k.transactions + 1) k.versions)
@@ -78,8 +79,13 @@ kept_answer k (Some t) (Select name) = (k, reply.Rows k.rows)
 abbrev pub kept_line : ℕ → Kept × Reply → Kept × Reply
 kept_line line (k, answer) = if is_refusal answer then (k, answer) else (record k { line = line }, answer)
 
--- what the command of a line does to the kept state in a session, and the reply to it
-abbrev pub kept_event : Kept → ℕ → ℕ → Command → Kept × Reply
-kept_event k line session command =
-    if (session == 1) && is_supported k.tables command then kept_line line (kept_answer k k.running command)
+-- what a step does to the kept state in a session, and the reply to it
+abbrev pub kept_step : Kept → ℕ → ℕ → Step → Kept × Reply
+kept_step k line session step =
+    if (session == 1) && is_supported k.tables step then kept_line line (kept_answer k k.running step)
     else (k, reply.Refused NotBuilt)
+
+-- the same for the step of a command, if there is one
+abbrev pub kept_event : Kept → ℕ → ℕ → Option Step → Kept × Reply
+kept_event k line session None = (k, reply.Refused NotBuilt)
+kept_event k line session (Some step) = kept_step k line session step

@@ -1,3 +1,4 @@
+pub mod Step
 pub mod State
 pub mod Replies
 pub mod Event

@@ -4,7 +4,7 @@
 use Rattle.std.specs.Prelude.{ℕ, not, List, [], ◌∷◌, Option, Some, None, if◌then◌else◌, ◌==◌, filter}
 use Rattle.gp_base.specs.declared.cell.Cell.{Cell}
 use Rattle.gp_base.specs.declared.table.Table.{Table}
-use Rattle.gp_syntax.specs.declared.command.Command.{Command}
+use Rattle.gp_engine.specs.declared.step.Step.{Step}
 
 -- The rows of each table, by the table's place in the catalogue, from 0. A table without an entry is empty.
 abbrev pub Database : Type 0
@@ -19,11 +19,11 @@ rows_of place (entry ∷ entries) = if entry.0 == place then entry.1 else rows_o
 abbrev pub with_rows : ℕ → List (List Cell) → Database → Database
 with_rows place rows database = (place, rows) ∷ database
 
--- an accepted line: its number, its session and its command
+-- an accepted line: its number, its session and its step
 pub record Accepted : Type 0 where
   pub line : ℕ
   pub session : ℕ
-  pub command : Command
+  pub step : Step
 
 -- the fate of a transaction: it is active, or it committed and made this version
 pub data Fate : Type 0 where

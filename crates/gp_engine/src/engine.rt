@@ -1,13 +1,15 @@
 //! The engine: what it keeps of the state, and how a command changes it.
 
 ghost use Rattle.std.specs.Prelude.{◌≡◌, ◌<◌, ◌≤◌, ◌+◌, ◌^◌, ◌++◌, ◌∷◌, [], IfOk, OnOk, OnErr, length, Some, None, true};
-ghost use Rattle.gp_syntax.specs.Commands.{IsCommand};
+ghost use Rattle.gp_syntax.specs.Views.{command_view};
+ghost use Rattle.gp_engine.specs.Step.{step_of};
 ghost use Rattle.gp_engine.specs.Event.{is_supported};
-ghost use Rattle.gp_engine.specs.Kept.{Follows, Kept, kept, kept_answer, kept_line, kept_event};
+ghost use Rattle.gp_engine.specs.Kept.{Follows, Kept, kept, kept_answer, kept_line, kept_step, kept_event};
 ghost use Rattle.gp_engine.specs.Replies.{is_refusal};
 ghost use Rattle.gp_engine.specs.State.{empty_state};
 
 use crate::reply::Reply;
+use crate::step::{Step, step_of};
 use crate::supported::is_supported;
 use gp_base::{NoMemory, Refusal, Row, Sequence, Table};
 use gp_syntax::Command;
@@ -146,72 +148,84 @@ impl Engine {
     }
 }
 
-// A command, by whether its session has an active transaction.
+// A step, by whether its session has an active transaction.
 impl Engine {
-    /// Runs a command outside a transaction.
-    fn outside(&mut self, line: u32, command: Command) -> Result<Reply, NoMemory>
-        requires supported { is_supported self.old.tables command ≡ true }
+    /// Runs a step outside a transaction.
+    fn outside(&mut self, line: u32, step: Step) -> Result<Reply, NoMemory>
+        requires supported { is_supported self.old.tables step ≡ true }
         requires above { self.old.line < line }
         ensures ok { IfOk result (λ reply.
-            (self.new, reply) ≡ kept_line line (kept_answer self.old None command)) }
+            (self.new, reply) ≡ kept_line line (kept_answer self.old None step)) }
         ensures err { OnErr result (self.new ≡ self.old) }
     {
-        match command {
-            Command::Create { table } => self.create(line, table),
-            Command::Begin => Ok(self.begin(line)),
-            Command::Commit => Ok(Reply::Refused(Refusal::E10)),
-            Command::Insert { .. } => Ok(Reply::Refused(Refusal::E10)),
-            Command::Select { .. } => Ok(Reply::Refused(Refusal::E10)),
+        match step {
+            Step::Create { table } => self.create(line, table),
+            Step::Begin => Ok(self.begin(line)),
+            Step::Commit => Ok(Reply::Refused(Refusal::E10)),
+            Step::Insert { .. } => Ok(Reply::Refused(Refusal::E10)),
+            Step::Select { .. } => Ok(Reply::Refused(Refusal::E10)),
         }
     }
 
-    /// Runs a command inside transaction `t`.
-    fn inside(&mut self, line: u32, t: u32, command: Command) -> Result<Reply, NoMemory>
-        requires read { IsCommand command }
+    /// Runs a step inside transaction `t`.
+    fn inside(&mut self, line: u32, t: u32, step: Step) -> Result<Reply, NoMemory>
+        requires supported { is_supported self.old.tables step ≡ true }
         requires above { self.old.line < line }
         ensures ok { IfOk result (λ reply.
-            (self.new, reply) ≡ kept_line line (kept_answer self.old (Some t) command)) }
+            (self.new, reply) ≡ kept_line line (kept_answer self.old (Some t) step)) }
         ensures err { OnErr result (self.new ≡ self.old) }
     {
-        match command {
-            Command::Create { .. } => Ok(Reply::Refused(Refusal::E09)),
-            Command::Begin => Ok(Reply::Refused(Refusal::E09)),
-            Command::Commit => Ok(self.commit(line, t)),
-            Command::Insert { rows, .. } => self.insert(line, rows),
-            Command::Select { .. } => self.select(line),
+        match step {
+            Step::Create { .. } => Ok(Reply::Refused(Refusal::E09)),
+            Step::Begin => Ok(Reply::Refused(Refusal::E09)),
+            Step::Commit => Ok(self.commit(line, t)),
+            Step::Insert { rows, .. } => self.insert(line, rows),
+            Step::Select { .. } => self.select(line),
         }
     }
 
-    /// Runs a command if it is supported.
-    fn step(&mut self, line: u32, session: u32, command: Command) -> Result<Reply, NoMemory>
-        requires read { IsCommand command }
+    /// Runs a step if it is supported.
+    fn step(&mut self, line: u32, session: u32, step: Step) -> Result<Reply, NoMemory>
         requires above { self.old.line < line }
         ensures ok { IfOk result (λ reply.
-            (self.new, reply) ≡ kept_event self.old line session command) }
-        ensures few { length self.old.tables ≤ 1 }
+            (self.new, reply) ≡ kept_step self.old line session step) }
         ensures err { OnErr result (self.new ≡ self.old) }
     {
-        if session != 1 || !is_supported(self.tables.as_slice(), &command) {
+        if session != 1 || !is_supported(self.tables.as_slice(), &step) {
             return Ok(Reply::Refused(Refusal::NotBuilt));
         }
         match self.running {
-            None => self.outside(line, command),
-            Some(t) => self.inside(line, t, command),
+            None => self.outside(line, step),
+            Some(t) => self.inside(line, t, step),
+        }
+    }
+
+    /// Runs a command if it is a step.
+    fn run(&mut self, line: u32, session: u32, command: Command) -> Result<Reply, NoMemory>
+        requires above { self.old.line < line }
+        ensures ok { IfOk result (λ reply.
+            (self.new, reply) ≡ kept_event self.old line session (step_of (command_view command))) }
+        ensures few { length self.old.tables ≤ 1 }
+        ensures err { OnErr result (self.new ≡ self.old) }
+    {
+        match step_of(command)? {
+            Some(step) => self.step(line, session, step),
+            None => Ok(Reply::Refused(Refusal::NotBuilt)),
         }
     }
 
     /// Runs the command of a line in a session, and gives the reply. Lines are numbered in order: `line` is above the number of every
-    /// accepted line before it. The command is one that a script may hold, as [`read_line`](gp_syntax::read_line) gives it. If the
-    /// line is refused, or if memory runs out, the engine is unchanged.
+    /// accepted line before it. A command that this version does not run is refused as not built. If the line is refused, or if memory
+    /// runs out, the engine is unchanged.
     pub fn line(&mut self, line: u32, session: u32, command: Command) -> Result<Reply, NoMemory>
-        requires read { IsCommand command }
         requires above { self.old.line < line }
 
-        ensures follows { IfOk result (Follows self.old self.new line session command) }
+        ensures follows { IfOk result
+            (Follows self.old self.new line session (command_view command)) }
         ensures unchanged { IfOk result (λ reply. is_refusal reply ≡ true → self.new ≡ self.old) }
         ensures err { OnErr result (self.new ≡ self.old) }
         ensures last_line { OnOk result (self.new.line ≤ line) }
     {
-        self.step(line, session, command)
+        self.run(line, session, command)
     }
 }

@@ -18,6 +18,7 @@ mod display;
 mod engine;
 mod laws;
 mod reply;
+mod step;
 mod supported;
 
 pub use display::write_reply;

@@ -1,11 +1,13 @@
-//! Which commands the engine runs. It supports one table.
+//! Which steps the engine runs. It supports one table.
 
 ghost use Rattle.std.specs.Prelude.{◌≡◌, ◌&&◌};
 ghost use Rattle.std.specs.List.{list_any};
 ghost use Rattle.gp_engine.specs.Event.{is_supported, is_named, fits_rows};
 
+use crate::step::Step;
 use gp_base::{Name, Row, Sequence, Table};
-use gp_syntax::Command;
+use gp_grammar::MAX_VALUES;
+
 
 /// Whether the table has this name.
 fn is_named(name: &Name, table: &Table) -> bool
@@ -39,15 +41,17 @@ fn exists(tables: &[Table], name: &Name) -> bool
     tables.iter().any(|table| is_named(name, table))
 }
 
-/// Whether the engine runs the command, given these tables.
-pub(crate) fn is_supported(tables: &[Table], command: &Command) -> bool
-    ensures { result ≡ is_supported tables.now command.now }
+/// Whether the engine runs the step, given these tables.
+pub(crate) fn is_supported(tables: &[Table], step: &Step) -> bool
+    ensures { result ≡ is_supported tables.now step.now }
 {
-    match command {
-        Command::Create { table: _ } => tables.is_empty(),
-        Command::Begin => true,
-        Command::Commit => true,
-        Command::Insert { table, rows } => takes_rows(tables, table, rows),
-        Command::Select { table } => exists(tables, table),
+    match step {
+        Step::Create { table: _ } => tables.is_empty(),
+        Step::Begin => true,
+        Step::Commit => true,
+        Step::Insert { table, rows } => {
+            rows.as_slice().len() <= MAX_VALUES && takes_rows(tables, table, rows)
+        }
+        Step::Select { table } => exists(tables, table),
     }
 }

@@ -1,6 +1,4 @@
 pub mod LinesLemmas
-pub mod DraftLemmas
-pub mod NumberLemmas
-pub mod PlaceLemmas
-pub mod ReadingLemmas
-pub mod ScanLemmas
+pub mod Ranks
+pub mod RepetitionLemmas
+pub mod NameLemmas

@@ -1,4 +1,4 @@
 pub mod Lines
-pub mod Canonical
-pub mod Commands
-pub mod Reading
+pub mod Names
+pub mod Views
+pub mod Parses

@@ -4,7 +4,7 @@
 use Rattle.std.specs.Prelude.{ℕ, Bool, true, ◌&&◌, ◌||◌, not, List, [], ◌∷◌, length, map, nat_eq, nat_le, if◌then◌else◌, ◌==◌, filter, codes}
 use Rattle.std.specs.List.{enumerate_from, starts_with}
 use Rattle.std.specs.Str.Lines.{lines}
-use Rattle.gp_syntax.specs.declared.line.TheConstants.{MAX_LINE_LENGTH}
+use Rattle.gp_grammar.specs.declared.limits.TheConstants.{MAX_LINE_LENGTH}
 
 -- a space or a tab
 abbrev pub is_blank : ℕ → Bool

@@ -1,37 +1,108 @@
-//! The commands of a script.
+//! Commands and the lines of scripts.
 
+use crate::term::Term;
 use gp_base::{Name, Row, Sequence, Table};
 
-/// A command. They are those of SQL (ISO/IEC 9075-2), in the dialect of scripts.
+/// One assignment of an UPDATE.
+#[derive(Drop)]
+pub struct SetTerm {
+    /// The column.
+    pub col: Name,
+    /// Its new value.
+    pub term: Term,
+}
+
+/// A table of a FROM.
+#[derive(Drop)]
+pub struct Item {
+    /// The table.
+    pub table: Name,
+    /// Its name in the block, which is the table's own where none is written.
+    pub name: Name,
+}
+
+/// What a SELECT lists.
+#[derive(Drop)]
+pub enum Items {
+    /// `*`, all columns.
+    Star,
+    /// One term or more.
+    List(Sequence<Term>),
+}
+
+/// A SELECT.
+#[derive(Drop)]
+pub struct Block {
+    /// What it lists.
+    pub items: Items,
+    /// Its FROM, of one table or more.
+    pub from: Sequence<Item>,
+    /// Its WHERE.
+    pub cond: Option<Term>,
+}
+
+/// A query: one block or more, with UNION ALL between them.
+#[derive(Drop)]
+pub struct Query {
+    /// The blocks, in order.
+    pub blocks: Sequence<Block>,
+}
+
+/// A command of a session.
 #[derive(Drop)]
 pub enum Command {
-    /// `CREATE TABLE` adds a table, which is empty in every version.
+    /// `CREATE TABLE`
     Create {
-        /// The table, with its columns.
+        /// The new table.
         table: Table,
     },
-    /// `BEGIN` begins a transaction in the session.
+    /// `BEGIN`
     Begin,
-    /// `COMMIT` makes the next version from what the transaction reads.
+    /// `COMMIT`
     Commit,
-    /// `INSERT INTO .. VALUES` appends rows to a table.
+    /// `ROLLBACK`
+    Rollback,
+    /// `INSERT INTO` with VALUES
     Insert {
-        /// The table that the rows are appended to.
+        /// The table.
         table: Name,
-        /// The rows, in the order of the text.
+        /// The tuples.
         rows: Sequence<Row>,
     },
-    /// `SELECT * FROM` gives the rows of a table, as the transaction reads them.
-    Select {
-        /// The table that is read.
+    /// `INSERT INTO` with a query
+    InsertSelect {
+        /// The table.
         table: Name,
+        /// The query.
+        query: Query,
+    },
+    /// `UPDATE`
+    Update {
+        /// The table.
+        table: Name,
+        /// The assignments, one or more.
+        sets: Sequence<SetTerm>,
+        /// The WHERE.
+        cond: Option<Term>,
+    },
+    /// `DELETE FROM`
+    Delete {
+        /// The table.
+        table: Name,
+        /// The WHERE.
+        cond: Option<Term>,
+    },
+    /// `SELECT`
+    Select {
+        /// The query.
+        query: Query,
     },
 }
 
-/// What a line of a script holds: a session and its command.
+/// A line of a script.
 #[derive(Drop)]
 pub struct ScriptLine {
-    /// The number of the session, from 1.
+    /// The session, from 1 to 64.
     pub session: u32,
     /// The command.
     pub command: Command,

@@ -1,16 +1,14 @@
 //! The lines of a script that get a reply.
 
-ghost use Rattle.std.specs.Prelude.{◌≡◌, ◌-◌, ◌^◌, ◌<◌, ◌∷◌, length};
+ghost use Rattle.std.specs.Prelude.{◌≡◌, ◌==◌, ◌-◌, ◌^◌, ◌<◌, ◌≤◌, ◌∷◌, length};
+ghost use Rattle.std.specs.List.{position_or_len};
 ghost use Rattle.std.specs.Iterator.{YieldsFirstBy, item_count};
 ghost use Rattle.std.specs.List.Sorted.{IsStrictlyIncreasing};
 ghost use Rattle.std.specs.Str.Lines.{lines, strip_carriage_return};
 ghost use Rattle.gp_syntax.specs.Lines.{script_lines, numbers_of, is_blank_or_comment, is_answered, is_blank};
 
-use crate::scan::place_of;
+use gp_grammar::MAX_LINE_LENGTH;
 use std::marker::Model;
-
-/// The most bytes that a line may have, without its end. A longer line is always refused, whatever it holds.
-pub const MAX_LINE_LENGTH: usize = 4096;
 
 const LINE_FEED: u8 = b'\n';
 
@@ -54,13 +52,21 @@ fn strip_carriage_return(line: &[u8]) -> &[u8]
     }
 }
 
+/// The number of bytes before the first line feed, or of all bytes.
+fn line_len(bytes: &[u8]) -> usize
+    ensures value { result ≡ position_or_len (λ byte. byte == LINE_FEED) bytes.now }
+    ensures bound { result ≤ length bytes.now }
+{
+    bytes.iter().take_while(|byte| **byte != LINE_FEED).count()
+}
+
 /// The first line, and the bytes after its end.
 fn split_line(bytes: &[u8]) -> (&[u8], &[u8])
     requires { 0 < length bytes.now }
     ensures lines { lines bytes.now ≡ result.0.now ∷ lines result.1.now }
     ensures shorter { length result.1.now < length bytes.now }
 {
-    let end = place_of(bytes, LINE_FEED);
+    let end = line_len(bytes);
     if end < bytes.len() {
         (strip_carriage_return(&bytes[..end]), &bytes[end + 1..])
     } else {
@@ -69,7 +75,7 @@ fn split_line(bytes: &[u8]) -> (&[u8], &[u8])
 }
 
 /// A line of a script.
-#[derive(Clone, Copy)]
+#[derive(Clone, Copy, Debug)]
 pub struct Line<'a> {
     /// The line's number in the script, from 1.
     pub number: u32,
@@ -78,7 +84,7 @@ pub struct Line<'a> {
 }
 
 /// The remaining lines of a script that get a reply. [`lines`] makes it.
-#[derive(Drop)]
+#[derive(Debug, Drop)]
 pub struct LineIter<'a> {
     rest: &'a [u8],
     number: u32,

@@ -1,12 +1,13 @@
 //! A whole script: every line that is neither blank nor a comment is run and gets its reply.
 
-ghost use Rattle.std.specs.Prelude.{◌≡◌, ◌<◌, ◌≤◌, IfOk, OnOk, length};
+ghost use Rattle.std.specs.Prelude.{◌≡◌, ◌<◌, ◌≤◌, IfOk, OnOk, Ok, length};
 ghost use Rattle.gp_engine.specs.History.{replies_of, replies_text, has_refusal};
-ghost use Rattle.gprom_cli.specs.Script.{FollowsLine};
+ghost use Rattle.gp_syntax.specs.Views.{line_view};
+ghost use Rattle.gprom_cli.specs.Script.{FollowsLine, FollowsRead};
 
 use gp_base::{NoMemory, Refusal};
 use gp_engine::{Engine, Reply, write_reply};
-use gp_syntax::{ReadStop, lines, read_line};
+use gp_syntax::{ReadStop, ScriptLine, lines, read_line};
 use std::alloc::Global;
 
 /// The greatest length of a script, in bytes.
@@ -24,7 +25,26 @@ pub struct Output {
     pub refused: bool,
 }
 
-/// Runs one line, or refuses it where `runs` is false.
+/// Runs a line that was read, or refuses it where `runs` is false.
+fn run_line(
+    engine: &mut Engine,
+    runs: bool,
+    number: u32,
+    read: ScriptLine,
+) -> Result<Reply, NoMemory>
+    requires { engine.old.line < number }
+    ensures follows { IfOk result
+        (FollowsRead engine.old engine.new runs number (Ok (line_view read))) }
+    ensures up_to { OnOk result (engine.new.line ≤ number) }
+{
+    if runs {
+        engine.line(number, read.session, read.command)
+    } else {
+        Ok(Reply::Refused(Refusal::NotBuilt))
+    }
+}
+
+/// Answers one line.
 fn answer_line(
     alloc: Global,
     engine: &mut Engine,
@@ -36,11 +56,8 @@ fn answer_line(
     ensures follows { IfOk result (FollowsLine engine.old engine.new runs (number, bytes.now)) }
     ensures up_to { OnOk result (engine.new.line ≤ number) }
 {
-    if !runs {
-        return Ok(Reply::Refused(Refusal::NotBuilt));
-    }
     match read_line(alloc, bytes) {
-        Ok(read) => engine.line(number, read.session, read.command),
+        Ok(read) => run_line(engine, runs, number, read),
         Err(ReadStop::Refused(refusal)) => Ok(Reply::Refused(refusal)),
         Err(ReadStop::NoMemory) => Err(NoMemory),
     }

@@ -1,0 +1,3 @@
+pub mod Statements
+pub mod Views
+pub mod Fitting

@@ -1,0 +1,71 @@
+-- Numbers in names.
+use Rattle.std.proofs.Common.{◌≡◌, ℕ, ◌+◌, ◌-◌, ◌^◌, ◌<◌, ◌≤◌, Bool, true, false, cond, ◌&&◌, List, [], ◌∷◌, min, Option, Some, None, suc, refl, ap, sym, ◌∙◌, arith, nat_le, nat_lt}
+use Rattle.std.specs.Option.{option_map}
+use Rattle.gp_grammar.specs.QuestionGrammar.{with_transaction}
+use Rattle.gp_syntax.specs.Names.{number_up_to}
+use Rattle.std.proofs.lemmas.Bool.Decides.{nat_tests}
+use Rattle.std.specs.Str.{all_ascii_digits}
+use Rattle.std.specs.Char.{digit_value, is_ascii_digit}
+use Rattle.std.specs.Str.Parse.{AllDigits, digits_value}
+use Rattle.gp_grammar.specs.declared.token_kind.TokenKind.{TokenKind}
+use Rattle.gp_grammar.specs.CommandGrammar.{is_number_without_zero}
+
+is-digit : (b : ℕ) → is_ascii_digit b ≡ true → digit_value b < 10
+is-digit b h = grind (arith, nat_tests)
+
+and-left : (a b : Bool) → (a && b) ≡ true → a ≡ true
+and-left true b h = refl
+and-left false b h = h
+
+and-right : (a b : Bool) → (a && b) ≡ true → b ≡ true
+and-right true b h = h
+and-right false b h = absurd cc
+
+pub all-digits : (ds : List ℕ) → all_ascii_digits ds ≡ true → AllDigits 10 ds
+all-digits [] h = tt
+all-digits (d ∷ ds) h = (is-digit d (and-left (is_ascii_digit d) (all_ascii_digits ds) h), all-digits ds (and-right (is_ascii_digit d) (all_ascii_digits ds) h))
+
+-- digits without leading zero are digits
+pub number-digits : (ds : List ℕ) → is_number_without_zero ds ≡ true → AllDigits 10 ds
+number-digits [] h = tt
+number-digits (d ∷ ds) h = all-digits (d ∷ ds) (and-left (all_ascii_digits (d ∷ ds)) (nat_lt 48 d) h)
+
+pub number-none : (ds : List ℕ) (most : ℕ) → is_number_without_zero ds ≡ false → number_up_to ds most ≡ None
+number-none ds most h = rw h refl
+
+number-by : (v m most : ℕ) (test : Bool) → nat_le v most ≡ test → m ≡ min v (2 ^ 64 - 1) → most < 2 ^ 32 → most < m → cond test (Some v) None ≡ None
+number-by v m most true e a b c = absurd (grind (arith, nat_tests))
+number-by v m most false e a b c = refl
+
+pub number-large : (ds : List ℕ) (m most : ℕ) → is_number_without_zero ds ≡ true → m ≡ min (digits_value 10 ds) (2 ^ 64 - 1) → most < 2 ^ 32 → most < m → number_up_to ds most ≡ None
+number-large ds m most h a b c = rw h (number-by (digits_value 10 ds) m most (nat_le (digits_value 10 ds) most) refl a b c)
+
+number-in : (v m most : ℕ) (test : Bool) → nat_le v most ≡ test → m ≡ min v (2 ^ 64 - 1) → most < 2 ^ 32 → m ≤ most → cond test (Some v) None ≡ Some m
+number-in v m most true e a b c = ap Some (omega arith)
+number-in v m most false e a b c = absurd (grind (arith, nat_tests))
+
+pub number-some : (ds : List ℕ) (m most : ℕ) → is_number_without_zero ds ≡ true → m ≡ min (digits_value 10 ds) (2 ^ 64 - 1) → most < 2 ^ 32 → m ≤ most → number_up_to ds most ≡ Some m
+number-some ds m most h a b c = rw h (number-in (digits_value 10 ds) m most (nat_le (digits_value 10 ds) most) refl a b c)
+
+pub ruleset digits = (number-digits, number-none, number-large, number-some)
+
+-- a transaction has at most nine digits
+below-or-at : (n m : ℕ) (a b : Bool) → nat_lt n (suc m) ≡ a → nat_le n m ≡ b → a ≡ b
+below-or-at n m true true e f = refl
+below-or-at n m true false e f = absurd (grind (arith, nat_tests))
+below-or-at n m false true e f = absurd (grind (arith, nat_tests))
+below-or-at n m false false e f = refl
+
+transaction-by : (kind : TokenKind) (valid : Bool) (v : ℕ) (a b : Bool) → a ≡ b → (r : Option ℕ) → r ≡ cond (valid && b) (Some v) None
+    → cond (valid && a) (Some (kind, Some v)) None ≡ option_map (λ (t : ℕ). (kind, Some t)) r
+transaction-by kind false v a b e r f = rw f refl
+transaction-by kind true v true true e r f = rw f refl
+transaction-by kind true v false false e r f = rw f refl
+transaction-by kind true v true false e r f = absurd cc
+transaction-by kind true v false true e r f = absurd cc
+
+pub transaction-of : (kind : TokenKind) (d : ℕ) (ds : List ℕ) → with_transaction (Some kind) (d ∷ ds) ≡ option_map (λ (t : ℕ). (kind, Some t)) (number_up_to (d ∷ ds) 999999999)
+transaction-of kind d ds = transaction-by kind (is_number_without_zero (d ∷ ds)) (digits_value 10 (d ∷ ds)) _ _
+    (below-or-at (digits_value 10 (d ∷ ds)) 999999999 _ _ refl refl) (number_up_to (d ∷ ds) 999999999) refl
+
+pub ruleset transactions = (transaction-of)

@@ -1,0 +1,13 @@
+use Rattle.std.proofs.Common.{◌≡◌, length, map}
+use Rattle.gp_lexer.specs.declared.lexeme.Symbol.TheVariants as s
+use Rattle.gp_grammar.specs.Parsing.{strip, term}
+use Rattle.gp_grammar.specs.CommandParsing as spec
+use Rattle.gp_grammar.specs.CommandParsing.{◌then◌}
+use Rattle.gp_syntax.specs.Views as v
+use Rattle.gp_syntax.proofs.command_parser.blocks.Given as goal
+
+abbrev pub invariant-loop-after : goal.invariant-loop-after
+invariant-loop-after l = spec.query l.lexemes ≡ spec.many (strip s.Union) (s.All then spec.block) spec.push (map v.block_view l.found) l.rest
+
+abbrev pub decreases-loop-after : goal.decreases-loop-after
+decreases-loop-after l = length l.rest

@@ -1,0 +1,85 @@
+-- Part of the statement: the abstract syntax of the parsed values, without the pointers in their boxes.
+use Rattle.std.specs.Prelude.{List, map, Option}
+use Rattle.std.specs.Option.{option_map}
+use Rattle.gp_grammar.specs.Syntax as y
+use Rattle.gp_syntax.specs.declared.term.Term.{Term, Null, Int, Text, Col, Binary', Neg', Not', IsNull', IsTrue', Case'}
+use Rattle.gp_syntax.specs.declared.command.SetTerm.{SetTerm}
+use Rattle.gp_syntax.specs.declared.command.Item.{Item}
+use Rattle.gp_syntax.specs.declared.command.Items.{Items}
+use Rattle.gp_syntax.specs.declared.command.Items.TheVariants.{Star, List as Listed}
+use Rattle.gp_syntax.specs.declared.command.Block.{Block}
+use Rattle.gp_syntax.specs.declared.command.Query.{Query}
+use Rattle.gp_syntax.specs.declared.command.Command.{Command}
+use Rattle.gp_syntax.specs.declared.command.Command.TheVariants as c
+use Rattle.gp_syntax.specs.declared.command.ScriptLine.{ScriptLine}
+use Rattle.gp_syntax.specs.declared.question.State.{State}
+use Rattle.gp_syntax.specs.declared.question.State.TheVariants as s
+use Rattle.gp_syntax.specs.declared.question.Rule.{Rule}
+use Rattle.gp_syntax.specs.declared.question.How.{How}
+use Rattle.gp_syntax.specs.declared.question.How.TheVariants as h
+use Rattle.gp_syntax.specs.declared.question.Question.{Question}
+use Rattle.gp_syntax.specs.declared.question.Question.TheVariants as q
+
+abbrev pub term_view : Term → y.Term
+term_view Null = y.null
+term_view (Int n) = y.int n
+term_view (Text bytes) = y.text bytes
+term_view (Col item name) = y.col item name
+term_view (Binary' op p a q b) = y.binary op (term_view a) (term_view b)
+term_view (Neg' p a) = y.neg (term_view a)
+term_view (Not' p a) = y.not (term_view a)
+term_view (IsNull' p a holds) = y.is_null (term_view a) holds
+term_view (IsTrue' p a holds) = y.is_true (term_view a) holds
+term_view (Case' p a q b r c) = y.case (term_view a) (term_view b) (term_view c)
+
+abbrev pub condition_view : Option Term → Option y.Term
+condition_view = option_map term_view
+
+abbrev pub set_view : SetTerm → y.SetTerm
+set_view set = record { col = set.col; term = term_view set.term }
+
+abbrev pub item_view : Item → y.Item
+item_view item = record { table = item.table; name = item.name }
+
+abbrev pub items_view : Items → y.Items
+items_view Star = y.star
+items_view (Listed terms) = y.list (map term_view terms)
+
+abbrev pub block_view : Block → y.Block
+block_view block = record { items = items_view block.items; from = map item_view block.from; cond = condition_view block.cond }
+
+abbrev pub query_view : Query → y.Query
+query_view query = map block_view query.blocks
+
+abbrev pub command_view : Command → y.Command
+command_view (c.Create table) = y.create table
+command_view c.Begin = y.begin
+command_view c.Commit = y.Command.commit
+command_view c.Rollback = y.rollback
+command_view (c.Insert table rows) = y.insert table rows
+command_view (c.InsertSelect table query) = y.insert_select table (query_view query)
+command_view (c.Update table sets cond) = y.update table (map set_view sets) (condition_view cond)
+command_view (c.Delete table cond) = y.delete table (condition_view cond)
+command_view (c.Select query) = y.select (query_view query)
+
+abbrev pub line_view : ScriptLine → y.ScriptLine
+line_view line = record { session = line.session; command = command_view line.command }
+
+abbrev pub state_view : State → y.State
+state_view (s.AsOf v) = y.as_of v
+state_view (s.After t k) = y.after t k
+state_view (s.Commit t) = y.State.commit t
+
+abbrev pub rule_view : Rule → y.Rule
+rule_view rule = record { kind = rule.kind; t = rule.t; k = rule.k; n = rule.n; value = rule.value }
+
+abbrev pub how_view : How → y.How
+how_view h.Rows = y.rows
+how_view h.Provenance = y.provenance
+how_view (h.Explain prov) = y.explain prov
+how_view (h.Value semiring rules other) = y.value semiring (map rule_view rules) other
+
+abbrev pub question_view : Question → y.Question
+question_view (q.Log t) = y.log t
+question_view (q.Versions table) = y.versions table
+question_view (q.Ask how state query) = y.ask (how_view how) (state_view state) (query_view query)

@@ -1,0 +1,90 @@
+//! Questions about a history.
+
+use crate::command::Query;
+use gp_base::{Name, Sequence};
+use gp_grammar::{SemiringName, TokenKind};
+
+/// The state that a question asks about.
+#[derive(Clone, Copy)]
+pub enum State {
+    /// A version: the state after that many commits.
+    AsOf {
+        /// The version.
+        v: u64,
+    },
+    /// A transaction's view after one of its statements.
+    After {
+        /// The transaction.
+        t: u64,
+        /// The statement, from 1.
+        k: u64,
+    },
+    /// The version that a transaction's commit made.
+    Commit {
+        /// The transaction.
+        t: u64,
+    },
+}
+
+/// The value of some provenance tokens: those of a kind whose numbers are the given ones. A number that is None is
+/// that of any token.
+#[derive(Clone, Copy)]
+pub struct Rule {
+    /// The kind of the tokens.
+    pub kind: TokenKind,
+    /// Their transaction.
+    pub t: Option<u32>,
+    /// Their statement.
+    pub k: Option<u32>,
+    /// Their row, for an INSERT with VALUES.
+    pub n: Option<u32>,
+    /// The number that stands for their value in the semiring.
+    pub value: u64,
+}
+
+/// What a question asks for.
+#[derive(Drop)]
+pub enum How {
+    /// The rows.
+    Rows,
+    /// `PROVENANCE OF`: the rows with their provenance.
+    Provenance,
+    /// `EXPLAIN`: the query that computes the rows.
+    Explain {
+        /// The query computes the provenance too.
+        prov: bool,
+    },
+    /// `VALUE IN`: the rows with their values in a semiring.
+    Value {
+        /// The semiring.
+        semiring: SemiringName,
+        /// The values of tokens, of which the first rule that matches counts.
+        rules: Sequence<Rule>,
+        /// The value of the tokens that no rule matches, if ELSE gives one.
+        other: Option<u64>,
+    },
+}
+
+/// A question.
+#[derive(Drop)]
+pub enum Question {
+    /// `LOG`: the log of a transaction.
+    Log {
+        /// The transaction.
+        t: u64,
+    },
+    /// `VERSIONS OF`: the versions of a table's rows.
+    Versions {
+        /// The table.
+        table: Name,
+    },
+    /// A query over a state.
+    Ask {
+        /// What it asks for.
+        how: How,
+        /// The state.
+        state: State,
+        /// The query.
+        query: Query,
+    },
+}
