@@ -1,17 +1,19 @@
-//! Shelves and sinks: in memory, with injected failures, and the real ones.
-
+//! Shelves and sinks in memory, on a disk and over files that fail in mid-stream. The expected
+//! values are worked out by hand.
 use gp_io::{
     CalmShelf, CalmSink, DiskShelf, MemShelf, MemSink, NamedFile, OutSink, Shelf, ShelfStop, Sink,
     SinkStop,
 };
-use std::alloc::{AllocError, Global};
-use std::io::ErrorKind;
+use std::alloc::{AllocError, Allocator, Global};
+use std::fs::{Metadata, OpenFile, OpenOptions};
+use std::io::{ErrorKind, Read, Seek, SeekFrom, Write};
+use std::rt::Files;
 use std::test::Fail;
 use std::{fs, io};
 
-const FOLDER: &str = "gp_io_test_folder";
+const DIRECTORY: &str = "gp_io_test_directory";
 
-const FILE: &str = "gp_io_test_folder/a.txt";
+const FILE: &str = "gp_io_test_directory/a.txt";
 
 fn named(alloc: Global, name: &str, bytes: &[u8]) -> Result<NamedFile, AllocError> {
     Ok(NamedFile {
@@ -20,7 +22,7 @@ fn named(alloc: Global, name: &str, bytes: &[u8]) -> Result<NamedFile, AllocErro
     })
 }
 
-/// Two files of one name, of which the first counts.
+/// Two files of one name, of which the second is never read.
 fn two_files(alloc: Global) -> Result<Vec<NamedFile>, AllocError> {
     let mut files = Vec::new(alloc);
     files.push(named(alloc, "a", b"one")?)?;
@@ -28,30 +30,24 @@ fn two_files(alloc: Global) -> Result<Vec<NamedFile>, AllocError> {
     Ok(files)
 }
 
-/// Whether the file begins with this prefix.
-fn gives<H: Shelf>(shelf: &mut H, name: &str, most: usize, prefix: &[u8]) -> bool {
+/// Whether a read through the trait gives these bytes.
+fn gives<H: Shelf>(shelf: &mut H, name: &str, most: usize, bytes: &[u8]) -> bool {
     match shelf.read(name, most) {
-        Ok(bytes) => bytes.as_slice() == prefix,
+        Ok(read) => read.as_slice() == bytes,
         Err(_) => false,
     }
 }
 
-/// Whether a read stops so.
+/// Whether a read through the trait stops for this reason.
 fn stops<H: Shelf>(shelf: &mut H, name: &str, stop: ShelfStop) -> bool {
-    shelf.read(name, 100).err() == Some(stop)
-}
-
-/// Whether a replacement fails.
-fn fails<H: Shelf>(shelf: &mut H, name: &str) -> bool {
-    shelf.replace(name, b"") == Err(ShelfStop::Failed)
-}
-
-fn write<K: Sink>(sink: &mut K, bytes: &[u8]) -> Result<(), SinkStop> {
-    sink.write_all(bytes)
+    match shelf.read(name, 100) {
+        Ok(_) => false,
+        Err(other) => other == stop,
+    }
 }
 
 #[test]
-fn calm_shelf_gives_its_files(rt: HostRuntime) -> Result<(), Fail> {
+fn calm_shelf_reads_the_first_file_of_a_name(rt: HostRuntime) -> Result<(), Fail> {
     let mut shelf = CalmShelf::new(rt.alloc(), two_files(rt.alloc())?);
     assert!(rt; gives(&mut shelf, "a", 2, b"on"));
     assert!(rt; gives(&mut shelf, "a", 100, b"one"));
@@ -60,64 +56,198 @@ fn calm_shelf_gives_its_files(rt: HostRuntime) -> Result<(), Fail> {
 }
 
 #[test]
-fn calm_shelf_replaces_files(rt: HostRuntime) -> Result<(), Fail> {
+fn calm_shelf_reads_what_was_replaced(rt: HostRuntime) -> Result<(), Fail> {
     let mut shelf = CalmShelf::new(rt.alloc(), two_files(rt.alloc())?);
     shelf.replace("b", b"new")?;
     shelf.replace("a", b"")?;
+    assert!(rt; gives(&mut shelf, "b", 3, b"new"));
     assert!(rt; gives(&mut shelf, "a", 100, b""));
-    assert!(rt; gives(&mut shelf, "b", 100, b"new"));
     Ok(())
 }
 
 #[test]
-fn mem_shelf_fails_at_the_given_calls(rt: HostRuntime) -> Result<(), Fail> {
-    let mut shelf = MemShelf::new(
-        rt.alloc(),
-        two_files(rt.alloc())?,
-        vec![in rt.alloc(); 1u64, 4]?,
-    );
+fn mem_shelf_fails_at_the_calls_of_its_plan(rt: HostRuntime) -> Result<(), Fail> {
+    let alloc = rt.alloc();
+    let mut shelf = MemShelf::new(alloc, two_files(alloc)?, vec![in alloc; 1u64, 4]?);
     assert!(rt; stops(&mut shelf, "a", ShelfStop::Failed));
     assert!(rt; gives(&mut shelf, "a", 100, b"one"));
     shelf.replace("a", b"two")?;
-    assert!(rt; fails(&mut shelf, "a"));
+    assert!(rt; shelf.replace("a", b"three") == Err(ShelfStop::Failed));
     assert!(rt; gives(&mut shelf, "a", 100, b"two"));
+    assert!(rt; stops(&mut shelf, "b", ShelfStop::Absent));
     Ok(())
 }
 
 #[test]
-fn calm_sink_keeps_all_bytes(rt: HostRuntime) -> Result<(), Fail> {
+fn calm_sink_keeps_what_was_written(rt: HostRuntime) -> Result<(), Fail> {
     let mut sink = CalmSink::new(rt.alloc());
-    write(&mut sink, b"one ")?;
-    write(&mut sink, b"two")?;
+    sink.write_all(b"one ")?;
+    sink.write_all(b"two")?;
     assert!(rt; sink.bytes() == b"one two".as_slice());
     Ok(())
 }
 
 #[test]
-fn mem_sink_fails_at_the_given_calls(rt: HostRuntime) -> Result<(), Fail> {
+fn mem_sink_fails_at_the_calls_of_its_plan(rt: HostRuntime) -> Result<(), Fail> {
     let mut sink = MemSink::new(rt.alloc(), vec![in rt.alloc(); 1u64]?);
-    assert!(rt; write(&mut sink, b"lost") == Err(SinkStop::Failed));
-    write(&mut sink, b"kept")?;
+    assert!(rt; sink.write_all(b"lost") == Err(SinkStop::Failed));
+    assert!(rt; sink.bytes().is_empty());
+    sink.write_all(b"kept")?;
     assert!(rt; sink.bytes() == b"kept".as_slice());
     Ok(())
 }
 
 #[test]
 fn disk_shelf_reads_and_replaces_real_files(rt: HostRuntime) -> Result<(), Fail> {
-    let _ = fs::remove_dir_all(&rt, FOLDER);
-    fs::create_dir(&rt, FOLDER)?;
+    let _ = fs::remove_dir_all(&rt, DIRECTORY);
+    fs::create_dir(&rt, DIRECTORY)?;
     let mut shelf = DiskShelf::new(rt, rt.alloc());
     assert!(rt; stops(&mut shelf, FILE, ShelfStop::Absent));
     shelf.replace(FILE, b"longer than the next")?;
     shelf.replace(FILE, b"a line\n")?;
     assert!(rt; gives(&mut shelf, FILE, 100, b"a line\n"));
     assert!(rt; gives(&mut shelf, FILE, 3, b"a l"));
-    // Neither a folder nor a path through a file is "no such file".
-    assert!(rt; stops(&mut shelf, FOLDER, ShelfStop::Failed));
-    assert!(rt; stops(&mut shelf, "gp_io_test_folder/a.txt/b", ShelfStop::Failed));
-    assert!(rt; fails(&mut shelf, FOLDER));
-    assert!(rt; fails(&mut shelf, "gp_io_test_folder/none/b"));
-    fs::remove_dir_all(&rt, FOLDER)?;
+    fs::remove_dir_all(&rt, DIRECTORY)?;
+    Ok(())
+}
+
+/// Neither a directory nor a path through a file is a missing file.
+#[test]
+fn disk_shelf_fails_at_what_is_no_file(rt: HostRuntime) -> Result<(), Fail> {
+    let directory = "gp_io_test_no_file";
+    let _ = fs::remove_dir_all(&rt, directory);
+    fs::create_dir(&rt, directory)?;
+    let mut shelf = DiskShelf::new(rt, rt.alloc());
+    shelf.replace("gp_io_test_no_file/a.txt", b"")?;
+    for path in [directory, "gp_io_test_no_file/a.txt/b"] {
+        assert!(rt; stops(&mut shelf, path, ShelfStop::Failed), "{path}");
+    }
+    for path in [directory, "gp_io_test_no_file/none/b"] {
+        assert!(rt;
+            shelf.replace(path, b"") == Err(ShelfStop::Failed),
+            "{path}"
+        );
+    }
+    fs::remove_dir_all(&rt, directory)?;
+    Ok(())
+}
+
+fn broken<T>() -> io::Result<T> {
+    Err(io::Error::from(ErrorKind::Other))
+}
+
+/// A file that gives one byte and takes one, and then fails.
+#[derive(Drop)]
+struct TornFile {
+    is_used: bool,
+}
+
+impl Read for TornFile {
+    fn read(&mut self, buf: &mut [u8]) -> io::Result<usize> {
+        if self.is_used || buf.is_empty() {
+            return Err(io::Error::from(ErrorKind::Other));
+        }
+        self.is_used = true;
+        buf[0] = b'a';
+        Ok(1)
+    }
+}
+
+impl Write for TornFile {
+    fn write(&mut self, buf: &[u8]) -> io::Result<usize> {
+        if self.is_used || buf.is_empty() {
+            return Err(io::Error::from(ErrorKind::Other));
+        }
+        self.is_used = true;
+        Ok(1)
+    }
+
+    fn flush(&mut self) -> io::Result<()> {
+        Ok(())
+    }
+}
+
+impl Seek for TornFile {
+    fn seek(&mut self, _to: SeekFrom) -> io::Result<u64> {
+        broken()
+    }
+}
+
+impl OpenFile for TornFile {
+    fn metadata(&self) -> io::Result<Metadata> {
+        broken()
+    }
+
+    fn set_len(&self, _size: u64) -> io::Result<()> {
+        broken()
+    }
+
+    fn sync_all(&self) -> io::Result<()> {
+        broken()
+    }
+
+    fn sync_data(&self) -> io::Result<()> {
+        broken()
+    }
+}
+
+/// A file system in which each file fails in mid-stream.
+#[derive(Drop)]
+struct TornFiles;
+
+impl Files for TornFiles {
+    type File = TornFile;
+
+    type Dir = TornFile;
+
+    fn open_file(&self, _how: &OpenOptions, _path: &str) -> io::Result<TornFile> {
+        Ok(TornFile { is_used: false })
+    }
+
+    fn open_dir(&self, _path: &str) -> io::Result<TornFile> {
+        broken()
+    }
+
+    fn metadata(&self, _path: &str) -> io::Result<Metadata> {
+        broken()
+    }
+
+    fn symlink_metadata(&self, _path: &str) -> io::Result<Metadata> {
+        broken()
+    }
+
+    fn copy(&self, _from: &str, _to: &str) -> io::Result<u64> {
+        broken()
+    }
+
+    fn rename(&self, _from: &str, _to: &str) -> io::Result<()> {
+        broken()
+    }
+
+    fn remove_file(&self, _path: &str) -> io::Result<()> {
+        broken()
+    }
+
+    fn create_dir(&self, _path: &str) -> io::Result<()> {
+        broken()
+    }
+
+    fn remove_dir(&self, _path: &str) -> io::Result<()> {
+        broken()
+    }
+
+    fn remove_dir_all<B: Allocator>(&self, _alloc: B, _path: &str) -> io::Result<()> {
+        broken()
+    }
+}
+
+#[test]
+fn disk_shelf_fails_in_mid_stream(rt: HostRuntime) -> Result<(), Fail> {
+    let mut shelf = DiskShelf::new(TornFiles, rt.alloc());
+    assert!(rt; stops(&mut shelf, "a", ShelfStop::Failed));
+    assert!(rt; gives(&mut shelf, "a", 1, b"a"));
+    assert!(rt; shelf.replace("a", b"xy") == Err(ShelfStop::Failed));
+    assert!(rt; shelf.replace("a", b"x") == Ok(()));
     Ok(())
 }
 
@@ -127,21 +257,21 @@ struct Closed;
 
 impl Print for Closed {
     fn print<D: std::fmt::Display + Drop>(&self, _value: D) -> io::Result<()> {
-        Err(io::Error::from(ErrorKind::BrokenPipe))
+        broken()
     }
 
     fn println<D: std::fmt::Display + Drop>(&self, _value: D) -> io::Result<()> {
-        Err(io::Error::from(ErrorKind::BrokenPipe))
+        broken()
     }
 
     fn write_all(&self, _bytes: &[u8]) -> io::Result<()> {
-        Err(io::Error::from(ErrorKind::BrokenPipe))
+        broken()
     }
 }
 
 #[test]
-fn out_sink_writes_and_reports_an_error(rt: HostRuntime) -> Result<(), Fail> {
-    write(&mut OutSink::new(rt), b"written to the standard output\n")?;
-    assert!(rt; write(&mut OutSink::new(Closed), b"x") == Err(SinkStop::Failed));
+fn out_sink_writes_and_reports_write_errors(rt: HostRuntime) -> Result<(), Fail> {
+    OutSink::new(rt).write_all(b"written to the standard output\n")?;
+    assert!(rt; OutSink::new(Closed).write_all(b"x") == Err(SinkStop::Failed));
     Ok(())
 }

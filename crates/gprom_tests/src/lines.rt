@@ -138,7 +138,10 @@ fn longest_commands_are_read(rt: HostRuntime) -> Result<(), Fail> {
 
 /// Whether the line is refused as not built.
 fn is_line_refused(alloc: Global, line: &[u8]) -> bool {
-    read_line(alloc, line).err() == Some(ReadStop::Refused(Refusal::NotBuilt))
+    matches!(
+        read_line(alloc, line),
+        Err(ReadStop::Refused(Refusal::NotBuilt))
+    )
 }
 
 const OTHER_LINES: &[&[u8]] = &[
@@ -211,13 +214,17 @@ const OTHER_TEXTS: &[&[u8]] = &[
     b"SELECT * FROM r\xff",
 ];
 
+/// Whether the text is refused as not built.
+fn is_text_refused(alloc: Global, text: &[u8]) -> bool {
+    matches!(
+        read_command(alloc, text),
+        Err(ReadStop::Refused(Refusal::NotBuilt))
+    )
+}
+
 #[test]
 fn other_texts_are_refused(rt: HostRuntime) {
     for text in OTHER_TEXTS {
-        let stop = read_command(rt.alloc(), text).err();
-        assert!(rt;
-            stop == Some(ReadStop::Refused(Refusal::NotBuilt)),
-            "{text:?}"
-        );
+        assert!(rt; is_text_refused(rt.alloc(), text), "{text:?}");
     }
 }
