@@ -7,7 +7,7 @@ use Rattle.gp_base.specs.declared.table.Table.{Table}
 use Rattle.gp_grammar.specs.Syntax.{ScriptLine}
 use Rattle.gp_grammar.specs.LineReading.{Fault, script_line_of}
 use Rattle.gp_syntax.specs.Lines.{script_lines}
-use Rattle.gp_syntax.specs.Reading.{refusal_of}
+use Rattle.gp_syntax.specs.Refusals.{refusal_of}
 use Rattle.gp_engine.specs.declared.reply.Reply.{Reply}
 use Rattle.gp_engine.specs.State.{State, empty_state}
 use Rattle.gp_engine.specs.Event.{event, refused}

@@ -6,7 +6,7 @@ ghost use Rattle.gp_base.specs.declared.table.Table.{Table};
 ghost use Rattle.gp_engine.specs.Replies.{line_text, row_line, name_at};
 
 use crate::reply::Reply;
-use gp_base::{NoMemory, Refusal, Row, Sequence, Table, sort_rows, write_row};
+use gp_base::{NoMemory, Refusal, Row, Sequence, Table, sort_rows, write_refusal, write_row};
 use std::alloc::Global;
 use std::fmt::Display;
 
@@ -71,12 +71,14 @@ fn committed_text(alloc: Global, number: u32, t: u32, version: u32) -> Result<Ve
     Ok(text.into_bytes())
 }
 
-fn refused_text(alloc: Global, number: u32, refusal: Refusal) -> Result<Vec<u8>, NoMemory>
+fn refused_text(alloc: Global, number: u32, refusal: &Refusal) -> Result<Vec<u8>, NoMemory>
     ensures { IfOk result (λ text. (tables : List Table)
-        → text.items ≡ line_text number tables (Reply.Refused refusal)) }
+        → text.items ≡ line_text number tables (Reply.Refused refusal.now)) }
 {
-    let text = short_text(alloc, format_args!("{number} {refusal}\n"))?;
-    Ok(text.into_bytes())
+    let mut text = short_text(alloc, format_args!("{number} "))?.into_bytes();
+    write_refusal(alloc, refusal, &mut text)?;
+    text.push(b'\n')?;
+    Ok(text)
 }
 
 /// Appends the rows, each on a line of its own.
@@ -122,7 +124,7 @@ fn line_text(
         Reply::Wrote { rows } => wrote_text(alloc, number, rows),
         Reply::Rows(rows) => rows_text(alloc, number, tables, rows),
         Reply::Committed { t, version } => committed_text(alloc, number, t, version),
-        Reply::Refused(refusal) => refused_text(alloc, number, refusal),
+        Reply::Refused(refusal) => refused_text(alloc, number, &refusal),
     }
 }
 

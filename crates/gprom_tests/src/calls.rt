@@ -170,7 +170,7 @@ fn write_error_is_reported(rt: HostRuntime) -> Result<(), Fail> {
 #[test]
 fn a_script_has_a_greatest_length(rt: HostRuntime) -> Result<(), Fail> {
     let longest = vec![in rt.alloc(); b'x'; 16_777_216]?;
-    assert!(rt; ends(rt.alloc(), RUN, &longest, "1 E29 not built\n", 1)?);
+    assert!(rt; ends(rt.alloc(), RUN, &longest, "1 E16 line too long\n", 1)?);
     let longer = vec![in rt.alloc(); b'x'; 16_777_217]?;
     assert!(rt; ends(rt.alloc(), RUN, &longer, "too long S\n", 6)?);
     Ok(())

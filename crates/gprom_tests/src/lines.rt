@@ -1,9 +1,8 @@
 //! Lines of scripts, and the commands that they hold.
 
-use gp_base::{NoMemory, Refusal};
-use gp_syntax::{
-    Command, ReadStop, lines, read_command, read_line, reading_is_unambiguous, write_command,
-};
+use gp_base::{NoMemory, write_refusal};
+use gp_grammar::canonical_texts_are_read;
+use gp_syntax::{ReadStop, lines, read_command, read_line, read_question, write_command};
 use std::alloc::{AllocError, Global};
 use std::process::Abort;
 use std::test::Fail;
@@ -85,146 +84,211 @@ fn longest_comment_gets_no_reply(rt: HostRuntime) -> Result<(), Fail> {
     Ok(())
 }
 
-/// Whether the command has this canonical text.
-fn is_written(alloc: Global, command: &Command, text: &[u8]) -> Result<bool, NoMemory> {
-    Ok(write_command(alloc, command)?.as_slice() == text)
+/// Whether the line is read as a line of the session whose command has this canonical text.
+fn reads(alloc: Global, line: &[u8], session: u32, text: &[u8]) -> Result<bool, NoMemory> {
+    match read_line(alloc, line) {
+        Ok(read) => Ok(read.session == session
+            && write_command(alloc, &read.command)?.as_slice() == text),
+        Err(_) => Ok(false),
+    }
 }
 
-/// Whether the text is read, alone and as a line of session 1, as the command that has this text.
-fn is_read(alloc: Global, text: &[u8]) -> Result<bool, Fail> {
-    let line = repeated(alloc, b"s1: ", text, 1, b"")?;
-    let read = read_line(alloc, &line)?;
-    let command = read_command(alloc, text)?;
-    Ok(
-        read.session == 1
-            && is_written(alloc, &read.command, text)?
-            && is_written(alloc, &command, text)?,
-    )
-}
-
-const COMMANDS: &[&[u8]] = &[
-    b"BEGIN",
-    b"COMMIT",
-    b"CREATE TABLE r (a INT, b INT)",
-    b"CREATE TABLE r (r INT)",
-    b"CREATE TABLE a23456789_123456789_1234567890 (b23456789_123456789_1234567890 INT)",
-    b"CREATE TABLE r (a INT, b INT, c INT, d INT, e INT, f INT, g INT, h INT, i INT, j INT, k INT, l INT, m INT, n INT, o INT, p INT)",
-    b"INSERT INTO r VALUES (1, 10), (2, -20)",
-    b"INSERT INTO selects VALUES (0)",
-    b"INSERT INTO r VALUES (9223372036854775807, -9223372036854775808)",
-    b"INSERT INTO r VALUES (1), (2, 3)",
-    b"SELECT * FROM r",
-    b"SELECT * FROM a_1",
+/// Lines, their sessions and their canonical texts.
+const COMMANDS: &[(&[u8], u32, &[u8])] = &[
+    (b"s1: BEGIN", 1, b"BEGIN"),
+    (b"S64:commit;", 64, b"COMMIT"),
+    (b"s7 : Rollback ;", 7, b"ROLLBACK"),
+    (
+        b"s1: CREATE TABLE R ( a INT,b text )",
+        1,
+        b"CREATE TABLE r (a INT, b TEXT)",
+    ),
+    (
+        b"s1: insert into r values (1, -20, null, 'it''s'), (-9223372036854775808, -0, 007, '')",
+        1,
+        b"INSERT INTO r VALUES (1, -20, NULL, 'it''s'), (-9223372036854775808, 0, 7, '')",
+    ),
+    (
+        b"s1: update R set b = -b * 2 + 1 where not a = 1 and b is null or a <> 2",
+        1,
+        b"UPDATE r SET b = (((-b) * 2) + 1) WHERE (((NOT (a = 1)) AND (b IS NULL)) OR (a <> 2))",
+    ),
+    (
+        b"s3 :DELETE FROM r WHERE a!=1 IS NOT TRUE",
+        3,
+        b"DELETE FROM r WHERE ((a <> 1) IS NOT TRUE)",
+    ),
+    (
+        b"s1: SELECT *FROM r AS r,t x UNION ALL SELECT CASE WHEN x.a=1 THEN 1 ELSE b END FROM r",
+        1,
+        b"SELECT * FROM r, t x UNION ALL SELECT CASE WHEN (x.a = 1) THEN 1 ELSE b END FROM r",
+    ),
+    (
+        b"s2: INSERT INTO r SELECT a - 1 - 2 FROM r WHERE a < 3",
+        2,
+        b"INSERT INTO r SELECT ((a - 1) - 2) FROM r WHERE (a < 3)",
+    ),
 ];
 
 #[test]
-fn canonical_texts_are_read(rt: HostRuntime) -> Result<(), Fail> {
-    reading_is_unambiguous();
-    for text in COMMANDS {
-        assert!(rt; is_read(rt.alloc(), text)?, "{text:?}");
+fn commands_are_read(rt: HostRuntime) -> Result<(), Fail> {
+    for (line, session, text) in COMMANDS {
+        assert!(rt; reads(rt.alloc(), line, *session, text)?, "{line:?}");
+    }
+    Ok(())
+}
+
+/// Whether the command of the text has the text again.
+fn is_canonical(alloc: Global, text: &[u8]) -> Result<bool, NoMemory> {
+    match read_command(alloc, text) {
+        Ok(command) => Ok(write_command(alloc, &command)?.as_slice() == text),
+        Err(_) => Ok(false),
+    }
+}
+
+#[test]
+fn canonical_texts_are_read_again(rt: HostRuntime) -> Result<(), Fail> {
+    canonical_texts_are_read();
+    for (_, _, text) in COMMANDS {
+        assert!(rt; is_canonical(rt.alloc(), text)?, "{text:?}");
+    }
+    Ok(())
+}
+
+/// The text of the refusal, or of no refusal.
+fn refusal_text(alloc: Global, stop: Option<ReadStop>) -> Result<Vec<u8>, NoMemory> {
+    let mut out = Vec::new(alloc);
+    if let Some(ReadStop::Refused(refusal)) = stop {
+        write_refusal(alloc, &refusal, &mut out)?;
+    }
+    Ok(out)
+}
+
+/// Whether the line is refused so.
+fn refuses(alloc: Global, line: &[u8], expected: &str) -> Result<bool, NoMemory> {
+    let text = refusal_text(alloc, read_line(alloc, line).err())?;
+    Ok(text.as_slice() == expected.as_bytes())
+}
+
+const FAULTS: &[(&[u8], &str)] = &[
+    (b"s1: SELCT * FROM r", "E03 syntax fault at column 5"),
+    (
+        b"s1: SELECT * FROM r WHERE a = 'x",
+        "E02 lexical fault at column 31",
+    ),
+    (b"s1: SELECT a ! b FROM r", "E02 lexical fault at column 14"),
+    (b"s65: BEGIN", "E03 syntax fault at column 1"),
+    (b"s1 BEGIN", "E03 syntax fault at column 4"),
+    (b"s1: \xff", "E01 not UTF-8"),
+    (
+        b"s2: SELECT * FROM nowhere WHERE",
+        "E03 syntax fault at column 32",
+    ),
+    (
+        b"s1: INSERT INTO r VALUES (9223372036854775808)",
+        "E03 syntax fault at column 27",
+    ),
+    (
+        b"s1: INSERT INTO r VALUES (9223372036854775809)",
+        "E02 lexical fault at column 27",
+    ),
+    (b"s1: COMMIT\r", "E02 lexical fault at column 11"),
+    (
+        b"s2: CREATE TABLE w (a INT, b INT, c INT, d INT, e INT, f INT, g INT, h INT, i INT, j INT, k INT, l INT, m INT, n INT, o INT, p INT, q INT)",
+        "E14 limit columns",
+    ),
+    (b"s1: SELECT a FROM r, r, r, r, r", "E14 limit from"),
+];
+
+#[test]
+fn faults_are_refused(rt: HostRuntime) -> Result<(), Fail> {
+    for (line, refusal) in FAULTS {
+        assert!(rt; refuses(rt.alloc(), line, refusal)?, "{line:?}");
     }
     Ok(())
 }
 
 #[test]
-fn longest_commands_are_read(rt: HostRuntime) -> Result<(), Fail> {
-    let rows = repeated(rt.alloc(), b"INSERT INTO r VALUES (0)", b", (0)", 99, b"")?;
-    assert!(rt; is_read(rt.alloc(), &rows)?);
-    let longest = repeated(rt.alloc(), b"INSERT INTO r VALUES (1", b", 1", 1356, b")")?;
-    assert!(rt; longest.len() == 4092);
-    assert!(rt; is_read(rt.alloc(), &longest)?);
+fn longest_line_is_read(rt: HostRuntime) -> Result<(), Fail> {
+    let line = repeated(rt.alloc(), b"s1: BEGIN", b" ", 4087, b"")?;
+    assert!(rt; reads(rt.alloc(), &line, 1, b"BEGIN")?);
+    let line = repeated(rt.alloc(), b"s1: BEGIN", b" ", 4088, b"")?;
+    assert!(rt; refuses(rt.alloc(), &line, "E16 line too long")?);
     Ok(())
 }
 
-/// Whether the line is refused as not built.
-fn is_line_refused(alloc: Global, line: &[u8]) -> bool {
-    matches!(
-        read_line(alloc, line),
-        Err(ReadStop::Refused(Refusal::NotBuilt))
-    )
-}
-
-const OTHER_LINES: &[&[u8]] = &[
-    b"",
-    b"s1",
-    b"BEGIN",
-    b"s2: BEGIN",
-    b"S1: BEGIN",
-    b"s1:BEGIN",
-    b"s1 : BEGIN",
-    b"s1:  BEGIN",
-    b" s1: BEGIN",
-    b"s1: BEGIN\r",
-    b"\xff\xfe",
-];
-
 #[test]
-fn other_lines_are_refused(rt: HostRuntime) -> Result<(), Fail> {
-    for line in OTHER_LINES {
-        assert!(rt; is_line_refused(rt.alloc(), line), "{line:?}");
-    }
-    let long = repeated(
-        rt.alloc(),
-        b"s1: INSERT INTO rr VALUES (1",
-        b", 1",
-        1356,
-        b")",
-    )?;
-    assert!(rt; long.len() == 4097);
-    assert!(rt; is_line_refused(rt.alloc(), &long));
+fn deep_brackets_are_refused(rt: HostRuntime) -> Result<(), Fail> {
+    let line = repeated(rt.alloc(), b"s1: SELECT ", b"(", 61, b"")?;
+    assert!(rt; refuses(rt.alloc(), &line, "E14 limit depth")?);
+    let line = repeated(rt.alloc(), b"", b"(", 4096, b"")?;
+    assert!(rt; refuses(rt.alloc(), &line, "E14 limit depth")?);
+    let line = repeated(rt.alloc(), b"s1: SELECT ", b"(", 60, b"")?;
+    assert!(rt; refuses(rt.alloc(), &line, "E03 syntax fault at column 72")?);
     Ok(())
 }
 
-const OTHER_TEXTS: &[&[u8]] = &[
-    b"CREATE TABLE table (a INT)",
-    b"CREATE TABLE r (where INT)",
-    b"CREATE TABLE r23456789_123456789_12345678901 (a INT)",
-    b"CREATE TABLE R (a INT)",
-    b"CREATE TABLE _r (a INT)",
-    b"CREATE TABLE r (a INT, b INT, c INT, d INT, e INT, f INT, g INT, h INT, i INT, j INT, k INT, l INT, m INT, n INT, o INT, p INT, q INT)",
-    b"CREATE TABLE r (a INT, b INT, a INT)",
-    b"CREATE TABLE r (a INT, b TEXT)",
-    b"CREATE TABLE r ()",
-    b"CREATE TABLE r (a INT",
-    b"CREATE TABLE r (a int)",
-    b"CREATE TABLE r ( a INT)",
-    b"CREATE TABLE r (a INT,b INT)",
-    b"INSERT INTO r VALUES (1), ()",
-    b"INSERT INTO r VALUES (-0)",
-    b"INSERT INTO r VALUES (007)",
-    b"INSERT INTO r VALUES (+1)",
-    b"INSERT INTO r VALUES (9223372036854775808)",
-    b"INSERT INTO r VALUES (-9223372036854775809)",
-    b"INSERT INTO r VALUES (1,2)",
-    b"INSERT INTO r VALUES (1) (2)",
-    b"INSERT INTO r VALUES ",
-    b"INSERT INTO r VALUES (NULL)",
-    b"INSERT INTO r VALUES ('a')",
-    b"INSERT INTO r VALUES (\xff)",
-    b"",
-    b"begin",
-    b"BEGIN;",
-    b"COMMIT ",
-    b"ROLLBACK",
-    b"SELECT *  FROM r",
-    b"SELECT * FROM values",
-    b"SELECT * FROM ",
-    b"SELECT a FROM r",
-    b"DELETE FROM r",
-    b"SELECT * FROM r\xff",
-];
-
-/// Whether the text is refused as not built.
-fn is_text_refused(alloc: Global, text: &[u8]) -> bool {
-    matches!(
-        read_command(alloc, text),
-        Err(ReadStop::Refused(Refusal::NotBuilt))
-    )
+#[test]
+fn longest_texts_are_read(rt: HostRuntime) -> Result<(), Fail> {
+    let text = repeated(rt.alloc(), b"INSERT INTO r VALUES ('", b"x", 255, b"')")?;
+    assert!(rt; is_canonical(rt.alloc(), &text)?);
+    let line = repeated(rt.alloc(), b"s1: INSERT INTO r VALUES ('", b"x", 256, b"')")?;
+    assert!(rt; refuses(rt.alloc(), &line, "E02 lexical fault at column 27")?);
+    Ok(())
 }
 
 #[test]
-fn other_texts_are_refused(rt: HostRuntime) {
-    for text in OTHER_TEXTS {
-        assert!(rt; is_text_refused(rt.alloc(), text), "{text:?}");
+fn longest_names_are_read(rt: HostRuntime) -> Result<(), Fail> {
+    let text = repeated(rt.alloc(), b"DELETE FROM ", b"x", 30, b"")?;
+    assert!(rt; is_canonical(rt.alloc(), &text)?);
+    let line = repeated(rt.alloc(), b"s1: DELETE FROM ", b"x", 31, b"")?;
+    assert!(rt; refuses(rt.alloc(), &line, "E02 lexical fault at column 17")?);
+    Ok(())
+}
+
+/// Lines that are questions of each form.
+const QUESTIONS: &[&[u8]] = &[
+    b"LOG 3",
+    b"versions of R;",
+    b"AS OF 2 SELECT * FROM r",
+    b"REENACT 2 AFTER 1 SELECT a FROM r x",
+    b"EXPLAIN REENACT 3 COMMIT SELECT * FROM r",
+    b"PROVENANCE OF AS OF 5 SELECT * FROM acct WHERE id > 10",
+    b"EXPLAIN PROVENANCE OF REENACT 2 AFTER 1 SELECT * FROM r",
+    b"VALUE IN COUNT OF AS OF 2 SELECT * FROM r",
+    b"VALUE IN COST (i = 3, q1.2 = 1, i1.2.3 = 4, ELSE 2) OF AS OF 2 SELECT * FROM r",
+    b"VALUE IN LEVEL (ELSE 0) OF REENACT 1 COMMIT SELECT * FROM r",
+];
+
+#[test]
+fn questions_are_read(rt: HostRuntime) {
+    for line in QUESTIONS {
+        assert!(rt; read_question(rt.alloc(), line).is_ok(), "{line:?}");
     }
+}
+
+const QUESTION_FAULTS: &[(&[u8], &str)] = &[
+    (
+        b"AS OF 9223372036854775808 SELECT * FROM r",
+        "E03 syntax fault at column 7",
+    ),
+    (b"LOG", "E03 syntax fault at column 4"),
+    (
+        b"VALUE IN COST (i0 = 1) OF AS OF 2 SELECT * FROM r",
+        "E03 syntax fault at column 16",
+    ),
+];
+
+/// Whether the question is refused so.
+fn refuses_question(alloc: Global, line: &[u8], expected: &str) -> Result<bool, NoMemory> {
+    let text = refusal_text(alloc, read_question(alloc, line).err())?;
+    Ok(text.as_slice() == expected.as_bytes())
+}
+
+#[test]
+fn question_faults_are_refused(rt: HostRuntime) -> Result<(), Fail> {
+    for (line, refusal) in QUESTION_FAULTS {
+        assert!(rt; refuses_question(rt.alloc(), line, refusal)?, "{line:?}");
+    }
+    Ok(())
 }

@@ -99,7 +99,7 @@ fn rows_are_sorted(rt: HostRuntime) -> Result<(), Fail> {
 fn refusals_have_texts(rt: HostRuntime) -> Result<(), Fail> {
     let mut out = Vec::new(rt.alloc());
     for refusal in [Refusal::NotBuilt, Refusal::E09, Refusal::E10] {
-        write_refusal(&refusal, &mut out)?;
+        write_refusal(rt.alloc(), &refusal, &mut out)?;
     }
     assert!(rt;
         out.as_slice() == b"E29 not builtE09 transaction activeE10 no transaction".as_slice()
