@@ -1,52 +1,28 @@
-//! The limits that commands are refused for.
+//! The limits that a script can pass.
 
-/// What is limited, by the name that a refusal prints.
-#[derive(Clone, Copy, PartialEq, Eq)]
+/// A limit, as a refusal names it.
+#[derive(Clone, Copy)]
 pub enum Limit {
-    /// The tables of a history.
+    /// `tables`: the tables of a database.
     Tables,
-    /// The columns of a table or of a written select list.
+    /// `columns`: the columns of a table or of a written select list.
     Columns,
-    /// The items of a FROM.
+    /// `from`: the items of a FROM.
     From,
-    /// The blocks with UNION ALL between them.
+    /// `branches`: the blocks of a query.
     Branches,
-    /// The tuples of a VALUES.
+    /// `values`: the rows of a VALUES.
     Values,
-    /// The nodes of a term.
+    /// `nodes`: the nodes of a term.
     Nodes,
-    /// The open brackets and CASEs of a line, or the levels of a term.
+    /// `depth`: the open brackets and CASEs of a line, and the levels of a term.
     Depth,
-    /// The transactions of a history.
+    /// `transactions`: the transactions of a script.
     Transactions,
-    /// The statements of a history.
+    /// `statements`: the statements of a script.
     Statements,
-    /// The statements of a transaction.
+    /// `steps`: the statements of a transaction.
     Steps,
-    /// The row versions over all tables.
+    /// `versions`: the row versions over all tables.
     Versions,
-}
-
-impl Limit {
-    ghost use Rattle.std.specs.Prelude.{◌≡◌};
-    ghost use Rattle.gp_base.specs.Texts.{limit_text};
-
-    /// The name that a refusal prints.
-    pub fn name(self) -> &'static [u8]
-        ensures { result.now ≡ limit_text self }
-    {
-        match self {
-            Limit::Tables => b"tables",
-            Limit::Columns => b"columns",
-            Limit::From => b"from",
-            Limit::Branches => b"branches",
-            Limit::Values => b"values",
-            Limit::Nodes => b"nodes",
-            Limit::Depth => b"depth",
-            Limit::Transactions => b"transactions",
-            Limit::Statements => b"statements",
-            Limit::Steps => b"steps",
-            Limit::Versions => b"versions",
-        }
-    }
 }

@@ -1,32 +1,43 @@
 //! Why a line of a script or a question is refused.
 
-ghost use Rattle.std.specs.Prelude.{◌≡◌, ◌++◌, ◌∷◌, [], OnOk, OnErr, IfOk, decimal};
+ghost use Rattle.std.specs.Prelude.{◌≡◌, ◌++◌, ◌∷◌, [], codes, IfOk, OnOk, OnErr};
+ghost use Rattle.std.specs.Fmt.{decimal};
 ghost use Rattle.std.specs.List.{concat};
-ghost use Rattle.gp_base.specs.Texts.{column_text, refusal_fields, refusal_text, refusal_words};
-ghost use Rattle.gp_base.specs.Writing.{AppendsPrefix};
+ghost use Rattle.gp_base.specs.Refusals.{column_text, fate_text, limit_text, refusal_text};
 
 use crate::error::NoMemory;
-use crate::fate::Fate;
-use crate::join::{append_all, text_of_pieces};
+use crate::join::text_of_pieces;
 use crate::limit::Limit;
 use crate::name::Name;
 use crate::text::Text;
 use std::alloc::Global;
 
+/// What has become of a transaction.
+#[derive(Clone, Copy)]
+pub enum Fate {
+    /// It has not ended.
+    Active,
+    /// It was rolled back.
+    RolledBack,
+    /// Its commit was refused, since a later one had written the same row.
+    Lost,
+    /// It committed and made this version.
+    Committed(u32),
+}
+
 /// Why a line is refused. The text of a refusal begins with its code, `E` and two digits, which scripts can test for.
-/// Columns of a line count its bytes from 1.
 #[derive(Drop)]
 pub enum Refusal {
     /// The line is not UTF-8.
     E01,
-    /// No lexeme can be read here.
+    /// No lexeme can be read at this column, which counts bytes from 1.
     E02 {
         /// The column.
         column: u32,
     },
-    /// The line is no sentence of the grammar, and this is the first lexeme at which none can continue.
+    /// The lexeme at this column fits nothing that may be there, or the line ends there too early.
     E03 {
-        /// The column of the lexeme, or that behind the line.
+        /// The column.
         column: u32,
     },
     /// There is no such table.
@@ -36,19 +47,19 @@ pub enum Refusal {
     },
     /// There is no such column.
     E05 {
-        /// The FROM name before it, where one is written.
+        /// The FROM name before it, if one is written.
         item: Option<Name>,
         /// Its name.
         col: Name,
     },
-    /// A FROM name stands twice, or several FROM items have the column.
+    /// The name stands for more than one column or FROM item.
     E06 {
         /// The name.
         name: Name,
     },
     /// The statement is not well typed.
     E07,
-    /// A table or a column has a name that is taken.
+    /// The name of a table or a column is there already.
     E08 {
         /// The name.
         name: Name,
@@ -62,32 +73,32 @@ pub enum Refusal {
         /// The table.
         table: Name,
     },
-    /// An INSERT would make an identity with too many nodes.
+    /// An INSERT would make a row identity of too many nodes.
     E13,
     /// A limit is passed.
     E14 {
         /// The limit.
         limit: Limit,
     },
-    /// The numbers of columns differ.
+    /// A row or a select list has another number of columns than the table or the first block.
     E15,
     /// The line is too long.
     E16,
     /// There is no such transaction.
     E20 {
-        /// Its number.
+        /// The transaction.
         t: u64,
     },
     /// The transaction did not commit.
     E21 {
-        /// Its number.
+        /// The transaction.
         t: u64,
-        /// What became of it.
+        /// What has become of it.
         fate: Fate,
     },
     /// The transaction has no such statement.
     E22 {
-        /// Its number.
+        /// The transaction.
         t: u64,
         /// The number of its statements.
         count: u64,
@@ -97,163 +108,190 @@ pub enum Refusal {
         /// The last version.
         count: u64,
     },
-    /// The computed rows of a version are not those of the dump.
+    /// The version that the log gives differs from the stored one.
     E24 {
         /// The version.
         version: u32,
-        /// The first table in which they differ.
+        /// The first table where they differ.
         table: Name,
     },
-    /// A statement leaves too many rows in its table when it is run again.
+    /// The log gives too many rows.
     E25 {
         /// The transaction.
         t: u32,
-        /// The statement.
+        /// Its statement.
         k: u32,
     },
-    /// A statement makes an identity with too many nodes when it is run again.
+    /// The log gives a row identity of too many nodes.
     E26 {
         /// The transaction.
         t: u32,
-        /// The statement.
+        /// Its statement.
         k: u32,
     },
-    /// An answer has too many rows.
+    /// The answer has too many rows.
     E27,
-    /// A number in a question is no element of the semiring.
+    /// The number of a rule is no element of the semiring.
     E28 {
         /// The number.
         number: u64,
-        /// The name of the semiring, in capitals.
+        /// The semiring's name.
         semiring: Text,
     },
     /// E29: this version does not support the line.
     NotBuilt,
 }
 
-/// A number in decimal.
-fn number_text(alloc: Global, number: u64) -> Result<Vec<u8>, NoMemory>
-    ensures { IfOk result (λ text. text.items ≡ decimal number) }
+fn limit_text(limit: Limit) -> &'static [u8]
+    ensures { result.now ≡ limit_text limit }
 {
-    Ok(number.to_string(alloc)?.into_bytes())
+    match limit {
+        Limit::Tables => b"tables",
+        Limit::Columns => b"columns",
+        Limit::From => b"from",
+        Limit::Branches => b"branches",
+        Limit::Values => b"values",
+        Limit::Nodes => b"nodes",
+        Limit::Depth => b"depth",
+        Limit::Transactions => b"transactions",
+        Limit::Statements => b"statements",
+        Limit::Steps => b"steps",
+        Limit::Versions => b"versions",
+    }
 }
 
-/// A number in decimal, and words behind it.
-fn number_and_words<'a>(
-    alloc: Global,
-    number: u64,
-    words: &'a [u8],
-    others: &'a [u8],
-) -> Result<Vec<u8>, NoMemory>
+fn fate_text(fate: Fate) -> &'static [u8]
+    ensures { result.now ≡ fate_text fate }
+{
+    match fate {
+        Fate::Active => b"active",
+        Fate::RolledBack => b"rolled back",
+        Fate::Lost => b"lost",
+        Fate::Committed(_) => b"committed",
+    }
+}
+
+/// A message that ends in a number.
+fn numbered_text(alloc: Global, message: &[u8], number: u64) -> Result<Vec<u8>, NoMemory>
+    ensures { IfOk result (λ text. text.items ≡ concat (message.now ∷ decimal number ∷ [])) }
+{
+    let number = number.to_string(alloc)?;
+    text_of_pieces(alloc, &[message, number.as_bytes()])
+}
+
+/// A message about a statement of a transaction.
+fn statement_text(alloc: Global, message: &[u8], t: u32, k: u32) -> Result<Vec<u8>, NoMemory>
     ensures { IfOk result (λ text. text.items
-        ≡ concat (decimal number ∷ words.now ∷ others.now ∷ [])) }
+        ≡ concat (message.now ∷ decimal t ∷ codes " at " ∷ decimal k ∷ [])) }
 {
-    let digits = number.to_string(alloc)?;
-    text_of_pieces(alloc, &[digits.as_bytes(), words, others])
+    let t = t.to_string(alloc)?;
+    let k = k.to_string(alloc)?;
+    text_of_pieces(alloc, &[message, t.as_bytes(), b" at ", k.as_bytes()])
 }
 
-/// Two numbers in decimal, with words between and behind them.
-fn two_numbers<'a>(
-    alloc: Global,
-    first: u64,
-    words: &'a [u8],
-    second: u64,
-    others: &'a [u8],
-) -> Result<Vec<u8>, NoMemory>
-    ensures { IfOk result (λ text. text.items
-        ≡ concat (decimal first ∷ words.now ∷ decimal second ∷ others.now ∷ [])) }
-{
-    let digits = first.to_string(alloc)?;
-    let more = second.to_string(alloc)?;
-    text_of_pieces(alloc, &[digits.as_bytes(), words, more.as_bytes(), others])
-}
-
-/// A column, behind its FROM name where it has one.
-fn column_name(alloc: Global, item: &Option<Name>, col: &Name) -> Result<Vec<u8>, NoMemory>
+fn column_text(alloc: Global, item: &Option<Name>, col: &Name) -> Result<Vec<u8>, NoMemory>
     ensures { IfOk result (λ text. text.items ≡ column_text item.now col.now) }
 {
     match item {
-        None => text_of_pieces(alloc, &[col.as_bytes()]),
-        Some(item) => text_of_pieces(alloc, &[item.as_bytes(), b".", col.as_bytes()]),
+        None => text_of_pieces(alloc, &[b"E05 no column ", col.as_bytes()]),
+        Some(item) => text_of_pieces(
+            alloc,
+            &[b"E05 no column ", item.as_bytes(), b".", col.as_bytes()],
+        ),
     }
 }
 
-impl Refusal {
-    /// The code and the words before the first field.
-    fn words(&self) -> &'static [u8]
-        ensures { result.now ≡ refusal_words self.now }
-    {
-        match self {
-            Refusal::E01 => b"E01 not UTF-8",
-            Refusal::E02 { .. } => b"E02 lexical fault at column ",
-            Refusal::E03 { .. } => b"E03 syntax fault at column ",
-            Refusal::E04 { .. } => b"E04 no table ",
-            Refusal::E05 { .. } => b"E05 no column ",
-            Refusal::E06 { .. } => b"E06 ambiguous ",
-            Refusal::E07 => b"E07 type",
-            Refusal::E08 { .. } => b"E08 name twice ",
-            Refusal::E09 => b"E09 transaction active",
-            Refusal::E10 => b"E10 no transaction",
-            Refusal::E12 { .. } => b"E12 more than 10000 rows in ",
-            Refusal::E13 => b"E13 identity over 64 nodes",
-            Refusal::E14 { .. } => b"E14 limit ",
-            Refusal::E15 => b"E15 column count",
-            Refusal::E16 => b"E16 line too long",
-            Refusal::E20 { .. } => b"E20 no transaction ",
-            Refusal::E21 { .. } => b"E21 transaction ",
-            Refusal::E22 { .. } => b"E22 transaction ",
-            Refusal::E23 { .. } => b"E23 versions end at ",
-            Refusal::E24 { .. } => b"E24 version ",
-            Refusal::E25 { .. } => b"E25 rows over limit in transaction ",
-            Refusal::E26 { .. } => b"E26 identity over limit in transaction ",
-            Refusal::E27 => b"E27 more than 50000 rows",
-            Refusal::E28 { .. } => b"E28 ",
-            Refusal::NotBuilt => b"E29 not built",
-        }
-    }
+fn fate_refusal_text(alloc: Global, t: u64, fate: Fate) -> Result<Vec<u8>, NoMemory>
+    ensures { IfOk result (λ text. text.items ≡ refusal_text (Refusal.E21 t fate)) }
+{
+    let t = t.to_string(alloc)?;
+    text_of_pieces(
+        alloc,
+        &[b"E21 transaction ", t.as_bytes(), b" is ", fate_text(fate)],
+    )
+}
 
-    /// The fields, with the words between and behind them.
-    fn fields(&self, alloc: Global) -> Result<Vec<u8>, NoMemory>
-        ensures { IfOk result (λ text. text.items ≡ refusal_fields self.now) }
-    {
-        match self {
-            Refusal::E02 { column } => number_text(alloc, u64::from(*column)),
-            Refusal::E03 { column } => number_text(alloc, u64::from(*column)),
-            Refusal::E04 { table } => text_of_pieces(alloc, &[table.as_bytes()]),
-            Refusal::E05 { item, col } => column_name(alloc, item, col),
-            Refusal::E06 { name } => text_of_pieces(alloc, &[name.as_bytes()]),
-            Refusal::E08 { name } => text_of_pieces(alloc, &[name.as_bytes()]),
-            Refusal::E12 { table } => text_of_pieces(alloc, &[table.as_bytes()]),
-            Refusal::E14 { limit } => text_of_pieces(alloc, &[limit.name()]),
-            Refusal::E20 { t } => number_text(alloc, *t),
-            Refusal::E21 { t, fate } => number_and_words(alloc, *t, b" is ", fate.words()),
-            Refusal::E22 { t, count } => two_numbers(alloc, *t, b" has ", *count, b" statements"),
-            Refusal::E23 { count } => number_text(alloc, *count),
-            Refusal::E24 { version, table } => {
-                number_and_words(
-                    alloc,
-                    u64::from(*version),
-                    b" differs on ",
-                    table.as_bytes(),
-                )
-            }
-            Refusal::E25 { t, k } => two_numbers(alloc, u64::from(*t), b" at ", u64::from(*k), b""),
-            Refusal::E26 { t, k } => two_numbers(alloc, u64::from(*t), b" at ", u64::from(*k), b""),
-            Refusal::E28 { number, semiring } => {
-                number_and_words(alloc, *number, b" is not in ", semiring.as_bytes())
-            }
-            _ => Ok(Vec::new(alloc)),
+fn version_refusal_text(alloc: Global, version: u32, table: &Name) -> Result<Vec<u8>, NoMemory>
+    ensures { IfOk result (λ text. text.items ≡ refusal_text (Refusal.E24 version table.now)) }
+{
+    let version = version.to_string(alloc)?;
+    text_of_pieces(
+        alloc,
+        &[
+            b"E24 version ",
+            version.as_bytes(),
+            b" differs on ",
+            table.as_bytes(),
+        ],
+    )
+}
+
+fn semiring_refusal_text(alloc: Global, number: u64, semiring: &Text) -> Result<Vec<u8>, NoMemory>
+    ensures { IfOk result (λ text. text.items ≡ refusal_text (Refusal.E28 number semiring.now)) }
+{
+    let number = number.to_string(alloc)?;
+    text_of_pieces(
+        alloc,
+        &[
+            b"E28 ",
+            number.as_bytes(),
+            b" is not in ",
+            semiring.as_bytes(),
+        ],
+    )
+}
+
+/// The text of a refusal.
+fn refusal_text(alloc: Global, refusal: &Refusal) -> Result<Vec<u8>, NoMemory>
+    ensures { IfOk result (λ text. text.items ≡ refusal_text refusal.now) }
+{
+    match refusal {
+        Refusal::E01 => text_of_pieces(alloc, &[b"E01 not UTF-8"]),
+        Refusal::E02 { column } => {
+            numbered_text(alloc, b"E02 lexical fault at column ", u64::from(*column))
         }
+        Refusal::E03 { column } => {
+            numbered_text(alloc, b"E03 syntax fault at column ", u64::from(*column))
+        }
+        Refusal::E04 { table } => text_of_pieces(alloc, &[b"E04 no table ", table.as_bytes()]),
+        Refusal::E05 { item, col } => column_text(alloc, item, col),
+        Refusal::E06 { name } => text_of_pieces(alloc, &[b"E06 ambiguous ", name.as_bytes()]),
+        Refusal::E07 => text_of_pieces(alloc, &[b"E07 type"]),
+        Refusal::E08 { name } => text_of_pieces(alloc, &[b"E08 name twice ", name.as_bytes()]),
+        Refusal::E09 => text_of_pieces(alloc, &[b"E09 transaction active"]),
+        Refusal::E10 => text_of_pieces(alloc, &[b"E10 no transaction"]),
+        Refusal::E12 { table } => {
+            text_of_pieces(alloc, &[b"E12 more than 10000 rows in ", table.as_bytes()])
+        }
+        Refusal::E13 => text_of_pieces(alloc, &[b"E13 identity over 64 nodes"]),
+        Refusal::E14 { limit } => text_of_pieces(alloc, &[b"E14 limit ", limit_text(*limit)]),
+        Refusal::E15 => text_of_pieces(alloc, &[b"E15 column count"]),
+        Refusal::E16 => text_of_pieces(alloc, &[b"E16 line too long"]),
+        Refusal::E20 { t } => numbered_text(alloc, b"E20 no transaction ", *t),
+        Refusal::E21 { t, fate } => fate_refusal_text(alloc, *t, *fate),
+        Refusal::E22 { t, count } => {
+            Ok(format!(in alloc; "E22 transaction {t} has {count} statements")?.into_bytes())
+        }
+        Refusal::E23 { count } => numbered_text(alloc, b"E23 versions end at ", *count),
+        Refusal::E24 { version, table } => version_refusal_text(alloc, *version, table),
+        Refusal::E25 { t, k } => {
+            statement_text(alloc, b"E25 rows over limit in transaction ", *t, *k)
+        }
+        Refusal::E26 { t, k } => {
+            statement_text(alloc, b"E26 identity over limit in transaction ", *t, *k)
+        }
+        Refusal::E27 => text_of_pieces(alloc, &[b"E27 more than 50000 rows"]),
+        Refusal::E28 { number, semiring } => semiring_refusal_text(alloc, *number, semiring),
+        Refusal::NotBuilt => text_of_pieces(alloc, &[b"E29 not built"]),
     }
 }
 
-/// Appends the refusal's text. If memory runs out, a prefix of that text has been appended. A script may have millions of
-/// refused lines, so a refusal without fields is written without a text of its own.
+/// Appends the refusal's text: its code, a space and the message. If memory runs out, `out` is unchanged.
 pub fn write_refusal(alloc: Global, refusal: &Refusal, out: &mut Vec<u8>) -> Result<(), NoMemory>
     ensures ok { OnOk result (out.new.items ≡ out.old.items ++ refusal_text refusal.now) }
-    ensures err { OnErr result
-        (AppendsPrefix out.old.items out.new.items (refusal_text refusal.now)) }
+    ensures unchanged { OnErr result (out.new.items ≡ out.old.items) }
 {
-    let fields = refusal.fields(alloc)?;
-    append_all(out, &[refusal.words(), fields.as_slice()])
+    let text = refusal_text(alloc, refusal)?;
+    out.extend_from_slice(&text)?;
+    Ok(())
 }

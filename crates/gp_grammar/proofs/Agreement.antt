@@ -1,5 +1,5 @@
--- The readers leave fewer lexemes than they were given, and the depth that bounds them does not matter where it is large enough.
-use Rattle.std.proofs.Common.{◌≡◌, ℕ, zero, suc, pos, ◌+◌, ◌<◌, ◌≤◌, List, [], ◌∷◌, length, Option, Some, None, Ok, Err, IfOk, IfSome, Bool, true, false, cond, refl, sym, ap, subst, arith, ◌∙◌}
+-- The parsers of terms leave fewer lexemes than they take, and the bound on their recursion does not matter where it is large enough.
+use Rattle.std.proofs.Common.{◌≡◌, ℕ, zero, suc, pos, ◌<◌, ◌≤◌, List, [], ◌∷◌, length, Option, Some, None, Ok, Err, IfOk, IfSome, Bool, true, false, cond, refl, sym, ap, subst, arith, ◌∙◌}
 use Rattle.gp_lexer.specs.declared.lexeme.Symbol.{Symbol}
 use Rattle.gp_lexer.specs.declared.lexeme.Symbol.TheVariants as s
 use Rattle.gp_lexer.specs.declared.lexeme.Lexeme.{Lexeme}
@@ -12,7 +12,7 @@ use Rattle.gp_grammar.specs.Capping.{binary, neg, not, is_null, is_true, case}
 use Rattle.gp_grammar.specs.Operators.{operator_of, comparison_of}
 use Rattle.gp_grammar.specs.Parsing.{Outcome, Parser, is_symbol, ◌>>=◌, strip, expected, expect, identifier, next_operator, by_option, with_rest, chain_within, chain, joined, column_with, column, truth_test, value_test, is_test, optional_test, brackets, choice, primary_by, primary, signed, factor, sum, compared, test, negated, negation, operand, operations, term_within, term}
 
--- two outcomes are the same, and leave fewer lexemes than this
+-- two outcomes are equal, and leave fewer lexemes than this
 pub record Agree {A : Type 0} (n : ℕ) (p q : Outcome (A × Lexemes)) : Type 0 where
   pub same : p ≡ q
   pub below : IfOk p (λ r. length r.1 < n)
@@ -77,7 +77,7 @@ identifier-agree (Number n ∷ ts) = agree-refl _ (Err (Number n ∷ ts)) tt
 identifier-agree (Big ∷ ts) = agree-refl _ (Err (Big ∷ ts)) tt
 identifier-agree (Text bytes ∷ ts) = agree-refl _ (Err (Text bytes ∷ ts)) tt
 
--- two readers agree on lists of fewer than n lexemes, and leave fewer
+-- two parsers agree on fewer than n lexemes, and leave fewer
 abbrev pub AgreeBelow : ℕ → Parser Term → Parser Term → Type 0
 AgreeBelow n f g = (ts : Lexemes) → length ts < n → Agree (length ts) (f ts) (g ts)
 
@@ -112,7 +112,7 @@ joined-agree n ops p q agrees ts lt =
     (λ r lt'. agree-weaken (suc (length r.1)) (length ts) (chain ops p r.0 r.1) (chain ops q r.0 r.1) (omega arith)
     (chain_within-agree n ops p q agrees (length r.1) (length r.1) r.0 r.1 (omega arith) (omega arith) (omega arith)))
 
--- ---- what stands strip a term
+-- ---- after the first lexeme of a column or a test
 
 column_with-agree : (word : List ℕ) (ts : Lexemes) (o : Option Lexemes) → IfSome o (λ rest. length rest < length ts)
     → Agree (suc (length ts)) (column_with word ts o) (column_with word ts o)
@@ -148,7 +148,7 @@ optional_test-agree left ts (Some rest) h =
     agree-weaken (length rest) (suc (length ts)) (is_test left rest (strip s.Not rest)) (is_test left rest (strip s.Not rest)) (omega arith)
     (is_test-agree left rest (strip s.Not rest) (strip-less s.Not rest))
 
--- ---- readers that call others in brackets
+-- ---- parsers over a parser of the terms in brackets
 
 module _ (n : ℕ) (f g : Parser Term) (agrees : AgreeBelow n f g) where
   brackets-agree : AgreeBelow n (brackets f) (brackets g)
@@ -158,7 +158,7 @@ module _ (n : ℕ) (f g : Parser Term) (agrees : AgreeBelow n f g) where
       (λ i lt'. rest-bind (length i.1) (length ts) (expect s.Close i.1) (expect s.Close i.1) (λ rest. Ok (i.0, rest)) (λ rest. Ok (i.0, rest)) (expect-agree s.Close i.1)
       (λ rest lt''. agree-refl _ (Ok (i.0, rest)) (omega arith)))
 
-  -- strip a symbol, and the term that stands there
+  -- a symbol and a term
   term_behind-agree : {B : Type 0} (symbol : Symbol) (ts : Lexemes) (h k : Term × Lexemes → Outcome (B × Lexemes)) → length ts < suc n
       → ((r : Term × Lexemes) → length r.1 < length ts → Agree (length ts) (h r) (k r))
       → Agree (length ts) (expect symbol ts >>= (λ rest. f rest >>= h)) (expect symbol ts >>= (λ rest. g rest >>= k))
@@ -241,7 +241,7 @@ module _ (n : ℕ) (f g : Parser Term) (agrees : AgreeBelow n f g) where
   pub operations-agree : (at : Level) → AgreeBelow (suc n) (operations f at) (operations g at)
   operations-agree at = joined-agree (suc n) (operator_of at) (operand f at) (operand g at) (operand-agree at)
 
--- ---- the depth does not matter
+-- ---- the bound does not matter
 
 pub within-agree : (n m : ℕ) → n ≤ m → AgreeBelow n (term_within n) (term_within m)
 unfolding term_within
@@ -255,7 +255,7 @@ term_like n ts lt =
     let h : Agree (length ts) (term_within (suc (length ts)) ts) (term_within n ts) = within-agree (suc (length ts)) n (omega arith) ts (omega arith) in
     record { same = sym h.same; below = let P : Outcome (Term × Lexemes) → Type 0 = λ x. IfOk x (λ r. length r.1 < length ts) in subst P h.same h.below }
 
--- a term is the terms of the loosest operations over itself
+-- the parser of terms in terms of itself, without its bound
 pub term-unfolds : (ts : Lexemes) → term ts ≡ operations term l.Disjunction ts
 unfolding term term_within
 term-unfolds ts = (operations-agree (length ts) (term_within (length ts)) term (term_like (length ts)) l.Disjunction ts (omega arith)).same
@@ -267,7 +267,7 @@ term-agree n ts lt = let h : Agree (length ts) (term_within (suc (length ts)) ts
 pub operand-agrees : (at : Level) (n : ℕ) → AgreeBelow n (operand term at) (operand term at)
 operand-agrees at n ts lt = operand-agree n term term (term-agree n) at ts (omega arith)
 
--- ---- one chain-step of a loop over operators
+-- ---- one step of a chain of operators
 
 pub chain-none : (ops : Symbol → Option Op) (p : Parser Term) (left : Term) (ts : Lexemes) → next_operator ops ts ≡ None → chain ops p left ts ≡ Ok (left, ts)
 unfolding chain chain_within
@@ -291,7 +291,7 @@ chain-some at left (t ∷ ts) o h =
 
 pub ruleset chain_steps = (chain-none, chain-some, term-unfolds)
 
--- ---- what the loop over operators keeps, and its exit
+-- ---- for a loop over operators: its invariant, and its exit at a fault
 
 pub chain-step : (at : Level) (left right : Term) (ts after rest : Lexemes) (o : Op) (whole : Outcome (Term × Lexemes)) → whole ≡ chain (operator_of at) (operand term at) left ts
     → next_operator (operator_of at) ts ≡ Some (o, after) → operand term at after ≡ Ok (right, rest) → whole ≡ chain (operator_of at) (operand term at) (binary o left right) rest

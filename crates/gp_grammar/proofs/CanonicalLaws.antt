@@ -1,18 +1,25 @@
 -- The laws of canonical lexemes.
-use Rattle.std.proofs.Common.{◌≡◌, ℕ, zero, suc, ◌<◌, ◌+◌, List, [], ◌∷◌, ◌++◌, length, None, Ok, refl, sym, ap, subst, ◌∙◌, arith}
+use Rattle.std.proofs.Common.{◌≡◌, ℕ, List, [], ◌∷◌, Some, None, Ok, Err, refl, ap, ◌∙◌}
 use Rattle.std.specs.List.{AllByRecursion}
-use Rattle.gp_lexer.specs.declared.lexeme.Lexeme.{Lexeme}
+use Rattle.std.specs.Option.{option_map}
+use Rattle.std.specs.Result.{result_ok}
+use Rattle.gp_lexer.specs.Lexing.{Lexed, lexed, lexemes_of}
+use Rattle.gp_lexer.proofs.LayoutLemmas.{lexemes_of-laid_out}
+use Rattle.gp_lexer.proofs.ProperLemmas.{lexemes-proper}
 use Rattle.gp_lexer.specs.Lexemes.{IsProper, AreProper}
-use Rattle.gp_grammar.specs.Syntax.{Lexemes, Command}
+use Rattle.gp_grammar.specs.Syntax.{Lexemes, Bytes, Command}
 use Rattle.gp_grammar.specs.Capping.{capped_command}
 use Rattle.gp_grammar.specs.CommandGrammar.{IsCommand}
 use Rattle.gp_grammar.specs.Limits.{command_shape, passed_limit}
-use Rattle.gp_grammar.specs.Canonical.{command_lexemes}
-use Rattle.gp_grammar.specs.Parsing.{whole}
+use Rattle.gp_grammar.specs.Canonical.{command_lexemes, command_text}
+use Rattle.gp_grammar.specs.LineReading.{ReadsText, command_of}
 use Rattle.gp_grammar.specs.CommandParsing.{command}
-use Rattle.gp_grammar.specs.Laws.{CanonicalIsDerived, CanonicalIsParsed, CanonicalIsShallow, CanonicalIsProper}
+use Rattle.gp_grammar.specs.Laws.{CanonicalIsDerived, CanonicalIsParsed, CanonicalIsShallow, CanonicalIsProper, CanonicalTextIsRead, CanonicalTextIsUtf8, CanonicalTextIsOneLine}
 use Rattle.gp_grammar.proofs.ParserLaws.{lawful-command}
-use Rattle.gp_grammar.proofs.ShapeLemmas.{command-exact}
+use Rattle.gp_grammar.proofs.ShapeLemmas.{command-exact, commands-fair}
+use Rattle.gp_grammar.proofs.LineLaws.{texts-read}
+use Rattle.gp_grammar.proofs.LineFeedLemmas.{laid_out-plain}
+use Rattle.gp_grammar.proofs.Utf8Lemmas.{HasUtf8, AllHaveUtf8, symbols-utf8, big-utf8, lexed-utf8, laid_out-utf8}
 use Rattle.gp_grammar.proofs.CanonicalCommands.{command-canonical}
 use Rattle.gp_grammar.proofs.CanonicalSource.{command-every}
 use Rattle.gp_grammar.proofs.CanonicalCommandDepth.{command-shallow}
@@ -38,3 +45,57 @@ proper-every (t ∷ ts) h = (h.0, proper-every ts h.1)
 
 pub proper : CanonicalIsProper
 proper ts x i h = proper-every (command_lexemes x) (command-every IsProper (λ symbol. tt) tt ts x i (every-proper ts h))
+
+-- ---- canonical texts
+
+-- what was read: its lexemes, their texts and the canonical ones
+record WasRead (x : Command) : Type 0 where
+  lexemes : Lexemes
+  is : IsCommand lexemes x
+  within : passed_limit (command_shape x) ≡ None
+  proper : AreProper (command_lexemes x)
+  texts : AllHaveUtf8 (command_lexemes x)
+
+lexed-lexemes : (bytes : Bytes) (ts : Lexemes) (cs : List ℕ) → lexed bytes ≡ Ok (ts, cs) → lexemes_of bytes ≡ Some ts
+lexed-lexemes bytes ts cs e = ap (λ o. option_map (λ found. found.0) (result_ok o)) e
+
+was-read : (bytes : Bytes) (x : Command) → command_of bytes ≡ Ok x → WasRead x
+was-read bytes x e =
+    let r : ReadsText IsCommand command_shape bytes x = (texts-read command IsCommand capped_command command_shape lawful-command commands-fair bytes x).0 e in
+    let t : AllHaveUtf8 r.lexemes = lexed-utf8 bytes r.lexemes r.columns r.lexical.utf8 r.lexical.found in
+    record {
+      lexemes = r.lexemes;
+      is = r.derived;
+      within = r.within;
+      proper = proper r.lexemes x r.derived (lexemes-proper bytes r.lexemes (lexed-lexemes bytes r.lexemes r.columns r.lexical.found));
+      texts = command-every HasUtf8 symbols-utf8 big-utf8 r.lexemes x r.derived t;
+    }
+
+pub text-utf8 : CanonicalTextIsUtf8
+text-utf8 bytes x e = let w : WasRead x = was-read bytes x e in laid_out-utf8 (command_lexemes x) w.proper w.texts
+
+pub text-one_line : CanonicalTextIsOneLine
+text-one_line bytes x e = let w : WasRead x = was-read bytes x e in laid_out-plain (command_lexemes x) w.proper
+
+-- lexemes that are found without their columns have columns
+record Columns (bytes : Bytes) (ts : Lexemes) : Type 0 where
+  columns : List ℕ
+  found : lexed bytes ≡ Ok (ts, columns)
+
+columns-by : (bytes : Bytes) (ts : Lexemes) (o : Lexed) → lexed bytes ≡ o → option_map (λ found. found.0) (result_ok o) ≡ Some ts → Columns bytes ts
+columns-by bytes ts (Ok found) e h = let k : found.0 ≡ ts = cc in record { columns = found.1; found = e ∙ ap (λ z. Ok (z, found.1)) k }
+columns-by bytes ts (Err column) e h = cc
+
+pub text-read : CanonicalTextIsRead
+text-read bytes x e =
+    let w : WasRead x = was-read bytes x e in
+    let c : Columns (command_text x) (command_lexemes x) =
+    columns-by (command_text x) (command_lexemes x) (lexed (command_text x)) refl (lexemes_of-laid_out (command_lexemes x) w.proper) in
+    (texts-read command IsCommand capped_command command_shape lawful-command commands-fair (command_text x) x).1 (record {
+      lexemes = command_lexemes x;
+      columns = c.columns;
+      lexical = record { utf8 = text-utf8 bytes x e; found = c.found };
+      shallow = command-shallow x w.within;
+      derived = command-canonical w.lexemes x w.is;
+      within = w.within;
+    })

@@ -1,5 +1,5 @@
 -- A term within the limit on nodes is built as it is, and one past the limit is built past the limit.
-use Rattle.std.proofs.Common.{◌≡◌, ℕ, ◌+◌, ◌<◌, ◌≤◌, Bool, true, false, cond, ltb, refl, sym, ap, subst, arith, ◌∙◌, List, [], ◌∷◌, map, Option, Some, None}
+use Rattle.std.proofs.Common.{◌≡◌, ◌+◌, ◌<◌, ◌≤◌, Bool, true, false, cond, ltb, refl, sym, ap, subst, arith, ◌∙◌}
 use Rattle.std.proofs.lemmas.Bool.{ltb-false, ltb-true}
 use Rattle.gp_grammar.specs.declared.limits.TheConstants.{MAX_NODES}
 use Rattle.gp_grammar.specs.declared.op.Op.{Op}

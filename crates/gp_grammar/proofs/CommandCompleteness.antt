@@ -1,5 +1,5 @@
--- What the grammar of commands derives is parsed, where nothing behind it goes on with it.
-use Rattle.std.proofs.Common.{◌≡◌, ℕ, suc, pos, negsuc, ◌<◌, List, [], ◌∷◌, ◌++◌, length, map, Option, Some, None, Ok, Err, refl, sym, ap, subst, arith, ◌∙◌, append_assoc}
+-- What the grammar of commands derives is parsed, where nothing after it goes on with it.
+use Rattle.std.proofs.Common.{◌≡◌, ℕ, suc, ◌<◌, List, [], ◌∷◌, ◌++◌, length, map, Option, Some, None, Ok, Err, refl, sym, ap, subst, arith, ◌∙◌, append_assoc}
 use Rattle.std.specs.Prelude.{option_map}
 use Rattle.std.proofs.lemmas.List.{append-nil, map-append, map-id}
 use Rattle.gp_base.specs.declared.cell.Cell.{Cell}
@@ -18,7 +18,7 @@ use Rattle.gp_grammar.specs.Parsing.{Outcome, Parser, ◌>>=◌, by_option, stri
 use Rattle.gp_grammar.specs.CommandParsing as c
 use Rattle.gp_grammar.specs.CommandParsing.{◌then◌, where_next, accept, many, push, separated, in_brackets, named, closed}
 use Rattle.gp_grammar.proofs.Completeness.{term-complete, first_binds}
-use Rattle.gp_grammar.proofs.Shrinking.{Below, Shrinks, Keeps, shrinks-keeps, keeps-accept, shrinks-fail, shrinks-bind, keeps-bind, shrinks-next, keeps-next, shrinks-then, shrinks-identifier, shrinks-term, many-none, many-some, shrinks-separated, shrinks-in_brackets}
+use Rattle.gp_grammar.proofs.Shrinking.{Below, Shrinks, Keeps, shrinks-keeps, keeps-accept, shrinks-bind, keeps-bind, keeps-next, shrinks-then, shrinks-identifier, shrinks-term, many-none, many-some, shrinks-separated, shrinks-in_brackets}
 
 -- ---- lists
 
@@ -233,7 +233,7 @@ pub record EndsQuery (rest : Lexemes) : Type 0 where
   pub block : EndsBlock rest
   pub no_union : strip s.Union rest ≡ None
 
--- the same, behind a list and before a condition
+-- the same, after a list and before a condition
 record EndsList (rest : Lexemes) : Type 0 where
   loose : first_binds rest < 1
   no_comma : strip s.Comma rest ≡ None

@@ -1,5 +1,5 @@
--- No lexeme behind a fault matters to the parser of commands.
-use Rattle.std.proofs.Common.{◌≡◌, ℕ, zero, suc, pos, negsuc, ◌+◌, ◌<◌, List, [], ◌∷◌, ◌++◌, length, Option, Some, None, Ok, Err, refl, sym, ap, subst, arith, ◌∙◌}
+-- No lexeme after a fault matters to the parser of commands.
+use Rattle.std.proofs.Common.{◌≡◌, ℕ, zero, suc, pos, negsuc, [], ◌∷◌, Option, Some, None, Ok, Err, refl, subst}
 use Rattle.std.specs.Prelude.{option_map, ◌^◌, ◌-◌}
 use Rattle.gp_base.specs.declared.cell.Cell.{Cell}
 use Rattle.gp_base.specs.declared.cell.Cell.TheVariants as cell
@@ -11,12 +11,12 @@ use Rattle.gp_lexer.specs.declared.lexeme.Lexeme.TheVariants.{Symbol as Sign, Wo
 use Rattle.gp_grammar.specs.Syntax as syntax
 use Rattle.gp_grammar.specs.Syntax.{Lexemes, Bytes, Term, SetTerm, Item, Items, Block, Query, Command, ScriptLine}
 use Rattle.gp_grammar.specs.CommandGrammar.{session_of}
-use Rattle.gp_grammar.specs.Parsing.{Outcome, Parser, ◌>>=◌, by_option, strip, expect, identifier, term}
+use Rattle.gp_grammar.specs.Parsing.{Parser, ◌>>=◌, by_option, expect, identifier, term}
 use Rattle.gp_grammar.specs.CommandParsing as c
 use Rattle.gp_grammar.specs.CommandParsing.{◌then◌, where_next, fail, accept, many, push, separated, in_brackets, named, closed}
 use Rattle.gp_grammar.proofs.CommandCompleteness.{shrinks-literal, shrinks-tuple, shrinks-column, shrinks-item, shrinks-all, shrinks-set_term}
 use Rattle.gp_grammar.proofs.Shrinking.{shrinks-term}
-use Rattle.gp_grammar.proofs.Locality.{Local, local-ok, local-bind, local-err, local-expect, local-identifier, local-same, local-term}
+use Rattle.gp_grammar.proofs.Locality.{Local, local-ok, local-bind, local-err, local-expect, local-identifier, local-term}
 use Rattle.gp_grammar.proofs.LocalCombinators.{first_choice, local-next-all, local-first-all, local-many, local-separated, local-in_brackets, local-closed}
 
 some-is : {A : Type 0} (a b : A) → Some a ≡ Some b → a ≡ b
@@ -142,121 +142,121 @@ session-first (Big ∷ ts) = refl
 session-first (Text bytes ∷ ts) = refl
 
 module _ (t : Lexeme) (m m' : Lexemes) where
-  abbrev Good : {A : Type 0} → Parser A → Type 0
-  Good p = (n : ℕ) → Local t m m' n p
+  abbrev IsLocal : {A : Type 0} → Parser A → Type 0
+  IsLocal p = (n : ℕ) → Local t m m' n p
 
-  good-is : {A : Type 0} (n : ℕ) (p q : Parser A) → Local t m m' n p → Some p ≡ Some q → Local t m m' n q
-  good-is n p q w e = let P : Parser _ → Type 0 = λ x. Local t m m' n x in subst P (some-is p q e) w
+  is_local-is : {A : Type 0} (n : ℕ) (p q : Parser A) → Local t m m' n p → Some p ≡ Some q → Local t m m' n q
+  is_local-is n p q w e = let P : Parser _ → Type 0 = λ x. Local t m m' n x in subst P (some-is p q e) w
 
   negative-chosen : (n : ℕ) (x : Lexeme) (p : Parser Cell) → negative_choice x ≡ Some p → Local t m m' n p
-  negative-chosen n (Number zero) p e = good-is n _ p (local-ok t m m' n (cell.Int (pos 0))) e
-  negative-chosen n (Number (suc k)) p e = good-is n _ p (local-ok t m m' n (cell.Int (negsuc k))) e
-  negative-chosen n Big p e = good-is n _ p (local-ok t m m' n (cell.Int (negsuc (2 ^ 63 - 1)))) e
+  negative-chosen n (Number zero) p e = is_local-is n _ p (local-ok t m m' n (cell.Int (pos 0))) e
+  negative-chosen n (Number (suc k)) p e = is_local-is n _ p (local-ok t m m' n (cell.Int (negsuc k))) e
+  negative-chosen n Big p e = is_local-is n _ p (local-ok t m m' n (cell.Int (negsuc (2 ^ 63 - 1)))) e
   negative-chosen n (Sign symbol) p e = cc
   negative-chosen n (Word word) p e = cc
   negative-chosen n (Text bytes) p e = cc
 
-  local-negative : Good c.negative
+  local-negative : IsLocal c.negative
   local-negative = local-first-all t m m' c.negative negative_choice fail negative-first negative-chosen (λ n. local-err t m m' n)
 
   literal_symbol-chosen : (n : ℕ) (symbol : Symbol) (p : Parser Cell) → literal_symbol symbol ≡ Some p → Local t m m' n p
-  literal_symbol-chosen n s.Null p e = good-is n _ p (local-ok t m m' n cell.Null) e
-  literal_symbol-chosen n s.Minus p e = good-is n _ p (local-negative n) e
+  literal_symbol-chosen n s.Null p e = is_local-is n _ p (local-ok t m m' n cell.Null) e
+  literal_symbol-chosen n s.Minus p e = is_local-is n _ p (local-negative n) e
   literal_symbol-chosen n _ p e = cc
 
   literal-chosen : (n : ℕ) (x : Lexeme) (p : Parser Cell) → literal_choice x ≡ Some p → Local t m m' n p
   literal-chosen n (Sign symbol) p e = literal_symbol-chosen n symbol p e
-  literal-chosen n (Number k) p e = good-is n _ p (local-ok t m m' n (cell.Int (pos k))) e
-  literal-chosen n (Text bytes) p e = good-is n _ p (local-ok t m m' n (cell.Text bytes)) e
+  literal-chosen n (Number k) p e = is_local-is n _ p (local-ok t m m' n (cell.Int (pos k))) e
+  literal-chosen n (Text bytes) p e = is_local-is n _ p (local-ok t m m' n (cell.Text bytes)) e
   literal-chosen n (Word word) p e = cc
   literal-chosen n Big p e = cc
 
-  local-literal : Good c.literal
+  local-literal : IsLocal c.literal
   local-literal = local-first-all t m m' c.literal literal_choice fail literal-first literal-chosen (λ n. local-err t m m' n)
 
-  local-tuple : Good c.tuple
+  local-tuple : IsLocal c.tuple
   unfolding c.tuple
   local-tuple n = local-in_brackets t m m' (separated c.literal) n (local-separated t m m' c.literal shrinks-literal n (local-literal n))
 
-  local-column : Good c.column
+  local-column : IsLocal c.column
   unfolding c.column
   local-column n = local-bind t m m' n identifier _ (local-identifier t m m' n) (λ name. local-next-all t m m' s.Int (accept (record { name = name; kind = kind.Int }))
       (s.Text then accept (record { name = name; kind = kind.Text })) (λ n. local-ok t m m' n _)
       (λ n. local-expect t m m' n s.Text (accept (record { name = name; kind = kind.Text })) (local-ok t m m' n _)) n)
 
   name-chosen : (table : Bytes) (n : ℕ) (x : Lexeme) (p : Parser Item) → name_choice table x ≡ Some p → Local t m m' n p
-  name-chosen table n (Word name) p e = good-is n _ p (local-ok t m m' n (named table name)) e
+  name-chosen table n (Word name) p e = is_local-is n _ p (local-ok t m m' n (named table name)) e
   name-chosen table n (Sign symbol) p e = cc
   name-chosen table n (Number k) p e = cc
   name-chosen table n Big p e = cc
   name-chosen table n (Text bytes) p e = cc
 
-  local-optional_name : (table : Bytes) → Good (c.optional_name table)
+  local-optional_name : (table : Bytes) → IsLocal (c.optional_name table)
   local-optional_name table = local-first-all t m m' (c.optional_name table) (name_choice table) (accept (named table table)) (name-first table) (name-chosen table) (λ n. local-ok t m m' n (named table table))
 
-  local-item : Good c.item
+  local-item : IsLocal c.item
   unfolding c.item
   local-item n = local-bind t m m' n identifier _ (local-identifier t m m' n) (λ table. local-next-all t m m' s.As (λ rest. identifier rest >>= (λ r. Ok (named table r.0, r.1))) (c.optional_name table)
       (λ n. local-bind t m m' n identifier _ (local-identifier t m m' n) (λ name. local-ok t m m' n (named table name))) (local-optional_name table) n)
 
-  local-items : Good c.items
+  local-items : IsLocal c.items
   unfolding c.items
   local-items = local-next-all t m m' s.Star (accept syntax.star) (λ ts. separated term ts >>= (λ r. Ok (syntax.list r.0, r.1))) (λ n. local-ok t m m' n syntax.star)
       (λ n. local-bind t m m' n (separated term) _ (local-separated t m m' term shrinks-term n (local-term t m m' n)) (λ xs. local-ok t m m' n (syntax.list xs)))
 
-  local-condition : Good c.condition
+  local-condition : IsLocal c.condition
   unfolding c.condition
   local-condition = local-next-all t m m' s.Where (λ ts. term ts >>= (λ r. Ok (Some r.0, r.1))) (accept None)
       (λ n. local-bind t m m' n term _ (local-term t m m' n) (λ x. local-ok t m m' n (Some x))) (λ n. local-ok t m m' n None)
 
-  local-block : Good c.block
+  local-block : IsLocal c.block
   unfolding c.block
   local-block n = local-expect t m m' n s.Select _ (local-bind t m m' n c.items _ (local-items n) (λ items. local-expect t m m' n s.From _
       (local-bind t m m' n (separated c.item) _ (local-separated t m m' c.item shrinks-item n (local-item n)) (λ from.
       local-bind t m m' n c.condition _ (local-condition n) (λ cond. local-ok t m m' n (record { items = items; from = from; cond = cond }))))))
 
-  pub local-query : Good c.query
+  pub local-query : IsLocal c.query
   unfolding c.query
   local-query n = local-bind t m m' n c.block _ (local-block n)
       (λ x. local-many t m m' s.Union (s.All then c.block) push shrinks-all n (local-expect t m m' n s.All c.block (local-block n)) (x ∷ []))
 
-  local-set_term : Good c.set_term
+  local-set_term : IsLocal c.set_term
   unfolding c.set_term
   local-set_term n = local-bind t m m' n identifier _ (local-identifier t m m' n) (λ col. local-expect t m m' n s.Eq _
       (local-bind t m m' n term _ (local-term t m m' n) (λ x. local-ok t m m' n (record { col = col; term = x }))))
 
-  local-create : Good c.create
+  local-create : IsLocal c.create
   unfolding c.create
   local-create n = local-expect t m m' n s.Table _ (local-bind t m m' n identifier _ (local-identifier t m m' n) (λ name.
       local-bind t m m' n (in_brackets (separated c.column)) _ (local-in_brackets t m m' (separated c.column) n (local-separated t m m' c.column shrinks-column n (local-column n)))
       (λ cols. local-ok t m m' n (syntax.create (record { name = name; cols = cols })))))
 
-  local-insert : Good c.insert
+  local-insert : IsLocal c.insert
   unfolding c.insert
   local-insert n = local-expect t m m' n s.Into _ (local-bind t m m' n identifier _ (local-identifier t m m' n) (λ table.
       local-next-all t m m' s.Values (λ rest. separated c.tuple rest >>= (λ r. Ok (syntax.insert table r.0, r.1))) (λ rest. c.query rest >>= (λ r. Ok (syntax.insert_select table r.0, r.1)))
       (λ n. local-bind t m m' n (separated c.tuple) _ (local-separated t m m' c.tuple shrinks-tuple n (local-tuple n)) (λ rows. local-ok t m m' n (syntax.insert table rows)))
       (λ n. local-bind t m m' n c.query _ (local-query n) (λ xs. local-ok t m m' n (syntax.insert_select table xs))) n))
 
-  local-update : Good c.update
+  local-update : IsLocal c.update
   unfolding c.update
   local-update n = local-bind t m m' n identifier _ (local-identifier t m m' n) (λ table. local-expect t m m' n s.Set _
       (local-bind t m m' n (separated c.set_term) _ (local-separated t m m' c.set_term shrinks-set_term n (local-set_term n)) (λ sets.
       local-bind t m m' n c.condition _ (local-condition n) (λ cond. local-ok t m m' n (syntax.update table sets cond)))))
 
-  local-delete : Good c.delete
+  local-delete : IsLocal c.delete
   unfolding c.delete
   local-delete n = local-expect t m m' n s.From _ (local-bind t m m' n identifier _ (local-identifier t m m' n) (λ table.
       local-bind t m m' n c.condition _ (local-condition n) (λ cond. local-ok t m m' n (syntax.delete table cond))))
 
   command_symbol-chosen : (n : ℕ) (symbol : Symbol) (p : Parser Command) → command_symbol symbol ≡ Some p → Local t m m' n p
-  command_symbol-chosen n s.Create p e = good-is n _ p (local-create n) e
-  command_symbol-chosen n s.Begin p e = good-is n _ p (local-ok t m m' n syntax.begin) e
-  command_symbol-chosen n s.Commit p e = good-is n _ p (local-ok t m m' n syntax.Command.commit) e
-  command_symbol-chosen n s.Rollback p e = good-is n _ p (local-ok t m m' n syntax.rollback) e
-  command_symbol-chosen n s.Insert p e = good-is n _ p (local-insert n) e
-  command_symbol-chosen n s.Update p e = good-is n _ p (local-update n) e
-  command_symbol-chosen n s.Delete p e = good-is n _ p (local-delete n) e
+  command_symbol-chosen n s.Create p e = is_local-is n _ p (local-create n) e
+  command_symbol-chosen n s.Begin p e = is_local-is n _ p (local-ok t m m' n syntax.begin) e
+  command_symbol-chosen n s.Commit p e = is_local-is n _ p (local-ok t m m' n syntax.Command.commit) e
+  command_symbol-chosen n s.Rollback p e = is_local-is n _ p (local-ok t m m' n syntax.rollback) e
+  command_symbol-chosen n s.Insert p e = is_local-is n _ p (local-insert n) e
+  command_symbol-chosen n s.Update p e = is_local-is n _ p (local-update n) e
+  command_symbol-chosen n s.Delete p e = is_local-is n _ p (local-delete n) e
   command_symbol-chosen n _ p e = cc
 
   command-chosen : (n : ℕ) (x : Lexeme) (p : Parser Command) → command_choice x ≡ Some p → Local t m m' n p
@@ -266,7 +266,7 @@ module _ (t : Lexeme) (m m' : Lexemes) where
   command-chosen n Big p e = cc
   command-chosen n (Text bytes) p e = cc
 
-  pub local-command : Good c.command
+  pub local-command : IsLocal c.command
   local-command = local-first-all t m m' c.command command_choice selected command-first command-chosen
       (λ n. local-bind t m m' n c.query _ (local-query n) (λ xs. local-ok t m m' n (syntax.select xs)))
 
@@ -275,15 +275,15 @@ module _ (t : Lexeme) (m m' : Lexemes) where
     where
       go : (o : Option ℕ) → option_map c.in_session o ≡ Some p → Local t m m' n p
       go None e = cc
-      go (Some session) e = good-is n _ p (local-expect t m m' n s.Colon _ (local-bind t m m' n c.command _ (local-command n)
+      go (Some session) e = is_local-is n _ p (local-expect t m m' n s.Colon _ (local-bind t m m' n c.command _ (local-command n)
           (λ x. local-ok t m m' n (record { session = session; command = x })))) e
   session-chosen n (Sign symbol) p e = cc
   session-chosen n (Number k) p e = cc
   session-chosen n Big p e = cc
   session-chosen n (Text bytes) p e = cc
 
-  local-session_command : Good c.session_command
+  local-session_command : IsLocal c.session_command
   local-session_command = local-first-all t m m' c.session_command session_choice fail session-first session-chosen (λ n. local-err t m m' n)
 
-  pub local-script_line : Good c.script_line
+  pub local-script_line : IsLocal c.script_line
   local-script_line n = local-closed t m m' c.session_command n (local-session_command n)

@@ -1,10 +1,8 @@
 -- The parser of commands is sound, and what it leaves before a fault begins a command.
-use Rattle.std.proofs.Common.{◌≡◌, ℕ, zero, suc, pos, negsuc, List, [], ◌∷◌, ◌++◌, length, Option, Some, None, Ok, Err, refl, sym, ap, subst, arith, ◌∙◌}
+use Rattle.std.proofs.Common.{◌≡◌, ℕ, zero, suc, List, [], ◌∷◌, ◌++◌, Option, Some, None, Ok, Err, refl}
 use Rattle.std.specs.Prelude.{codes}
 use Rattle.std.proofs.lemmas.List.{append-nil}
-use Rattle.gp_base.specs.declared.cell.Cell.{Cell}
 use Rattle.gp_base.specs.declared.cell.Cell.TheVariants as cell
-use Rattle.gp_base.specs.declared.table.Column.{Column}
 use Rattle.gp_base.specs.declared.table.Kind.TheVariants as kind
 use Rattle.gp_lexer.specs.declared.lexeme.Symbol.{Symbol}
 use Rattle.gp_lexer.specs.declared.lexeme.Symbol.TheVariants as s
@@ -13,14 +11,13 @@ use Rattle.gp_grammar.specs.Syntax as syntax
 use Rattle.gp_grammar.specs.Syntax.{Lexemes, Bytes, Term, SetTerm, Item, Items, Block, Query, Command, ScriptLine}
 use Rattle.gp_grammar.specs.CommandGrammar as g
 use Rattle.gp_grammar.specs.CommandGrammar.{IsList, comma, union_all, IsColumn, IsLiteral, IsTuple, IsItem, IsCommand, session_of, Closed}
-use Rattle.gp_grammar.specs.Parsing.{Outcome, Parser, ◌>>=◌, by_option, identifier, term}
+use Rattle.gp_grammar.specs.Parsing.{◌>>=◌, by_option, identifier, term}
 use Rattle.gp_grammar.specs.CommandParsing as c
 use Rattle.gp_grammar.specs.CommandParsing.{◌then◌, accept, separated, push, named}
-use Rattle.gp_grammar.specs.Laws.{Built}
 use Rattle.gp_grammar.proofs.Building.{BuildsTerm}
 use Rattle.gp_grammar.proofs.CommandBuilding as built
 use Rattle.gp_grammar.proofs.CommandBuilding.{BuildsWhere, BuildsItems, BuildsBlock, BuildsQuery, BuildsSetTerm, BuildsCommand, BuildsSession, as_is}
-use Rattle.gp_grammar.proofs.Soundness.{Parsed, Viable, Sentence, Sound, sound-ok, sound-err, sound-at, sound-shift, sound-bind, sound-phrase, expect-sound, identifier-sound, term-sound}
+use Rattle.gp_grammar.proofs.Soundness.{Sentence, Sound, sound-ok, sound-err, sound-shift, sound-bind, sound-phrase, expect-sound, identifier-sound, term-sound}
 use Rattle.gp_grammar.proofs.SoundCombinators.{next-sound, list-sound, separated-sound, in_brackets-sound, closed-sound}
 
 -- ---- literals and tuples
@@ -108,9 +105,9 @@ data AllBlock : Lexemes → Block → Type 0 where
 all-sound : (ts : Lexemes) → Sound AllBlock ts ((s.All then c.block) ts)
 all-sound ts = expect-sound s.All AllBlock ts c.block (λ ts1. sound-phrase BuildsBlock (λ b y. AllBlock (Sign s.All ∷ b) y) ts1 (c.block ts1) (λ b y i. all b y i) (block-sound ts1))
 
-union-more : (front b : Lexemes) (xs : List Block) (x : Block) → IsList union_all BuildsBlock front xs → AllBlock b x
-    → IsList union_all BuildsBlock (front ++ (Sign s.Union ∷ b)) (xs ++ x ∷ [])
-union-more front _ xs _ i (all a x j) = g.more front a xs x i j
+union-more : (prefix b : Lexemes) (xs : List Block) (x : Block) → IsList union_all BuildsBlock prefix xs → AllBlock b x
+    → IsList union_all BuildsBlock (prefix ++ (Sign s.Union ∷ b)) (xs ++ x ∷ [])
+union-more prefix _ xs _ i (all a x j) = g.more prefix a xs x i j
 
 pub query-sound : (ts : Lexemes) → Sound BuildsQuery ts (c.query ts)
 unfolding c.query

@@ -1,14 +1,12 @@
--- What is in the grammar is read.
-use Rattle.std.proofs.Common.{◌≡◌, ℕ, zero, suc, pos, ◌+◌, ◌<◌, ◌≤◌, List, [], ◌∷◌, ◌++◌, length, Option, Some, None, Ok, Err, Bool, true, false, refl, sym, ap, subst, arith, rules, ◌∙◌, append_assoc}
-use Rattle.std.proofs.lemmas.List.{append-nil}
+-- The parser of terms is complete: it takes what the grammar derives, where the next lexeme does not go on with it.
+use Rattle.std.proofs.Common.{◌≡◌, ℕ, ◌<◌, ◌≤◌, List, [], ◌∷◌, ◌++◌, Some, None, Ok, Err, true, false, refl, sym, ap, arith, ◌∙◌, append_assoc}
 use Rattle.gp_lexer.specs.declared.lexeme.Symbol.{Symbol}
 use Rattle.gp_lexer.specs.declared.lexeme.Symbol.TheVariants as s
-use Rattle.gp_lexer.specs.declared.lexeme.Lexeme.{Lexeme}
 use Rattle.gp_lexer.specs.declared.lexeme.Lexeme.TheVariants.{Symbol as Sign, Word, Number, Big, Text}
 use Rattle.gp_grammar.specs.declared.level.Level.{Level}
 use Rattle.gp_grammar.specs.declared.level.Level.TheVariants as l
 use Rattle.gp_grammar.specs.declared.op.Op.{Op}
-use Rattle.gp_grammar.specs.Syntax.{Lexemes, Term, null, int, text, col}
+use Rattle.gp_grammar.specs.Syntax.{Lexemes, Term, col}
 use Rattle.gp_grammar.specs.Capping.{binary, neg, not, is_null, is_true, case, capped}
 use Rattle.gp_grammar.specs.Parsing as r
 use Rattle.gp_grammar.specs.Operators.{operator_of, comparison_of}
@@ -17,7 +15,7 @@ use Rattle.gp_grammar.proofs.Agreement.{term-unfolds, chain-none, chain-step}
 use Rattle.gp_grammar.specs.Grammar.{Phrase, Derives, IsTerm, operand}
 use Rattle.gp_grammar.specs.Grammar as g
 
--- how tightly a symbol binds what stands before it
+-- how tightly a symbol binds the lexemes before it
 abbrev binds : Symbol → ℕ
 binds s.Dot = 9
 binds s.Star = 7
@@ -42,7 +40,7 @@ first_binds (Number n ∷ ts) = 0
 first_binds (Big ∷ ts) = 0
 first_binds (Text bytes ∷ ts) = 0
 
--- a part goes on with nothing that binds no tighter
+-- a phrase goes on only with symbols that bind tighter than this
 abbrev rank : Phrase → ℕ
 rank (g.operations l.Disjunction) = 1
 rank (g.operations l.Conjunction) = 2
@@ -70,7 +68,7 @@ finish g.comparison x rest = Ok (x, rest)
 finish g.factor x rest = Ok (x, rest)
 finish g.primary x rest = Ok (x, rest)
 
--- ---- what does not stand there
+-- ---- which symbols do not go on with a phrase
 
 no-op : (at : Level) (symbol : Symbol) → binds symbol < rank (g.operations at) → operator_of at symbol ≡ None
 no-op l.Disjunction s.Or h = absurd (omega arith)
@@ -153,7 +151,7 @@ cmp-binds s.Gt o h = refl
 cmp-binds s.Ge o h = refl
 cmp-binds _ o h = cc
 
--- ---- what does not begin a part
+-- ---- which symbols do not begin a phrase
 
 abbrev IsTight : Phrase → Type 0
 IsTight (g.operations l.Disjunction) = ⊥
@@ -198,7 +196,7 @@ no-minus (g.qualified_column item name) rest = refl
 no-minus (g.brackets a x i) rest = refl
 no-minus (g.choice a b c x y z i j k) rest = refl
 
--- ---- the readers of the parts
+-- ---- single steps of the parser
 
 part-is : (at : Level) (ts : Lexemes) → r.operand term at ts ≡ reads (operand at) ts
 part-is l.Disjunction ts = refl
@@ -311,7 +309,7 @@ compared-both ts us rest symbol o x y e h k =
 moved : (p : Phrase) (ts us : Lexemes) (out : Outcome (Term × Lexemes)) → ts ≡ us → reads p us ≡ out → reads p ts ≡ out
 moved p ts us out e h = ap (λ z. reads p z) e ∙ h
 
--- ---- the law
+-- ---- the theorem, by induction on the derivation
 
 pub complete : {p : Phrase} {a : Lexemes} {x : Term} → Derives p a x → (rest : Lexemes) → first_binds rest ≤ rank p → reads p (a ++ rest) ≡ finish p (capped x) rest
 complete (g.operation at o symbol a b x y e i j) rest h =
@@ -350,6 +348,6 @@ complete (g.choice a b c x y z i j k) rest h = moved g.primary _ _ _ (ap (λ u. 
     (term-of _ _ (capped y) (complete j (Sign s.Else ∷ (c ++ (Sign s.End ∷ rest))) (omega arith)) (omega arith))
     (term-of _ _ (capped z) (complete k (Sign s.End ∷ rest) (omega arith)) (omega arith)))
 
--- a term is read whole, where nothing strip it could go on with it
+-- a whole term is parsed, where the next lexeme does not go on with it
 pub term-complete : (a : Lexemes) (x : Term) → IsTerm a x → (rest : Lexemes) → first_binds rest < 1 → term (a ++ rest) ≡ Ok (capped x, rest)
 term-complete a x i rest h = term-of (a ++ rest) rest (capped x) (complete i rest (omega arith)) h

@@ -1,19 +1,29 @@
 -- Worked examples of the parser, by computation.
-use Rattle.std.proofs.Common.{◌≡◌, ℕ, pos, negsuc, true, false, List, [], ◌∷◌, Some, None, Ok, Err, refl}
+use Rattle.std.proofs.Common.{◌≡◌, negsuc, true, false, [], ◌∷◌, ◌++◌, replicate, Some, None, Ok, Err, refl}
 use Rattle.std.specs.Prelude.{codes}
 use Rattle.gp_base.specs.declared.cell.Cell.TheVariants as cell
 use Rattle.gp_lexer.specs.declared.lexeme.Symbol.TheVariants as s
-use Rattle.gp_lexer.specs.declared.lexeme.Lexeme.TheVariants.{Symbol as Sign, Word, Number, Big, Text}
-use Rattle.gp_grammar.specs.declared.semiring_name.SemiringName.TheVariants as semiring
+use Rattle.gp_lexer.specs.declared.lexeme.Lexeme.TheVariants.{Symbol as Sign, Word, Number, Big}
 use Rattle.gp_grammar.specs.declared.token_kind.TokenKind.TheVariants as token
 use Rattle.gp_grammar.specs.Syntax as y
 use Rattle.gp_grammar.specs.Syntax.{Lexemes}
+use Rattle.gp_grammar.specs.declared.limits.TheConstants.{MAX_OPEN}
+use Rattle.gp_grammar.specs.Depth.{is_too_deep}
+use Rattle.gp_grammar.specs.Limits.{columns, passed_limit}
 use Rattle.gp_grammar.specs.Parsing as p
 use Rattle.gp_grammar.specs.Parsing.{whole}
 use Rattle.gp_grammar.specs.CommandParsing as c
 use Rattle.gp_grammar.specs.QuestionParsing as q
+use Rattle.gp_grammar.specs.LineReading as r
+use Rattle.gp_lexer.specs.Lexing as lex
+use Rattle.std.specs.Str.{is_utf8, chars}
+use Rattle.std.specs.Option.{option_map}
+use Rattle.std.specs.Result.{result_ok}
+use Rattle.gp_lexer.specs.Layout.{written}
+use Rattle.gp_grammar.specs.Capping as cap
+use Rattle.gp_grammar.specs.Canonical.{command_text}
 
--- behind `s1:`, a word that is no command
+-- after `s1:`, a word that is no command
 no_command : whole c.script_line (Word (codes "s1") ∷ Sign s.Colon ∷ Word (codes "selct") ∷ Sign s.Star ∷ Sign s.From ∷ Word (codes "r") ∷ [])
     ≡ Err (Word (codes "selct") ∷ Sign s.Star ∷ Sign s.From ∷ Word (codes "r") ∷ [])
 unfolding p.expect
@@ -62,3 +72,60 @@ third_part = refl
 
 zero_transaction : q.pattern (Word (codes "i0") ∷ []) ≡ Err (Word (codes "i0") ∷ [])
 zero_transaction = refl
+
+-- ---- whole lines, from their bytes
+
+misspelled : r.script_line_of (codes "s1: SELCT * FROM r") ≡ Err (r.syntax 5)
+unfolding is_utf8 chars lib.Utf8.encode lex.lexed lex.lexed_from lex.lexeme_at lex.word_at lex.reserved_word lex.number_at lex.sign_at p.expect
+misspelled = refl
+
+no_such_session : r.script_line_of (codes "s65: BEGIN") ≡ Err (r.syntax 1)
+unfolding is_utf8 chars lib.Utf8.encode lex.lexed lex.lexed_from lex.lexeme_at lex.word_at lex.reserved_word lex.number_at lex.sign_at p.expect
+no_such_session = refl
+
+no_colon : r.script_line_of (codes "s1 BEGIN") ≡ Err (r.syntax 4)
+unfolding is_utf8 chars lib.Utf8.encode lex.lexed lex.lexed_from lex.lexeme_at lex.word_at lex.reserved_word lex.number_at lex.sign_at p.expect
+no_colon = refl
+
+no_sign : r.script_line_of (codes "s1: SELECT a ! b FROM r") ≡ Err (r.lexical 14)
+unfolding is_utf8 chars lib.Utf8.encode lex.lexed lex.lexed_from lex.lexeme_at lex.word_at lex.reserved_word lex.number_at lex.sign_at p.expect
+no_sign = refl
+
+unclosed : r.script_line_of (codes "s1: SELECT * FROM r WHERE a = 'x") ≡ Err (r.lexical 31)
+unfolding is_utf8 chars lib.Utf8.encode lex.lexed lex.lexed_from lex.lexeme_at lex.word_at lex.reserved_word lex.number_at lex.sign_at p.expect
+unclosed = refl
+
+big_number : r.script_line_of (codes "s1: INSERT INTO r VALUES (9223372036854775808)") ≡ Err (r.syntax 27)
+unfolding is_utf8 chars lib.Utf8.encode lex.lexed lex.lexed_from lex.lexeme_at lex.word_at lex.reserved_word lex.number_at lex.sign_at p.expect c.insert c.query c.block c.items c.item c.condition c.separated c.many c.repeat c.tuple
+big_number = refl
+
+line_end : r.script_line_of (codes "s2: SELECT * FROM nowhere WHERE") ≡ Err (r.syntax 32)
+unfolding is_utf8 chars lib.Utf8.encode lex.lexed lex.lexed_from lex.lexeme_at lex.word_at lex.reserved_word lex.number_at lex.sign_at p.expect c.insert c.query c.block c.items c.item c.condition c.separated c.many c.repeat c.tuple p.term p.term_within p.joined p.chain p.chain_within p.negation p.test p.factor p.column p.brackets p.value_test
+line_end = refl
+
+version_too_big : r.question_of (codes "AS OF 9223372036854775808 SELECT * FROM r") ≡ Err (r.syntax 7)
+unfolding is_utf8 chars lib.Utf8.encode lex.lexed lex.lexed_from lex.lexeme_at lex.word_at lex.reserved_word lex.number_at lex.sign_at p.expect q.open_question q.ask q.how q.state
+version_too_big = refl
+
+second_part : r.question_of (codes "VALUE IN COUNT (q1.2.3 = 1) OF AS OF 1 SELECT * FROM r") ≡ Err (r.syntax 21)
+unfolding is_utf8 chars lib.Utf8.encode lex.lexed lex.lexed_from lex.lexeme_at lex.word_at lex.reserved_word lex.number_at lex.sign_at p.expect q.open_question q.ask q.how q.value q.semiring_name q.rules q.rules_from q.rules_within q.rule
+second_part = refl
+
+canonical_update : option_map command_text (result_ok (r.command_of (codes "update R set b = -b * c + 'x' where not a = b and b is null or a <> c")))
+    ≡ Some (codes "UPDATE r SET b = (((-b) * c) + 'x') WHERE (((NOT (a = b)) AND (b IS NULL)) OR (a <> c))")
+unfolding is_utf8 chars lib.Utf8.encode lex.lexed lex.lexed_from lex.lexeme_at lex.word_at lex.reserved_word lex.number_at lex.sign_at p.expect c.update c.set_term c.separated c.many c.repeat c.condition p.term p.term_within p.joined p.chain p.chain_within p.negation p.test p.factor p.column p.brackets p.value_test cap.binary cap.neg cap.not cap.is_null written
+canonical_update = refl
+
+-- 61 open brackets are too deep, 60 are not, and one that closes makes room
+too_deep : is_too_deep MAX_OPEN (replicate 61 (Sign s.Open)) ≡ true
+too_deep = refl
+
+deep_enough : is_too_deep MAX_OPEN (replicate 60 (Sign s.Open) ++ (Sign s.Close ∷ Sign s.Case ∷ [])) ≡ false
+deep_enough = refl
+
+-- 17 columns are too many, and are told before five FROM items
+too_many_columns : passed_limit (record { columns = 16 ∷ 17 ∷ []; from = 5 ∷ []; branches = 9; values = 101; terms = [] }) ≡ Some columns
+too_many_columns = refl
+
+no_limit : passed_limit (record { columns = 16 ∷ []; from = 4 ∷ []; branches = 8; values = 100; terms = [] }) ≡ None
+no_limit = refl

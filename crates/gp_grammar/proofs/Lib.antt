@@ -26,3 +26,5 @@ pub mod CanonicalCommands
 pub mod CanonicalSource
 pub mod CanonicalCommandDepth
 pub mod CanonicalLaws
+pub mod Utf8Lemmas
+pub mod LineFeedLemmas

@@ -1,12 +1,11 @@
 -- A text and a line are read, and refused, exactly as the definitions say.
-use Rattle.std.proofs.Common.{◌≡◌, ◌≢◌, ℕ, ◌+◌, ◌<◌, ◌≤◌, Bool, true, false, cond, ltb, eqb, List, [], ◌∷◌, ◌++◌, length, Option, Some, None, Result, Ok, Err, ◌↔◌, refl, sym, ap, subst, ◌∙◌, arith}
-use Rattle.std.specs.Prelude.{◌==◌}
-use Rattle.std.specs.Str.Lossy.{utf8_valid_len}
-use Rattle.std.proofs.lemmas.Bool.{ltb-false, ltb-true, eqb-true, eq-eqb}
+use Rattle.std.proofs.Common.{◌≡◌, ℕ, ◌+◌, ◌<◌, ◌≤◌, Bool, true, false, cond, ltb, List, length, Option, Some, None, Result, Ok, Err, refl, sym, ap, subst, ◌∙◌, arith}
+use Rattle.std.specs.Str.{IsUtf8, is_utf8}
+use Rattle.std.proofs.lemmas.Bool.{ltb-false, ltb-true}
+use Rattle.std.proofs.lemmas.Str.{IsUtf8-from_is_utf8, is_utf8-from_IsUtf8}
 use Rattle.gp_lexer.specs.Lexing.{Lexed, lexed}
 use Rattle.gp_grammar.specs.declared.limits.TheConstants.{MAX_LINE_LENGTH, MAX_OPEN}
-use Rattle.gp_grammar.specs.Syntax.{Lexemes, Bytes, Term, Command, ScriptLine, Question}
-use Rattle.gp_grammar.specs.Places.{Stops}
+use Rattle.gp_grammar.specs.Syntax.{Lexemes, Bytes}
 use Rattle.gp_grammar.specs.Depth.{is_too_deep}
 use Rattle.gp_grammar.specs.Limits.{Limit, depth, Shape, passed_limit}
 use Rattle.gp_grammar.specs.Parsing.{Outcome, Parser, whole}
@@ -15,15 +14,15 @@ use Rattle.gp_grammar.specs.LineReading.{Fault, too_long, not_utf8, lexical, syn
 use Rattle.gp_grammar.specs.Laws.{Built, CapsFairly, IsUnambiguous, ReadsTextsExactly, RefusesTextsExactly, ReadsLinesExactly, RefusesLinesExactly}
 use Rattle.gp_grammar.proofs.ParserLaws.{Lawful}
 
-eqb-not : (n m : ℕ) → n ≢ m → eqb n m ≡ false
-eqb-not n m h = by (eqb n m) refl
+not-utf8 : (bytes : Bytes) → ¬ IsUtf8 bytes → is_utf8 bytes ≡ false
+not-utf8 bytes h = by (is_utf8 bytes) refl
   where
-    by : (b : Bool) → eqb n m ≡ b → b ≡ false
-    by true e = absurd (h (eqb-true n m e))
+    by : (b : Bool) → is_utf8 bytes ≡ b → b ≡ false
+    by true e = absurd (h (IsUtf8-from_is_utf8 bytes e))
     by false e = refl
 
-eqb-unequal : (n m : ℕ) → eqb n m ≡ false → n ≢ m
-eqb-unequal n m e h = let k : true ≡ false = sym (eq-eqb n m h) ∙ e in cc
+no-utf8 : (bytes : Bytes) → is_utf8 bytes ≡ false → ¬ IsUtf8 bytes
+no-utf8 bytes e h = let k : true ≡ false = sym (is_utf8-from_IsUtf8 bytes h) ∙ e in cc
 
 ok-is : {A : Type 0} (x y : A) (o : Outcome A) → o ≡ Ok x → o ≡ Ok y → x ≡ y
 ok-is x y o d e = cc
@@ -42,8 +41,8 @@ module _ {A : Type 0} (p : Parser A) (Is : Lexemes → A → Type 0) (cap : A �
 
   -- ---- what the function gives
 
-  text-encoded : (bytes : Bytes) → utf8_valid_len bytes ≡ length bytes → read_text p shape bytes ≡ read_lexed p shape (length bytes + 1) (lexed bytes)
-  text-encoded bytes h = ap (λ b. cond b (read_lexed p shape (length bytes + 1) (lexed bytes)) (Err not_utf8)) (eq-eqb (utf8_valid_len bytes) (length bytes) h)
+  text-encoded : (bytes : Bytes) → IsUtf8 bytes → read_text p shape bytes ≡ read_lexed p shape (length bytes + 1) (lexed bytes)
+  text-encoded bytes h = ap (λ b. cond b (read_lexed p shape (length bytes + 1) (lexed bytes)) (Err not_utf8)) (is_utf8-from_IsUtf8 bytes h)
 
   text-lexed : (bytes : Bytes) (ts : Lexemes) (cs : List ℕ) → HasLexemes bytes ts cs → read_text p shape bytes ≡ read_lexemes p shape ts cs (length bytes + 1)
   text-lexed bytes ts cs h = text-encoded bytes h.utf8 ∙ ap (read_lexed p shape (length bytes + 1)) h.found
@@ -63,7 +62,7 @@ module _ {A : Type 0} (p : Parser A) (Is : Lexemes → A → Type 0) (cap : A �
       ∙ ap (λ z. Ok z) (f.exact x h.within)
 
   text-refused : (bytes : Bytes) (fault : Fault) → RefusesText Is shape bytes fault → read_text p shape bytes ≡ Err fault
-  text-refused bytes _ (r.encoding h) = ap (λ b. cond b (read_lexed p shape (length bytes + 1) (lexed bytes)) (Err not_utf8)) (eqb-not (utf8_valid_len bytes) (length bytes) h)
+  text-refused bytes _ (r.encoding h) = ap (λ b. cond b (read_lexed p shape (length bytes + 1) (lexed bytes)) (Err not_utf8)) (not-utf8 bytes h)
   text-refused bytes _ (r.unlexed column h e) = text-encoded bytes h ∙ ap (read_lexed p shape (length bytes + 1)) e
   text-refused bytes _ (r.deep ts cs h d) = text-lexed bytes ts cs h ∙ ap (λ b. cond b (Err (over depth)) (placed shape ts cs (length bytes + 1) (whole p ts))) d
   text-refused bytes _ (r.stopped ts rest cs h d s) = text-shallow bytes ts cs (Err rest) h d ((w.stops ts rest).1 s)
@@ -99,18 +98,18 @@ module _ {A : Type 0} (p : Parser A) (Is : Lexemes → A → Type 0) (cap : A �
   answer-lexemes bytes ts cs h true d = r.deep ts cs h d
   answer-lexemes bytes ts cs h false d = answer-parsed bytes ts cs h d (whole p ts) refl
 
-  answer-lexed : (bytes : Bytes) → utf8_valid_len bytes ≡ length bytes → (l : Lexed) → lexed bytes ≡ l → IsAnswer bytes (read_lexed p shape (length bytes + 1) l)
+  answer-lexed : (bytes : Bytes) → IsUtf8 bytes → (l : Lexed) → lexed bytes ≡ l → IsAnswer bytes (read_lexed p shape (length bytes + 1) l)
   unfolding IsAnswer
   answer-lexed bytes h (Err column) e = r.unlexed column h e
   answer-lexed bytes h (Ok l) e = answer-lexemes bytes l.0 l.1 (record { utf8 = h; found = e }) (is_too_deep MAX_OPEN l.0) refl
 
-  answer-text : (bytes : Bytes) (b : Bool) → eqb (utf8_valid_len bytes) (length bytes) ≡ b → IsAnswer bytes (cond b (read_lexed p shape (length bytes + 1) (lexed bytes)) (Err not_utf8))
+  answer-text : (bytes : Bytes) (b : Bool) → is_utf8 bytes ≡ b → IsAnswer bytes (cond b (read_lexed p shape (length bytes + 1) (lexed bytes)) (Err not_utf8))
   unfolding IsAnswer
-  answer-text bytes true e = answer-lexed bytes (eqb-true (utf8_valid_len bytes) (length bytes) e) (lexed bytes) refl
-  answer-text bytes false e = r.encoding (eqb-unequal (utf8_valid_len bytes) (length bytes) e)
+  answer-text bytes true e = answer-lexed bytes (IsUtf8-from_is_utf8 bytes e) (lexed bytes) refl
+  answer-text bytes false e = r.encoding (no-utf8 bytes e)
 
   answer : (bytes : Bytes) → IsAnswer bytes (read_text p shape bytes)
-  answer bytes = answer-text bytes (eqb (utf8_valid_len bytes) (length bytes)) refl
+  answer bytes = answer-text bytes (is_utf8 bytes) refl
 
   pub texts-read : ReadsTextsExactly p Is cap shape
   unfolding IsAnswer

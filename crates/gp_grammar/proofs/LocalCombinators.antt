@@ -1,15 +1,15 @@
 -- Locality of options, repetitions and the parsers that look at the first lexeme.
-use Rattle.std.proofs.Common.{◌≡◌, ℕ, zero, suc, ◌+◌, ◌<◌, ◌≤◌, List, [], ◌∷◌, ◌++◌, length, Option, Some, None, Ok, Err, Bool, true, false, cond, refl, sym, ap, subst, arith, ◌∙◌, ◌⊎◌, inl, inr}
+use Rattle.std.proofs.Common.{◌≡◌, ℕ, zero, suc, ◌<◌, ◌≤◌, [], ◌∷◌, ◌++◌, length, Option, Some, None, Ok, Err, Bool, true, false, cond, refl, subst, arith, ◌⊎◌, inr}
 use Rattle.gp_lexer.specs.declared.lexeme.Symbol.{Symbol}
 use Rattle.gp_lexer.specs.declared.lexeme.Symbol.TheVariants as s
 use Rattle.gp_lexer.specs.declared.lexeme.Lexeme.{Lexeme}
 use Rattle.gp_lexer.specs.declared.lexeme.Lexeme.TheVariants.{Symbol as Sign, Word, Number, Big, Text}
 use Rattle.gp_grammar.specs.Syntax.{Lexemes, Bytes}
-use Rattle.gp_grammar.specs.Parsing.{Outcome, Parser, ◌>>=◌, by_option, is_symbol, strip, expect}
+use Rattle.gp_grammar.specs.Parsing.{Parser, ◌>>=◌, by_option, is_symbol, strip}
 use Rattle.gp_grammar.specs.CommandParsing.{where_next, fail, accept, many, push, separated, in_brackets, closed}
 use Rattle.gp_grammar.specs.QuestionParsing.{is_word, where_word, number_if}
 use Rattle.gp_grammar.proofs.Shrinking.{Shrinks, many_step, many-unfolds}
-use Rattle.gp_grammar.proofs.Locality.{Local, Same, SameRest, Past, Falls, falls-less, falls-past, local-weaken, local-ok, local-bind, local-err, local-expect, here, there, after, along-by, local-same}
+use Rattle.gp_grammar.proofs.Locality.{Local, Same, Past, NotLonger, not_longer-less, not_longer-past, local-weaken, local-ok, local-bind, local-err, local-expect, here, there, after, along-by, local-same}
 
 -- a parser that is chosen by the first lexeme, and another one where none is chosen
 abbrev pub first_choice : {A : Type 0} → (Lexeme → Option (Parser A)) → Parser A → Parser A
@@ -60,13 +60,13 @@ number-first fits (Text bytes ∷ ts) = refl
 module _ (t : Lexeme) (m m' : Lexemes) where
   module _ {A : Type 0} (n : ℕ) (choose : Lexeme → Option (Parser A)) (other : Parser A)
       (chosen : (x : Lexeme) (p : Parser A) → choose x ≡ Some p → Local t m m' n p) (w : Local t m m' (suc n) other) where
-    first-falls : (ts : Lexemes) → length ts < suc n → Falls t m m' ts (first_choice choose other ts)
-    first-falls [] lt = w.falls [] lt
-    first-falls (x ∷ ts) lt = go (choose x) refl
+    first-not_longer : (ts : Lexemes) → length ts < suc n → NotLonger t m m' ts (first_choice choose other ts)
+    first-not_longer [] lt = w.not_longer [] lt
+    first-not_longer (x ∷ ts) lt = go (choose x) refl
       where
-        go : (o : Option (Parser A)) → choose x ≡ o → Falls t m m' (x ∷ ts) (by_option o (other (x ∷ ts)) (λ p. p ts))
-        go None e = w.falls (x ∷ ts) lt
-        go (Some p) e = falls-less t m m' ts (x ∷ ts) (p ts) (omega arith) ((chosen x p e).falls ts (omega arith))
+        go : (o : Option (Parser A)) → choose x ≡ o → NotLonger t m m' (x ∷ ts) (by_option o (other (x ∷ ts)) (λ p. p ts))
+        go None e = w.not_longer (x ∷ ts) lt
+        go (Some p) e = not_longer-less t m m' ts (x ∷ ts) (p ts) (omega arith) ((chosen x p e).not_longer ts (omega arith))
 
     first-one : (x : Lexeme) → x ≡ t → length m < n → Same t m m' (first_choice choose other (x ∷ m)) (first_choice choose other (x ∷ m')) ⊎ Past t m m' (first_choice choose other (x ∷ m))
     first-one x e lt = go (choose x) refl
@@ -74,20 +74,20 @@ module _ (t : Lexeme) (m m' : Lexemes) where
         go : (o : Option (Parser A)) → choose x ≡ o
             → Same t m m' (by_option o (other (x ∷ m)) (λ p. p m)) (by_option o (other (x ∷ m')) (λ p. p m')) ⊎ Past t m m' (by_option o (other (x ∷ m)) (λ p. p m))
         go None d = w.along (x ∷ m) (x ∷ m') (omega arith) (here t m m' x e)
-        go (Some p) d = inr (falls-past t m m' m (p m) (omega arith) ((chosen x p d).falls m lt))
+        go (Some p) d = inr (not_longer-past t m m' m (p m) (omega arith) ((chosen x p d).not_longer m lt))
 
-    first-more : (x : Lexeme) (front : Lexemes) → length (front ++ (t ∷ m)) < n
-        → Same t m m' (first_choice choose other (x ∷ (front ++ (t ∷ m)))) (first_choice choose other (x ∷ (front ++ (t ∷ m')))) ⊎ Past t m m' (first_choice choose other (x ∷ (front ++ (t ∷ m))))
-    first-more x front lt = go (choose x) refl
+    first-more : (x : Lexeme) (prefix : Lexemes) → length (prefix ++ (t ∷ m)) < n
+        → Same t m m' (first_choice choose other (x ∷ (prefix ++ (t ∷ m)))) (first_choice choose other (x ∷ (prefix ++ (t ∷ m')))) ⊎ Past t m m' (first_choice choose other (x ∷ (prefix ++ (t ∷ m))))
+    first-more x prefix lt = go (choose x) refl
       where
         go : (o : Option (Parser A)) → choose x ≡ o
-            → Same t m m' (by_option o (other (x ∷ (front ++ (t ∷ m)))) (λ p. p (front ++ (t ∷ m)))) (by_option o (other (x ∷ (front ++ (t ∷ m')))) (λ p. p (front ++ (t ∷ m'))))
-            ⊎ Past t m m' (by_option o (other (x ∷ (front ++ (t ∷ m)))) (λ p. p (front ++ (t ∷ m))))
-        go None d = w.along (x ∷ (front ++ (t ∷ m))) (x ∷ (front ++ (t ∷ m'))) (omega arith) (there t m m' x front)
-        go (Some p) d = (chosen x p d).along (front ++ (t ∷ m)) (front ++ (t ∷ m')) lt (after t m m' front)
+            → Same t m m' (by_option o (other (x ∷ (prefix ++ (t ∷ m)))) (λ p. p (prefix ++ (t ∷ m)))) (by_option o (other (x ∷ (prefix ++ (t ∷ m')))) (λ p. p (prefix ++ (t ∷ m'))))
+            ⊎ Past t m m' (by_option o (other (x ∷ (prefix ++ (t ∷ m)))) (λ p. p (prefix ++ (t ∷ m))))
+        go None d = w.along (x ∷ (prefix ++ (t ∷ m))) (x ∷ (prefix ++ (t ∷ m'))) (omega arith) (there t m m' x prefix)
+        go (Some p) d = (chosen x p d).along (prefix ++ (t ∷ m)) (prefix ++ (t ∷ m')) lt (after t m m' prefix)
 
     pub local-first : Local t m m' (suc n) (first_choice choose other)
-    local-first = record { falls = first-falls; along = along-by t m m' (first_choice choose other) n first-one first-more }
+    local-first = record { not_longer = first-not_longer; along = along-by t m m' (first_choice choose other) n first-one first-more }
 
   chosen-if : {A : Type 0} (n : ℕ) (test : Lexeme → Bool) (some : Parser A) → Local t m m' n some → (x : Lexeme) (p : Parser A) → choose_if test some x ≡ Some p → Local t m m' n p
   chosen-if n test some w x p = go (test x)
@@ -113,7 +113,7 @@ module _ (t : Lexeme) (m m' : Lexemes) where
 
   -- where there is nothing below the bound
   pub local-zero : {A : Type 0} (p : Parser A) → Local t m m' 0 p
-  local-zero p = record { falls = λ ts lt. absurd (omega arith); along = λ ts us lt e. absurd (omega arith) }
+  local-zero p = record { not_longer = λ ts lt. absurd (omega arith); along = λ ts us lt e. absurd (omega arith) }
 
   pub local-number : (n : ℕ) (fits : ℕ → Bool) → Local t m m' n (number_if fits)
   local-number zero fits = local-zero (number_if fits)

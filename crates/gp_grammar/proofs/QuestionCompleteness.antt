@@ -1,11 +1,8 @@
 -- What the grammar of questions derives is parsed.
-use Rattle.std.proofs.Common.{◌≡◌, ℕ, zero, suc, ◌+◌, ◌<◌, ◌≤◌, Bool, true, false, cond, List, [], ◌∷◌, ◌++◌, map, length, Option, Some, None, Ok, Err, IfSome, refl, sym, ap, subst, arith, ◌∙◌, append_assoc}
+use Rattle.std.proofs.Common.{◌≡◌, ℕ, zero, suc, ◌<◌, ◌≤◌, Bool, true, false, cond, List, [], ◌∷◌, ◌++◌, map, length, Option, Some, None, Ok, Err, IfSome, refl, ap, arith, ◌∙◌, append_assoc}
 use Rattle.std.specs.Prelude.{codes, nat_le}
-use Rattle.std.proofs.lemmas.List.{append-nil}
 use Rattle.std.proofs.lemmas.Bool.{le-leb}
-use Rattle.gp_lexer.specs.declared.lexeme.Symbol.{Symbol}
 use Rattle.gp_lexer.specs.declared.lexeme.Symbol.TheVariants as s
-use Rattle.gp_lexer.specs.declared.lexeme.Lexeme.{Lexeme}
 use Rattle.gp_lexer.specs.declared.lexeme.Lexeme.TheVariants.{Symbol as Sign, Word, Number, Big, Text}
 use Rattle.gp_grammar.specs.declared.semiring_name.SemiringName.{SemiringName}
 use Rattle.gp_grammar.specs.declared.token_kind.TokenKind.{TokenKind}
@@ -19,12 +16,12 @@ use Rattle.gp_grammar.specs.CommandGrammar.{IsList, comma, IsQuery, Closed}
 use Rattle.gp_grammar.specs.QuestionGrammar as g
 use Rattle.gp_grammar.specs.QuestionGrammar.{IsState, IsSemiring, IsPattern, IsRule, IsRules, IsHow, IsOpenQuestion, pattern_name}
 use Rattle.gp_grammar.specs.Parsing.{Outcome, Parser, ◌>>=◌, by_option, strip, expect, identifier}
-use Rattle.gp_grammar.specs.CommandParsing.{◌then◌, where_next, fail, accept, push, query}
+use Rattle.gp_grammar.specs.CommandParsing.{◌then◌, where_next, accept, push, query}
 use Rattle.gp_grammar.specs.QuestionParsing as q
 use Rattle.gp_grammar.specs.QuestionParsing.{strip_word, where_word, expect_word, number_if, number, pattern_of}
 use Rattle.gp_grammar.proofs.Agreement.{Agree, agree-refl, agree-bind, agree-weaken, strip-less}
-use Rattle.gp_grammar.proofs.Shrinking.{Below, Shrinks, Keeps, shrinks-keeps, keeps-accept, shrinks-fail, shrinks-bind, keeps-bind, shrinks-next, keeps-next, shrinks-then}
-use Rattle.gp_grammar.proofs.CommandCompleteness.{EndsBlock, EndsQuery, query-complete, closed-complete}
+use Rattle.gp_grammar.proofs.Shrinking.{Below, Shrinks, Keeps, shrinks-keeps, keeps-accept, shrinks-bind, keeps-bind, keeps-next, shrinks-then}
+use Rattle.gp_grammar.proofs.CommandCompleteness.{EndsQuery, query-complete, closed-complete}
 
 -- ---- the parser of rules shrinks, and its bound does not matter
 
@@ -116,7 +113,7 @@ rules-agree (suc j) (suc k) found ts a b =
     (λ rest lt2. agree-weaken (length rest) (length r.1) _ _ (omega arith)
     (else-agree (push found r.0) (q.rules_within j (push found r.0)) (q.rules_within k (push found r.0)) rest (rules-agree j k (push found r.0) rest (omega arith) (omega arith))))))
 
--- behind a rule: a comma and more, or the end
+-- after a rule: a comma and more, or the end
 abbrev pub after_rule : List Rule → Parser Rules
 after_rule found = where_next s.Comma (where_next s.Else (q.else_number found) (q.rules_from found)) (s.Close then accept (record { rules = found; other = None }))
 

@@ -1,22 +1,19 @@
 -- The parser of questions is sound, and what it leaves before a fault begins a question.
-use Rattle.std.proofs.Common.{◌≡◌, ℕ, zero, suc, ◌≤◌, Bool, true, false, cond, List, [], ◌∷◌, ◌++◌, map, length, Option, Some, None, Ok, Err, refl, sym, ap, subst, arith, ◌∙◌, append_assoc}
+use Rattle.std.proofs.Common.{◌≡◌, ℕ, zero, suc, ◌≤◌, Bool, true, false, cond, List, [], ◌∷◌, ◌++◌, length, Option, Some, None, Ok, Err, refl, sym, ap, subst, append_assoc}
 use Rattle.std.specs.Prelude.{codes, nat_le}
-use Rattle.std.specs.Str.{bytes_eq}
 use Rattle.std.proofs.lemmas.List.{append-nil}
 use Rattle.std.proofs.lemmas.Bool.{leb-true}
 use Rattle.std.proofs.lemmas.Slice.Eq.{bytes_eq-Decides}
-use Rattle.gp_lexer.specs.declared.lexeme.Symbol.{Symbol}
 use Rattle.gp_lexer.specs.declared.lexeme.Symbol.TheVariants as s
 use Rattle.gp_lexer.specs.declared.lexeme.Lexeme.{Lexeme}
 use Rattle.gp_lexer.specs.declared.lexeme.Lexeme.TheVariants.{Symbol as Sign, Word, Number, Big, Text}
-use Rattle.gp_grammar.specs.declared.semiring_name.SemiringName.{SemiringName}
 use Rattle.gp_grammar.specs.declared.semiring_name.SemiringName.TheVariants as semiring
 use Rattle.gp_grammar.specs.declared.token_kind.TokenKind.{TokenKind}
 use Rattle.gp_grammar.specs.declared.token_kind.TokenKind.TheVariants as token
 use Rattle.gp_grammar.specs.declared.limits.TheConstants.{MAX_PATTERN_NUMBER}
 use Rattle.gp_grammar.specs.Syntax as syntax
 use Rattle.gp_grammar.specs.Syntax.{Lexemes, Bytes, State, Pattern, Rule, rule_of, Rules, How, Query, Question}
-use Rattle.gp_grammar.specs.Capping.{capped_block, capped_question}
+use Rattle.gp_grammar.specs.Capping.{capped_question}
 use Rattle.gp_grammar.specs.CommandGrammar as l
 use Rattle.gp_grammar.specs.CommandGrammar.{IsList, comma, Closed}
 use Rattle.gp_grammar.specs.QuestionGrammar as g
@@ -27,7 +24,7 @@ use Rattle.gp_grammar.specs.QuestionParsing as q
 use Rattle.gp_grammar.specs.QuestionParsing.{is_word, strip_word, where_word, expect_word, number_if, number, pattern_of}
 use Rattle.gp_grammar.specs.Laws.{Built}
 use Rattle.gp_grammar.proofs.CommandBuilding.{BuildsQuery}
-use Rattle.gp_grammar.proofs.Soundness.{Parsed, Viable, Sentence, Sound, sentence, sound-ok, sound-err, sound-at, sound-shift, sound-bind, sound-phrase, expect-sound, identifier-sound}
+use Rattle.gp_grammar.proofs.Soundness.{Sentence, Sound, sentence, sound-ok, sound-err, sound-at, sound-shift, sound-bind, sound-phrase, expect-sound, identifier-sound}
 use Rattle.gp_grammar.proofs.SoundCombinators.{next-sound, closed-sound}
 use Rattle.gp_grammar.proofs.CommandSoundness.{query-sound}
 
@@ -179,52 +176,52 @@ rule-sound ts = sound-bind IsPattern IsRule ts (q.pattern ts) _ (pattern-sound t
 
 -- one more rule may follow
 Extends : Lexemes → List Rule → Type 0
-Extends front found = (b : Lexemes) (x : Rule) → IsRule b x → IsList comma IsRule (front ++ b) (push found x)
+Extends prefix found = (b : Lexemes) (x : Rule) → IsRule b x → IsList comma IsRule (prefix ++ b) (push found x)
 
 abbrev InRules : Lexemes → Lexemes → Rules → Type 0
-InRules front b y = IsRules (Sign s.Open ∷ (front ++ b)) y
+InRules prefix b y = IsRules (Sign s.Open ∷ (prefix ++ b)) y
 
 along-rules : (a b : Lexemes) (y : Rules) → a ≡ b → IsRules (Sign s.Open ∷ a) y → IsRules (Sign s.Open ∷ b) y
 along-rules a b y e i = let F : Lexemes → Type 0 = λ z. IsRules (Sign s.Open ∷ z) y in subst F e i
 
-extends-more : (front a : Lexemes) (found : List Rule) (x : Rule) → IsList comma IsRule (front ++ a) (push found x) → Extends (front ++ (a ++ (Sign s.Comma ∷ []))) (push found x)
+extends-more : (prefix a : Lexemes) (found : List Rule) (x : Rule) → IsList comma IsRule (prefix ++ a) (push found x) → Extends (prefix ++ (a ++ (Sign s.Comma ∷ []))) (push found x)
 unfolding Extends
-extends-more front a found x i b z j =
+extends-more prefix a found x i b z j =
     let F : Lexemes → Type 0 = λ u. IsList comma IsRule u (push (push found x) z) in
-    subst F (simp append_assoc) (l.more (front ++ a) b (push found x) z i j)
+    subst F (simp append_assoc) (l.more (prefix ++ a) b (push found x) z i j)
 
-else-sound : (front a : Lexemes) (found : List Rule) → IsList comma IsRule (front ++ a) found → (ts : Lexemes)
-    → Sound (λ b y. InRules front (a ++ (Sign s.Comma ∷ Sign s.Else ∷ b)) y) ts (q.else_number found ts)
-else-sound front a found i ts = number-sound (λ b y. InRules front (a ++ (Sign s.Comma ∷ Sign s.Else ∷ b)) y) ts _ (λ n ts1.
-    expect-sound s.Close (λ b y. InRules front (a ++ (Sign s.Comma ∷ Sign s.Else ∷ Number n ∷ b)) y) ts1 (accept (record { rules = found; other = Some n }))
+else-sound : (prefix a : Lexemes) (found : List Rule) → IsList comma IsRule (prefix ++ a) found → (ts : Lexemes)
+    → Sound (λ b y. InRules prefix (a ++ (Sign s.Comma ∷ Sign s.Else ∷ b)) y) ts (q.else_number found ts)
+else-sound prefix a found i ts = number-sound (λ b y. InRules prefix (a ++ (Sign s.Comma ∷ Sign s.Else ∷ b)) y) ts _ (λ n ts1.
+    expect-sound s.Close (λ b y. InRules prefix (a ++ (Sign s.Comma ∷ Sign s.Else ∷ Number n ∷ b)) y) ts1 (accept (record { rules = found; other = Some n }))
     (λ ts2. sound-ok _ ts2 (record { rules = found; other = Some n })
-    (along-rules _ _ _ (append_assoc front a (Sign s.Comma ∷ Sign s.Else ∷ Number n ∷ Sign s.Close ∷ [])) (g.rules_and_else (front ++ a) found n i))))
+    (along-rules _ _ _ (append_assoc prefix a (Sign s.Comma ∷ Sign s.Else ∷ Number n ∷ Sign s.Close ∷ [])) (g.rules_and_else (prefix ++ a) found n i))))
 
 a_rule : IsRule (Word (codes "i") ∷ Sign s.Eq ∷ Number 0 ∷ []) (rule_of (pattern_of token.I None None None) 0)
 a_rule = g.rule (Word (codes "i") ∷ []) (pattern_of token.I None None None) 0 (g.kind (codes "i") token.I refl)
 
-some_rules : (front : Lexemes) (found : List Rule) → Extends front found → Sentence (InRules front)
+some_rules : (prefix : Lexemes) (found : List Rule) → Extends prefix found → Sentence (InRules prefix)
 unfolding Extends
-some_rules front found k = record {
+some_rules prefix found k = record {
   lexemes = Word (codes "i") ∷ Sign s.Eq ∷ Number 0 ∷ Sign s.Close ∷ [];
   tree = record { rules = push found (rule_of (pattern_of token.I None None None) 0); other = None };
-  is = along-rules _ _ _ (append_assoc front (Word (codes "i") ∷ Sign s.Eq ∷ Number 0 ∷ []) (Sign s.Close ∷ [])) (g.only_rules (front ++ (Word (codes "i") ∷ Sign s.Eq ∷ Number 0 ∷ [])) _ (k _ _ a_rule));
+  is = along-rules _ _ _ (append_assoc prefix (Word (codes "i") ∷ Sign s.Eq ∷ Number 0 ∷ []) (Sign s.Close ∷ [])) (g.only_rules (prefix ++ (Word (codes "i") ∷ Sign s.Eq ∷ Number 0 ∷ [])) _ (k _ _ a_rule));
 }
 
-rules_within-sound : (n : ℕ) (front : Lexemes) (found : List Rule) → Extends front found → (ts : Lexemes) → Sound (InRules front) ts (q.rules_within n found ts)
+rules_within-sound : (n : ℕ) (prefix : Lexemes) (found : List Rule) → Extends prefix found → (ts : Lexemes) → Sound (InRules prefix) ts (q.rules_within n found ts)
 unfolding q.rules_within Extends
-rules_within-sound zero front found k ts = sound-err (InRules front) ts (some_rules front found k)
-rules_within-sound (suc n) front found k ts =
-    sound-bind IsRule (InRules front) ts (q.rule ts) _ (rule-sound ts) (λ a ts1 x i.
-    next-sound s.Comma (λ b y. InRules front (a ++ b) y) (where_next s.Else (q.else_number (push found x)) (q.rules_within n (push found x)))
+rules_within-sound zero prefix found k ts = sound-err (InRules prefix) ts (some_rules prefix found k)
+rules_within-sound (suc n) prefix found k ts =
+    sound-bind IsRule (InRules prefix) ts (q.rule ts) _ (rule-sound ts) (λ a ts1 x i.
+    next-sound s.Comma (λ b y. InRules prefix (a ++ b) y) (where_next s.Else (q.else_number (push found x)) (q.rules_within n (push found x)))
     (s.Close then accept (record { rules = push found x; other = None })) ts1
-    (λ ts2. next-sound s.Else (λ b y. InRules front (a ++ (Sign s.Comma ∷ b)) y) (q.else_number (push found x)) (q.rules_within n (push found x)) ts2
-    (λ ts3. else-sound front a (push found x) (k a x i) ts3)
-    (sound-phrase (InRules (front ++ (a ++ (Sign s.Comma ∷ [])))) (λ b y. InRules front (a ++ (Sign s.Comma ∷ b)) y) ts2 (q.rules_within n (push found x) ts2)
+    (λ ts2. next-sound s.Else (λ b y. InRules prefix (a ++ (Sign s.Comma ∷ b)) y) (q.else_number (push found x)) (q.rules_within n (push found x)) ts2
+    (λ ts3. else-sound prefix a (push found x) (k a x i) ts3)
+    (sound-phrase (InRules (prefix ++ (a ++ (Sign s.Comma ∷ [])))) (λ b y. InRules prefix (a ++ (Sign s.Comma ∷ b)) y) ts2 (q.rules_within n (push found x) ts2)
     (λ b y j. along-rules _ _ y (simp append_assoc) j)
-    (rules_within-sound n (front ++ (a ++ (Sign s.Comma ∷ []))) (push found x) (extends-more front a found x (k a x i)) ts2)))
-    (expect-sound s.Close (λ b y. InRules front (a ++ b) y) ts1 (accept (record { rules = push found x; other = None }))
-    (λ ts2. sound-ok _ ts2 (record { rules = push found x; other = None }) (along-rules _ _ _ (append_assoc front a (Sign s.Close ∷ [])) (g.only_rules (front ++ a) (push found x) (k a x i))))))
+    (rules_within-sound n (prefix ++ (a ++ (Sign s.Comma ∷ []))) (push found x) (extends-more prefix a found x (k a x i)) ts2)))
+    (expect-sound s.Close (λ b y. InRules prefix (a ++ b) y) ts1 (accept (record { rules = push found x; other = None }))
+    (λ ts2. sound-ok _ ts2 (record { rules = push found x; other = None }) (along-rules _ _ _ (append_assoc prefix a (Sign s.Close ∷ [])) (g.only_rules (prefix ++ a) (push found x) (k a x i))))))
 
 extends-none : Extends [] []
 unfolding Extends

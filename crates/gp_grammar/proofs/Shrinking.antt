@@ -1,11 +1,11 @@
 -- Parsers leave fewer lexemes than they take, so that the bound of a repetition does not matter.
-use Rattle.std.proofs.Common.{◌≡◌, ℕ, zero, suc, ◌+◌, ◌<◌, ◌≤◌, List, [], ◌∷◌, ◌++◌, length, Option, Some, None, Ok, Err, IfOk, IfSome, refl, sym, ap, subst, arith, ◌∙◌}
+use Rattle.std.proofs.Common.{◌≡◌, ℕ, zero, suc, ◌<◌, ◌≤◌, [], ◌∷◌, length, Option, Some, None, Ok, Err, IfOk, IfSome, refl, subst, arith}
 use Rattle.gp_lexer.specs.declared.lexeme.Symbol.{Symbol}
 use Rattle.gp_lexer.specs.declared.lexeme.Symbol.TheVariants as s
-use Rattle.gp_grammar.specs.Syntax.{Lexemes, Bytes, Term}
+use Rattle.gp_grammar.specs.Syntax.{Lexemes}
 use Rattle.gp_grammar.specs.Parsing.{Outcome, Parser, ◌>>=◌, by_option, strip, expected, expect, identifier, term}
-use Rattle.gp_grammar.specs.CommandParsing.{◌then◌, where_next, fail, accept, repeat, many, push, separated, in_brackets}
-use Rattle.gp_grammar.proofs.Agreement.{Agree, agree-refl, agree-bind, agree-weaken, strip-less, expect-agree, identifier-agree, term-agree}
+use Rattle.gp_grammar.specs.CommandParsing.{where_next, fail, accept, repeat, many, push, separated, in_brackets}
+use Rattle.gp_grammar.proofs.Agreement.{Agree, agree-refl, agree-bind, agree-weaken, strip-less, identifier-agree, term-agree}
 
 abbrev pub Below : {A : Type 0} → ℕ → Outcome (A × Lexemes) → Type 0
 Below n o = IfOk o (λ r. length r.1 < n)

@@ -1,16 +1,15 @@
 -- Soundness of options, lists and closed phrases.
-use Rattle.std.proofs.Common.{◌≡◌, ℕ, zero, suc, List, [], ◌∷◌, ◌++◌, length, Option, Some, None, Ok, Err, refl, sym, ap, subst, arith, ◌∙◌, append_assoc}
+use Rattle.std.proofs.Common.{◌≡◌, ℕ, zero, suc, List, [], ◌∷◌, ◌++◌, length, Option, Some, None, Ok, refl, subst, append_assoc}
 use Rattle.std.proofs.lemmas.List.{append-nil}
 use Rattle.gp_lexer.specs.declared.lexeme.Symbol.{Symbol}
 use Rattle.gp_lexer.specs.declared.lexeme.Symbol.TheVariants as s
-use Rattle.gp_lexer.specs.declared.lexeme.Lexeme.{Lexeme}
-use Rattle.gp_lexer.specs.declared.lexeme.Lexeme.TheVariants.{Symbol as Sign, Word}
-use Rattle.gp_grammar.specs.Syntax.{Lexemes, Bytes}
+use Rattle.gp_lexer.specs.declared.lexeme.Lexeme.TheVariants.{Symbol as Sign}
+use Rattle.gp_grammar.specs.Syntax.{Lexemes}
 use Rattle.gp_grammar.specs.CommandGrammar as g
 use Rattle.gp_grammar.specs.CommandGrammar.{IsList, comma, Closed}
-use Rattle.gp_grammar.specs.Parsing.{Outcome, Parser, ◌>>=◌, by_option, strip, expect}
-use Rattle.gp_grammar.specs.CommandParsing.{◌then◌, where_next, accept, repeat, many, push, separated, in_brackets, closed}
-use Rattle.gp_grammar.proofs.Soundness.{Parsed, Viable, Sentence, Sound, sentence, sound-ok, sound-err, sound-at, sound-shift, sound-bind, sound-phrase, expect-sound, strip-split}
+use Rattle.gp_grammar.specs.Parsing.{Outcome, Parser, ◌>>=◌, by_option, strip}
+use Rattle.gp_grammar.specs.CommandParsing.{where_next, accept, repeat, many, push, separated, in_brackets, closed}
+use Rattle.gp_grammar.proofs.Soundness.{Sound, sound-ok, sound-at, sound-shift, sound-bind, sound-phrase, expect-sound, strip-split}
 
 option-sound : {B : Type 0} (symbol : Symbol) (Q : Lexemes → B → Type 0) (some none : Parser B) (ts : Lexemes) (o : Option Lexemes) → strip symbol ts ≡ o
     → ((rest : Lexemes) → Sound (λ b y. Q (Sign symbol ∷ b) y) rest (some rest)) → Sound Q ts (none ts) → Sound Q ts (by_option o (none ts) some)
@@ -24,35 +23,35 @@ next-sound symbol Q some none ts k n = option-sound symbol Q some none ts (strip
 
 -- a list whose items begin with `symbol`, but for the first
 module _ {A : Type 0} (separator : Lexemes) (Is : Lexemes → A → Type 0) (symbol : Symbol) (Next : Lexemes → A → Type 0)
-    (extend : (front b : Lexemes) (xs : List A) (x : A) → IsList separator Is front xs → Next b x → IsList separator Is (front ++ (Sign symbol ∷ b)) (xs ++ x ∷ []))
+    (extend : (prefix b : Lexemes) (xs : List A) (x : A) → IsList separator Is prefix xs → Next b x → IsList separator Is (prefix ++ (Sign symbol ∷ b)) (xs ++ x ∷ []))
     (item : Parser A) (sound : (ts : Lexemes) → Sound Next ts (item ts)) where
   abbrev Behind : Lexemes → Lexemes → List A → Type 0
-  Behind front b ys = IsList separator Is (front ++ b) ys
+  Behind prefix b ys = IsList separator Is (prefix ++ b) ys
 
-  repeat_step : (front : Lexemes) (found : List A) → IsList separator Is front found → (next : List A → Parser (List A))
-      → ((front : Lexemes) (found : List A) (ts : Lexemes) → IsList separator Is front found → Sound (Behind front) ts (next found ts))
+  repeat_step : (prefix : Lexemes) (found : List A) → IsList separator Is prefix found → (next : List A → Parser (List A))
+      → ((prefix : Lexemes) (found : List A) (ts : Lexemes) → IsList separator Is prefix found → Sound (Behind prefix) ts (next found ts))
       → (ts : Lexemes) (o : Option Lexemes) → strip symbol ts ≡ o
-      → Sound (Behind front) ts (by_option o (Ok (found, ts)) (λ rest. item rest >>= (λ r. next (push found r.0) r.1)))
-  repeat_step front found is next k ts None e = sound-ok (Behind front) ts found (rw append-nil is)
-  repeat_step front found is next k ts (Some rest) e =
+      → Sound (Behind prefix) ts (by_option o (Ok (found, ts)) (λ rest. item rest >>= (λ r. next (push found r.0) r.1)))
+  repeat_step prefix found is next k ts None e = sound-ok (Behind prefix) ts found (rw append-nil is)
+  repeat_step prefix found is next k ts (Some rest) e =
       let f : A × Lexemes → Outcome (List A × Lexemes) = λ r. next (push found r.0) r.1 in
-      sound-at (Behind front) ts (Sign symbol ∷ rest) (item rest >>= f) (strip-split symbol ts rest e)
-      (sound-shift (Behind front) (Sign symbol ∷ []) rest (item rest >>= f)
-      (sound-bind Next (λ b ys. IsList separator Is (front ++ (Sign symbol ∷ b)) ys) rest (item rest) f (sound rest)
-      (λ used rest2 x h. sound-phrase (Behind (front ++ (Sign symbol ∷ used))) (λ b ys. IsList separator Is (front ++ (Sign symbol ∷ (used ++ b))) ys) rest2 (f (x, rest2))
-      (λ b ys i. let P : Lexemes → Type 0 = λ z. IsList separator Is z ys in subst P (append_assoc front (Sign symbol ∷ used) b) i)
-      (k (front ++ (Sign symbol ∷ used)) (push found x) rest2 (extend front used found x is h)))))
+      sound-at (Behind prefix) ts (Sign symbol ∷ rest) (item rest >>= f) (strip-split symbol ts rest e)
+      (sound-shift (Behind prefix) (Sign symbol ∷ []) rest (item rest >>= f)
+      (sound-bind Next (λ b ys. IsList separator Is (prefix ++ (Sign symbol ∷ b)) ys) rest (item rest) f (sound rest)
+      (λ used rest2 x h. sound-phrase (Behind (prefix ++ (Sign symbol ∷ used))) (λ b ys. IsList separator Is (prefix ++ (Sign symbol ∷ (used ++ b))) ys) rest2 (f (x, rest2))
+      (λ b ys i. let P : Lexemes → Type 0 = λ z. IsList separator Is z ys in subst P (append_assoc prefix (Sign symbol ∷ used) b) i)
+      (k (prefix ++ (Sign symbol ∷ used)) (push found x) rest2 (extend prefix used found x is h)))))
 
-  repeat-sound : (n : ℕ) (front : Lexemes) (found : List A) (ts : Lexemes) → IsList separator Is front found
-      → Sound (Behind front) ts (repeat (strip symbol) item push n found ts)
+  repeat-sound : (n : ℕ) (prefix : Lexemes) (found : List A) (ts : Lexemes) → IsList separator Is prefix found
+      → Sound (Behind prefix) ts (repeat (strip symbol) item push n found ts)
   unfolding repeat
-  repeat-sound zero front found ts is = sound-ok (Behind front) ts found (rw append-nil is)
-  repeat-sound (suc n) front found ts is =
-      repeat_step front found is (repeat (strip symbol) item push n) (λ front found ts is. repeat-sound n front found ts is) ts (strip symbol ts) refl
+  repeat-sound zero prefix found ts is = sound-ok (Behind prefix) ts found (rw append-nil is)
+  repeat-sound (suc n) prefix found ts is =
+      repeat_step prefix found is (repeat (strip symbol) item push n) (λ prefix found ts is. repeat-sound n prefix found ts is) ts (strip symbol ts) refl
 
-  pub many-sound : (front : Lexemes) (found : List A) (ts : Lexemes) → IsList separator Is front found → Sound (Behind front) ts (many (strip symbol) item push found ts)
+  pub many-sound : (prefix : Lexemes) (found : List A) (ts : Lexemes) → IsList separator Is prefix found → Sound (Behind prefix) ts (many (strip symbol) item push found ts)
   unfolding many
-  many-sound front found ts is = repeat-sound (length ts) front found ts is
+  many-sound prefix found ts is = repeat-sound (length ts) prefix found ts is
 
   -- the first item, and then the others
   pub list-sound : (first : Parser A) → ((ts : Lexemes) → Sound Is ts (first ts)) → (ts : Lexemes)
@@ -63,7 +62,7 @@ module _ {A : Type 0} (separator : Lexemes) (Is : Lexemes → A → Type 0) (sym
 pub separated-sound : {A : Type 0} (Is : Lexemes → A → Type 0) (item : Parser A) → ((ts : Lexemes) → Sound Is ts (item ts)) → (ts : Lexemes)
     → Sound (IsList comma Is) ts (separated item ts)
 unfolding separated
-separated-sound Is item w ts = list-sound comma Is s.Comma Is (λ front b xs x i j. g.more front b xs x i j) item w item w ts
+separated-sound Is item w ts = list-sound comma Is s.Comma Is (λ prefix b xs x i j. g.more prefix b xs x i j) item w item w ts
 
 -- a phrase in brackets
 pub in_brackets-sound : {A : Type 0} (P Q : Lexemes → A → Type 0) (p : Parser A) → ((a : Lexemes) (x : A) → P a x → Q (Sign s.Open ∷ (a ++ (Sign s.Close ∷ []))) x)

@@ -1,7 +1,8 @@
--- What is read is in the grammar, and what stands before a fault begins a sentence of the grammar.
-use Rattle.std.proofs.Common.{◌≡◌, ℕ, zero, suc, pos, ◌+◌, ◌<◌, ◌≤◌, List, [], ◌∷◌, ◌++◌, length, Option, Some, None, Ok, Err, IfOk, IfSome, Bool, true, false, cond, refl, sym, ap, subst, arith, rules, ◌∙◌, append_assoc}
+-- The parser of terms is sound: it takes what the grammar derives, and the lexemes before a fault begin a term. Both are one proof, since a
+-- completion of these lexemes is what the parser gives on the empty rest.
+use Rattle.std.proofs.Common.{◌≡◌, ℕ, zero, suc, pos, List, [], ◌∷◌, ◌++◌, length, Option, Some, None, Ok, Err, Bool, true, false, cond, refl, sym, ap, subst, rules, append_assoc}
 use Rattle.std.proofs.lemmas.List.{append-nil}
-use denote.Enum.Bare.{sameb, same_true}
+use denote.Enum.Bare.{same_true}
 use Rattle.gp_lexer.specs.contracts.lexeme.Symbol.{the_type}
 use Rattle.gp_lexer.specs.declared.lexeme.Symbol.{Symbol}
 use Rattle.gp_lexer.specs.declared.lexeme.Symbol.TheVariants as s
@@ -10,7 +11,7 @@ use Rattle.gp_lexer.specs.declared.lexeme.Lexeme.TheVariants.{Symbol as Sign, Wo
 use Rattle.gp_grammar.specs.declared.level.Level.{Level}
 use Rattle.gp_grammar.specs.declared.level.Level.TheVariants as l
 use Rattle.gp_grammar.specs.declared.op.Op.{Op}
-use Rattle.gp_grammar.specs.Syntax.{Lexemes, Term, null, int, text, col}
+use Rattle.gp_grammar.specs.Syntax.{Lexemes, Term, int, col}
 use Rattle.gp_grammar.specs.Capping.{binary, neg, not, is_null, is_true, case}
 use Rattle.gp_grammar.specs.Parsing as r
 use Rattle.gp_grammar.specs.Operators.{operator_of, comparison_of}
@@ -20,13 +21,13 @@ use Rattle.gp_grammar.proofs.Building as built
 use Rattle.gp_grammar.proofs.Building.{Builds, BuildsTerm}
 use Rattle.gp_grammar.specs.Grammar as g
 
--- the lexemes are those that were used, which are a phrase of this tree, and the rest
+-- the lexemes begin with a phrase of this tree, and the rest follows
 pub record Parsed {A : Type 0} (P : Lexemes → A → Type 0) (ts rest : Lexemes) (x : A) : Type 0 where
   pub used : Lexemes
   pub split : ts ≡ used ++ rest
   pub is : P used x
 
--- the lexemes before the rest begin a phrase
+-- the lexemes before the rest are the prefix of a phrase
 pub record Viable {A : Type 0} (P : Lexemes → A → Type 0) (ts rest : Lexemes) : Type 0 where
   pub used : Lexemes
   pub split : ts ≡ used ++ rest
@@ -57,11 +58,11 @@ pub sound-phrase : {A : Type 0} (P Q : Lexemes → A → Type 0) (ts : Lexemes) 
 sound-phrase P Q ts (Ok r) k h = record { used = h.used; split = h.split; is = k h.used r.0 h.is }
 sound-phrase P Q ts (Err rest) k h = record { used = h.used; split = h.split; more = h.more; tree = h.tree; is = k (h.used ++ h.more) h.tree h.is }
 
-pub sound-shift : {A : Type 0} (P : Lexemes → A → Type 0) (front ts : Lexemes) (o : Outcome (A × Lexemes)) → Sound (λ b y. P (front ++ b) y) ts o → Sound P (front ++ ts) o
-sound-shift P front ts (Ok r) h = record { used = front ++ h.used; split = rw h.split (sym (append_assoc front h.used r.1)); is = h.is }
-sound-shift P front ts (Err rest) h = record {
-  used = front ++ h.used;
-  split = rw h.split (sym (append_assoc front h.used rest));
+pub sound-shift : {A : Type 0} (P : Lexemes → A → Type 0) (prefix ts : Lexemes) (o : Outcome (A × Lexemes)) → Sound (λ b y. P (prefix ++ b) y) ts o → Sound P (prefix ++ ts) o
+sound-shift P prefix ts (Ok r) h = record { used = prefix ++ h.used; split = rw h.split (sym (append_assoc prefix h.used r.1)); is = h.is }
+sound-shift P prefix ts (Err rest) h = record {
+  used = prefix ++ h.used;
+  split = rw h.split (sym (append_assoc prefix h.used rest));
   more = h.more;
   tree = h.tree;
   is = rw append_assoc h.is;
@@ -151,31 +152,31 @@ next_operator-split ops (Text bytes ∷ ts) o h = cc
 is-along : (p : Phrase) (a b : Lexemes) (y : Term) → a ≡ b → Builds p a y → Builds p b y
 is-along p a b y e i = let F : Lexemes → Type 0 = λ u. Builds p u y in subst F e i
 
--- strip a left side, which stands in front
+-- a phrase whose first lexemes are these
 abbrev After : Level → Lexemes → Lexemes → Term → Type 0
-After at front b y = Builds (g.operations at) (front ++ b) y
+After at prefix b y = Builds (g.operations at) (prefix ++ b) y
 
-chain_step-sound : (at : Level) (part : Parser Term) → ((ts : Lexemes) → Sound (Builds (operand at)) ts (part ts)) → (front : Lexemes) (left : Term) → Builds (g.operations at) front left
-    → (next : Term → Parser Term) → ((front : Lexemes) (left : Term) (ts : Lexemes) → Builds (g.operations at) front left → Sound (After at front) ts (next left ts))
+chain_step-sound : (at : Level) (part : Parser Term) → ((ts : Lexemes) → Sound (Builds (operand at)) ts (part ts)) → (prefix : Lexemes) (left : Term) → Builds (g.operations at) prefix left
+    → (next : Term → Parser Term) → ((prefix : Lexemes) (left : Term) (ts : Lexemes) → Builds (g.operations at) prefix left → Sound (After at prefix) ts (next left ts))
     → (ts : Lexemes) (o : Option (Op × Lexemes)) → next_operator (operator_of at) ts ≡ o
-    → Sound (After at front) ts (by_option o (Ok (left, ts)) (λ o. part o.1 >>= (λ r. next (binary o.0 left r.0) r.1)))
-chain_step-sound at part sound front left is next more ts None e = sound-ok (After at front) ts left (rw append-nil is)
-chain_step-sound at part sound front left is next more ts (Some o) e =
+    → Sound (After at prefix) ts (by_option o (Ok (left, ts)) (λ o. part o.1 >>= (λ r. next (binary o.0 left r.0) r.1)))
+chain_step-sound at part sound prefix left is next more ts None e = sound-ok (After at prefix) ts left (rw append-nil is)
+chain_step-sound at part sound prefix left is next more ts (Some o) e =
     let w : OperatorAt (operator_of at) ts o = next_operator-split (operator_of at) ts o e in
     let f : Term × Lexemes → Outcome (Term × Lexemes) = λ r. next (binary o.0 left r.0) r.1 in
-    sound-at (After at front) ts (Sign w.symbol ∷ o.1) (part o.1 >>= f) w.split
-    (sound-shift (After at front) (Sign w.symbol ∷ []) o.1 (part o.1 >>= f)
-    (sound-bind (Builds (operand at)) (λ b y. Builds (g.operations at) (front ++ (Sign w.symbol ∷ b)) y) o.1 (part o.1) f (sound o.1)
-    (λ used rest y h. sound-phrase (After at (front ++ (Sign w.symbol ∷ used))) (λ b z. Builds (g.operations at) (front ++ (Sign w.symbol ∷ (used ++ b))) z) rest (f (y, rest))
-    (λ b z i. is-along (g.operations at) _ _ z (append_assoc front (Sign w.symbol ∷ used) b) i)
-    (more (front ++ (Sign w.symbol ∷ used)) (binary o.0 left y) rest (built.operation at o.0 w.symbol front used left y w.is is h)))))
+    sound-at (After at prefix) ts (Sign w.symbol ∷ o.1) (part o.1 >>= f) w.split
+    (sound-shift (After at prefix) (Sign w.symbol ∷ []) o.1 (part o.1 >>= f)
+    (sound-bind (Builds (operand at)) (λ b y. Builds (g.operations at) (prefix ++ (Sign w.symbol ∷ b)) y) o.1 (part o.1) f (sound o.1)
+    (λ used rest y h. sound-phrase (After at (prefix ++ (Sign w.symbol ∷ used))) (λ b z. Builds (g.operations at) (prefix ++ (Sign w.symbol ∷ (used ++ b))) z) rest (f (y, rest))
+    (λ b z i. is-along (g.operations at) _ _ z (append_assoc prefix (Sign w.symbol ∷ used) b) i)
+    (more (prefix ++ (Sign w.symbol ∷ used)) (binary o.0 left y) rest (built.operation at o.0 w.symbol prefix used left y w.is is h)))))
 
-chain_within-sound : (at : Level) (part : Parser Term) → ((ts : Lexemes) → Sound (Builds (operand at)) ts (part ts)) → (n : ℕ) (front : Lexemes) (left : Term) (ts : Lexemes)
-    → Builds (g.operations at) front left → Sound (After at front) ts (r.chain_within (operator_of at) part n left ts)
+chain_within-sound : (at : Level) (part : Parser Term) → ((ts : Lexemes) → Sound (Builds (operand at)) ts (part ts)) → (n : ℕ) (prefix : Lexemes) (left : Term) (ts : Lexemes)
+    → Builds (g.operations at) prefix left → Sound (After at prefix) ts (r.chain_within (operator_of at) part n left ts)
 unfolding r.chain_within
-chain_within-sound at part sound zero front left ts is = sound-ok (After at front) ts left (rw append-nil is)
-chain_within-sound at part sound (suc n) front left ts is =
-    chain_step-sound at part sound front left is (r.chain_within (operator_of at) part n) (λ front left ts is. chain_within-sound at part sound n front left ts is) ts (next_operator (operator_of at) ts) refl
+chain_within-sound at part sound zero prefix left ts is = sound-ok (After at prefix) ts left (rw append-nil is)
+chain_within-sound at part sound (suc n) prefix left ts is =
+    chain_step-sound at part sound prefix left is (r.chain_within (operator_of at) part n) (λ prefix left ts is. chain_within-sound at part sound n prefix left ts is) ts (next_operator (operator_of at) ts) refl
 
 pub joined-sound : (at : Level) (part : Parser Term) → ((ts : Lexemes) → Sound (Builds (operand at)) ts (part ts)) → (ts : Lexemes) → Sound (Builds (g.operations at)) ts (r.joined (operator_of at) part ts)
 unfolding r.joined r.chain
@@ -183,7 +184,7 @@ joined-sound at part sound ts =
     sound-bind (Builds (operand at)) (Builds (g.operations at)) ts (part ts) (λ x. r.chain (operator_of at) part x.0 x.1) (sound ts)
     (λ used rest x is. chain_within-sound at part sound (length rest) used x rest (built.one_operand at used x is))
 
--- ---- what stands strip a term
+-- ---- after the first lexeme of a column or a test
 
 column_with-sound : (word : List ℕ) (ts : Lexemes) (o : Option Lexemes) → strip s.Dot ts ≡ o → Sound (λ b y. Builds g.primary (Word word ∷ b) y) ts (r.column_with word ts o)
 column_with-sound word ts None e = sound-ok _ ts (col None word) (built.column word)
@@ -197,21 +198,21 @@ pub column-sound : (word : List ℕ) (ts : Lexemes) → Sound (λ b y. Builds g.
 unfolding r.column
 column-sound word ts = column_with-sound word ts (strip s.Dot ts) refl
 
--- IS and perhaps NOT, before NULL or TRUE
-pub record Tests (front : Lexemes) (left : Term) (is : Bool) : Type 0 where
-  pub of_null : Builds g.test (front ++ (Sign s.Null ∷ [])) (is_null left is)
-  pub of_true : Builds g.test (front ++ (Sign s.True ∷ [])) (is_true left is)
+-- these lexemes are a comparison, IS, and NOT or none, so that NULL or TRUE completes a test
+pub record Tests (prefix : Lexemes) (left : Term) (is : Bool) : Type 0 where
+  pub of_null : Builds g.test (prefix ++ (Sign s.Null ∷ [])) (is_null left is)
+  pub of_true : Builds g.test (prefix ++ (Sign s.True ∷ [])) (is_true left is)
 
-truth_test-sound : (front : Lexemes) (left : Term) (is : Bool) → Tests front left is → (ts : Lexemes) (o : Option Lexemes) → strip s.Null ts ≡ o
-    → Sound (λ b y. Builds g.test (front ++ b) y) ts (r.truth_test left is ts o)
-truth_test-sound front left is h ts None e =
-    expect-sound s.True (λ b y. Builds g.test (front ++ b) y) ts (λ rest. Ok (is_true left is, rest)) (λ rest. sound-ok _ rest (is_true left is) h.of_true)
-truth_test-sound front left is h ts (Some rest) e =
+truth_test-sound : (prefix : Lexemes) (left : Term) (is : Bool) → Tests prefix left is → (ts : Lexemes) (o : Option Lexemes) → strip s.Null ts ≡ o
+    → Sound (λ b y. Builds g.test (prefix ++ b) y) ts (r.truth_test left is ts o)
+truth_test-sound prefix left is h ts None e =
+    expect-sound s.True (λ b y. Builds g.test (prefix ++ b) y) ts (λ rest. Ok (is_true left is, rest)) (λ rest. sound-ok _ rest (is_true left is) h.of_true)
+truth_test-sound prefix left is h ts (Some rest) e =
     record { used = Sign s.Null ∷ []; split = strip-split s.Null ts rest e; is = h.of_null }
 
-value_test-sound : (front : Lexemes) (left : Term) (is : Bool) → Tests front left is → (ts : Lexemes) → Sound (λ b y. Builds g.test (front ++ b) y) ts (r.value_test left is ts)
+value_test-sound : (prefix : Lexemes) (left : Term) (is : Bool) → Tests prefix left is → (ts : Lexemes) → Sound (λ b y. Builds g.test (prefix ++ b) y) ts (r.value_test left is ts)
 unfolding r.value_test
-value_test-sound front left is h ts = truth_test-sound front left is h ts (strip s.Null ts) refl
+value_test-sound prefix left is h ts = truth_test-sound prefix left is h ts (strip s.Null ts) refl
 
 is_test-sound : (a : Lexemes) (left : Term) → Builds g.comparison a left → (ts : Lexemes) (o : Option Lexemes) → strip s.Not ts ≡ o
     → Sound (λ b y. Builds g.test (a ++ (Sign s.Is ∷ b)) y) ts (r.is_test left ts o)
@@ -232,7 +233,7 @@ optional_test-sound a left is ts (Some rest) e =
     sound-at _ ts (Sign s.Is ∷ rest) (r.is_test left rest (strip s.Not rest)) (strip-split s.Is ts rest e)
     (sound-shift (λ b y. Builds g.test (a ++ b) y) (Sign s.Is ∷ []) rest (r.is_test left rest (strip s.Not rest)) (is_test-sound a left is rest (strip s.Not rest) refl))
 
--- ---- the readers, over a reader of terms that takes terms
+-- ---- parsers over a sound parser of the terms in brackets
 
 a_zero : Sentence (Builds g.primary)
 a_zero = record { lexemes = Number 0 ∷ []; tree = int (pos 0); is = built.number 0 }

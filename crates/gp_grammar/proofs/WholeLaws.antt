@@ -1,17 +1,16 @@
 -- A sound, complete and local parser reads what the grammar derives, and stops at the place of the fault.
-use Rattle.std.proofs.Common.{◌≡◌, ℕ, zero, suc, ◌+◌, ◌<◌, ◌≤◌, List, [], ◌∷◌, ◌++◌, length, Ok, Err, ◌↔◌, ◌⊎◌, inl, inr, refl, sym, ap, subst, arith, ◌∙◌}
+use Rattle.std.proofs.Common.{◌≡◌, ℕ, suc, [], ◌∷◌, ◌++◌, length, Ok, Err, ◌↔◌, ◌⊎◌, inl, inr, refl, sym, ap, subst, arith, ◌∙◌}
 use Rattle.std.proofs.lemmas.List.{append-nil}
 use Rattle.gp_lexer.specs.declared.lexeme.Lexeme.{Lexeme}
 use Rattle.gp_grammar.specs.Syntax.{Lexemes}
 use Rattle.gp_grammar.specs.Parsing.{Outcome, Parser, ◌>>=◌, ended, whole}
 use Rattle.gp_grammar.specs.Places.{NoneGoesOn, Stops}
-use Rattle.gp_grammar.proofs.Soundness.{Parsed, Viable, Sound}
-use Rattle.gp_grammar.proofs.Locality.{Local, Same, SameRest, Past}
-use Rattle.gp_grammar.specs.Laws.{Built}
+use Rattle.gp_grammar.proofs.Soundness.{Sound}
+use Rattle.gp_grammar.proofs.Locality.{Local, Same, SameUpTo, Past}
 
-no-end : (front : Lexemes) (t : Lexeme) (m : Lexemes) → [] ≡ front ++ (t ∷ m) → ⊥
+no-end : (prefix : Lexemes) (t : Lexeme) (m : Lexemes) → [] ≡ prefix ++ (t ∷ m) → ⊥
 no-end [] t m e = cc
-no-end (x ∷ front) t m e = cc
+no-end (x ∷ prefix) t m e = cc
 
 module _ {A : Type 0} where
   ended-ok : (r : A × Lexemes) (x : A) → ended r ≡ Ok x → (r.0 ≡ x) × (r.1 ≡ [])
@@ -33,7 +32,7 @@ module _ {A : Type 0} where
   ok-conflict : (t : Lexeme) (m m' : Lexemes) (x y : A) (o : Outcome (A × Lexemes)) → o ≡ Ok (y, []) → Same t m m' (Ok (x, t ∷ m)) o ⊎ Past t m m' {A = A} (Ok (x, t ∷ m)) → ⊥
   ok-conflict t m m' x y o e (inl s) =
       let P : Outcome (A × Lexemes) → Type 0 = λ z. Same t m m' (Ok (x, t ∷ m)) z in
-      let f : (x ≡ y) × SameRest t m m' (t ∷ m) [] = subst P e s in no-end f.1.front t m' f.1.second
+      let f : (x ≡ y) × SameUpTo t m m' (t ∷ m) [] = subst P e s in no-end f.1.prefix t m' f.1.second
   ok-conflict t m m' x y o e (inr p) = omega arith
 
   module _ (Is : Lexemes → A → Type 0) (p : Parser A) (sound : (ts : Lexemes) → Sound Is ts (p ts))
@@ -52,7 +51,7 @@ module _ {A : Type 0} where
         → Same t m m' o (p (used ++ (t ∷ m'))) ⊎ Past t m m' o
     along t m m' used ts o e h =
         let P : Outcome (A × Lexemes) → Type 0 = λ z. Same t m m' z (p (used ++ (t ∷ m'))) ⊎ Past t m m' z in
-        subst P h ((local t m m' (suc (length ts))).along ts (used ++ (t ∷ m')) (omega arith) (record { front = used; first = e; second = refl }))
+        subst P h ((local t m m' (suc (length ts))).along ts (used ++ (t ∷ m')) (omega arith) (record { prefix = used; first = e; second = refl }))
 
     stops-err : (ts used rest : Lexemes) → ts ≡ used ++ rest → p ts ≡ Err rest → NoneGoesOn Is used rest
     stops-err ts used [] e h = λ x i. let k : p used ≡ Err [] = ap (λ z. p z) (sym (append-nil used) ∙ sym e) ∙ h in

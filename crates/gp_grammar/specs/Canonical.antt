@@ -1,6 +1,6 @@
 -- Part of the statement: the canonical lexemes of a command. Every operator is in brackets, a FROM name is written where it differs
 -- from the table's, and nothing else is left to choose.
-use Rattle.std.specs.Prelude.{◌≡◌, ℕ, suc, ℤ, pos, negsuc, ◌^◌, Bool, true, false, List, [], ◌∷◌, ◌++◌, Option, Some, None, if◌then◌else◌, ◌==◌}
+use Rattle.std.specs.Prelude.{suc, ℤ, pos, negsuc, ◌^◌, Bool, true, false, List, [], ◌∷◌, ◌++◌, Option, Some, None, if◌then◌else◌, ◌==◌}
 use Rattle.std.specs.List.{flat_map}
 use Rattle.std.specs.Str.{bytes_eq}
 use Rattle.gp_base.specs.declared.cell.Cell.{Cell}
@@ -12,6 +12,7 @@ use Rattle.gp_lexer.specs.declared.lexeme.Symbol.{Symbol}
 use Rattle.gp_lexer.specs.declared.lexeme.Symbol.TheVariants as s
 use Rattle.gp_lexer.specs.declared.lexeme.Lexeme.{Lexeme}
 use Rattle.gp_lexer.specs.declared.lexeme.Lexeme.TheVariants.{Symbol as Sign, Word, Number, Big, Text}
+use Rattle.gp_lexer.specs.Layout.{laid_out}
 use Rattle.gp_grammar.specs.declared.op.Op.{Op}
 use Rattle.gp_grammar.specs.declared.op.Op.TheVariants as op
 use Rattle.gp_grammar.specs.Syntax as y
@@ -114,3 +115,7 @@ command_lexemes (y.insert_select table query) = Sign s.Insert ∷ Sign s.Into �
 command_lexemes (y.update table sets cond) = Sign s.Update ∷ Word table ∷ Sign s.Set ∷ (listed_lexemes set_lexemes sets ++ condition_lexemes cond)
 command_lexemes (y.delete table cond) = Sign s.Delete ∷ Sign s.From ∷ Word table ∷ condition_lexemes cond
 command_lexemes (y.select query) = query_lexemes query
+
+-- the canonical text of a command
+abbrev pub command_text : Command → Bytes
+command_text x = laid_out (command_lexemes x)

@@ -1,7 +1,7 @@
 -- Machinery: terms that stop growing. A chain of operators is as deep as it is long, and a text has no limit on its length where it
 -- stands in a dump. So the parser builds by constructors that keep a part with more than MAX_NODES nodes for the whole: no term that
 -- it holds has more than 3 * MAX_NODES + 1 nodes, and no recursion goes deeper. Terms within the limit are built as they are.
-use Rattle.std.specs.Prelude.{ℕ, Bool, List, map, Option, option_map, nat_lt, if◌then◌else◌}
+use Rattle.std.specs.Prelude.{Bool, map, option_map, nat_lt, if◌then◌else◌}
 use Rattle.gp_grammar.specs.declared.limits.TheConstants.{MAX_NODES}
 use Rattle.gp_grammar.specs.declared.op.Op.{Op}
 use Rattle.gp_grammar.specs.Syntax as y

@@ -65,7 +65,11 @@ pub data IsSetTerm : Lexemes → SetTerm → Type 0 where
 
 pub data IsCommand : Lexemes → Command → Type 0 where
   create : (name : Bytes) (a : Lexemes) (cols : List Column) → IsList comma IsColumn a cols
-      → IsCommand (Sign s.Create ∷ Sign s.Table ∷ Word name ∷ Sign s.Open ∷ (a ++ (Sign s.Close ∷ []))) (y.create (record { name = name; cols = cols }))
+      → IsCommand (Sign s.Create ∷ Sign s.Table ∷ Word name ∷ Sign s.Open ∷ (a ++ (Sign s.Close ∷ []))) (y.create (record {
+        name =
+            name;
+        cols = cols;
+      }))
   begin : IsCommand (Sign s.Begin ∷ []) y.begin
   commit : IsCommand (Sign s.Commit ∷ []) y.Command.commit
   rollback : IsCommand (Sign s.Rollback ∷ []) y.rollback
@@ -79,7 +83,7 @@ pub data IsCommand : Lexemes → Command → Type 0 where
       → IsCommand (Sign s.Delete ∷ Sign s.From ∷ Word table ∷ w) (y.delete table cond)
   select : (a : Lexemes) (query : Query) → IsQuery a query → IsCommand a (y.select query)
 
--- a phrase behind which one semicolon may follow
+-- a phrase after which one semicolon may follow
 pub data Closed {A : Type 0} (Is : Lexemes → A → Type 0) : Lexemes → A → Type 0 where
   open_end : (a : Lexemes) (x : A) → Is a x → Closed Is a x
   semicolon : (a : Lexemes) (x : A) → Is a x → Closed Is (a ++ (Sign s.Semicolon ∷ [])) x

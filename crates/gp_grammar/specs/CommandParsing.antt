@@ -1,5 +1,5 @@
 -- Machinery: the parser of commands and script lines as a function.
-use Rattle.std.specs.Prelude.{◌≡◌, ℕ, zero, suc, pos, negsuc, ◌-◌, ◌^◌, List, [], ◌∷◌, ◌++◌, length, Option, Some, None, Ok, Err}
+use Rattle.std.specs.Prelude.{ℕ, zero, suc, pos, negsuc, ◌-◌, ◌^◌, List, [], ◌∷◌, ◌++◌, length, Option, Some, None, Ok, Err}
 use Rattle.gp_base.specs.declared.cell.Cell.{Cell}
 use Rattle.gp_base.specs.declared.cell.Cell.TheVariants as cell
 use Rattle.gp_base.specs.declared.table.Column.{Column}
@@ -10,16 +10,16 @@ use Rattle.gp_lexer.specs.declared.lexeme.Lexeme.TheVariants.{Symbol as Sign, Wo
 use Rattle.gp_grammar.specs.Syntax as y
 use Rattle.gp_grammar.specs.Syntax.{Lexemes, Bytes, Term, SetTerm, Item, Items, Block, Query, Command, ScriptLine}
 use Rattle.gp_grammar.specs.CommandGrammar.{session_of}
-use Rattle.gp_grammar.specs.Parsing.{Outcome, Parser, ◌>>=◌, by_option, strip, expect, identifier, term}
+use Rattle.gp_grammar.specs.Parsing.{Parser, ◌>>=◌, by_option, strip, expect, identifier, term}
 
 -- ---- combinators
 
--- the parser behind this symbol, which has to be the first lexeme
+-- the parser after this symbol, which has to be the first lexeme
 infixl 10 ◌then◌
 abbrev pub ◌then◌ : {A : Type 0} → Symbol → Parser A → Parser A
 symbol then p = λ ts. expect symbol ts >>= p
 
--- one parser behind the symbol, where it is the first lexeme, and another one where it is not
+-- one parser after the symbol, where it is the first lexeme, and another one where it is not
 abbrev pub where_next : {A : Type 0} → Symbol → Parser A → Parser A → Parser A
 where_next symbol some none = λ ts. by_option (strip symbol ts) (none ts) some
 
@@ -32,7 +32,8 @@ accept x ts = Ok (x, ts)
 -- items as long as `next` finds that one follows, at most so many
 unfoldable pub repeat : {S A : Type 0} → (Lexemes → Option Lexemes) → Parser A → (S → A → S) → ℕ → S → Parser S
 repeat next item step zero found ts = Ok (found, ts)
-repeat next item step (suc n) found ts = by_option (next ts) (Ok (found, ts)) (λ rest. item rest >>= (λ r. repeat next item step n (step found r.0) r.1))
+repeat next item step (suc n) found ts =
+    by_option (next ts) (Ok (found, ts)) (λ rest. item rest >>= (λ r. repeat next item step n (step found r.0) r.1))
 
 -- items as long as `next` finds that one follows; no line has more items than lexemes
 unfoldable pub many : {S A : Type 0} → (Lexemes → Option Lexemes) → Parser A → (S → A → S) → S → Parser S
@@ -58,7 +59,7 @@ unfoldable pub column : Parser Column
 column ts = identifier ts >>= (λ r. where_next s.Int (accept (record { name = r.0; kind = kind.Int }))
     (s.Text then accept (record { name = r.0; kind = kind.Text })) r.1)
 
--- behind the sign of a number
+-- after the sign of a number
 abbrev pub negative : Parser Cell
 negative [] = Err []
 negative (Number zero ∷ ts) = Ok (cell.Int (pos 0), ts)
@@ -96,7 +97,7 @@ optional_name table (Number n ∷ ts) = Ok (named table table, Number n ∷ ts)
 optional_name table (Big ∷ ts) = Ok (named table table, Big ∷ ts)
 optional_name table (Text bytes ∷ ts) = Ok (named table table, Text bytes ∷ ts)
 
--- the name of an item, behind its table
+-- the name of an item, after its table
 abbrev pub alias : Bytes → Parser Item
 alias table = where_next s.As (λ rest. identifier rest >>= (λ r. Ok (named table r.0, r.1))) (optional_name table)
 

@@ -1,4 +1,4 @@
--- Part of the statement: how many brackets and CASEs are open. The count is over all lexemes of a line, those behind a fault too.
+-- Part of the statement: how many brackets and CASEs are open. The count is over all lexemes of a line, those after a fault too.
 use Rattle.std.specs.Prelude.{ℕ, zero, suc, Bool, true, false, [], ◌∷◌, if◌then◌else◌}
 use Rattle.gp_lexer.specs.declared.lexeme.Symbol.TheVariants as s
 use Rattle.gp_lexer.specs.declared.lexeme.Lexeme.{Lexeme}

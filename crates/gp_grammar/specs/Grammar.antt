@@ -30,9 +30,11 @@ pub data Derives : Phrase → Lexemes → Term → Type 0 where
   negated : (a : Lexemes) (x : Term) → Derives test a x → Derives negation (Sign s.Not ∷ a) (not x)
   not_negated : (a : Lexemes) (x : Term) → Derives test a x → Derives negation a x
   null_test : (a : Lexemes) (x : Term) → Derives comparison a x → Derives test (a ++ (Sign s.Is ∷ Sign s.Null ∷ [])) (is_null x true)
-  not_null_test : (a : Lexemes) (x : Term) → Derives comparison a x → Derives test (a ++ (Sign s.Is ∷ Sign s.Not ∷ Sign s.Null ∷ [])) (is_null x false)
+  not_null_test : (a : Lexemes) (x : Term) → Derives comparison a x
+      → Derives test (a ++ (Sign s.Is ∷ Sign s.Not ∷ Sign s.Null ∷ [])) (is_null x false)
   true_test : (a : Lexemes) (x : Term) → Derives comparison a x → Derives test (a ++ (Sign s.Is ∷ Sign s.True ∷ [])) (is_true x true)
-  not_true_test : (a : Lexemes) (x : Term) → Derives comparison a x → Derives test (a ++ (Sign s.Is ∷ Sign s.Not ∷ Sign s.True ∷ [])) (is_true x false)
+  not_true_test : (a : Lexemes) (x : Term) → Derives comparison a x
+      → Derives test (a ++ (Sign s.Is ∷ Sign s.Not ∷ Sign s.True ∷ [])) (is_true x false)
   no_test : (a : Lexemes) (x : Term) → Derives comparison a x → Derives test a x
   compared : (o : Op) (symbol : Symbol) (a b : Lexemes) (x y : Term) → comparison_of symbol ≡ Some o
       → Derives (operations l.Sum) a x → Derives (operations l.Sum) b y → Derives comparison (a ++ (Sign symbol ∷ b)) (binary o x y)

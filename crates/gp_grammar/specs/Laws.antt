@@ -1,5 +1,7 @@
 -- Part of the statement: what the laws say of a parser, a grammar and the definitions of reading.
-use Rattle.std.specs.Prelude.{◌≡◌, ◌↔◌, ℕ, List, [], ◌∷◌, Option, None, Ok, Err, false}
+use Rattle.std.specs.Prelude.{◌≡◌, ◌↔◌, None, Ok, Err, false, ◌==◌}
+use Rattle.std.specs.List.{list_any}
+use Rattle.std.specs.Str.{IsUtf8}
 use Rattle.gp_lexer.specs.Lexemes.{AreProper}
 use Rattle.gp_grammar.specs.declared.limits.TheConstants.{MAX_OPEN}
 use Rattle.gp_grammar.specs.Syntax.{Lexemes, Bytes, Command}
@@ -7,10 +9,10 @@ use Rattle.gp_grammar.specs.CommandGrammar.{IsCommand}
 use Rattle.gp_grammar.specs.Places.{Stops}
 use Rattle.gp_grammar.specs.Depth.{is_too_deep}
 use Rattle.gp_grammar.specs.Limits.{Shape, passed_limit, command_shape}
-use Rattle.gp_grammar.specs.Canonical.{command_lexemes}
+use Rattle.gp_grammar.specs.Canonical.{command_lexemes, command_text}
 use Rattle.gp_grammar.specs.Parsing.{Parser, whole}
 use Rattle.gp_grammar.specs.CommandParsing.{command}
-use Rattle.gp_grammar.specs.LineReading.{Fault, ReadsText, RefusesText, ReadsLine, RefusesLine, read_text, read_line}
+use Rattle.gp_grammar.specs.LineReading.{Fault, ReadsText, RefusesText, ReadsLine, RefusesLine, read_text, read_line, command_of}
 
 -- the parser builds this: a tree that the grammar derives, capped
 pub record Built {A : Type 0} (Is : Lexemes → A → Type 0) (cap : A → A) (lexemes : Lexemes) (built : A) : Type 0 where
@@ -56,7 +58,8 @@ CanonicalIsDerived = (lexemes : Lexemes) (x : Command) → IsCommand lexemes x �
 
 -- within the limits they are parsed as this command again
 abbrev pub CanonicalIsParsed : Type 0
-CanonicalIsParsed = (lexemes : Lexemes) (x : Command) → IsCommand lexemes x → passed_limit (command_shape x) ≡ None → whole command (command_lexemes x) ≡ Ok x
+CanonicalIsParsed = (lexemes : Lexemes) (x : Command) → IsCommand lexemes x → passed_limit (command_shape x) ≡ None
+    → whole command (command_lexemes x) ≡ Ok x
 
 -- and open no more brackets than a line may
 abbrev pub CanonicalIsShallow : Type 0
@@ -65,3 +68,15 @@ CanonicalIsShallow = (x : Command) → passed_limit (command_shape x) ≡ None �
 -- and are lexemes that a line can hold, where those are that the command was derived from
 abbrev pub CanonicalIsProper : Type 0
 CanonicalIsProper = (lexemes : Lexemes) (x : Command) → IsCommand lexemes x → AreProper lexemes → AreProper (command_lexemes x)
+
+-- the canonical text of a command that was read is read as this command again
+abbrev pub CanonicalTextIsRead : Type 0
+CanonicalTextIsRead = (bytes : Bytes) (x : Command) → command_of bytes ≡ Ok x → command_of (command_text x) ≡ Ok x
+
+-- and is UTF-8
+abbrev pub CanonicalTextIsUtf8 : Type 0
+CanonicalTextIsUtf8 = (bytes : Bytes) (x : Command) → command_of bytes ≡ Ok x → IsUtf8 (command_text x)
+
+-- and has no line feed, so that it is one line
+abbrev pub CanonicalTextIsOneLine : Type 0
+CanonicalTextIsOneLine = (bytes : Bytes) (x : Command) → command_of bytes ≡ Ok x → list_any (λ byte. byte == 10) (command_text x) ≡ false

@@ -1,12 +1,10 @@
 -- Part of the statement: what a line is read as, or its refusal, which is the first fault in the order of the tests: length, encoding,
 -- lexemes, open brackets, syntax, shape.
-use Rattle.std.specs.Prelude.{◌≡◌, ◌≢◌, ℕ, ◌+◌, ◌-◌, ◌≤◌, ◌<◌, Bool, true, false, List, [], ◌∷◌, length, Option, Some, None, Result, Ok, Err, if◌then◌else◌, nat_lt, ◌==◌, slice_index_or}
-use Rattle.std.specs.Str.Lossy.{utf8_valid_len}
+use Rattle.std.specs.Prelude.{◌≡◌, ℕ, ◌+◌, ◌-◌, ◌≤◌, ◌<◌, true, false, List, length, Option, Some, None, Result, Ok, Err, if◌then◌else◌, nat_lt, slice_index_or}
+use Rattle.std.specs.Str.{IsUtf8, is_utf8}
 use Rattle.gp_lexer.specs.Lexing.{Lexed, lexed}
 use Rattle.gp_grammar.specs.declared.limits.TheConstants.{MAX_LINE_LENGTH, MAX_OPEN}
 use Rattle.gp_grammar.specs.Syntax.{Lexemes, Bytes, Command, ScriptLine, Question}
-use Rattle.gp_grammar.specs.CommandGrammar.{IsCommand, IsScriptLine}
-use Rattle.gp_grammar.specs.QuestionGrammar.{IsQuestion}
 use Rattle.gp_grammar.specs.Places.{Stops}
 use Rattle.gp_grammar.specs.Depth.{is_too_deep}
 use Rattle.gp_grammar.specs.Limits.{Limit, depth, Shape, command_shape, line_shape, question_shape, passed_limit}
@@ -20,13 +18,13 @@ pub data Fault : Type 0 where
   lexical syntax : ℕ → Fault
   over : Limit → Fault
 
--- the column of the first lexeme of the rest, or that behind the last byte
+-- the column of the first lexeme of the rest, or that after the last byte
 abbrev pub column_of : Lexemes → List ℕ → ℕ → Lexemes → ℕ
 column_of lexemes columns end rest = slice_index_or columns (length lexemes - length rest) end
 
 -- a text is UTF-8, and these are its lexemes and their columns
 pub record HasLexemes (bytes : Bytes) (lexemes : Lexemes) (columns : List ℕ) : Type 0 where
-  pub utf8 : utf8_valid_len bytes ≡ length bytes
+  pub utf8 : IsUtf8 bytes
   pub found : lexed bytes ≡ Ok (lexemes, columns)
 
 module _ {A : Type 0} (Is : Lexemes → A → Type 0) (shape : A → Shape) where
@@ -41,10 +39,12 @@ module _ {A : Type 0} (Is : Lexemes → A → Type 0) (shape : A → Shape) wher
 
   -- a text is refused, each time after the tests before
   pub data RefusesText (bytes : Bytes) : Fault → Type 0 where
-    encoding : utf8_valid_len bytes ≢ length bytes → RefusesText bytes not_utf8
-    unlexed : (column : ℕ) → utf8_valid_len bytes ≡ length bytes → lexed bytes ≡ Err column → RefusesText bytes (lexical column)
-    deep : (lexemes : Lexemes) (columns : List ℕ) → HasLexemes bytes lexemes columns → is_too_deep MAX_OPEN lexemes ≡ true → RefusesText bytes (over depth)
-    stopped : (lexemes rest : Lexemes) (columns : List ℕ) → HasLexemes bytes lexemes columns → is_too_deep MAX_OPEN lexemes ≡ false → Stops Is lexemes rest
+    encoding : ¬ IsUtf8 bytes → RefusesText bytes not_utf8
+    unlexed : (column : ℕ) → IsUtf8 bytes → lexed bytes ≡ Err column → RefusesText bytes (lexical column)
+    deep : (lexemes : Lexemes) (columns : List ℕ) → HasLexemes bytes lexemes columns → is_too_deep MAX_OPEN lexemes ≡ true
+        → RefusesText bytes (over depth)
+    stopped : (lexemes rest : Lexemes) (columns : List ℕ) → HasLexemes bytes lexemes columns → is_too_deep MAX_OPEN lexemes ≡ false
+        → Stops Is lexemes rest
         → RefusesText bytes (syntax (column_of lexemes columns (length bytes + 1) rest))
     limited : (lexemes : Lexemes) (columns : List ℕ) (x : A) (limit : Limit) → HasLexemes bytes lexemes columns → is_too_deep MAX_OPEN lexemes ≡ false
         → Is lexemes x → passed_limit (shape x) ≡ Some limit → RefusesText bytes (over limit)
@@ -79,7 +79,7 @@ read_lexed parser shape end (Ok l) = read_lexemes parser shape l.0 l.1 end
 
 abbrev pub read_text : {A : Type 0} → Parser A → (A → Shape) → Bytes → Result A Fault
 read_text parser shape bytes =
-    if utf8_valid_len bytes == length bytes then read_lexed parser shape (length bytes + 1) (lexed bytes) else Err not_utf8
+    if is_utf8 bytes then read_lexed parser shape (length bytes + 1) (lexed bytes) else Err not_utf8
 
 abbrev pub read_line : {A : Type 0} → Parser A → (A → Shape) → Bytes → Result A Fault
 read_line parser shape bytes = if nat_lt MAX_LINE_LENGTH (length bytes) then Err too_long else read_text parser shape bytes

@@ -1,6 +1,6 @@
--- Machinery: the parser of terms as a function. A parser takes the lexemes of a line, and gives what it built and the lexemes behind it,
+-- Machinery: the parser of terms as a function. A parser takes the lexemes of a line, and gives what it built and the lexemes after it,
 -- or the lexemes from the fault on.
-use Rattle.std.specs.Prelude.{◌≡◌, ℕ, zero, suc, pos, Bool, true, false, List, [], ◌∷◌, length, Option, Some, None, Result, Ok, Err, if◌then◌else◌}
+use Rattle.std.specs.Prelude.{ℕ, zero, suc, pos, Bool, true, false, [], ◌∷◌, length, Option, Some, None, Result, Ok, Err, if◌then◌else◌}
 use denote.Enum.Bare.{sameb}
 use Rattle.gp_lexer.specs.contracts.lexeme.Symbol.{the_type}
 use Rattle.gp_lexer.specs.declared.lexeme.Symbol.{Symbol}
@@ -39,7 +39,7 @@ is_symbol symbol (Number n) = false
 is_symbol symbol Big = false
 is_symbol symbol (Text bytes) = false
 
--- the lexemes behind this symbol, where it is the first
+-- the lexemes after this symbol, where it is the first
 abbrev pub strip : Symbol → Lexemes → Option Lexemes
 strip symbol [] = None
 strip symbol (t ∷ ts) = if is_symbol symbol t then Some ts else None
@@ -48,7 +48,7 @@ abbrev pub expected : Lexemes → Option Lexemes → Outcome Lexemes
 expected ts None = Err ts
 expected ts (Some rest) = Ok rest
 
--- the lexemes behind this symbol, which has to be the first
+-- the lexemes after this symbol, which has to be the first
 unfoldable pub expect : Symbol → Lexemes → Outcome Lexemes
 expect symbol ts = expected ts (strip symbol ts)
 
@@ -67,7 +67,7 @@ abbrev pub with_rest : Lexemes → Option Op → Option (Op × Lexemes)
 with_rest ts None = None
 with_rest ts (Some op) = Some (op, ts)
 
--- the operator that is the first lexeme, and the lexemes behind it
+-- the operator that is the first lexeme, and the lexemes after it
 abbrev pub next_operator : (Symbol → Option Op) → Lexemes → Option (Op × Lexemes)
 next_operator ops [] = None
 next_operator ops (Sign symbol ∷ ts) = with_rest ts (ops symbol)
@@ -76,13 +76,13 @@ next_operator ops (Number n ∷ ts) = None
 next_operator ops (Big ∷ ts) = None
 next_operator ops (Text bytes ∷ ts) = None
 
--- operators and operands behind a left side, at most so many
+-- operators and operands after a left side, at most so many
 unfoldable pub chain_within : (Symbol → Option Op) → Parser Term → ℕ → Term → Parser Term
 chain_within ops part zero left ts = Ok (left, ts)
 chain_within ops part (suc n) left ts = by_option (next_operator ops ts) (Ok (left, ts))
     (λ o. part o.1 >>= (λ r. chain_within ops part n (binary o.0 left r.0) r.1))
 
--- operators and operands behind a left side; no line has more of them than lexemes
+-- operators and operands after a left side; no line has more of them than lexemes
 unfoldable pub chain : (Symbol → Option Op) → Parser Term → Term → Parser Term
 chain ops part left ts = chain_within ops part (length ts) left ts
 
@@ -96,7 +96,7 @@ abbrev pub column_with : Bytes → Lexemes → Option Lexemes → Outcome (Term 
 column_with word ts None = Ok (col None word, ts)
 column_with word ts (Some rest) = identifier rest >>= (λ r. Ok (col (Some word) r.0, r.1))
 
--- a column, behind its first word
+-- a column, after its first word
 unfoldable pub column : Bytes → Parser Term
 column word ts = column_with word ts (strip s.Dot ts)
 

@@ -1,4 +1,4 @@
--- Part of the statement: the place of a syntax fault. It is behind the longest prefix with which a sentence begins, as in LL and LR
+-- Part of the statement: the place of a syntax fault. It is the end of the longest prefix with which a sentence begins, as in LL and LR
 -- parsers with the viable prefix property (Aho and Ullman, The Theory of Parsing, Translation, and Compiling, 1972).
 use Rattle.std.specs.Prelude.{◌≡◌, [], ◌∷◌, ◌++◌}
 use Rattle.gp_grammar.specs.Syntax.{Lexemes}

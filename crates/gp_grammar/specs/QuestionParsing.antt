@@ -1,5 +1,5 @@
 -- Machinery: the parser of questions as a function.
-use Rattle.std.specs.Prelude.{◌≡◌, ℕ, zero, suc, Bool, true, false, List, [], ◌∷◌, length, Option, Some, None, Ok, Err, codes, if◌then◌else◌, nat_le}
+use Rattle.std.specs.Prelude.{ℕ, zero, suc, Bool, true, false, List, [], ◌∷◌, length, Option, Some, None, Ok, Err, codes, if◌then◌else◌, nat_le}
 use Rattle.std.specs.Str.{bytes_eq}
 use Rattle.gp_lexer.specs.declared.lexeme.Symbol.TheVariants as s
 use Rattle.gp_lexer.specs.declared.lexeme.Lexeme.{Lexeme}
@@ -12,7 +12,7 @@ use Rattle.gp_grammar.specs.declared.limits.TheConstants.{MAX_PATTERN_NUMBER}
 use Rattle.gp_grammar.specs.Syntax as y
 use Rattle.gp_grammar.specs.Syntax.{Lexemes, Bytes, State, Pattern, Rule, rule_of, Rules, How, Question}
 use Rattle.gp_grammar.specs.QuestionGrammar.{pattern_name}
-use Rattle.gp_grammar.specs.Parsing.{Outcome, Parser, ◌>>=◌, by_option, strip, expect, identifier}
+use Rattle.gp_grammar.specs.Parsing.{Parser, ◌>>=◌, by_option, expect, identifier}
 use Rattle.gp_grammar.specs.CommandParsing.{◌then◌, where_next, fail, accept, push, query, closed}
 
 -- ---- words and numbers
@@ -24,7 +24,7 @@ is_word text (Number n) = false
 is_word text Big = false
 is_word text (Text bytes) = false
 
--- the lexemes behind this word, where it is the first
+-- the lexemes after this word, where it is the first
 abbrev pub strip_word : Bytes → Lexemes → Option Lexemes
 strip_word text [] = None
 strip_word text (t ∷ ts) = if is_word text t then Some ts else None
@@ -72,10 +72,11 @@ pattern_row token.I t k = where_next s.Dot (λ ts. pattern_number ts >>= (λ n. 
 pattern_row token.Q t k = accept (pattern_of token.Q (Some t) (Some k) None)
 pattern_row token.U t k = accept (pattern_of token.U (Some t) (Some k) None)
 
--- behind the name of a pattern
+-- after the name of a pattern
 abbrev pub pattern_parts : TokenKind × Option ℕ → Parser Pattern
 pattern_parts (kind, None) = accept (pattern_of kind None None None)
-pattern_parts (kind, Some t) = where_next s.Dot (λ ts. pattern_number ts >>= (λ k. pattern_row kind t k.0 k.1)) (accept (pattern_of kind (Some t) None None))
+pattern_parts (kind, Some t) =
+    where_next s.Dot (λ ts. pattern_number ts >>= (λ k. pattern_row kind t k.0 k.1)) (accept (pattern_of kind (Some t) None None))
 
 abbrev pub pattern : Parser Pattern
 pattern [] = Err []
@@ -92,14 +93,15 @@ rule ts = do
   value ← number rest
   Ok (rule_of pattern.0 value.0, value.1)
 
--- behind ELSE: its number, and the end of the rules
+-- after ELSE: its number, and the end of the rules
 abbrev pub else_number : List Rule → Parser Rules
 else_number found ts = number ts >>= (λ n. (s.Close then accept (record { rules = found; other = Some n.0 })) n.1)
 
--- behind an opening bracket or a comma, with at most so many rules; behind a comma ELSE may follow too
+-- after an opening bracket or a comma, with at most so many rules; after a comma ELSE may follow too
 unfoldable pub rules_within : ℕ → List Rule → Parser Rules
 rules_within zero found ts = Err ts
-rules_within (suc n) found ts = rule ts >>= (λ r. where_next s.Comma (where_next s.Else (else_number (push found r.0)) (rules_within n (push found r.0)))
+rules_within (suc n) found ts =
+    rule ts >>= (λ r. where_next s.Comma (where_next s.Else (else_number (push found r.0)) (rules_within n (push found r.0)))
     (s.Close then accept (record { rules = push found r.0; other = None })) r.1)
 
 unfoldable pub rules_from : List Rule → Parser Rules

@@ -11,6 +11,7 @@ ghost use Rattle.gp_grammar.specs.QuestionParsing.{question};
 ghost use Rattle.gp_grammar.specs.Laws.{ParsesExactly, StopsExactly, IsUnambiguous, CapsFairly};
 ghost use Rattle.gp_grammar.specs.Laws.{ReadsTextsExactly, RefusesTextsExactly, ReadsLinesExactly, RefusesLinesExactly};
 ghost use Rattle.gp_grammar.specs.Laws.{CanonicalIsDerived, CanonicalIsParsed, CanonicalIsShallow, CanonicalIsProper};
+ghost use Rattle.gp_grammar.specs.Laws.{CanonicalTextIsRead, CanonicalTextIsUtf8, CanonicalTextIsOneLine};
 
 /// The parser of terms takes the lines that the grammar derives, stops on the others at the place of the fault, and
 /// within the limits there is one way to derive a line. Capping changes no term within the limits and no refusal.
@@ -71,4 +72,11 @@ pub fn canonical_lexemes_are_parsed()
     ensures parsed { CanonicalIsParsed }
     ensures shallow { CanonicalIsShallow }
     ensures proper { CanonicalIsProper }
+{}
+
+/// The canonical text of a command that was read is read as this command again. It is UTF-8 and one line.
+pub fn canonical_texts_are_read()
+    ensures again { CanonicalTextIsRead }
+    ensures utf8 { CanonicalTextIsUtf8 }
+    ensures one_line { CanonicalTextIsOneLine }
 {}

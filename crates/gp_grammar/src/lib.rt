@@ -7,7 +7,7 @@
 //! `specs/Canonical` (the canonical lexemes of a command). `specs/Parsing`, `specs/CommandParsing` and
 //! `specs/QuestionParsing` are the parser as functions; the laws in `laws` tie them to the grammar.
 //!
-//! The parser that runs cites the functions, as in `ensures { Parses command_of result (command tokens.now) }`.
+//! The parser that runs cites the functions, as in `ensures { Parses command_tree result (command lexemes.now) }`.
 #![tactic(auto)]
 
 mod laws;

@@ -1,24 +1,24 @@
 -- Proper lexemes in canonical spacing are read as themselves.
-use Rattle.std.proofs.Common.{◌≡◌, ℕ, zero, suc, ◌+◌, ◌-◌, ◌<◌, ◌≤◌, Bool, true, false, cond, eqb, List, [], ◌∷◌, ◌++◌, length, Option, Some, None, Ok, Err, refl, sym, ap, subst, arith, ◌∙◌, append_assoc, length-append}
+use Rattle.std.proofs.Common.{◌≡◌, ℕ, zero, suc, ◌+◌, ◌≤◌, Bool, true, false, List, [], ◌∷◌, ◌++◌, length, Some, Ok, refl, sym, ap, subst, arith, ◌∙◌, append_assoc, length-append}
 use Rattle.std.proofs.lemmas.List.{append-nil}
 use Rattle.std.specs.Option.{option_map}
 use Rattle.std.specs.Result.{result_ok}
 use Rattle.gp_lexer.specs.declared.gap.Gap.{Gap}
-use Rattle.gp_lexer.specs.declared.gap.Gap.TheVariants.{Start, AfterComma, Joined, Spaced}
+use Rattle.gp_lexer.specs.declared.gap.Gap.TheVariants.{Start, AfterComma, Spaced}
 use Rattle.gp_lexer.specs.declared.lexeme.Symbol.TheVariants as s
 use Rattle.gp_lexer.specs.declared.lexeme.Lexeme.{Lexeme}
-use Rattle.gp_lexer.specs.declared.lexeme.Lexeme.TheVariants.{Symbol as Sign, Word, Number, Big, Text}
+use Rattle.gp_lexer.specs.declared.lexeme.Lexeme.TheVariants.{Symbol as Sign}
 use Rattle.gp_lexer.specs.Layout.{is_separated, has_space, next_gap, Page, empty_page, spaced, put, written, laid_out}
-use Rattle.gp_lexer.specs.Lexemes.{spelled, IsProper, AreProper}
-use Rattle.gp_lexer.specs.Lexing.{Lexed, with_lexeme, column_of, lexed_from, lexed, lexemes_of}
+use Rattle.gp_lexer.specs.Lexemes.{symbol_text, spelled, IsProper, AreProper}
+use Rattle.gp_lexer.specs.Lexing.{Lexed, with_lexeme, lexed_from, lexed, lexemes_of}
 use Rattle.gp_lexer.proofs.SpellingLemmas.{Lexes, Follows, lexes, open-lexes, dot-lexes, minus-lexes}
 
 -- the text that the lexemes add after this gap
-abbrev added : Gap → List Lexeme → List ℕ
+abbrev pub added : Gap → List Lexeme → List ℕ
 added gap [] = []
 added gap (lexeme ∷ lexemes) = spaced (has_space gap lexeme) (spelled lexeme) ++ added (next_gap gap lexeme) lexemes
 
-written-added : (page : Page) (lexemes : List Lexeme) → (written page lexemes).text ≡ page.text ++ added page.gap lexemes
+pub written-added : (page : Page) (lexemes : List Lexeme) → (written page lexemes).text ≡ page.text ++ added page.gap lexemes
 unfolding written
 written-added page [] = sym (append-nil page.text)
 written-added page (lexeme ∷ lexemes) =
@@ -27,6 +27,7 @@ written-added page (lexeme ∷ lexemes) =
 -- ---- what is after a lexeme
 
 close-follows : (lexeme : Lexeme) (rest : List ℕ) → is_separated lexeme ≡ false → Follows (spelled lexeme ++ rest)
+unfolding symbol_text
 close-follows (Sign s.Close) rest h = refl
 close-follows (Sign s.Comma) rest h = refl
 close-follows (Sign s.Dot) rest h = refl

@@ -1,8 +1,10 @@
 pub mod LayoutLemmas
 pub mod LineLemmas
 pub mod NumberLemmas
+pub mod PrintableLemmas
 pub mod ProperLemmas
 pub mod ShorterLemmas
 pub mod SpellingLemmas
 pub mod TextLemmas
+pub mod Utf8Lemmas
 pub mod WordLemmas

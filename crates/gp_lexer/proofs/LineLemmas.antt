@@ -1,9 +1,9 @@
 -- The loop over a line: the lexemes so far, and those of the rest, are the lexemes of the line.
-use Rattle.std.proofs.Common.{◌≡◌, ℕ, zero, suc, ◌+◌, ◌-◌, ◌<◌, ◌≤◌, Bool, true, false, cond, List, [], ◌∷◌, ◌++◌, length, take, drop, get_or, Option, Some, None, Ok, Err, refl, sym, ap, subst, arith, ◌∙◌, append_assoc, length-append}
+use Rattle.std.proofs.Common.{◌≡◌, ℕ, zero, suc, ◌-◌, ◌<◌, ◌≤◌, true, false, List, [], ◌∷◌, ◌++◌, length, take, drop, get_or, Some, None, Ok, Err, refl, sym, subst, arith, ◌∙◌, append_assoc, length-append}
 use Rattle.std.proofs.lemmas.Grind.{common_steps}
 use Rattle.std.proofs.lemmas.List.{append-nil}
 use Rattle.gp_lexer.specs.declared.lexeme.Lexeme.{Lexeme}
-use Rattle.gp_lexer.specs.Lexing.{Scanned, Lexed, with_lexeme, lexed_at, column_of, lexed_from, lexed, is_blank, lexeme_at}
+use Rattle.gp_lexer.specs.Lexing.{Lexed, with_lexeme, column_of, lexed_from, lexed, is_blank, lexeme_at}
 use Rattle.gp_lexer.proofs.ShorterLemmas.{RestAtMost, lexeme-shorter}
 
 -- these lexemes, and then others

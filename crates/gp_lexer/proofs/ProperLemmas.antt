@@ -1,6 +1,6 @@
 -- The lexemes that are read are proper.
-use Rattle.std.proofs.Common.{◌≡◌, ℕ, zero, suc, ◌+◌, ◌<◌, ◌≤◌, ◌^◌, Bool, true, false, cond, ◌||◌, eqb, ltb, leb, List, [], ◌∷◌, length, take, drop, Option, Some, None, Ok, Err, refl, subst, nat_eq}
-use Rattle.std.proofs.lemmas.Bool.{eqb-true, leb-true, ltb-true}
+use Rattle.std.proofs.Common.{◌≡◌, ℕ, zero, suc, ◌^◌, Bool, true, false, cond, eqb, ltb, leb, List, [], ◌∷◌, length, take, drop, Option, Some, None, Ok, Err, refl, subst, nat_eq}
+use Rattle.std.proofs.lemmas.Bool.{leb-true, ltb-true}
 use Rattle.std.specs.Char.{is_ascii_alphabetic, is_ascii_control, is_ascii_digit}
 use Rattle.std.specs.List.{list_any, prefix_len, starts_with, take_while}
 use Rattle.std.specs.Option.{option_map, option_map_or}
@@ -14,7 +14,7 @@ use Rattle.gp_lexer.specs.declared.lexeme.Lexeme.{Lexeme}
 use Rattle.gp_lexer.specs.declared.lexeme.Lexeme.TheVariants.{Symbol as Sign, Word, Number, Big, Text}
 use Rattle.gp_lexer.specs.declared.lexeme.TheConstants.{MAX_TEXT_LENGTH, QUOTE}
 use Rattle.gp_lexer.specs.Lexemes.{IsProper, AreProper}
-use Rattle.gp_lexer.specs.Lexing.{Scanned, Quoted, is_word_byte, reserved_word, word_lexeme, word_at, number_lexeme, number_at, with_byte, quoted_text, quoted_text_after_quote, text_lexeme, signs, sign_among, sign_at, is_blank, lexeme_at, Lexed, with_lexeme, lexed_at, column_of, lexed_from, lexed, lexemes_of}
+use Rattle.gp_lexer.specs.Lexing.{Scanned, Quoted, is_word_byte, reserved_word, word_lexeme, word_at, number_at, with_byte, quoted_text, quoted_text_after_quote, text_lexeme, signs, sign_among, sign_at, is_blank, lexeme_at, Lexed, with_lexeme, lexed_at, column_of, lexed_from, lexed, lexemes_of}
 use Rattle.gp_lexer.proofs.WordLemmas.{word-name}
 
 -- the lexeme, if there is one, is proper

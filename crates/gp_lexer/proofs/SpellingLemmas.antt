@@ -1,7 +1,7 @@
 -- A lexeme that is spelled is read as that lexeme, if the byte after it does not go on with it.
-use Rattle.std.proofs.Common.{◌≡◌, ℕ, zero, suc, ◌+◌, ◌-◌, ◌<◌, ◌≤◌, ◌^◌, Bool, true, false, cond, not, ◌&&◌, ◌||◌, eqb, ltb, leb, List, [], ◌∷◌, ◌++◌, length, map, take, drop, Option, Some, None, codes, refl, sym, ap, subst, arith, ◌∙◌, append_assoc, lit≤}
+use Rattle.std.proofs.Common.{◌≡◌, ℕ, ◌<◌, ◌≤◌, ◌^◌, Bool, true, false, cond, not, ◌&&◌, ◌||◌, eqb, ltb, leb, List, [], ◌∷◌, ◌++◌, length, map, take, drop, Some, None, codes, refl, sym, ap, arith, ◌∙◌, append_assoc, lit≤}
 use Rattle.std.proofs.Math.Seq.{take-append_seam, drop-append_seam}
-use Rattle.std.proofs.lemmas.Bool.{eqb-true, lt-ltb, le-leb, leb-true}
+use Rattle.std.proofs.lemmas.Bool.{eqb-true, lt-ltb, le-leb}
 use Rattle.std.proofs.lemmas.Bool.Decides.{nat_tests}
 use Rattle.std.proofs.lemmas.Fmt.{decimal_is_IsNumeral}
 use Rattle.std.proofs.lemmas.Str.Parse.{digit_from_value}
@@ -12,7 +12,7 @@ use Rattle.std.specs.Option.{option_map, option_map_or}
 use Rattle.std.specs.Str.{bytes_eq, str_eq_ignore_ascii_case, str_to_ascii_lowercase}
 use Rattle.std.specs.Str.Parse.{AllDigits, digits_value}
 use Rattle.gp_base.specs.declared.name.TheConstants.{MAX_NAME_LENGTH}
-use Rattle.gp_base.specs.Names.{is_lower_letter, is_name_byte, is_name, is_reserved, reserved_words}
+use Rattle.gp_base.specs.Names.{is_lower_letter, is_name_byte, is_name, is_reserved}
 use Rattle.gp_base.specs.Texts.{quoted_byte}
 use Rattle.gp_lexer.specs.declared.lexeme.Symbol.{Symbol}
 use Rattle.gp_lexer.specs.declared.lexeme.Symbol.TheVariants as s
@@ -36,7 +36,7 @@ abbrev pub Ends : (ℕ → Bool) → List ℕ → Type 0
 Ends test [] = Unit {0}
 Ends test (b ∷ bytes) = test b ≡ false
 
-both : (p q : Bool) → (p && q) ≡ true → (p ≡ true) × (q ≡ true)
+pub both : (p q : Bool) → (p && q) ≡ true → (p ≡ true) × (q ≡ true)
 both true q h = (refl, h)
 both false q h = absurd cc
 
@@ -78,7 +78,7 @@ reserved-lexes symbol b others rest text letter all short reserved ends = record
 lower-letter-is : (b : ℕ) → is_lower_letter b ≡ true → is_ascii_alphabetic b ≡ true
 lower-letter-is b h = grind (arith, nat_tests)
 
-letter-name : (b : ℕ) → is_lower_letter b ≡ true → is_name_byte b ≡ true
+pub letter-name : (b : ℕ) → is_lower_letter b ≡ true → is_name_byte b ≡ true
 letter-name b h = rw h refl
 
 name-byte-is : (b : ℕ) → is_name_byte b ≡ true → is_word_byte b ≡ true
@@ -120,11 +120,11 @@ unfolding reserved_word
 unreserved word lower free =
     none-among word reserved_symbols (ap (list_any (λ other. bytes_eq other (str_to_ascii_lowercase word))) (sym same-words) ∙ ap is_reserved lower ∙ free)
 
-record NameParts (b : ℕ) (others : List ℕ) : Type 0 where
-  letter : is_lower_letter b ≡ true
-  bytes : list_all is_name_byte others ≡ true
-  short : leb (length (b ∷ others)) MAX_NAME_LENGTH ≡ true
-  free : is_reserved (b ∷ others) ≡ false
+pub record NameParts (b : ℕ) (others : List ℕ) : Type 0 where
+  pub letter : is_lower_letter b ≡ true
+  pub bytes : list_all is_name_byte others ≡ true
+  pub short : leb (length (b ∷ others)) MAX_NAME_LENGTH ≡ true
+  pub free : is_reserved (b ∷ others) ≡ false
 
 four : (p q r s : Bool) → (p && q && r && not s) ≡ true → (p ≡ true) × (q ≡ true) × (r ≡ true) × (s ≡ false)
 four true true true false h = (refl, refl, refl, refl)
@@ -133,7 +133,7 @@ four true false r s h = absurd cc
 four true true false s h = absurd cc
 four true true true true h = absurd cc
 
-name-parts : (b : ℕ) (others : List ℕ) → is_name (b ∷ others) ≡ true → NameParts b others
+pub name-parts : (b : ℕ) (others : List ℕ) → is_name (b ∷ others) ≡ true → NameParts b others
 name-parts b others h =
     let parts = four (is_lower_letter b) (list_all is_name_byte others) (leb (length (b ∷ others)) MAX_NAME_LENGTH) (is_reserved (b ∷ others)) h in
     record { letter = parts.0; bytes = parts.1; short = parts.2; free = parts.3 }
@@ -163,7 +163,7 @@ name-lexes (b ∷ others) rest h ends =
 is-digit : (d : ℕ) → digit_value d < 10 → is_ascii_digit d ≡ true
 is-digit d h = let range = digit_from_value d h in grind (arith, nat_tests)
 
-are-digits : (ds : List ℕ) → AllDigits 10 ds → list_all is_ascii_digit ds ≡ true
+pub are-digits : (ds : List ℕ) → AllDigits 10 ds → list_all is_ascii_digit ds ≡ true
 are-digits [] h = refl
 are-digits (d ∷ ds) h = let first : is_ascii_digit d ≡ true = is-digit d h.0 in rw first (are-digits ds h.1)
 
@@ -210,7 +210,7 @@ big-lexes rest ends = digits-lex Big (codes "9223372036854775808") rest refl (li
 
 -- ---- texts
 
-none-of : (p q : Bool) → (p || q) ≡ false → (p ≡ false) × (q ≡ false)
+pub none-of : (p q : Bool) → (p || q) ≡ false → (p ≡ false) × (q ≡ false)
 none-of true q h = absurd cc
 none-of false q h = (refl, h)
 
@@ -295,19 +295,19 @@ greater-read [] h = refl
 greater-read (b ∷ rest) h = let equal : eqb 61 b ≡ false = no-sign b 61 h (lit≤ tt) in rw equal refl
 
 pub open-lexes : (rest : List ℕ) → Lexes (Sign s.Open) rest
-unfolding lexeme_at sign_at
+unfolding lexeme_at sign_at symbol_text
 open-lexes rest = record { first = 40; others = []; spelling = refl; seen = refl; is = refl }
 
 pub dot-lexes : (rest : List ℕ) → Lexes (Sign s.Dot) rest
-unfolding lexeme_at sign_at
+unfolding lexeme_at sign_at symbol_text
 dot-lexes rest = record { first = 46; others = []; spelling = refl; seen = refl; is = refl }
 
 pub minus-lexes : (rest : List ℕ) → Lexes (Sign s.Minus) rest
-unfolding lexeme_at sign_at
+unfolding lexeme_at sign_at symbol_text
 minus-lexes rest = record { first = 45; others = []; spelling = refl; seen = refl; is = refl }
 
 symbol-lexes : (symbol : Symbol) (rest : List ℕ) → Follows rest → Lexes (Sign symbol) rest
-unfolding lexeme_at sign_at reserved_word
+unfolding lexeme_at sign_at reserved_word symbol_text
 symbol-lexes s.All rest h = reserved-lexes s.All 65 (codes "LL") rest refl refl refl refl refl (word-ends rest h)
 symbol-lexes s.And rest h = reserved-lexes s.And 65 (codes "ND") rest refl refl refl refl refl (word-ends rest h)
 symbol-lexes s.As rest h = reserved-lexes s.As 65 (codes "S") rest refl refl refl refl refl (word-ends rest h)

@@ -1,8 +1,7 @@
 -- Reading a text byte by byte: the bytes so far, and what the rest is read as.
 use Rattle.std.proofs.Common.{◌≡◌, ℕ, eqb, Bool, false, List, [], ◌∷◌, ◌++◌, Some, None, refl, sym, ap, append_assoc}
 use Rattle.std.proofs.lemmas.List.{append-nil}
-use Rattle.gp_lexer.specs.declared.lexeme.TheConstants.{QUOTE}
-use Rattle.gp_lexer.specs.Lexing.{Quoted, with_byte, quoted_text, quoted_text_after_quote}
+use Rattle.gp_lexer.specs.Lexing.{Quoted, with_byte}
 
 -- the value with these bytes at its start
 abbrev pub with_bytes : List ℕ → Quoted → Quoted

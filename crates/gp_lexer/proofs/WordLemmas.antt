@@ -1,13 +1,14 @@
 -- Words: the look-up of reserved words, and that a word that is not reserved is a name in lower case.
-use Rattle.std.proofs.Common.{◌≡◌, ℕ, ◌+◌, ◌-◌, ◌≤◌, Bool, true, false, cond, not, ◌&&◌, ◌||◌, eqb, leb, ltb, List, [], ◌∷◌, length, take, drop, map, get_or, Option, Some, None, refl, sym, ap, subst, arith, ◌∙◌, slice_index}
-use Rattle.std.proofs.lemmas.Bool.{le-leb}
+use Rattle.std.proofs.Common.{◌≡◌, ℕ, ◌-◌, ◌≤◌, Bool, true, false, cond, not, ◌&&◌, ◌||◌, leb, List, [], ◌∷◌, length, take, drop, map, get_or, Some, None, refl, sym, ap, subst, arith, ◌∙◌, slice_index, nat_eq}
+use Rattle.std.proofs.lemmas.Bool.{eq-eqb, le-leb}
 use Rattle.std.proofs.lemmas.Bool.Decides.{nat_tests}
 use Rattle.std.proofs.lemmas.Grind.{common_steps}
 use Rattle.std.proofs.lemmas.List.{length-map}
 use Rattle.std.proofs.lemmas.List.Folds.{length-prefix_len}
 use Rattle.std.proofs.lemmas.List.Sums.{take_while-cons}
 use Rattle.std.specs.Char.{is_ascii_alphabetic, to_ascii_lowercase}
-use Rattle.std.specs.List.{find, list_all, list_any, prefix_len, take_while}
+use Rattle.std.specs.List.{filter, find, list_all, list_any, prefix_len, take_while}
+use Rattle.std.specs.Cmp.Lexicographic.{same_text}
 use Rattle.std.specs.Str.{bytes_eq, str_eq_ignore_ascii_case, str_to_ascii_lowercase}
 use Rattle.gp_base.specs.declared.name.TheConstants.{MAX_NAME_LENGTH}
 use Rattle.gp_base.specs.Names.{is_lower_letter, is_name_byte, is_name, is_reserved, reserved_words}
@@ -23,6 +24,31 @@ pub find-others : {X : Type 0} (p : X → Bool) (d : X) (xs : List X) → 1 ≤ 
     → find p xs ≡ find p (take (length xs - 1) (drop 1 xs))
 find-others p d [] h e = absurd (omega arith)
 find-others p d (x ∷ xs) h e = rw e (ap (find p) (sym (take-others x xs)))
+
+-- ---- the reserved words with the length of the word
+
+-- the first item that passes is among those that pass another test, if each that passes the one passes the other
+find-filter : {X : Type 0} (p q : X → Bool) → ((x : X) → p x ≡ true → q x ≡ true) → (xs : List X) → find p (filter q xs) ≡ find p xs
+find-filter p q h [] = refl
+find-filter p q h (x ∷ xs) = by (q x) refl (p x) refl (find-filter p q h xs)
+  where
+    by : (t : Bool) → q x ≡ t → (u : Bool) → p x ≡ u → find p (filter q xs) ≡ find p xs → find p (cond t (x ∷ filter q xs) (filter q xs)) ≡ cond u (Some x) (find p xs)
+    by true e true f others = rw f refl
+    by true e false f others = rw f others
+    by false e true f others = let g = h x f in absurd cc
+    by false e false f others = others
+
+same-length : (word : List ℕ) (symbol : Symbol) → str_eq_ignore_ascii_case (symbol_text symbol) word ≡ true → nat_eq (length (symbol_text symbol)) (length word) ≡ true
+same-length word symbol h =
+    let same : map to_ascii_lowercase (symbol_text symbol) ≡ map to_ascii_lowercase word = same_text (map to_ascii_lowercase (symbol_text symbol)) (map to_ascii_lowercase word) (sym h) in
+    let lengths : length (symbol_text symbol) ≡ length word = sym (length-map (symbol_text symbol) to_ascii_lowercase) ∙ ap length same ∙ length-map word to_ascii_lowercase in
+    eq-eqb (length (symbol_text symbol)) (length word) lengths
+
+pub reserved-with-length : (word : List ℕ)
+    → find (λ symbol. str_eq_ignore_ascii_case (symbol_text symbol) word) (filter (λ symbol. nat_eq (length (symbol_text symbol)) (length word)) reserved_symbols) ≡ reserved_word word
+unfolding reserved_word
+reserved-with-length word =
+    find-filter (λ symbol. str_eq_ignore_ascii_case (symbol_text symbol) word) (λ symbol. nat_eq (length (symbol_text symbol)) (length word)) (same-length word) reserved_symbols
 
 -- ---- a word that is not reserved
 
@@ -58,6 +84,7 @@ not-among word (x ∷ xs) h = by (str_eq_ignore_ascii_case (symbol_text x) word)
     by false none others = others none
 
 pub same-words : reserved_words ≡ map (λ symbol. str_to_ascii_lowercase (symbol_text symbol)) reserved_symbols
+unfolding symbol_text
 same-words = refl
 
 not-reserved : (word : List ℕ) → reserved_word word ≡ None → is_reserved (str_to_ascii_lowercase word) ≡ false

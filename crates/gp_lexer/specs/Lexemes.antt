@@ -1,9 +1,10 @@
 -- Part of the statement: the canonical spelling of each lexeme, and which lexemes there are. Reserved words are those of SQL (ISO/IEC 9075-2) that
 -- the dialect has, and texts are written as character string literals of SQL: between quotes, with each quote in them twice.
-use Rattle.std.specs.Prelude.{◌≡◌, ℕ, ◌<◌, ◌≤◌, ◌^◌, Bool, true, false, List, [], ◌∷◌, ◌++◌, length, codes}
+use Rattle.std.specs.Prelude.{◌≡◌, ℕ, ◌<◌, ◌≤◌, ◌^◌, true, false, List, [], ◌∷◌, ◌++◌, length, codes}
 use Rattle.std.specs.Char.{is_ascii_control}
 use Rattle.std.specs.Fmt.{decimal}
 use Rattle.std.specs.List.{flat_map, list_any}
+use Rattle.std.specs.Str.{IsUtf8}
 use Rattle.gp_base.specs.Names.{is_name}
 use Rattle.gp_base.specs.Texts.{quoted_byte}
 use Rattle.gp_lexer.specs.declared.lexeme.Symbol.{Symbol}
@@ -13,7 +14,7 @@ use Rattle.gp_lexer.specs.declared.lexeme.Lexeme.TheVariants.{Symbol as Sign, Wo
 use Rattle.gp_lexer.specs.declared.lexeme.TheConstants.{MAX_TEXT_LENGTH, QUOTE}
 
 -- a reserved word in capitals, or a sign
-abbrev pub symbol_text : Symbol → List ℕ
+unfoldable pub symbol_text : Symbol → List ℕ
 symbol_text s.All = codes "ALL"
 symbol_text s.And = codes "AND"
 symbol_text s.As = codes "AS"
@@ -81,3 +82,16 @@ IsProper (Text text) = (length text ≤ MAX_TEXT_LENGTH) × (list_any is_ascii_c
 abbrev pub AreProper : List Lexeme → Type 0
 AreProper [] = Unit {0}
 AreProper (lexeme ∷ lexemes) = IsProper lexeme × AreProper lexemes
+
+-- the value of a text is UTF-8; all other lexemes are ASCII
+abbrev pub HasUtf8Text : Lexeme → Type 0
+HasUtf8Text (Text text) = IsUtf8 text
+HasUtf8Text (Sign symbol) = Unit {0}
+HasUtf8Text (Word word) = Unit {0}
+HasUtf8Text (Number n) = Unit {0}
+HasUtf8Text Big = Unit {0}
+
+-- the value of each of the texts is
+abbrev pub HaveUtf8Texts : List Lexeme → Type 0
+HaveUtf8Texts [] = Unit {0}
+HaveUtf8Texts (lexeme ∷ lexemes) = HasUtf8Text lexeme × HaveUtf8Texts lexemes

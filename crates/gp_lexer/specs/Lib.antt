@@ -1,3 +1,4 @@
 pub mod Lexemes
 pub mod Lexing
 pub mod Layout
+pub mod Parts

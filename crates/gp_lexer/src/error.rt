@@ -10,10 +10,10 @@ use thiserror::Error;
 /// Why a line has no lexemes.
 #[derive(Debug, Drop, Error)]
 pub enum LexStop {
-    /// No lexeme can be read at this column, which counts the bytes of the line from 1.
+    /// A lexical fault: no lexeme can be read at this place.
     #[error("no lexeme at column {column}")]
     Fault {
-        /// The column of the first byte that no lexeme takes.
+        /// The column, which counts the bytes of the line from 1.
         column: u32,
     },
     /// Memory ran out.

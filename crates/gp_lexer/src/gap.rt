@@ -53,14 +53,12 @@ impl Gap {
     }
 }
 
-impl Symbol {
-    /// Whether a space may be before the symbol.
-    pub(crate) fn is_separated(self) -> bool
-        ensures { result ≡ is_separated (Sign self) }
-    {
-        match self {
-            Symbol::Close | Symbol::Comma | Symbol::Dot => false,
-            _ => true,
-        }
+/// Whether a space may be before the symbol.
+pub(crate) fn is_separated(symbol: Symbol) -> bool
+    ensures { result ≡ is_separated (Sign symbol) }
+{
+    match symbol {
+        Symbol::Close | Symbol::Comma | Symbol::Dot => false,
+        _ => true,
     }
 }

@@ -5,9 +5,9 @@ ghost use Rattle.std.specs.Fmt.{decimal};
 ghost use Rattle.std.specs.List.{flat_map};
 ghost use Rattle.gp_base.specs.Texts.{quoted_byte};
 ghost use Rattle.gp_lexer.specs.Layout.{empty_page, has_space, next_gap, put, spaced};
-ghost use Rattle.gp_lexer.specs.declared.lexeme.Lexeme.TheVariants.{Symbol as Sign, Word as WordLexeme, Number as NumberLexeme, Big as BigLexeme, Text as TextLexeme};
+ghost use Rattle.gp_lexer.specs.declared.lexeme.Lexeme.TheVariants as lexeme;
 
-use crate::gap::Gap;
+use crate::gap::{Gap, is_separated};
 use crate::lexeme::{Lexeme, Number, QUOTE, Symbol};
 use crate::symbol::symbol_text;
 use gp_base::{Name, NoMemory, Text};
@@ -17,7 +17,7 @@ use std::marker::Model;
 
 /// A text that is written lexeme by lexeme in canonical spacing. Contracts see the text so far and the gap after it.
 ///
-/// If memory runs out in a call, a part of its lexeme may have been written, and the layout is only to be dropped.
+/// If a call runs out of memory, a part of its lexeme may have been written; then only drop the layout.
 #[derive(Drop)]
 pub struct Layout {
     text: Vec<u8>,
@@ -65,9 +65,9 @@ impl Layout {
 
     /// Writes a reserved word or a sign.
     pub fn push_symbol(&mut self, symbol: Symbol) -> Result<(), NoMemory>
-        ensures { OnOk result (self.new ≡ put self.old (Sign symbol)) }
+        ensures { OnOk result (self.new ≡ put self.old (lexeme.Symbol symbol)) }
     {
-        if symbol.is_separated() {
+        if is_separated(symbol) {
             self.push_space()?;
         }
         self.text.extend_from_slice(symbol_text(symbol))?;
@@ -77,14 +77,14 @@ impl Layout {
 
     /// Writes a name.
     pub fn push_word(&mut self, name: &Name) -> Result<(), NoMemory>
-        ensures { OnOk result (self.new ≡ put self.old (WordLexeme name.now)) }
+        ensures { OnOk result (self.new ≡ put self.old (lexeme.Word name.now)) }
     {
         self.push_other(name.as_bytes())
     }
 
     /// Writes a number in decimal digits.
     pub fn push_number(&mut self, number: Number) -> Result<(), NoMemory>
-        ensures { OnOk result (self.new ≡ put self.old (NumberLexeme number)) }
+        ensures { OnOk result (self.new ≡ put self.old (lexeme.Number number)) }
     {
         let mut buffer = Buffer::new();
         self.push_other(buffer.format(number.get()).as_bytes())
@@ -92,14 +92,14 @@ impl Layout {
 
     /// Writes 9223372036854775808.
     pub fn push_big(&mut self) -> Result<(), NoMemory>
-        ensures { OnOk result (self.new ≡ put self.old BigLexeme) }
+        ensures { OnOk result (self.new ≡ put self.old lexeme.Big) }
     {
         self.push_other(b"9223372036854775808")
     }
 
     /// Writes a text in quotes, with each quote inside doubled.
     pub fn push_text(&mut self, text: &Text) -> Result<(), NoMemory>
-        ensures { OnOk result (self.new ≡ put self.old (TextLexeme text.now)) }
+        ensures { OnOk result (self.new ≡ put self.old (lexeme.Text text.now)) }
     {
         self.push_space()?;
         self.text.push(QUOTE)?;
@@ -111,7 +111,9 @@ impl Layout {
 
     /// Writes the space before a lexeme that is no `)`, `,` or `.`.
     fn push_space(&mut self) -> Result<(), NoMemory>
-        ensures { OnOk result (self.new ≡ record self.old { text = self.old.text ++ spaced (has_space self.old.gap BigLexeme) [] }) }
+        ensures { OnOk result (self.new ≡ record self.old {
+          text = self.old.text ++ spaced (has_space self.old.gap lexeme.Big) [];
+        }) }
     {
         if self.gap.has_space() {
             self.text.push(b' ')?;
@@ -122,7 +124,7 @@ impl Layout {
     /// Writes a lexeme that is no symbol.
     fn push_other(&mut self, spelling: &[u8]) -> Result<(), NoMemory>
         ensures { OnOk result (self.new ≡ record {
-          text = self.old.text ++ spaced (has_space self.old.gap BigLexeme) spelling.now;
+          text = self.old.text ++ spaced (has_space self.old.gap lexeme.Big) spelling.now;
           gap = Gap.Spaced;
         }) }
     {
@@ -133,14 +135,23 @@ impl Layout {
     }
 }
 
+/// Appends a byte of a text value, with a quote doubled.
+fn append_byte(out: &mut Vec<u8>, byte: u8) -> Result<(), NoMemory>
+    ensures { OnOk result (out.new.items ≡ out.old.items ++ quoted_byte byte) }
+{
+    if byte == QUOTE {
+        out.push(QUOTE)?;
+    }
+    out.push(byte)?;
+    Ok(())
+}
+
+/// Appends the bytes of a text value, with each quote doubled.
 fn append_quoted(out: &mut Vec<u8>, text: &[u8]) -> Result<(), NoMemory>
     ensures { OnOk result (out.new.items ≡ out.old.items ++ flat_map quoted_byte text.now) }
 {
     for byte in text {
-        if *byte == QUOTE {
-            out.push(QUOTE)?;
-        }
-        out.push(*byte)?;
+        append_byte(out, *byte)?;
     }
     Ok(())
 }

@@ -1,4 +1,4 @@
-//! The lexemes of a line with their places.
+//! The lexemes of a line with their columns.
 
 ghost use Rattle.std.specs.Prelude.{◌≡◌, length};
 
@@ -6,7 +6,7 @@ use crate::lexeme::Lexeme;
 use gp_base::Sequence;
 use std::marker::Model;
 
-/// The lexemes of a line and the column of each. Contracts see the pair of both lists.
+/// The lexemes of a line and the column of each. Contracts see the pair of the two lists.
 #[derive(Drop)]
 pub struct Lexemes {
     lexemes: Sequence<Lexeme>,

@@ -1,75 +1,21 @@
 //! The lexer.
 
-ghost use Rattle.std.specs.Prelude.{◌≡◌, ◌-◌, ◌+◌, ◌<◌, ◌≤◌, ◌^◌, length, map, min, IfOk, nat_eq, true, None, slice_index, ℕ};
-ghost use Rattle.std.specs.List.{find, prefix_len, starts_with};
+ghost use Rattle.std.specs.Prelude.{◌≡◌, ◌-◌, ◌+◌, ◌<◌, ◌≤◌, ◌^◌, ◌∷◌, length, map, min, IfOk, IfSome, nat_eq, true, None, Some, slice_index, ℕ};
+ghost use Rattle.std.specs.List.{prefix_len};
 ghost use Rattle.std.specs.Option.{option_map};
 ghost use Rattle.std.specs.Char.{is_ascii_alphabetic, is_ascii_digit};
-ghost use Rattle.std.specs.Str.{str_eq_ignore_ascii_case, str_to_ascii_lowercase};
+ghost use Rattle.std.specs.Str.{str_to_ascii_lowercase};
 ghost use Rattle.std.specs.Str.Parse.{AllDigits, digits_value};
 ghost use Rattle.gp_base.specs.Names.{is_name};
-ghost use Rattle.gp_lexer.specs.Lexemes.{symbol_text};
 ghost use Rattle.gp_lexer.specs.Lexing as spec;
+ghost use Rattle.gp_lexer.specs.Parts.{text_of_part};
 
 use crate::error::LexStop;
 use crate::lexeme::{Lexeme, MAX_TEXT_LENGTH, Number, QUOTE, Symbol};
 use crate::lexemes::Lexemes;
-use crate::symbol::symbol_text;
+use crate::symbol::reserved_word;
 use gp_base::{MAX_NAME_LENGTH, Name, NoMemory, Sequence, Text};
 use std::alloc::Global;
-
-/// The reserved words.
-const RESERVED: [Symbol; 30] = [
-    Symbol::All,
-    Symbol::And,
-    Symbol::As,
-    Symbol::Begin,
-    Symbol::Case,
-    Symbol::Commit,
-    Symbol::Create,
-    Symbol::Delete,
-    Symbol::Else,
-    Symbol::End,
-    Symbol::From,
-    Symbol::Insert,
-    Symbol::Int,
-    Symbol::Into,
-    Symbol::Is,
-    Symbol::Not,
-    Symbol::Null,
-    Symbol::Or,
-    Symbol::Rollback,
-    Symbol::Select,
-    Symbol::Set,
-    Symbol::Table,
-    Symbol::Text,
-    Symbol::Then,
-    Symbol::True,
-    Symbol::Union,
-    Symbol::Update,
-    Symbol::Values,
-    Symbol::When,
-    Symbol::Where,
-];
-
-/// The signs, in the order in which they are tried. Those that are most frequent in long lines come first.
-const SIGNS: [(&[u8], Symbol); 16] = [
-    (b",", Symbol::Comma),
-    (b"(", Symbol::Open),
-    (b")", Symbol::Close),
-    (b".", Symbol::Dot),
-    (b"-", Symbol::Minus),
-    (b"*", Symbol::Star),
-    (b"+", Symbol::Plus),
-    (b":", Symbol::Colon),
-    (b";", Symbol::Semicolon),
-    (b"=", Symbol::Eq),
-    (b"<>", Symbol::Ne),
-    (b"<=", Symbol::Le),
-    (b"<", Symbol::Lt),
-    (b">=", Symbol::Ge),
-    (b">", Symbol::Gt),
-    (b"!=", Symbol::Ne),
-];
 
 fn is_word_byte(byte: u8) -> bool
     ensures { result ≡ spec.is_word_byte byte }
@@ -94,37 +40,10 @@ fn digits_len(bytes: &[u8]) -> usize
         .count()
 }
 
-fn is_spelled(symbol: Symbol, word: &[u8]) -> bool
-    ensures { result ≡ str_eq_ignore_ascii_case (symbol_text symbol) word.now }
-{
-    symbol_text(symbol).eq_ignore_ascii_case(word)
-}
-
-fn reserved_among(symbols: &[Symbol], word: &[u8]) -> Option<Symbol>
-    ensures { result ≡ find (λ symbol. str_eq_ignore_ascii_case (symbol_text symbol) word.now) symbols.now }
-{
-    match symbols {
-        [] => None,
-        [symbol, others @ ..] => {
-            if is_spelled(*symbol, word) {
-                Some(*symbol)
-            } else {
-                reserved_among(others, word)
-            }
-        }
-    }
-}
-
-#[tactic(auto, unfolding(crate::specs::Lexing::reserved_word))]
-fn reserved_word(word: &[u8]) -> Option<Symbol>
-    ensures { result ≡ spec.reserved_word word.now }
-{
-    reserved_among(&RESERVED, word)
-}
-
-/// The lexeme of a word, which is a name where it is not reserved.
+/// The lexeme of a word. Where it is not reserved, it is a name in lower case.
 fn word_lexeme(alloc: Global, word: &[u8]) -> Result<Lexeme, NoMemory>
-    requires { spec.reserved_word word.now ≡ None → is_name (str_to_ascii_lowercase word.now) ≡ true }
+    requires { spec.reserved_word word.now ≡ None
+        → is_name (str_to_ascii_lowercase word.now) ≡ true }
     ensures { IfOk result (λ lexeme. lexeme ≡ spec.word_lexeme word.now) }
 {
     match reserved_word(word) {
@@ -136,10 +55,12 @@ fn word_lexeme(alloc: Global, word: &[u8]) -> Result<Lexeme, NoMemory>
     }
 }
 
+/// The word that the bytes begin with, if it is not too long, and the bytes after it.
 #[tactic(auto, unfolding(crate::specs::Lexing::word_at))]
 fn word_at(alloc: Global, bytes: &[u8]) -> Result<Option<(Lexeme, &[u8])>, NoMemory>
     requires { is_ascii_alphabetic (slice_index bytes.now 0) ≡ true }
-    ensures { IfOk result (λ found. option_map (λ f. (f.0, f.1.now)) found ≡ spec.word_at bytes.now) }
+    ensures { IfOk result (λ found. option_map (λ f. (f.0, f.1.now)) found
+        ≡ spec.word_at bytes.now) }
 {
     let len = word_len(bytes);
     if len > MAX_NAME_LENGTH {
@@ -163,8 +84,10 @@ fn value_of(digits: &[u8]) -> u64
     value
 }
 
+/// The lexeme of digits with this value, or with a greater one if the value is the greatest `u64`.
 fn number_lexeme(value: u64) -> Option<Lexeme>
-    ensures { (number : ℕ) → value ≡ min number (2 ^ 64 - 1) → result ≡ spec.number_lexeme number }
+    ensures { (number : ℕ) → value ≡ min number (2 ^ 64 - 1)
+        → result ≡ spec.number_lexeme number }
 {
     if value < 1 << 63 {
         Some(Lexeme::Number(Number::new(value)))
@@ -175,6 +98,7 @@ fn number_lexeme(value: u64) -> Option<Lexeme>
     }
 }
 
+/// The number that the bytes begin with, if it is not too large, and the bytes after it.
 #[tactic(auto, unfolding(crate::specs::Lexing::number_at))]
 fn number_at(bytes: &[u8]) -> Option<(Lexeme, &[u8])>
     ensures { option_map (λ f. (f.0, f.1.now)) result ≡ spec.number_at bytes.now }
@@ -183,29 +107,54 @@ fn number_at(bytes: &[u8]) -> Option<(Lexeme, &[u8])>
     Some((number_lexeme(value_of(digits))?, rest))
 }
 
+/// The part of a text after a quote in it: a second quote is a byte of the value, and anything else is after the end.
+fn part_after_quote(bytes: &[u8]) -> (Option<u8>, &[u8])
+    ensures value { spec.quoted_text_after_quote bytes.now
+        ≡ text_of_part (Some (result.0, result.1.now)) }
+    ensures bound { length result.1.now ≤ length bytes.now }
+{
+    match bytes {
+        [QUOTE, others @ ..] => (Some(QUOTE), others),
+        _ => (None, bytes),
+    }
+}
+
+/// The next part of a text, a byte of its value or `None` for the closing quote, and the bytes after the part; or
+/// `None` where the text is not closed or has a control character.
+fn text_part(bytes: &[u8]) -> Option<(Option<u8>, &[u8])>
+    ensures value { spec.quoted_text bytes.now
+        ≡ text_of_part (option_map (λ f. (f.0, f.1.now)) result) }
+    ensures shorter { IfSome result (λ f. length f.1.now < length bytes.now) }
+{
+    match bytes {
+        [] => None,
+        [QUOTE, others @ ..] => Some(part_after_quote(others)),
+        [byte, others @ ..] if !byte.is_ascii_control() => Some((Some(*byte), others)),
+        _ => None,
+    }
+}
+
 /// The value of a text, whose opening quote is before these bytes, and the bytes after its closing quote.
 #[tactic(auto, using(crate::proofs::TextLemmas::quoted_steps))]
 fn quoted_text(alloc: Global, bytes: &[u8]) -> Result<Option<(Vec<u8>, &[u8])>, NoMemory>
-    ensures { IfOk result (λ found. option_map (λ f. (f.0.items, f.1.now)) found ≡ spec.quoted_text bytes.now) }
+    ensures { IfOk result (λ found. option_map (λ f. (f.0.items, f.1.now)) found
+        ≡ spec.quoted_text bytes.now) }
 {
     let mut value = Vec::new(alloc);
     let mut rest = bytes;
     loop {
-        match rest {
-            [QUOTE, QUOTE, others @ ..] => {
-                value.push(QUOTE)?;
+        match text_part(rest) {
+            Some((Some(byte), others)) => {
+                value.push(byte)?;
                 rest = others;
             }
-            [QUOTE, others @ ..] => return Ok(Some((value, others))),
-            [byte, others @ ..] if !byte.is_ascii_control() => {
-                value.push(*byte)?;
-                rest = others;
-            }
-            _ => return Ok(None),
+            Some((None, others)) => return Ok(Some((value, others))),
+            None => return Ok(None),
         }
     }
 }
 
+/// The text whose opening quote is before these bytes, if its value is not too long, and the bytes after it.
 fn text_at(alloc: Global, bytes: &[u8]) -> Result<Option<(Lexeme, &[u8])>, NoMemory>
     ensures { IfOk result (λ found. option_map (λ f. (f.0, f.1.now)) found
         ≡ spec.text_lexeme (spec.quoted_text bytes.now)) }
@@ -221,32 +170,38 @@ fn text_at(alloc: Global, bytes: &[u8]) -> Result<Option<(Lexeme, &[u8])>, NoMem
     }
 }
 
-fn sign_among<'a>(signs: &[(&[u8], Symbol)], bytes: &'a [u8]) -> Option<(Lexeme, &'a [u8])>
-    ensures { option_map (λ f. (f.0, f.1.now)) result
-        ≡ spec.sign_among (map (λ sign. (sign.0.now, sign.1)) signs.now) bytes.now }
-{
-    match signs {
-        [] => None,
-        [(text, symbol), others @ ..] => {
-            if bytes.starts_with(*text) {
-                Some((Lexeme::Symbol(*symbol), &bytes[text.len()..]))
-            } else {
-                sign_among(others, bytes)
-            }
-        }
-    }
-}
-
+/// The sign that begins with this byte, of which the others may be a part, and the bytes after it.
 #[tactic(auto, unfolding(crate::specs::Lexing::sign_at))]
-fn sign_at(bytes: &[u8]) -> Option<(Lexeme, &[u8])>
-    ensures { option_map (λ f. (f.0, f.1.now)) result ≡ spec.sign_at bytes.now }
+fn sign_at(first: u8, others: &[u8]) -> Option<(Lexeme, &[u8])>
+    ensures { option_map (λ f. (f.0, f.1.now)) result ≡ spec.sign_at (first ∷ others.now) }
 {
-    sign_among(&SIGNS, bytes)
+    let (symbol, rest) = match (first, others) {
+        (b',', _) => (Symbol::Comma, others),
+        (b'(', _) => (Symbol::Open, others),
+        (b')', _) => (Symbol::Close, others),
+        (b'.', _) => (Symbol::Dot, others),
+        (b'-', _) => (Symbol::Minus, others),
+        (b'*', _) => (Symbol::Star, others),
+        (b'+', _) => (Symbol::Plus, others),
+        (b':', _) => (Symbol::Colon, others),
+        (b';', _) => (Symbol::Semicolon, others),
+        (b'=', _) => (Symbol::Eq, others),
+        (b'<', [b'>', rest @ ..]) => (Symbol::Ne, rest),
+        (b'<', [b'=', rest @ ..]) => (Symbol::Le, rest),
+        (b'<', _) => (Symbol::Lt, others),
+        (b'>', [b'=', rest @ ..]) => (Symbol::Ge, rest),
+        (b'>', _) => (Symbol::Gt, others),
+        (b'!', [b'=', rest @ ..]) => (Symbol::Ne, rest),
+        _ => return None,
+    };
+    Some((Lexeme::Symbol(symbol), rest))
 }
 
+/// The lexeme that the bytes begin with and the bytes after it, or `None` where none can be read.
 #[tactic(auto, unfolding(crate::specs::Lexing::lexeme_at))]
 fn lexeme_at(alloc: Global, bytes: &[u8]) -> Result<Option<(Lexeme, &[u8])>, NoMemory>
-    ensures { IfOk result (λ found. option_map (λ f. (f.0, f.1.now)) found ≡ spec.lexeme_at bytes.now) }
+    ensures { IfOk result (λ found. option_map (λ f. (f.0, f.1.now)) found
+        ≡ spec.lexeme_at bytes.now) }
 {
     match bytes {
         [] => Ok(None),
@@ -258,7 +213,7 @@ fn lexeme_at(alloc: Global, bytes: &[u8]) -> Result<Option<(Lexeme, &[u8])>, NoM
             } else if *byte == QUOTE {
                 text_at(alloc, others)
             } else {
-                Ok(sign_at(bytes))
+                Ok(sign_at(*byte, others))
             }
         }
     }
@@ -270,9 +225,12 @@ fn is_blank(byte: u8) -> bool
     byte == b' ' || byte == b'\t'
 }
 
-/// The lexemes of a line, or the column of the first place where no lexeme can be read. That is the first byte of a
-/// word of more than [`MAX_NAME_LENGTH`] bytes, of digits with a value above 9223372036854775808, of a text that is not
-/// closed, has a control character or more than [`MAX_TEXT_LENGTH`] bytes, and a byte with which no lexeme begins.
+/// The lexemes of a line with their columns. The line is any bytes without its line end.
+///
+/// The error is [`LexStop::Fault`] where some lexeme cannot be read, with the column of the first byte of the first
+/// such place: a word of more than [`MAX_NAME_LENGTH`] bytes, digits with a value above 9223372036854775808, a text that
+/// is not closed or whose value has a control character or more than [`MAX_TEXT_LENGTH`] bytes, or any other byte that
+/// begins no lexeme. Running out of memory is the only other error.
 pub fn lex(alloc: Global, line: &[u8]) -> Result<Lexemes, LexStop>
     requires { length line.now < 2 ^ 32 - 1 }
     ensures { spec.GivesLexemes result (spec.lexed line.now) }

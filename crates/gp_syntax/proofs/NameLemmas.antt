@@ -1,13 +1,10 @@
 -- Numbers in names.
 use Rattle.std.proofs.Common.{◌≡◌, ℕ, ◌+◌, ◌-◌, ◌^◌, ◌<◌, ◌≤◌, Bool, true, false, cond, ◌&&◌, List, [], ◌∷◌, min, Option, Some, None, suc, refl, ap, sym, ◌∙◌, arith, nat_le, nat_lt}
-use Rattle.std.specs.Option.{option_map}
-use Rattle.gp_grammar.specs.QuestionGrammar.{with_transaction}
 use Rattle.gp_syntax.specs.Names.{number_up_to}
 use Rattle.std.proofs.lemmas.Bool.Decides.{nat_tests}
 use Rattle.std.specs.Str.{all_ascii_digits}
 use Rattle.std.specs.Char.{digit_value, is_ascii_digit}
 use Rattle.std.specs.Str.Parse.{AllDigits, digits_value}
-use Rattle.gp_grammar.specs.declared.token_kind.TokenKind.{TokenKind}
 use Rattle.gp_grammar.specs.CommandGrammar.{is_number_without_zero}
 
 is-digit : (b : ℕ) → is_ascii_digit b ≡ true → digit_value b < 10
@@ -48,24 +45,3 @@ pub number-some : (ds : List ℕ) (m most : ℕ) → is_number_without_zero ds �
 number-some ds m most h a b c = rw h (number-in (digits_value 10 ds) m most (nat_le (digits_value 10 ds) most) refl a b c)
 
 pub ruleset digits = (number-digits, number-none, number-large, number-some)
-
--- a transaction has at most nine digits
-below-or-at : (n m : ℕ) (a b : Bool) → nat_lt n (suc m) ≡ a → nat_le n m ≡ b → a ≡ b
-below-or-at n m true true e f = refl
-below-or-at n m true false e f = absurd (grind (arith, nat_tests))
-below-or-at n m false true e f = absurd (grind (arith, nat_tests))
-below-or-at n m false false e f = refl
-
-transaction-by : (kind : TokenKind) (valid : Bool) (v : ℕ) (a b : Bool) → a ≡ b → (r : Option ℕ) → r ≡ cond (valid && b) (Some v) None
-    → cond (valid && a) (Some (kind, Some v)) None ≡ option_map (λ (t : ℕ). (kind, Some t)) r
-transaction-by kind false v a b e r f = rw f refl
-transaction-by kind true v true true e r f = rw f refl
-transaction-by kind true v false false e r f = rw f refl
-transaction-by kind true v true false e r f = absurd cc
-transaction-by kind true v false true e r f = absurd cc
-
-pub transaction-of : (kind : TokenKind) (d : ℕ) (ds : List ℕ) → with_transaction (Some kind) (d ∷ ds) ≡ option_map (λ (t : ℕ). (kind, Some t)) (number_up_to (d ∷ ds) 999999999)
-transaction-of kind d ds = transaction-by kind (is_number_without_zero (d ∷ ds)) (digits_value 10 (d ∷ ds)) _ _
-    (below-or-at (digits_value 10 (d ∷ ds)) 999999999 _ _ refl refl) (number_up_to (d ∷ ds) 999999999) refl
-
-pub ruleset transactions = (transaction-of)

@@ -2,3 +2,8 @@ pub mod Lines
 pub mod Names
 pub mod Views
 pub mod Parses
+pub mod QuestionParts
+pub mod Refusals
+pub mod Tests
+pub mod Measures
+pub mod Layouts

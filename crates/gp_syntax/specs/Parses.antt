@@ -1,5 +1,5 @@
 -- Machinery: what a parser of the code returns, against the parser as a function.
-use Rattle.std.specs.Prelude.{◌≡◌, ◌<◌, ℕ, List, length, Result, Ok, Err}
+use Rattle.std.specs.Prelude.{◌≡◌, ◌<◌, ℕ, List, length, Option, Some, None, Result, Ok, Err}
 use denote.Ref.{Bor}
 use Rattle.gp_lexer.specs.declared.lexeme.Lexeme.{Lexeme}
 use Rattle.gp_grammar.specs.Syntax as y
@@ -42,3 +42,9 @@ ParsesAll view (Err NoMemory) parsed = Unit {0}
 -- a SELECT behind UNION
 abbrev pub union_block : Parser y.Block
 union_block = s.All then block
+
+-- the lexemes behind a word that has to be the first
+abbrev pub Strips : Result (Bor (List Lexeme)) ParseStop → Lexemes → Option Lexemes → Type 0
+Strips (Ok rest) lexemes stripped = stripped ≡ Some rest.now
+Strips (Err (At rest)) lexemes stripped = (stripped ≡ None) × (rest.now ≡ lexemes)
+Strips (Err NoMemory) lexemes stripped = Unit {0}

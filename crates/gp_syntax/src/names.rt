@@ -68,7 +68,6 @@ fn token_kind_of(byte: u8) -> Option<TokenKind>
     }
 }
 
-#[tactic(auto, using(crate::proofs::NameLemmas::transactions))]
 fn with_transaction(kind: TokenKind, digits: &[u8]) -> Option<(TokenKind, Option<u32>)>
     ensures { result ≡ with_transaction (Some kind) digits.now }
 {

@@ -4,8 +4,8 @@ use Rattle.gp_lexer.proofs.TextLemmas.{with_bytes}
 use Rattle.gp_lexer.proofs.lexer.quoted_text.Given as goal
 
 -- the bytes so far, and the text that the rest is, are the text
-abbrev pub invariant-loop-rest : goal.invariant-loop-rest
-invariant-loop-rest l = with_bytes l.value.items (quoted_text l.rest) ≡ quoted_text l.fn.bytes
+abbrev pub invariant-loop-byte : goal.invariant-loop-byte
+invariant-loop-byte l = with_bytes l.value.items (quoted_text l.rest) ≡ quoted_text l.fn.bytes
 
-abbrev pub decreases-loop-rest : goal.decreases-loop-rest
-decreases-loop-rest l = length l.rest
+abbrev pub decreases-loop-byte : goal.decreases-loop-byte
+decreases-loop-byte l = length l.rest

@@ -1,4 +1,4 @@
-use Rattle.std.proofs.Common.{◌≡◌, ◌-◌, ◌^◌, ◌+◌, ap, ◌∙◌, arith}
+use Rattle.std.proofs.Common.{◌-◌, ◌^◌, arith}
 use Rattle.gp_lexer.proofs.NumberLemmas.{digit-bound, value_of-more}
 use Rattle.gp_lexer.proofs.lexer.value_of.Goals as goal
 

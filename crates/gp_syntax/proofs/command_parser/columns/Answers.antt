@@ -11,7 +11,7 @@ use Rattle.gp_syntax.proofs.command_parser.columns.Goals as goal
 
 pub returns-in_err-next : goal.returns-in_err-next
 returns-in_err-next c =
-    let p = err_from_is_err_and c.from_residual-in_err-next.result c.from_residual-in_err-next.ensures in
+    let p = err_from_is_err_and c.from_residual-in_err-next.result c.from_residual-in_err-next.ensures.1 in
     rw (p.1, p.2) (many-fault s.Comma spec.column shrinks-column (λ x. x) (λ x. x) c.loop-after.found c.loop-after.rest.now c.in-Some.after.now _ c.in_err-next.field-0.0
     c.loop-after.invariant c.in-Some.ensures.value c.in_err-next.ensures)
 

@@ -1,0 +1,3 @@
+pub mod ScopeLemmas
+pub mod TypingLemmas
+pub mod NamesLemmas

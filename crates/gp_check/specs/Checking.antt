@@ -1,0 +1,28 @@
+-- Part of the statement: what the check makes of a command or a query, which is its meaning or its first refusal.
+use Rattle.std.specs.Prelude.{Bool, true, false, List, Option, Some, None, Result, Ok, Err}
+use Rattle.gp_base.specs.declared.refusal.Refusal.{Refusal}
+use Rattle.gp_base.specs.declared.table.Table.{Table}
+use Rattle.gp_grammar.specs.Syntax as y
+use Rattle.gp_grammar.specs.Syntax.{Query, Command}
+use Rattle.gp_algebra.specs.Statements.{Select, Statement}
+use Rattle.gp_check.specs.Faults.{first_refusal, table_refusal}
+use Rattle.gp_check.specs.Meaning.{select_of, statement_of}
+
+-- INSERT, UPDATE, DELETE and SELECT are statements
+abbrev pub is_statement : Command → Bool
+is_statement (y.create table) = false
+is_statement y.begin = false
+is_statement y.Command.commit = false
+is_statement y.rollback = false
+is_statement _ = true
+
+abbrev pub refused_by : {A : Type 0} → Option Refusal → A → Result A Refusal
+refused_by None meaning = Ok meaning
+refused_by (Some refusal) meaning = Err refusal
+
+abbrev pub checked : List Table → Command → Result Statement Refusal
+checked tables command = refused_by (first_refusal tables command) (statement_of tables command)
+
+-- a query of a question is checked like that of a SELECT
+abbrev pub checked_query : List Table → Query → Result Select Refusal
+checked_query tables query = refused_by (first_refusal tables (y.select query)) (select_of tables query)

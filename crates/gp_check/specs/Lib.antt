@@ -1,0 +1,7 @@
+pub mod Scopes
+pub mod Typing
+pub mod Faults
+pub mod Meaning
+pub mod Checking
+pub mod Valid
+pub mod Views

@@ -1,0 +1,49 @@
+-- Part of the statement: what every command has that was read from a text, as far as the check rests on it.
+use Rattle.std.specs.Prelude.{ℕ, nat_lt, Bool, true, ◌&&◌, List, length, Option, Some, None}
+use Rattle.std.specs.List.{list_all}
+use Rattle.gp_base.specs.declared.cell.Cell.TheVariants as cell
+use Rattle.gp_base.specs.Cells.{is_user_cell}
+use Rattle.gp_grammar.specs.Syntax as y
+use Rattle.gp_grammar.specs.Syntax.{Term, SetTerm, Items, Block, Query, Command}
+use Rattle.gp_algebra.specs.Fitting.{is_countable}
+
+-- the literals of a term are cells that a user can write
+abbrev pub term_is_valid : Term → Bool
+term_is_valid y.null = true
+term_is_valid (y.int n) = is_user_cell (cell.Int n)
+term_is_valid (y.text bytes) = is_user_cell (cell.Text bytes)
+term_is_valid (y.col item name) = true
+term_is_valid (y.binary o x z) = term_is_valid x && term_is_valid z
+term_is_valid (y.neg x) = term_is_valid x
+term_is_valid (y.not x) = term_is_valid x
+term_is_valid (y.is_null x holds) = term_is_valid x
+term_is_valid (y.is_true x holds) = term_is_valid x
+term_is_valid (y.case x z u) = term_is_valid x && (term_is_valid z && term_is_valid u)
+
+abbrev pub condition_is_valid : Option Term → Bool
+condition_is_valid None = true
+condition_is_valid (Some term) = term_is_valid term
+
+-- a written select list has a term
+abbrev pub items_are_valid : Items → Bool
+items_are_valid y.star = true
+items_are_valid (y.list terms) = nat_lt 0 (length terms) && list_all term_is_valid terms
+
+-- a FROM has a table
+abbrev pub block_is_valid : Block → Bool
+block_is_valid block = nat_lt 0 (length block.from) && (items_are_valid block.items && condition_is_valid block.cond)
+
+abbrev pub query_is_valid : Query → Bool
+query_is_valid query = is_countable query && list_all block_is_valid query
+
+abbrev pub set_is_valid : SetTerm → Bool
+set_is_valid set = term_is_valid set.term
+
+-- a VALUES has a tuple
+abbrev pub is_valid : Command → Bool
+is_valid (y.insert table rows) = is_countable rows && list_all (list_all is_user_cell) rows
+is_valid (y.insert_select table query) = query_is_valid query
+is_valid (y.update table sets cond) = list_all set_is_valid sets && condition_is_valid cond
+is_valid (y.delete table cond) = condition_is_valid cond
+is_valid (y.select query) = query_is_valid query
+is_valid _ = true

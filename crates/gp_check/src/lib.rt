@@ -1,0 +1,28 @@
+//! The check of names and types: from a command to a statement over numbered tables and columns, or its first refusal.
+//!
+//! In reading order: [`check`] checks a statement of a session, [`check_query`] the query of a question, [`check_table`] a
+//! new table. In `specs/`, `Scopes` says what names stand for, `Typing` which terms are well typed, `Faults` which refusal
+//! comes first, `Meaning` which statement a command means, and `Checking` puts these together.
+//!
+//! ```text
+//! match check(alloc, &catalog, &command) {
+//!     Ok(stmt) => run(stmt),
+//!     Err(CheckStop::Refused(refusal)) => reply(refusal),
+//!     Err(CheckStop::NoMemory) => return Err(NoMemory),
+//! }
+//! ```
+#![tactic(auto)]
+
+mod columns;
+mod error;
+mod laws;
+mod names;
+mod place;
+mod scope;
+mod source;
+mod tables;
+mod types;
+mod widths;
+
+pub use error::CheckStop;
+pub use laws::typing_follows_the_rules;

@@ -1,0 +1,96 @@
+-- Tests on the terms of lists.
+use Rattle.std.proofs.Common.{◌≡◌, ℕ, suc, ◌+◌, ◌-◌, ◌^◌, ◌<◌, ◌≤◌, Bool, true, false, cond, ◌||◌, List, [], ◌∷◌, ◌++◌, length, map, min, Option, Some, None, refl, ap, sym, ◌∙◌, arith, nat_lt}
+use Rattle.std.proofs.lemmas.Bool.Decides.{nat_tests}
+use Rattle.std.proofs.lemmas.List.{length-map}
+use Rattle.std.proofs.lemmas.List.Folds.{list_any-append}
+use Rattle.std.specs.List.{flat_map, list_any}
+use Rattle.std.specs.Option.{option_map}
+use Rattle.gp_base.specs.declared.limit.Limit.TheVariants as limit
+use Rattle.gp_grammar.specs.declared.limits.TheConstants.{MAX_BRANCHES, MAX_COLUMNS, MAX_FROM, MAX_NODES, MAX_LEVELS}
+use Rattle.gp_grammar.specs.Syntax as y
+use Rattle.gp_grammar.specs.Syntax.{Term}
+use Rattle.gp_grammar.specs.Limits.{nodes, levels, listed, some_above, passed_limit, query_shape, terms_of_query}
+use Rattle.gp_syntax.specs.declared.term.Term as r
+use Rattle.gp_syntax.specs.declared.command.Block.{Block}
+use Rattle.gp_syntax.specs.declared.command.SetTerm.{SetTerm}
+use Rattle.gp_syntax.specs.declared.limits.Measure.{Measure}
+use Rattle.gp_syntax.specs.Refusals.{limit_of}
+use Rattle.gp_syntax.specs.Views.{block_view, item_view, items_view, set_view, term_view}
+use Rattle.gp_syntax.specs.declared.limits.Measure.TheVariants.{Nodes, Levels}
+use Rattle.gp_syntax.specs.Measures.{is_above, are_above, set_term_of, terms_limit, term_limit, terms_of_block, terms_of_sets}
+
+pub list_any-map : {X Y : Type 0} (p : Y → Bool) (f : X → Y) (xs : List X) → list_any p (map f xs) ≡ list_any (λ x. p (f x)) xs
+list_any-map p f [] = refl
+list_any-map p f (x ∷ xs) = ap (λ b. p (f x) || b) (list_any-map p f xs)
+
+pub list_any-flat_map : {X Y : Type 0} (p : Y → Bool) (f : X → List Y) (xs : List X) → list_any p (flat_map f xs) ≡ list_any (λ x. list_any p (f x)) xs
+list_any-flat_map p f [] = refl
+list_any-flat_map p f (x ∷ xs) = list_any-append p (f x) (flat_map f xs) ∙ ap (λ b. list_any p (f x) || b) (list_any-flat_map p f xs)
+
+pub or-false : (b : Bool) → (b || false) ≡ b
+or-false true = refl
+or-false false = refl
+
+pub ruleset any = (list_any-map, list_any-flat_map, list_any-append, or-false)
+
+-- a saturated number above a limit
+above-by : (n m most : ℕ) (a b : Bool) → nat_lt most n ≡ a → nat_lt most m ≡ b → n ≡ min m (2 ^ 64 - 1) → most < 2 ^ 64 - 1 → a ≡ b
+above-by n m most true true e f s l = refl
+above-by n m most true false e f s l = absurd (grind (arith, nat_tests))
+above-by n m most false true e f s l = absurd (grind (arith, nat_tests))
+above-by n m most false false e f s l = refl
+
+pub above-nodes : (n : ℕ) (term : Term) → n ≡ min (nodes term) (2 ^ 64 - 1) → nat_lt MAX_NODES n ≡ nat_lt MAX_NODES (nodes term)
+above-nodes n term s = above-by n (nodes term) MAX_NODES _ _ refl refl s (omega arith)
+
+pub above-levels : (n : ℕ) (term : Term) → n ≡ min (levels term) (2 ^ 64 - 1) → nat_lt MAX_LEVELS n ≡ nat_lt MAX_LEVELS (levels term)
+above-levels n term s = above-by n (levels term) MAX_LEVELS _ _ refl refl s (omega arith)
+
+pub ruleset measures = (above-nodes, above-levels)
+
+pub over-nodes : (terms : List Term) → some_above MAX_NODES (map nodes terms) ≡ are_above Nodes terms
+over-nodes terms = list_any-map (λ n. nat_lt MAX_NODES n) nodes terms
+
+pub over-levels : (terms : List Term) → some_above MAX_LEVELS (map levels terms) ≡ are_above Levels terms
+over-levels terms = list_any-map (λ n. nat_lt MAX_LEVELS n) levels terms
+
+terms_limit-by : (a b : Bool) (terms : List Term) → some_above MAX_NODES (map nodes terms) ≡ a → some_above MAX_LEVELS (map levels terms) ≡ b → terms_limit terms ≡ term_limit a b
+terms_limit-by true b terms e f = rw e refl
+terms_limit-by false true terms e f = rw (e, f) refl
+terms_limit-by false false terms e f = rw (e, f) refl
+
+pub terms_limit-is : (terms : List Term) → terms_limit terms ≡ term_limit (are_above Nodes terms) (are_above Levels terms)
+terms_limit-is terms = terms_limit-by _ _ terms (over-nodes terms) (over-levels terms)
+
+pub ruleset updates = (terms_limit-is, list_any-append)
+
+pub limit-nodes : (q : y.Query) → some_above MAX_COLUMNS (query_shape q).columns ≡ false → some_above MAX_FROM (query_shape q).from ≡ false → nat_lt MAX_BRANCHES (length q) ≡ false
+    → are_above Nodes (terms_of_query q) ≡ true → Some limit.Nodes ≡ option_map limit_of (passed_limit (query_shape q))
+limit-nodes q a b c d = rw (a, b, c, over-nodes (terms_of_query q) ∙ d) refl
+
+pub limit-levels : (q : y.Query) → some_above MAX_COLUMNS (query_shape q).columns ≡ false → some_above MAX_FROM (query_shape q).from ≡ false → nat_lt MAX_BRANCHES (length q) ≡ false
+    → are_above Nodes (terms_of_query q) ≡ false → are_above Levels (terms_of_query q) ≡ true → Some limit.Depth ≡ option_map limit_of (passed_limit (query_shape q))
+limit-levels q a b c d e = rw (a, b, c, over-nodes (terms_of_query q) ∙ d, over-levels (terms_of_query q) ∙ e) refl
+
+pub limit-none : (q : y.Query) → some_above MAX_COLUMNS (query_shape q).columns ≡ false → some_above MAX_FROM (query_shape q).from ≡ false → nat_lt MAX_BRANCHES (length q) ≡ false
+    → are_above Nodes (terms_of_query q) ≡ false → are_above Levels (terms_of_query q) ≡ false → None ≡ option_map limit_of (passed_limit (query_shape q))
+limit-none q a b c d e = rw (a, b, c, over-nodes (terms_of_query q) ∙ d, over-levels (terms_of_query q) ∙ e) refl
+
+pub ruleset queries = (limit-nodes, limit-levels, limit-none)
+
+-- lists of the code's values
+pub terms-above : (measure : Measure) (terms : List r.Term) → are_above measure (map term_view terms) ≡ list_any (λ term. is_above measure (term_view term)) terms
+terms-above measure terms = list_any-map (is_above measure) term_view terms
+
+pub blocks-above : (measure : Measure) (blocks : List Block) → are_above measure (terms_of_query (map block_view blocks)) ≡ list_any (λ block. are_above measure (terms_of_block (block_view block))) blocks
+blocks-above measure blocks = list_any-flat_map (is_above measure) terms_of_block (map block_view blocks) ∙ list_any-map (λ (b : y.Block). are_above measure (terms_of_block b)) block_view blocks
+
+pub sets-above : (measure : Measure) (sets : List SetTerm) → are_above measure (terms_of_sets (map set_view sets)) ≡ list_any (λ set. is_above measure (term_view set.term)) sets
+sets-above measure sets = list_any-map (is_above measure) set_term_of (map set_view sets) ∙ list_any-map (λ (set : y.SetTerm). is_above measure set.term) set_view sets
+
+pub columns-above : (most : ℕ) (blocks : List Block) → some_above most (query_shape (map block_view blocks)).columns ≡ list_any (λ block. nat_lt most (length (listed (items_view block.items)))) blocks
+columns-above most blocks = list_any-map (λ n. nat_lt most n) (λ (b : y.Block). length (listed b.items)) (map block_view blocks) ∙ list_any-map (λ (b : y.Block). nat_lt most (length (listed b.items))) block_view blocks
+
+pub tables-above : (most : ℕ) (blocks : List Block) → some_above most (query_shape (map block_view blocks)).from ≡ list_any (λ block. nat_lt most (length block.from)) blocks
+tables-above most [] = refl
+tables-above most (b ∷ bs) = rw (length-map b.from item_view) (ap (λ z. nat_lt most (length b.from) || z) (tables-above most bs))

@@ -1,0 +1,11 @@
+use Rattle.gp_grammar.specs.CommandParsing.{command, script_line}
+use Rattle.gp_grammar.specs.QuestionParsing.{question}
+use Rattle.gp_grammar.specs.Limits.{command_shape, line_shape, question_shape}
+use Rattle.gp_syntax.specs.Views.{command_view, line_view, question_view}
+use Rattle.gp_syntax.proofs.ReadingLemmas.{parsed-returns}
+use Rattle.gp_syntax.proofs.read.question_of_text.Goals as goal
+
+pub returns-in-Ok : goal.returns-in-Ok
+returns-in-Ok c =
+    parsed-returns question question_shape question_view c.args.text.now c.in_ok-lexemes.lexemes c.lexemes-2.result.now (question_view c.in-Ok.question) c.limited_question.result
+    c.in_ok-lexemes.ensures c.lexemes-2.ensures c.in-Ok.ensures c.limited_question.ensures

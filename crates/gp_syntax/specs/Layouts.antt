@@ -1,0 +1,16 @@
+-- Machinery: parts of canonical texts.
+use Rattle.std.specs.Prelude.{[], ◌∷◌}
+use Rattle.gp_lexer.specs.declared.lexeme.Symbol.TheVariants as s
+use Rattle.gp_lexer.specs.declared.lexeme.Lexeme.TheVariants.{Symbol as Sign, Word}
+use Rattle.gp_grammar.specs.Syntax.{Lexemes, Bytes}
+use Rattle.gp_syntax.specs.declared.canonical.Separator.{Separator}
+use Rattle.gp_syntax.specs.declared.canonical.Separator.TheVariants.{Comma, UnionAll}
+
+-- the beginning of an INSERT
+abbrev pub insert_into : Bytes → Lexemes
+insert_into table = Sign s.Insert ∷ Sign s.Into ∷ Word table ∷ []
+
+-- between the items of a list
+abbrev pub separator_lexemes : Separator → Lexemes
+separator_lexemes Comma = Sign s.Comma ∷ []
+separator_lexemes UnionAll = Sign s.Union ∷ Sign s.All ∷ []

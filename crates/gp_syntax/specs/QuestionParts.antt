@@ -1,0 +1,32 @@
+-- Machinery: parts of the parser of questions.
+use Rattle.std.specs.Prelude.{ℕ, true, false, List, map, Option, None, Ok, codes}
+use Rattle.gp_lexer.specs.declared.lexeme.Symbol.TheVariants as s
+use Rattle.gp_grammar.specs.Syntax as y
+use Rattle.gp_grammar.specs.Parsing.{Parser, ◌>>=◌, identifier}
+use Rattle.gp_grammar.specs.CommandParsing.{◌then◌, where_next, accept}
+use Rattle.gp_grammar.specs.QuestionParsing.{expect_word, where_word, number}
+use Rattle.gp_syntax.specs.declared.question_parser.Rules.{Rules}
+use Rattle.gp_syntax.specs.declared.question_parser.Pattern.{Pattern}
+use Rattle.gp_syntax.specs.Views.{rule_view}
+
+abbrev pub rules_view : Rules → y.Rules
+rules_view rules = record { rules = map rule_view rules.rules; other = rules.other }
+
+abbrev pub pattern_view : Pattern → y.Pattern
+pattern_view pattern = record { kind = pattern.kind; t = pattern.t; k = pattern.k; n = pattern.n }
+
+-- behind REENACT and its transaction
+abbrev pub reenacted : ℕ → Parser y.State
+reenacted t = where_next s.Commit (accept (y.State.commit t)) (expect_word (codes "after") (λ rest. number rest >>= (λ k. Ok (y.after t k.0, k.1))))
+
+-- the closing bracket of rules without ELSE
+abbrev pub ends_rules : List y.Rule → Parser y.Rules
+ends_rules found = s.Close then accept (record { rules = found; other = None })
+
+-- behind EXPLAIN
+abbrev pub explained : Parser y.How
+explained = where_word (codes "provenance") (expect_word (codes "of") (accept (y.explain true))) (accept (y.explain false))
+
+-- behind VERSIONS
+abbrev pub versions : Parser y.Question
+versions = expect_word (codes "of") (λ ts. identifier ts >>= (λ table. Ok (y.versions table.0, table.1)))

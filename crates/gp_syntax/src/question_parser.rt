@@ -1,0 +1,406 @@
+//! The parser of questions: one function for each rule of the grammar. Most keywords of questions are names elsewhere.
+
+ghost use Rattle.std.specs.Prelude.{◌≡◌, [], map};
+ghost use Rattle.std.specs.Option.{option_map};
+ghost use Rattle.gp_grammar.specs.Parsing.{whole, ended};
+ghost use Rattle.gp_grammar.specs.QuestionParsing as spec;
+ghost use Rattle.gp_grammar.specs.Syntax.{rule_of};
+ghost use Rattle.gp_syntax.specs.Parses.{Parses, ParsesAll, Strips};
+ghost use Rattle.gp_syntax.specs.QuestionParts.{pattern_view, rules_view, ends_rules, explained, reenacted, versions};
+ghost use Rattle.gp_syntax.specs.Views.{how_view, question_view, rule_view, state_view};
+
+use crate::command_parser::query;
+use crate::error::ParseStop;
+use crate::lexeme_parser::{expect, identifier, strip};
+use crate::names::pattern_name;
+use crate::question::{How, Question, Rule, State};
+use gp_base::Sequence;
+use gp_grammar::{MAX_PATTERN_NUMBER, SemiringName, TokenKind};
+use gp_lexer::{Lexeme, Symbol};
+use std::alloc::Global;
+
+/// Rules and the number behind ELSE.
+#[derive(Drop)]
+pub(crate) struct Rules {
+    /// The rules.
+    pub rules: Sequence<Rule>,
+    /// The number behind ELSE.
+    pub other: Option<u64>,
+}
+
+/// A pattern of provenance tokens.
+#[derive(Clone, Copy)]
+pub(crate) struct Pattern {
+    /// Their kind.
+    pub kind: TokenKind,
+    /// Their transaction.
+    pub t: Option<u32>,
+    /// Their statement.
+    pub k: Option<u32>,
+    /// Their row.
+    pub n: Option<u32>,
+}
+
+/// The lexemes behind this word, if it is the first.
+fn strip_word<'a>(lexemes: &'a [Lexeme], text: &[u8]) -> Option<&'a [Lexeme]>
+    ensures { spec.strip_word text.now lexemes.now ≡ option_map (λ rest. rest.now) result }
+{
+    match lexemes {
+        [Lexeme::Word(name), rest @ ..] if text == name.as_bytes() => Some(rest),
+        _ => None,
+    }
+}
+
+/// The lexemes behind this word, which has to be the first.
+fn expect_word<'a>(lexemes: &'a [Lexeme], text: &[u8]) -> Result<&'a [Lexeme], ParseStop<'a>>
+    ensures { Strips result lexemes.now (spec.strip_word text.now lexemes.now) }
+{
+    match strip_word(lexemes, text) {
+        Some(rest) => Ok(rest),
+        None => Err(ParseStop::At(lexemes)),
+    }
+}
+
+/// A number.
+fn number(lexemes: &[Lexeme]) -> Result<(u64, &[Lexeme]), ParseStop<'_>>
+    ensures { Parses (λ number. number) result (spec.number lexemes.now) }
+{
+    match lexemes {
+        [Lexeme::Number(number), rest @ ..] => Ok((number.get(), rest)),
+        _ => Err(ParseStop::At(lexemes)),
+    }
+}
+
+/// The state of a transaction, behind its number.
+fn reenacted(t: u64, lexemes: &[Lexeme]) -> Result<(State, &[Lexeme]), ParseStop<'_>>
+    ensures { Parses state_view result (reenacted t lexemes.now) }
+{
+    match strip(lexemes, Symbol::Commit) {
+        Some(rest) => Ok((State::Commit { t }, rest)),
+        None => {
+            let rest = expect_word(lexemes, b"after")?;
+            let (k, rest) = number(rest)?;
+            Ok((State::After { t, k }, rest))
+        }
+    }
+}
+
+/// The state that a question asks about.
+#[tactic(auto, unfolding(gp_grammar::specs::QuestionParsing::state))]
+fn state(lexemes: &[Lexeme]) -> Result<(State, &[Lexeme]), ParseStop<'_>>
+    ensures { Parses state_view result (spec.state lexemes.now) }
+{
+    match strip(lexemes, Symbol::As) {
+        Some(rest) => {
+            let rest = expect_word(rest, b"of")?;
+            let (v, rest) = number(rest)?;
+            Ok((State::AsOf { v }, rest))
+        }
+        None => {
+            let rest = expect_word(lexemes, b"reenact")?;
+            let (t, rest) = number(rest)?;
+            reenacted(t, rest)
+        }
+    }
+}
+
+/// The name of a semiring.
+#[tactic(auto, unfolding(gp_grammar::specs::QuestionParsing::semiring_name))]
+fn semiring_name(lexemes: &[Lexeme]) -> Result<(SemiringName, &[Lexeme]), ParseStop<'_>>
+    ensures { Parses (λ semiring. semiring) result (spec.semiring_name lexemes.now) }
+{
+    if let Some(rest) = strip_word(lexemes, b"count") {
+        return Ok((SemiringName::Count, rest));
+    }
+    if let Some(rest) = strip_word(lexemes, b"bool") {
+        return Ok((SemiringName::Bool, rest));
+    }
+    if let Some(rest) = strip_word(lexemes, b"cost") {
+        return Ok((SemiringName::Cost, rest));
+    }
+    if let Some(rest) = strip_word(lexemes, b"level") {
+        return Ok((SemiringName::Level, rest));
+    }
+    match strip_word(lexemes, b"poly") {
+        Some(rest) => Ok((SemiringName::Poly, rest)),
+        None => Err(ParseStop::At(lexemes)),
+    }
+}
+
+/// The number of a statement or a row in a pattern.
+fn pattern_number(lexemes: &[Lexeme]) -> Result<(u32, &[Lexeme]), ParseStop<'_>>
+    ensures { Parses (λ number. number) result (spec.pattern_number lexemes.now) }
+{
+    match lexemes {
+        [Lexeme::Number(number), rest @ ..] => {
+            let number = number.get();
+            if number <= MAX_PATTERN_NUMBER {
+                Ok((number as u32, rest))
+            } else {
+                Err(ParseStop::At(lexemes))
+            }
+        }
+        _ => Err(ParseStop::At(lexemes)),
+    }
+}
+
+fn pattern_of(kind: TokenKind, t: Option<u32>, k: Option<u32>, n: Option<u32>) -> Pattern
+    ensures { pattern_view result ≡ spec.pattern_of kind t k n }
+{
+    Pattern { kind, t, k, n }
+}
+
+/// A pattern, behind the number of its statement. Only a pattern of kind i may have a third number.
+fn pattern_row(
+    kind: TokenKind,
+    t: u32,
+    k: u32,
+    lexemes: &[Lexeme],
+) -> Result<(Pattern, &[Lexeme]), ParseStop<'_>>
+    ensures { Parses pattern_view result (spec.pattern_row kind t k lexemes.now) }
+{
+    match kind {
+        TokenKind::I => match strip(lexemes, Symbol::Dot) {
+            Some(rest) => {
+                let (n, rest) = pattern_number(rest)?;
+                Ok((pattern_of(kind, Some(t), Some(k), Some(n)), rest))
+            }
+            None => Ok((pattern_of(kind, Some(t), Some(k), None), lexemes)),
+        },
+        TokenKind::Q => Ok((pattern_of(kind, Some(t), Some(k), None), lexemes)),
+        TokenKind::U => Ok((pattern_of(kind, Some(t), Some(k), None), lexemes)),
+    }
+}
+
+/// A pattern, behind its name.
+fn pattern_parts(
+    kind: TokenKind,
+    t: Option<u32>,
+    lexemes: &[Lexeme],
+) -> Result<(Pattern, &[Lexeme]), ParseStop<'_>>
+    ensures { Parses pattern_view result (spec.pattern_parts (kind, t) lexemes.now) }
+{
+    match t {
+        None => Ok((pattern_of(kind, None, None, None), lexemes)),
+        Some(t) => match strip(lexemes, Symbol::Dot) {
+            Some(rest) => {
+                let (k, rest) = pattern_number(rest)?;
+                pattern_row(kind, t, k, rest)
+            }
+            None => Ok((pattern_of(kind, Some(t), None, None), lexemes)),
+        },
+    }
+}
+
+/// A pattern.
+fn rule_pattern(lexemes: &[Lexeme]) -> Result<(Pattern, &[Lexeme]), ParseStop<'_>>
+    ensures { Parses pattern_view result (spec.pattern lexemes.now) }
+{
+    match lexemes {
+        [Lexeme::Word(name), rest @ ..] => match pattern_name(name.as_bytes()) {
+            Some((kind, t)) => pattern_parts(kind, t, rest),
+            None => Err(ParseStop::At(lexemes)),
+        },
+        _ => Err(ParseStop::At(lexemes)),
+    }
+}
+
+fn rule_of(pattern: Pattern, value: u64) -> Rule
+    ensures { rule_view result ≡ rule_of (pattern_view pattern) value }
+{
+    Rule {
+        kind: pattern.kind,
+        t: pattern.t,
+        k: pattern.k,
+        n: pattern.n,
+        value,
+    }
+}
+
+/// A pattern and its number.
+#[tactic(auto, unfolding(gp_grammar::specs::QuestionParsing::rule))]
+fn rule(lexemes: &[Lexeme]) -> Result<(Rule, &[Lexeme]), ParseStop<'_>>
+    ensures { Parses rule_view result (spec.rule lexemes.now) }
+{
+    let (pattern, rest) = rule_pattern(lexemes)?;
+    let rest = expect(rest, Symbol::Eq)?;
+    let (value, rest) = number(rest)?;
+    Ok((rule_of(pattern, value), rest))
+}
+
+/// The number behind ELSE, and the end of the rules.
+fn else_number(
+    rules: Sequence<Rule>,
+    lexemes: &[Lexeme],
+) -> Result<(Rules, &[Lexeme]), ParseStop<'_>>
+    ensures { Parses rules_view result (spec.else_number (map rule_view rules) lexemes.now) }
+{
+    let (number, rest) = number(lexemes)?;
+    let rest = expect(rest, Symbol::Close)?;
+    Ok((
+        Rules {
+            rules,
+            other: Some(number),
+        },
+        rest,
+    ))
+}
+
+/// The end of rules without ELSE.
+fn end_of_rules(
+    rules: Sequence<Rule>,
+    lexemes: &[Lexeme],
+) -> Result<(Rules, &[Lexeme]), ParseStop<'_>>
+    ensures { Parses rules_view result (ends_rules (map rule_view rules) lexemes.now) }
+{
+    let rest = expect(lexemes, Symbol::Close)?;
+    Ok((Rules { rules, other: None }, rest))
+}
+
+/// Rules, behind their opening bracket. Behind a comma a rule or ELSE follows.
+fn rules_from(alloc: Global, lexemes: &[Lexeme]) -> Result<(Rules, &[Lexeme]), ParseStop<'_>>
+    ensures { Parses rules_view result (spec.rules_from [] lexemes.now) }
+{
+    let mut found = Sequence::new(alloc);
+    let mut rest = lexemes;
+    loop {
+        let (next, after) = rule(rest)?;
+        found.push(next)?;
+        match strip(after, Symbol::Comma) {
+            None => return end_of_rules(found, after),
+            Some(others) => match strip(others, Symbol::Else) {
+                Some(others) => return else_number(found, others),
+                None => rest = others,
+            },
+        }
+    }
+}
+
+/// Rules in brackets, if they follow.
+#[tactic(auto, unfolding(gp_grammar::specs::QuestionParsing::rules))]
+fn optional_rules(alloc: Global, lexemes: &[Lexeme]) -> Result<(Rules, &[Lexeme]), ParseStop<'_>>
+    ensures { Parses rules_view result (spec.rules lexemes.now) }
+{
+    let none = Sequence::new(alloc);
+    match strip(lexemes, Symbol::Open) {
+        None => Ok((
+            Rules {
+                rules: none,
+                other: None,
+            },
+            lexemes,
+        )),
+        Some(rest) => match strip(rest, Symbol::Else) {
+            Some(rest) => else_number(none, rest),
+            None => rules_from(alloc, rest),
+        },
+    }
+}
+
+/// A semiring with its rules, behind VALUE.
+#[tactic(auto, unfolding(gp_grammar::specs::QuestionParsing::value))]
+fn value(alloc: Global, lexemes: &[Lexeme]) -> Result<(How, &[Lexeme]), ParseStop<'_>>
+    ensures { Parses how_view result (spec.value lexemes.now) }
+{
+    let rest = expect_word(lexemes, b"in")?;
+    let (semiring, rest) = semiring_name(rest)?;
+    let (rules, rest) = optional_rules(alloc, rest)?;
+    let rest = expect_word(rest, b"of")?;
+    let Rules { rules, other } = rules;
+    Ok((
+        How::Value {
+            semiring,
+            rules,
+            other,
+        },
+        rest,
+    ))
+}
+
+/// What an EXPLAIN asks for, behind its first word.
+fn explained(lexemes: &[Lexeme]) -> Result<(How, &[Lexeme]), ParseStop<'_>>
+    ensures { Parses how_view result (explained lexemes.now) }
+{
+    match strip_word(lexemes, b"provenance") {
+        Some(rest) => {
+            let rest = expect_word(rest, b"of")?;
+            Ok((How::Explain { prov: true }, rest))
+        }
+        None => Ok((How::Explain { prov: false }, lexemes)),
+    }
+}
+
+/// What a question asks for.
+#[tactic(auto, unfolding(gp_grammar::specs::QuestionParsing::how))]
+fn how(alloc: Global, lexemes: &[Lexeme]) -> Result<(How, &[Lexeme]), ParseStop<'_>>
+    ensures { Parses how_view result (spec.how lexemes.now) }
+{
+    if let Some(rest) = strip_word(lexemes, b"explain") {
+        return explained(rest);
+    }
+    if let Some(rest) = strip_word(lexemes, b"provenance") {
+        let rest = expect_word(rest, b"of")?;
+        return Ok((How::Provenance, rest));
+    }
+    match strip_word(lexemes, b"value") {
+        Some(rest) => value(alloc, rest),
+        None => Ok((How::Rows, lexemes)),
+    }
+}
+
+/// A question that asks a query.
+#[tactic(auto, unfolding(gp_grammar::specs::QuestionParsing::ask))]
+fn ask(alloc: Global, lexemes: &[Lexeme]) -> Result<(Question, &[Lexeme]), ParseStop<'_>>
+    ensures { Parses question_view result (spec.ask lexemes.now) }
+{
+    let (how, rest) = how(alloc, lexemes)?;
+    let (state, rest) = state(rest)?;
+    let (query, rest) = query(alloc, rest)?;
+    Ok((Question::Ask { how, state, query }, rest))
+}
+
+/// A VERSIONS, behind its first word.
+fn versions(lexemes: &[Lexeme]) -> Result<(Question, &[Lexeme]), ParseStop<'_>>
+    ensures { Parses question_view result (versions lexemes.now) }
+{
+    let rest = expect_word(lexemes, b"of")?;
+    let (table, rest) = identifier(rest)?;
+    let table = table.clone()?;
+    Ok((Question::Versions { table }, rest))
+}
+
+/// A question without the semicolon behind it.
+#[tactic(auto, unfolding(gp_grammar::specs::QuestionParsing::open_question))]
+fn open_question(alloc: Global, lexemes: &[Lexeme]) -> Result<(Question, &[Lexeme]), ParseStop<'_>>
+    ensures { Parses question_view result (spec.open_question lexemes.now) }
+{
+    if let Some(rest) = strip_word(lexemes, b"log") {
+        let (t, rest) = number(rest)?;
+        return Ok((Question::Log { t }, rest));
+    }
+    match strip_word(lexemes, b"versions") {
+        Some(rest) => versions(rest),
+        None => ask(alloc, lexemes),
+    }
+}
+
+/// A question that ends where these lexemes begin, if there are none.
+fn ended_question(question: Question, lexemes: &[Lexeme]) -> Result<Question, ParseStop<'_>>
+    ensures { ParsesAll question_view result (ended (question_view question, lexemes.now)) }
+{
+    match lexemes {
+        [] => Ok(question),
+        _ => Err(ParseStop::At(lexemes)),
+    }
+}
+
+/// The question that the lexemes are.
+pub(crate) fn whole_question(alloc: Global, lexemes: &[Lexeme]) -> Result<Question, ParseStop<'_>>
+    ensures { ParsesAll question_view result (whole spec.question lexemes.now) }
+{
+    let (question, rest) = open_question(alloc, lexemes)?;
+    match strip(rest, Symbol::Semicolon) {
+        Some(rest) => ended_question(question, rest),
+        None => ended_question(question, rest),
+    }
+}

@@ -1,0 +1,187 @@
+//! Reading lines and texts.
+
+ghost use Rattle.std.specs.Prelude.{◌≡◌, ◌+◌, ◌<◌, ◌-◌, ◌^◌, length};
+ghost use Rattle.std.specs.Str.{is_utf8};
+ghost use Rattle.gp_base.specs.declared.refusal.Refusal.TheVariants.{E03 as SyntaxFault};
+ghost use Rattle.gp_lexer.specs.Lexing.{lexed};
+ghost use Rattle.gp_grammar.specs.CommandParsing.{command, script_line};
+ghost use Rattle.gp_grammar.specs.Limits.{passed_limit, command_shape, line_shape, question_shape};
+ghost use Rattle.gp_grammar.specs.LineReading.{column_of, command_of, question_of, read_text, script_line_of, within_shape};
+ghost use Rattle.gp_grammar.specs.QuestionParsing.{question};
+ghost use Rattle.gp_syntax.specs.Refusals.{Returns};
+ghost use Rattle.gp_syntax.specs.Tests.{shallow, tested_lexemes};
+ghost use Rattle.gp_syntax.specs.Views.{command_view, line_view, question_view};
+
+use crate::command::{Command, ScriptLine};
+use crate::command_parser::{script_line, whole_command};
+use crate::error::{ParseStop, ReadStop};
+use crate::limits::{command_limit, is_too_deep, question_limit};
+use crate::question::Question;
+use crate::question_parser::whole_question;
+use gp_base::{Limit, Refusal};
+use gp_grammar::MAX_LINE_LENGTH;
+use gp_lexer::{LexStop, Lexeme, Lexemes, lex};
+use std::alloc::Global;
+
+/// Whether the text is UTF-8.
+#[tactic(auto, using(crate::proofs::ReadingLemmas::encodings))]
+fn is_utf8(text: &[u8]) -> bool
+    ensures { result ≡ is_utf8 text.now }
+{
+    match std::str::from_utf8(text) {
+        Ok(_) => true,
+        Err(_) => false,
+    }
+}
+
+/// The lexemes of a text, unless it has a lexical fault or opens too many brackets.
+fn shallow_lexemes(alloc: Global, text: &[u8]) -> Result<Lexemes, ReadStop>
+    requires { length text.now < 2 ^ 32 - 1 }
+    ensures { Returns (λ lexemes. lexemes) result (shallow (lexed text.now)) }
+{
+    match lex(alloc, text) {
+        Ok(lexemes) => {
+            if is_too_deep(lexemes.lexemes()) {
+                let limit = Limit::Depth;
+                Err(ReadStop::Refused(Refusal::E14 { limit }))
+            } else {
+                Ok(lexemes)
+            }
+        }
+        Err(LexStop::Fault { column }) => Err(ReadStop::Refused(Refusal::E02 { column })),
+        Err(LexStop::NoMemory) => Err(ReadStop::NoMemory),
+    }
+}
+
+/// The lexemes of a text, unless it is not UTF-8, has a lexical fault or opens too many brackets.
+fn tested_lexemes(alloc: Global, text: &[u8]) -> Result<Lexemes, ReadStop>
+    requires { length text.now < 2 ^ 32 - 1 }
+    ensures { Returns (λ lexemes. lexemes) result (tested_lexemes text.now) }
+{
+    if is_utf8(text) {
+        shallow_lexemes(alloc, text)
+    } else {
+        Err(ReadStop::Refused(Refusal::E01))
+    }
+}
+
+/// The refusal of a line, of which these lexemes are left from the fault on.
+fn syntax_refusal(lexemes: &Lexemes, rest: &[Lexeme], len: usize) -> Refusal
+    requires { len < 2 ^ 32 - 1 }
+    ensures { result ≡ SyntaxFault (column_of lexemes.now.0 lexemes.now.1 (len + 1) rest.now) }
+{
+    let place = lexemes.lexemes().len().saturating_sub(rest.len());
+    let columns = lexemes.columns();
+    let column = if place < columns.len() {
+        columns[place]
+    } else {
+        len as u32 + 1
+    };
+    Refusal::E03 { column }
+}
+
+#[tactic(auto, using(crate::proofs::ReadingLemmas::limits))]
+fn limited_command(command: Command) -> Result<Command, ReadStop>
+    ensures { Returns command_view result
+        (within_shape (command_view command) (passed_limit (command_shape (command_view command)))) }
+{
+    match command_limit(&command) {
+        Some(limit) => Err(ReadStop::Refused(Refusal::E14 { limit })),
+        None => Ok(command),
+    }
+}
+
+#[tactic(auto, using(crate::proofs::ReadingLemmas::limits))]
+fn limited_line(line: ScriptLine) -> Result<ScriptLine, ReadStop>
+    ensures { Returns line_view result
+        (within_shape (line_view line) (passed_limit (line_shape (line_view line)))) }
+{
+    match command_limit(&line.command) {
+        Some(limit) => Err(ReadStop::Refused(Refusal::E14 { limit })),
+        None => Ok(line),
+    }
+}
+
+#[tactic(auto, using(crate::proofs::ReadingLemmas::limits))]
+fn limited_question(question: Question) -> Result<Question, ReadStop>
+    ensures { Returns question_view result
+        (within_shape (question_view question) (passed_limit (question_shape (question_view question)))) }
+{
+    match question_limit(&question) {
+        Some(limit) => Err(ReadStop::Refused(Refusal::E14 { limit })),
+        None => Ok(question),
+    }
+}
+
+/// Reads a command without a session. The text may be of any length.
+///
+/// A text is refused for the first of these: it is not UTF-8 (E01); no lexeme can be read at a place (E02); more than 60
+/// brackets and CASEs are open (E14 `depth`); it is no command (E03, at the first lexeme that fits nothing); it passes a
+/// limit (E14 `columns`, `from`, `branches`, `values`, `nodes` or `depth`, in this order).
+#[tactic(auto, using(crate::proofs::ReadingLemmas::readings))]
+pub fn read_command(alloc: Global, text: &[u8]) -> Result<Command, ReadStop>
+    requires { length text.now < 2 ^ 32 - 1 }
+    ensures exact { Returns command_view result (command_of text.now) }
+{
+    let lexemes = tested_lexemes(alloc, text)?;
+    match whole_command(alloc, lexemes.lexemes()) {
+        Ok(command) => limited_command(command),
+        Err(ParseStop::At(rest)) => {
+            Err(ReadStop::Refused(syntax_refusal(&lexemes, rest, text.len())))
+        }
+        Err(ParseStop::NoMemory) => Err(ReadStop::NoMemory),
+    }
+}
+
+#[tactic(auto, using(crate::proofs::ReadingLemmas::readings))]
+fn line_of_text(alloc: Global, text: &[u8]) -> Result<ScriptLine, ReadStop>
+    requires { length text.now < 2 ^ 32 - 1 }
+    ensures { Returns line_view result (read_text script_line line_shape text.now) }
+{
+    let lexemes = tested_lexemes(alloc, text)?;
+    match script_line(alloc, lexemes.lexemes()) {
+        Ok(line) => limited_line(line),
+        Err(ParseStop::At(rest)) => {
+            Err(ReadStop::Refused(syntax_refusal(&lexemes, rest, text.len())))
+        }
+        Err(ParseStop::NoMemory) => Err(ReadStop::NoMemory),
+    }
+}
+
+#[tactic(auto, using(crate::proofs::ReadingLemmas::readings))]
+fn question_of_text(alloc: Global, text: &[u8]) -> Result<Question, ReadStop>
+    requires { length text.now < 2 ^ 32 - 1 }
+    ensures { Returns question_view result (read_text question question_shape text.now) }
+{
+    let lexemes = tested_lexemes(alloc, text)?;
+    match whole_question(alloc, lexemes.lexemes()) {
+        Ok(question) => limited_question(question),
+        Err(ParseStop::At(rest)) => {
+            Err(ReadStop::Refused(syntax_refusal(&lexemes, rest, text.len())))
+        }
+        Err(ParseStop::NoMemory) => Err(ReadStop::NoMemory),
+    }
+}
+
+/// Reads a line of a script: a session, a command and perhaps a semicolon.
+///
+/// A line of more than [`MAX_LINE_LENGTH`] bytes is refused as such (E16), and any other for the reasons of
+/// [`read_command`], in the same order.
+pub fn read_line(alloc: Global, line: &[u8]) -> Result<ScriptLine, ReadStop>
+    ensures exact { Returns line_view result (script_line_of line.now) }
+{
+    if line.len() > MAX_LINE_LENGTH {
+        return Err(ReadStop::Refused(Refusal::E16));
+    }
+    line_of_text(alloc, line)
+}
+
+/// Reads a question, perhaps with a semicolon behind it. Refusals come as from [`read_line`].
+pub fn read_question(alloc: Global, line: &[u8]) -> Result<Question, ReadStop>
+    ensures exact { Returns question_view result (question_of line.now) }
+{
+    if line.len() > MAX_LINE_LENGTH {
+        return Err(ReadStop::Refused(Refusal::E16));
+    }
+    question_of_text(alloc, line)
+}
