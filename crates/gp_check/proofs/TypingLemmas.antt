@@ -1,5 +1,5 @@
 -- The function that types terms is the relation.
-use Rattle.std.proofs.Common.{◌≡◌, ℕ, List, Bool, true, false, true≢false, ◌&&◌, Option, Some, None, unwrap_or, if◌then◌else◌, refl, sym, ap, subst, ◌∙◌}
+use Rattle.std.proofs.Common.{◌≡◌, ℕ, List, Bool, true, false, true≢false, ◌&&◌, Option, Some, None, unwrap_or, if◌then◌else◌, refl, sym, ap, subst}
 use Rattle.gp_grammar.specs.declared.op.Op.{Op}
 use Rattle.gp_grammar.specs.Syntax as y
 use Rattle.gp_grammar.specs.Syntax.{Term}

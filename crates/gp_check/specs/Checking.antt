@@ -5,7 +5,7 @@ use Rattle.gp_base.specs.declared.table.Table.{Table}
 use Rattle.gp_grammar.specs.Syntax as y
 use Rattle.gp_grammar.specs.Syntax.{Query, Command}
 use Rattle.gp_algebra.specs.Statements.{Select, Statement}
-use Rattle.gp_check.specs.Faults.{first_refusal, table_refusal}
+use Rattle.gp_check.specs.Faults.{first_refusal}
 use Rattle.gp_check.specs.Meaning.{select_of, statement_of}
 
 -- INSERT, UPDATE, DELETE and SELECT are statements

@@ -1,5 +1,5 @@
 -- Part of the statement: the faults of a statement against the tables of a catalogue, phase by phase, and the first of them.
-use Rattle.std.specs.Prelude.{ℕ, ◌+◌, ◌==◌, Bool, true, false, ◌&&◌, sum_by, List, [], ◌∷◌, ◌++◌, length, map, Option, Some, None, is_some, if◌then◌else◌}
+use Rattle.std.specs.Prelude.{ℕ, ◌+◌, ◌==◌, Bool, true, false, ◌&&◌, List, [], ◌∷◌, ◌++◌, length, map, Option, Some, None, is_some, if◌then◌else◌}
 use Rattle.std.specs.List.{flat_map, list_all, list_any}
 use Rattle.std.specs.Option.{option_map}
 use Rattle.std.specs.Str.{bytes_eq}
@@ -9,15 +9,13 @@ use Rattle.gp_base.specs.declared.refusal.Refusal.TheVariants.{E04, E05, E06, E0
 use Rattle.gp_base.specs.declared.table.Column.{Column}
 use Rattle.gp_base.specs.declared.table.Table.{Table}
 use Rattle.gp_base.specs.Catalogs.{place_of}
-use Rattle.gp_grammar.specs.Limits.{listed, terms_of_condition}
+use Rattle.gp_grammar.specs.Limits.{listed}
 use Rattle.gp_grammar.specs.Syntax as y
 use Rattle.gp_grammar.specs.Syntax.{Bytes, Term, SetTerm, Item, Items, Block, Query, Command}
-use Rattle.gp_check.specs.declared.place.Place.{Place}
 use Rattle.gp_check.specs.declared.place.Resolution.{Resolution}
 use Rattle.gp_check.specs.declared.place.Resolution.TheVariants.{Absent, Found, Ambiguous}
 use Rattle.gp_check.specs.declared.types.TermType.{TermType}
-use Rattle.gp_check.specs.declared.types.TermType.TheVariants.{Condition}
-use Rattle.gp_check.specs.Scopes.{Source, Scope, ColumnName, columns_of, scope_of, target_scope, resolution}
+use Rattle.gp_check.specs.Scopes.{Scope, ColumnName, columns_of, scope_of, target_scope, resolution}
 use Rattle.gp_check.specs.Typing.{kind_type, cell_type, is_value, agrees, operand_passes, operands_agree, is_condition, type_of, column_type}
 
 -- the one fault, or the other where there is none
@@ -117,8 +115,11 @@ columns_fault tables _ = None
 
 -- ---- E08: the columns that are set
 
+abbrev pub repeated_set : List SetTerm → Option Refusal
+repeated_set sets = option_map E08 (first_repeated (map (λ (set : SetTerm). set.col) sets))
+
 abbrev pub sets_fault : Command → Option Refusal
-sets_fault (y.update table sets cond) = option_map E08 (first_repeated (map (λ (set : SetTerm). set.col) sets))
+sets_fault (y.update table sets cond) = repeated_set sets
 sets_fault _ = None
 
 -- ---- E15: the numbers of columns
@@ -209,11 +210,12 @@ cells_agree (column ∷ columns) (cell ∷ cells) = agrees (kind_type column.kin
 abbrev pub set_is_typed : Scope → SetTerm → Bool
 set_is_typed scope set = operands_agree (column_type (resolution scope (set_name set))) (type_of scope set.term)
 
--- select lists have values, each WHERE is a condition, and the blocks agree
+-- select lists of these types have values, each WHERE is a condition, and the blocks agree
+abbrev pub blocks_are_typed : List Table → Query → List (List (Option TermType)) → Bool
+blocks_are_typed tables query types = list_all are_values types && (list_all (block_where_is_typed tables) query && pairs_agree types)
+
 abbrev pub query_is_typed : List Table → Query → Bool
-query_is_typed tables query =
-    list_all are_values (map (block_types tables) query)
-    && (list_all (block_where_is_typed tables) query && pairs_agree (map (block_types tables) query))
+query_is_typed tables query = blocks_are_typed tables query (map (block_types tables) query)
 
 abbrev pub is_typed : List Table → Command → Bool
 is_typed tables (y.insert table rows) = list_all (cells_agree (columns_of tables table)) rows

@@ -1,10 +1,9 @@
 -- Part of the statement: the statement that a command without faults means, with tables and columns by number.
-use Rattle.std.specs.Prelude.{ℕ, zero, suc, ◌+◌, List, [], ◌∷◌, map, Option, Some, None, unwrap_or}
+use Rattle.std.specs.Prelude.{ℕ, zero, suc, List, [], ◌∷◌, map, Option, Some, None, unwrap_or}
 use Rattle.std.specs.Option.{option_map}
 use Rattle.gp_base.specs.declared.cell.Cell.TheVariants as cell
 use Rattle.gp_base.specs.declared.table.Table.{Table}
 use Rattle.gp_base.specs.Catalogs.{place_of}
-use Rattle.gp_grammar.specs.declared.op.Op.{Op}
 use Rattle.gp_grammar.specs.declared.op.Op.TheVariants as op
 use Rattle.gp_grammar.specs.Syntax as y
 use Rattle.gp_grammar.specs.Syntax.{Bytes, Term, SetTerm, Item, Items, Block, Query, Command}
@@ -13,7 +12,6 @@ use Rattle.gp_expr.specs.Expressions as e
 use Rattle.gp_expr.specs.Expressions.{Expr, Cond}
 use Rattle.gp_algebra.specs.Statements as s
 use Rattle.gp_algebra.specs.Statements.{SetExpr, Branch, Select, Statement}
-use Rattle.gp_check.specs.declared.place.Place.{Place}
 use Rattle.gp_check.specs.declared.place.Resolution.{Resolution}
 use Rattle.gp_check.specs.declared.place.Resolution.TheVariants.{Absent, Found, Ambiguous}
 use Rattle.gp_check.specs.Scopes.{Scope, scope_of, target_scope, resolution}
@@ -69,7 +67,7 @@ exprs_of scope (y.list terms) = map (expr_of scope) terms
 abbrev pub number_of_table : List Table → Bytes → ℕ
 number_of_table tables name = unwrap_or (place_of name tables) 0
 
-abbrev pub branch_of : List Table → Block → Branch
+unfoldable pub branch_of : List Table → Block → Branch
 branch_of tables block = record {
   from = map (λ (item : Item). number_of_table tables item.table) block.from;
   cond = option_map (cond_of (scope_of tables block.from)) block.cond;

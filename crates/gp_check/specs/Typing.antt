@@ -1,9 +1,8 @@
 -- Part of the statement: the types of terms, as a relation with one constructor for each rule, and as a function. SQL (ISO/IEC 9075-2)
 -- has the same types; that NULL has a type of its own, which agrees with both others, is this dialect's way to type it.
-use Rattle.std.specs.Prelude.{◌≡◌, ℤ, Bool, true, false, ◌&&◌, List, [], ◌∷◌, map, Option, Some, None, if◌then◌else◌}
+use Rattle.std.specs.Prelude.{◌≡◌, ℤ, Bool, true, false, ◌&&◌, Option, Some, None, if◌then◌else◌}
 use Rattle.gp_base.specs.declared.cell.Cell.{Cell}
 use Rattle.gp_base.specs.declared.cell.Cell.TheVariants as cell
-use Rattle.gp_base.specs.declared.table.Column.{Column}
 use Rattle.gp_base.specs.declared.table.Kind.{Kind}
 use Rattle.gp_base.specs.declared.table.Kind.TheVariants as kind
 use Rattle.gp_grammar.specs.declared.op.Op.{Op}

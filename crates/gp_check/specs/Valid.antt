@@ -1,7 +1,8 @@
 -- Part of the statement: what every command has that was read from a text, as far as the check rests on it.
-use Rattle.std.specs.Prelude.{ℕ, nat_lt, Bool, true, ◌&&◌, List, length, Option, Some, None}
+use Rattle.std.specs.Prelude.{nat_lt, Bool, true, ◌&&◌, List, length, Option, Some, None}
 use Rattle.std.specs.List.{list_all}
 use Rattle.gp_base.specs.declared.cell.Cell.TheVariants as cell
+use Rattle.gp_base.specs.declared.table.Table.{Table}
 use Rattle.gp_base.specs.Cells.{is_user_cell}
 use Rattle.gp_grammar.specs.Syntax as y
 use Rattle.gp_grammar.specs.Syntax.{Term, SetTerm, Items, Block, Query, Command}
@@ -39,6 +40,13 @@ query_is_valid query = is_countable query && list_all block_is_valid query
 abbrev pub set_is_valid : SetTerm → Bool
 set_is_valid set = term_is_valid set.term
 
+-- a table has a column
+abbrev pub table_is_valid : Table → Bool
+table_is_valid table = nat_lt 0 (length table.cols)
+
+abbrev pub tables_are_valid : List Table → Bool
+tables_are_valid = list_all table_is_valid
+
 -- a VALUES has a tuple
 abbrev pub is_valid : Command → Bool
 is_valid (y.insert table rows) = is_countable rows && list_all (list_all is_user_cell) rows
@@ -46,4 +54,5 @@ is_valid (y.insert_select table query) = query_is_valid query
 is_valid (y.update table sets cond) = list_all set_is_valid sets && condition_is_valid cond
 is_valid (y.delete table cond) = condition_is_valid cond
 is_valid (y.select query) = query_is_valid query
+is_valid (y.create table) = table_is_valid table
 is_valid _ = true

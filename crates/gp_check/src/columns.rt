@@ -36,9 +36,7 @@ fn known_column(scope: &[Source], item: &Option<Name>, col: &Name) -> Result<(),
     match resolve(scope, item, col) {
         Resolution::Found(_) => Ok(()),
         Resolution::Absent => Err(CheckStop::Refused(no_column(item, col)?)),
-        Resolution::Ambiguous => Err(CheckStop::Refused(Refusal::E06 {
-            name: col.clone()?,
-        })),
+        Resolution::Ambiguous => Err(CheckStop::Refused(Refusal::E06 { name: col.clone()? })),
     }
 }
 
@@ -77,7 +75,8 @@ pub fn known_where_columns(scope: &[Source], cond: &Option<Term>) -> Result<(), 
 
 /// Refuses the first column of some terms that is not known.
 fn known_term_columns(scope: &[Source], terms: &[Term]) -> Result<(), CheckStop>
-    ensures { Finds result (first_fault (term_fault (map source_view scope.now)) (map term_view terms.now)) }
+    ensures { Finds result
+        (first_fault (term_fault (map source_view scope.now)) (map term_view terms.now)) }
 {
     for term in terms {
         known_columns(scope, term)?;
@@ -112,7 +111,8 @@ pub fn known_query_columns(
     catalog: &Catalog,
     blocks: &[Block],
 ) -> Result<(), CheckStop>
-    ensures { Finds result (first_fault (block_columns_fault catalog.now) (map block_view blocks.now)) }
+    ensures { Finds result
+        (first_fault (block_columns_fault catalog.now) (map block_view blocks.now)) }
 {
     for block in blocks {
         known_block_columns(alloc, catalog, block)?;
@@ -130,7 +130,8 @@ fn known_set_column(scope: &[Source], set: &SetTerm) -> Result<(), CheckStop>
 
 /// Refuses the first column of some assignments that is not known.
 pub fn known_set_columns(scope: &[Source], sets: &[SetTerm]) -> Result<(), CheckStop>
-    ensures { Finds result (first_fault (set_fault (map source_view scope.now)) (map set_view sets.now)) }
+    ensures { Finds result
+        (first_fault (set_fault (map source_view scope.now)) (map set_view sets.now)) }
 {
     for set in sets {
         known_set_column(scope, set)?;

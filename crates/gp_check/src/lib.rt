@@ -13,16 +13,20 @@
 //! ```
 #![tactic(auto)]
 
+mod checker;
 mod columns;
 mod error;
 mod laws;
+mod meaning;
 mod names;
 mod place;
 mod scope;
 mod source;
 mod tables;
 mod types;
+mod typing;
 mod widths;
 
+pub use checker::{check, check_query, check_table};
 pub use error::CheckStop;
 pub use laws::typing_follows_the_rules;

@@ -51,7 +51,8 @@ fn may_be_of(item: &Option<Name>, source: &Source) -> bool
 
 /// The column of the source that the name may stand for.
 fn place_in(item: &Option<Name>, col: &Name, source: &Source) -> Option<Place>
-    ensures { result ≡ place_in (record { item = item.now; col = col.now }) (source_view source.now) }
+    ensures { result
+        ≡ place_in (record { item = item.now; col = col.now }) (source_view source.now) }
 {
     if may_be_of(item, source) {
         place_behind(source.before, col, source.columns)
@@ -74,7 +75,8 @@ fn with_place(found: Resolution, place: Option<Place>) -> Resolution
 /// The column that the name stands for.
 #[tactic(auto, using(crate::proofs::ScopeLemmas::places_known))]
 pub fn resolve(scope: &[Source], item: &Option<Name>, col: &Name) -> Resolution
-    ensures { result ≡ resolution (map source_view scope.now) (record { item = item.now; col = col.now }) }
+    ensures { result
+        ≡ resolution (map source_view scope.now) (record { item = item.now; col = col.now }) }
 {
     let mut found = Resolution::Absent;
     for source in scope {
@@ -91,14 +93,19 @@ fn push_source<'a>(
     columns: &'a [Column],
 ) -> Result<u32, NoMemory>
     ensures pushed { OnOk result (map source_view scope.new.items
-        ≡ map source_view scope.old.items ++ record { name = name.now; before = before; columns = columns.now } ∷ []) }
+        ≡ map source_view scope.old.items
+        ++ record { name = name.now; before = before; columns = columns.now } ∷ []) }
     ensures width { IfOk result (λ width. width ≡ before + length columns.now) }
 {
     let all = before as u64 + columns.len() as u64;
     if all > u32::MAX as u64 {
         return Err(NoMemory);
     }
-    scope.push(Source { name, before, columns })?;
+    scope.push(Source {
+        name,
+        before,
+        columns,
+    })?;
     Ok(all as u32)
 }
 
@@ -114,7 +121,12 @@ pub fn scope_of<'a>(
     let mut scope = Vec::new(alloc);
     let mut before = 0;
     for item in from {
-        before = push_source(&mut scope, before, &item.name, columns_of(catalog, &item.table))?;
+        before = push_source(
+            &mut scope,
+            before,
+            &item.name,
+            columns_of(catalog, &item.table),
+        )?;
     }
     Ok(scope)
 }
@@ -125,7 +137,8 @@ pub fn target_scope<'a>(
     catalog: &'a Catalog,
     table: &'a Name,
 ) -> Result<Vec<Source<'a>>, NoMemory>
-    ensures { IfOk result (λ scope. map source_view scope.items ≡ target_scope catalog.now table.now) }
+    ensures { IfOk result (λ scope. map source_view scope.items
+        ≡ target_scope catalog.now table.now) }
 {
     let mut scope = Vec::new(alloc);
     push_source(&mut scope, 0, table, columns_of(catalog, table))?;

@@ -132,7 +132,10 @@ pub fn operation_type(op: Op, left: Option<TermType>, right: Option<TermType>) -
             typed_if(operands_agree(left, right), TermType::Condition)
         }
         Op::And | Op::Or => {
-            typed_if(is_condition_type(left) && is_condition_type(right), TermType::Condition)
+            typed_if(
+                is_condition_type(left) && is_condition_type(right),
+                TermType::Condition,
+            )
         }
     }
 }

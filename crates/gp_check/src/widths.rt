@@ -61,11 +61,7 @@ pub fn have_width(
 }
 
 /// Whether each SELECT of a query gives as many columns as the first.
-pub fn have_one_width(
-    alloc: Global,
-    catalog: &Catalog,
-    blocks: &[Block],
-) -> Result<bool, NoMemory>
+pub fn have_one_width(alloc: Global, catalog: &Catalog, blocks: &[Block]) -> Result<bool, NoMemory>
     ensures { IfOk result (λ all. all ≡ have_one_width catalog.now (map block_view blocks.now)) }
 {
     match blocks {

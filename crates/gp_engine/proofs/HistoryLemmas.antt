@@ -23,7 +23,7 @@ abbrev LeavesRefused : State → State × Reply → Type 0
 LeavesRefused state outcome = is_refusal outcome.1 ≡ true → outcome.0 ≡ state
 
 -- a supported command that is refused
-answered-leaves : (line session : ℕ) (state : State) (running : Option Running) (step : Step) → LeavesRefused state (recorded line session command (answered state session running step))
+answered-leaves : (line session : ℕ) (state : State) (running : Option Running) (step : Step) → LeavesRefused state (recorded line session step (answered state session running step))
 answered-leaves line session state None (Create table) refusal = absurd cc
 answered-leaves line session state None Begin refusal = absurd cc
 answered-leaves line session state None Commit refusal = refl

@@ -15,7 +15,6 @@ use Rattle.gp_engine.specs.declared.reply.Reply.TheVariants as reply
 use Rattle.gp_engine.specs.State.{State, Running, Database, rows_of, with_rows, running_of, without_session}
 use Rattle.gp_engine.specs.Step.{step_of}
 use Rattle.gp_engine.specs.Event.{event_of, step_event, answered, recorded, is_supported, is_named, fits_rows, place_of}
-use Rattle.gp_syntax.specs.Commands.{is_command, is_tuple, most_rows}
 use Rattle.gp_engine.specs.Replies.{is_refusal}
 use Rattle.gp_engine.specs.Kept.{Follows, Kept, kept, kept_answer, kept_line, kept_step, kept_event, transaction_of}
 
@@ -128,7 +127,7 @@ answer-leaves line k (Some t) Commit below = left-by line k _ (reply.Committed t
 answer-leaves line k (Some t) (Insert name rows) below = left-by line k _ (reply.Wrote (length rows)) refl refl
 answer-leaves line k (Some t) (Select name) below = left-by line k _ (reply.Rows k.rows) refl refl
 
-step-leaves : (line session : ℕ) (k : Kept) (step : Step) → k.line < line → Leaves line k (kept_step k line session step)
+pub step-leaves : (line session : ℕ) (k : Kept) (step : Step) → k.line < line → Leaves line k (kept_step k line session step)
 step-leaves line session k step below = elim (cases_Bool (eqb session 1 && is_supported k.tables step)) [
   | inl runs ↦ rw runs (answer-leaves line k k.running step below)
   | inr fails ↦ rw fails (left-same line k NotBuilt below)
@@ -137,3 +136,15 @@ step-leaves line session k step below = elim (cases_Bool (eqb session 1 && is_su
 pub event-leaves : (line session : ℕ) (k : Kept) (step : Option Step) → k.line < line → Leaves line k (kept_event k line session step)
 event-leaves line session k None below = left-same line k NotBuilt below
 event-leaves line session k (Some step) below = step-leaves line session k step below
+
+-- the engine follows the event of a command that is a step, and of one that is none
+pub follows-step : (old new : Kept) (line session : ℕ) (command : Command) (step : Step) (answer : Reply) → step_of command ≡ Some step → length old.tables ≤ 1
+    → (new, answer) ≡ kept_step old line session step → Follows old new line session command answer
+follows-step old new line session command step answer found few is =
+    follows-from old new line session command answer few (is ∙ sym (ap (λ (s : Option Step). kept_event old line session s) found))
+
+pub follows-none : (old : Kept) (line session : ℕ) (command : Command) → step_of command ≡ None → Follows old old line session command (reply.Refused NotBuilt)
+follows-none old line session command none = record {
+  reply = λ state e. sym (ap (λ (s : Option Step). (event_of state line session s).1) none);
+  state = λ state e. e ∙ sym (ap (λ (s : Option Step). kept (event_of state line session s).0) none);
+}

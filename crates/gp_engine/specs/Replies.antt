@@ -6,7 +6,8 @@ use Rattle.std.specs.Fmt.{decimal}
 use Rattle.gp_base.specs.declared.cell.Cell.{Cell}
 use Rattle.gp_base.specs.declared.table.Table.{Table}
 use Rattle.gp_base.specs.Order.{sorted_by, row_cmp}
-use Rattle.gp_base.specs.Texts.{row_text, refusal_text}
+use Rattle.gp_base.specs.Refusals.{refusal_text}
+use Rattle.gp_base.specs.Texts.{row_text}
 use Rattle.gp_engine.specs.declared.reply.Reply.{Reply}
 use Rattle.gp_engine.specs.declared.reply.Reply.TheVariants.{Created, Began, Wrote, Rows, Committed, Refused}
 

@@ -2,9 +2,8 @@
 
 ghost use Rattle.std.specs.Prelude.{◌≡◌, ◌<◌, ◌≤◌, ◌+◌, ◌^◌, ◌++◌, ◌∷◌, [], IfOk, OnOk, OnErr, length, Some, None, true};
 ghost use Rattle.gp_syntax.specs.Views.{command_view};
-ghost use Rattle.gp_engine.specs.Step.{step_of};
 ghost use Rattle.gp_engine.specs.Event.{is_supported};
-ghost use Rattle.gp_engine.specs.Kept.{Follows, Kept, kept, kept_answer, kept_line, kept_step, kept_event};
+ghost use Rattle.gp_engine.specs.Kept.{Follows, Kept, kept, kept_answer, kept_line, kept_step};
 ghost use Rattle.gp_engine.specs.Replies.{is_refusal};
 ghost use Rattle.gp_engine.specs.State.{empty_state};
 
@@ -189,6 +188,7 @@ impl Engine {
         requires above { self.old.line < line }
         ensures ok { IfOk result (λ reply.
             (self.new, reply) ≡ kept_step self.old line session step) }
+        ensures few { length self.old.tables ≤ 1 }
         ensures err { OnErr result (self.new ≡ self.old) }
     {
         if session != 1 || !is_supported(self.tables.as_slice(), &step) {
@@ -197,20 +197,6 @@ impl Engine {
         match self.running {
             None => self.outside(line, step),
             Some(t) => self.inside(line, t, step),
-        }
-    }
-
-    /// Runs a command if it is a step.
-    fn run(&mut self, line: u32, session: u32, command: Command) -> Result<Reply, NoMemory>
-        requires above { self.old.line < line }
-        ensures ok { IfOk result (λ reply.
-            (self.new, reply) ≡ kept_event self.old line session (step_of (command_view command))) }
-        ensures few { length self.old.tables ≤ 1 }
-        ensures err { OnErr result (self.new ≡ self.old) }
-    {
-        match step_of(command)? {
-            Some(step) => self.step(line, session, step),
-            None => Ok(Reply::Refused(Refusal::NotBuilt)),
         }
     }
 
@@ -226,6 +212,9 @@ impl Engine {
         ensures err { OnErr result (self.new ≡ self.old) }
         ensures last_line { OnOk result (self.new.line ≤ line) }
     {
-        self.run(line, session, command)
+        match step_of(command)? {
+            Some(step) => self.step(line, session, step),
+            None => Ok(Reply::Refused(Refusal::NotBuilt)),
+        }
     }
 }

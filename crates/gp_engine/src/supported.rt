@@ -8,7 +8,6 @@ use crate::step::Step;
 use gp_base::{Name, Row, Sequence, Table};
 use gp_grammar::MAX_VALUES;
 
-
 /// Whether the table has this name.
 fn is_named(name: &Name, table: &Table) -> bool
     ensures { result ≡ is_named name.now table.now }

@@ -4,6 +4,7 @@ use Rattle.std.specs.Prelude.{codes}
 use Rattle.gp_base.specs.declared.cell.Cell.TheVariants as cell
 use Rattle.gp_lexer.specs.declared.lexeme.Symbol.TheVariants as s
 use Rattle.gp_lexer.specs.declared.lexeme.Lexeme.TheVariants.{Symbol as Sign, Word, Number, Big}
+use Rattle.gp_lexer.specs.Lexemes.{symbol_text}
 use Rattle.gp_grammar.specs.declared.token_kind.TokenKind.TheVariants as token
 use Rattle.gp_grammar.specs.Syntax as y
 use Rattle.gp_grammar.specs.Syntax.{Lexemes}
@@ -76,44 +77,44 @@ zero_transaction = refl
 -- ---- whole lines, from their bytes
 
 misspelled : r.script_line_of (codes "s1: SELCT * FROM r") ≡ Err (r.syntax 5)
-unfolding is_utf8 chars lib.Utf8.encode lex.lexed lex.lexed_from lex.lexeme_at lex.word_at lex.reserved_word lex.number_at lex.sign_at p.expect
+unfolding is_utf8 chars lib.Utf8.encode lex.lexed lex.lexed_from lex.lexeme_at lex.word_at lex.reserved_word symbol_text lex.number_at lex.sign_at p.expect
 misspelled = refl
 
 no_such_session : r.script_line_of (codes "s65: BEGIN") ≡ Err (r.syntax 1)
-unfolding is_utf8 chars lib.Utf8.encode lex.lexed lex.lexed_from lex.lexeme_at lex.word_at lex.reserved_word lex.number_at lex.sign_at p.expect
+unfolding is_utf8 chars lib.Utf8.encode lex.lexed lex.lexed_from lex.lexeme_at lex.word_at lex.reserved_word symbol_text lex.number_at lex.sign_at p.expect
 no_such_session = refl
 
 no_colon : r.script_line_of (codes "s1 BEGIN") ≡ Err (r.syntax 4)
-unfolding is_utf8 chars lib.Utf8.encode lex.lexed lex.lexed_from lex.lexeme_at lex.word_at lex.reserved_word lex.number_at lex.sign_at p.expect
+unfolding is_utf8 chars lib.Utf8.encode lex.lexed lex.lexed_from lex.lexeme_at lex.word_at lex.reserved_word symbol_text lex.number_at lex.sign_at p.expect
 no_colon = refl
 
 no_sign : r.script_line_of (codes "s1: SELECT a ! b FROM r") ≡ Err (r.lexical 14)
-unfolding is_utf8 chars lib.Utf8.encode lex.lexed lex.lexed_from lex.lexeme_at lex.word_at lex.reserved_word lex.number_at lex.sign_at p.expect
+unfolding is_utf8 chars lib.Utf8.encode lex.lexed lex.lexed_from lex.lexeme_at lex.word_at lex.reserved_word symbol_text lex.number_at lex.sign_at p.expect
 no_sign = refl
 
 unclosed : r.script_line_of (codes "s1: SELECT * FROM r WHERE a = 'x") ≡ Err (r.lexical 31)
-unfolding is_utf8 chars lib.Utf8.encode lex.lexed lex.lexed_from lex.lexeme_at lex.word_at lex.reserved_word lex.number_at lex.sign_at p.expect
+unfolding is_utf8 chars lib.Utf8.encode lex.lexed lex.lexed_from lex.lexeme_at lex.word_at lex.reserved_word symbol_text lex.number_at lex.sign_at p.expect
 unclosed = refl
 
 big_number : r.script_line_of (codes "s1: INSERT INTO r VALUES (9223372036854775808)") ≡ Err (r.syntax 27)
-unfolding is_utf8 chars lib.Utf8.encode lex.lexed lex.lexed_from lex.lexeme_at lex.word_at lex.reserved_word lex.number_at lex.sign_at p.expect c.insert c.query c.block c.items c.item c.condition c.separated c.many c.repeat c.tuple
+unfolding is_utf8 chars lib.Utf8.encode lex.lexed lex.lexed_from lex.lexeme_at lex.word_at lex.reserved_word symbol_text lex.number_at lex.sign_at p.expect c.insert c.query c.block c.items c.item c.condition c.separated c.many c.repeat c.tuple
 big_number = refl
 
 line_end : r.script_line_of (codes "s2: SELECT * FROM nowhere WHERE") ≡ Err (r.syntax 32)
-unfolding is_utf8 chars lib.Utf8.encode lex.lexed lex.lexed_from lex.lexeme_at lex.word_at lex.reserved_word lex.number_at lex.sign_at p.expect c.insert c.query c.block c.items c.item c.condition c.separated c.many c.repeat c.tuple p.term p.term_within p.joined p.chain p.chain_within p.negation p.test p.factor p.column p.brackets p.value_test
+unfolding is_utf8 chars lib.Utf8.encode lex.lexed lex.lexed_from lex.lexeme_at lex.word_at lex.reserved_word symbol_text lex.number_at lex.sign_at p.expect c.insert c.query c.block c.items c.item c.condition c.separated c.many c.repeat c.tuple p.term p.term_within p.joined p.chain p.chain_within p.negation p.test p.factor p.column p.brackets p.value_test
 line_end = refl
 
 version_too_big : r.question_of (codes "AS OF 9223372036854775808 SELECT * FROM r") ≡ Err (r.syntax 7)
-unfolding is_utf8 chars lib.Utf8.encode lex.lexed lex.lexed_from lex.lexeme_at lex.word_at lex.reserved_word lex.number_at lex.sign_at p.expect q.open_question q.ask q.how q.state
+unfolding is_utf8 chars lib.Utf8.encode lex.lexed lex.lexed_from lex.lexeme_at lex.word_at lex.reserved_word symbol_text lex.number_at lex.sign_at p.expect q.open_question q.ask q.how q.state
 version_too_big = refl
 
 second_part : r.question_of (codes "VALUE IN COUNT (q1.2.3 = 1) OF AS OF 1 SELECT * FROM r") ≡ Err (r.syntax 21)
-unfolding is_utf8 chars lib.Utf8.encode lex.lexed lex.lexed_from lex.lexeme_at lex.word_at lex.reserved_word lex.number_at lex.sign_at p.expect q.open_question q.ask q.how q.value q.semiring_name q.rules q.rules_from q.rules_within q.rule
+unfolding is_utf8 chars lib.Utf8.encode lex.lexed lex.lexed_from lex.lexeme_at lex.word_at lex.reserved_word symbol_text lex.number_at lex.sign_at p.expect q.open_question q.ask q.how q.value q.semiring_name q.rules q.rules_from q.rules_within q.rule
 second_part = refl
 
 canonical_update : option_map command_text (result_ok (r.command_of (codes "update R set b = -b * c + 'x' where not a = b and b is null or a <> c")))
     ≡ Some (codes "UPDATE r SET b = (((-b) * c) + 'x') WHERE (((NOT (a = b)) AND (b IS NULL)) OR (a <> c))")
-unfolding is_utf8 chars lib.Utf8.encode lex.lexed lex.lexed_from lex.lexeme_at lex.word_at lex.reserved_word lex.number_at lex.sign_at p.expect c.update c.set_term c.separated c.many c.repeat c.condition p.term p.term_within p.joined p.chain p.chain_within p.negation p.test p.factor p.column p.brackets p.value_test cap.binary cap.neg cap.not cap.is_null written
+unfolding is_utf8 chars lib.Utf8.encode lex.lexed lex.lexed_from lex.lexeme_at lex.word_at lex.reserved_word symbol_text lex.number_at lex.sign_at p.expect c.update c.set_term c.separated c.many c.repeat c.condition p.term p.term_within p.joined p.chain p.chain_within p.negation p.test p.factor p.column p.brackets p.value_test cap.binary cap.neg cap.not cap.is_null written
 canonical_update = refl
 
 -- 61 open brackets are too deep, 60 are not, and one that closes makes room

@@ -40,6 +40,7 @@ and-split true b h = (refl, h)
 and-split false b h = cc
 
 symbol-plain : (symbol : Symbol) → has_line_feed (symbol_text symbol) ≡ false
+unfolding symbol_text
 symbol-plain s.All = refl
 symbol-plain _ = refl
 

@@ -19,7 +19,7 @@ use Rattle.gp_lexer.specs.declared.lexeme.Symbol.{Symbol}
 use Rattle.gp_lexer.specs.declared.lexeme.Symbol.TheVariants as s
 use Rattle.gp_lexer.specs.declared.lexeme.Lexeme.{Lexeme}
 use Rattle.gp_lexer.specs.declared.lexeme.Lexeme.TheVariants.{Symbol as Sign, Word, Number, Big, Text}
-use Rattle.gp_lexer.specs.declared.lexeme.TheConstants.{MAX_TEXT_LENGTH}
+use Rattle.gp_base.specs.declared.text.TheConstants.{MAX_TEXT_LENGTH}
 use Rattle.gp_base.specs.Names.{is_lower_letter, is_name_byte, is_name}
 use Rattle.gp_base.specs.Texts.{quoted_byte}
 use Rattle.gp_lexer.specs.Lexemes.{symbol_text, spelled, IsProper, AreProper}
@@ -242,6 +242,7 @@ ascii-utf8 : (a : List ℕ) → list_all (λ c. ltb c 128) a ≡ true → IsUtf8
 ascii-utf8 a h = subst IsUtf8 (append-nil a) (prefix-ascii a [] h IsUtf8-nil)
 
 symbol-ascii : (symbol : Symbol) → list_all (λ c. ltb c 128) (symbol_text symbol) ≡ true
+unfolding symbol_text
 symbol-ascii s.All = refl
 symbol-ascii _ = refl
 

@@ -8,7 +8,8 @@ use Rattle.gp_base.specs.declared.name.TheConstants.{MAX_NAME_LENGTH}
 use Rattle.gp_lexer.specs.declared.lexeme.Symbol.{Symbol}
 use Rattle.gp_lexer.specs.declared.lexeme.Lexeme.{Lexeme}
 use Rattle.gp_lexer.specs.declared.lexeme.Lexeme.TheVariants.{Symbol as Sign, Text}
-use Rattle.gp_lexer.specs.declared.lexeme.TheConstants.{MAX_TEXT_LENGTH, QUOTE}
+use Rattle.gp_base.specs.declared.text.TheConstants.{MAX_TEXT_LENGTH}
+use Rattle.gp_lexer.specs.declared.lexeme.TheConstants.{QUOTE}
 use Rattle.gp_lexer.specs.Lexing.{Scanned, Quoted, is_word_byte, word_lexeme, word_at, number_lexeme, number_at, with_byte, quoted_text, quoted_text_after_quote, text_lexeme, signs, sign_among, sign_at, lexeme_at}
 use Rattle.gp_lexer.proofs.WordLemmas.{letter-word}
 

@@ -18,7 +18,8 @@ use Rattle.gp_lexer.specs.declared.lexeme.Symbol.{Symbol}
 use Rattle.gp_lexer.specs.declared.lexeme.Symbol.TheVariants as s
 use Rattle.gp_lexer.specs.declared.lexeme.Lexeme.{Lexeme}
 use Rattle.gp_lexer.specs.declared.lexeme.Lexeme.TheVariants.{Symbol as Sign, Word, Number, Big, Text}
-use Rattle.gp_lexer.specs.declared.lexeme.TheConstants.{MAX_TEXT_LENGTH, QUOTE}
+use Rattle.gp_base.specs.declared.text.TheConstants.{MAX_TEXT_LENGTH}
+use Rattle.gp_lexer.specs.declared.lexeme.TheConstants.{QUOTE}
 use Rattle.gp_lexer.specs.Lexemes.{symbol_text, spelled, IsProper}
 use Rattle.gp_lexer.specs.Lexing.{Quoted, is_word_byte, reserved_symbols, reserved_word, word_lexeme, word_at, number_lexeme, number_at, with_byte, quoted_text, quoted_text_after_quote, text_lexeme, sign_at, is_blank, lexeme_at}
 use Rattle.gp_lexer.proofs.WordLemmas.{same-words}

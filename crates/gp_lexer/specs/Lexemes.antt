@@ -11,7 +11,8 @@ use Rattle.gp_lexer.specs.declared.lexeme.Symbol.{Symbol}
 use Rattle.gp_lexer.specs.declared.lexeme.Symbol.TheVariants as s
 use Rattle.gp_lexer.specs.declared.lexeme.Lexeme.{Lexeme}
 use Rattle.gp_lexer.specs.declared.lexeme.Lexeme.TheVariants.{Symbol as Sign, Word, Number, Big, Text}
-use Rattle.gp_lexer.specs.declared.lexeme.TheConstants.{MAX_TEXT_LENGTH, QUOTE}
+use Rattle.gp_base.specs.declared.text.TheConstants.{MAX_TEXT_LENGTH}
+use Rattle.gp_lexer.specs.declared.lexeme.TheConstants.{QUOTE}
 
 -- a reserved word in capitals, or a sign
 unfoldable pub symbol_text : Symbol → List ℕ

@@ -5,9 +5,6 @@ ghost use Rattle.std.specs.Prelude.{◌≡◌, ◌<◌, ◌^◌};
 use gp_base::{Name, Text};
 use std::marker::Model;
 
-/// The greatest number of bytes of the value of a text.
-pub const MAX_TEXT_LENGTH: usize = 255;
-
 /// The byte at both ends of a text.
 pub(crate) const QUOTE: u8 = b'\'';
 

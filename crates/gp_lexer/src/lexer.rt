@@ -11,10 +11,10 @@ ghost use Rattle.gp_lexer.specs.Lexing as spec;
 ghost use Rattle.gp_lexer.specs.Parts.{text_of_part};
 
 use crate::error::LexStop;
-use crate::lexeme::{Lexeme, MAX_TEXT_LENGTH, Number, QUOTE, Symbol};
+use crate::lexeme::{Lexeme, Number, QUOTE, Symbol};
 use crate::lexemes::Lexemes;
 use crate::symbol::reserved_word;
-use gp_base::{MAX_NAME_LENGTH, Name, NoMemory, Sequence, Text};
+use gp_base::{MAX_NAME_LENGTH, MAX_TEXT_LENGTH, Name, NoMemory, Sequence, Text};
 use std::alloc::Global;
 
 fn is_word_byte(byte: u8) -> bool
@@ -71,7 +71,7 @@ fn word_at(alloc: Global, bytes: &[u8]) -> Result<Option<(Lexeme, &[u8])>, NoMem
 }
 
 /// The value of the digits, or the greatest `u64` where it is greater.
-fn value_of(digits: &[u8]) -> u64
+pub fn value_of(digits: &[u8]) -> u64
     requires { AllDigits 10 digits.now }
     ensures { result ≡ min (digits_value 10 digits.now) (2 ^ 64 - 1) }
 {

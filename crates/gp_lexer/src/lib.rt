@@ -29,6 +29,6 @@ pub use error::LexStop;
 pub use gap::Gap;
 pub use laws::{layout_is_printable, lexemes_are_proper, lexing_inverts_layout, texts_are_utf8};
 pub use layout::Layout;
-pub use lexeme::{Lexeme, MAX_TEXT_LENGTH, Number, Symbol};
+pub use lexeme::{Lexeme, Number, Symbol};
 pub use lexemes::Lexemes;
-pub use lexer::lex;
+pub use lexer::{lex, value_of};

@@ -3,7 +3,7 @@
 ghost use Rattle.std.specs.Prelude.{◌≡◌, ◌==◌, ◌≤◌, ◌^◌, ◌++◌, ◌∷◌, [], List, ℤ, IfOk, OnOk, if◌then◌else◌, map};
 ghost use Rattle.std.specs.List.{flat_map};
 ghost use Rattle.std.specs.Str.{bytes_eq};
-ghost use Rattle.gp_lexer.specs.Layout.{laid_out, put, written};
+ghost use Rattle.gp_lexer.specs.Layout.{put, written};
 ghost use Rattle.gp_lexer.specs.declared.lexeme.Lexeme.{Lexeme};
 ghost use Rattle.gp_lexer.specs.declared.lexeme.Lexeme.TheVariants.{Symbol as Sign, Number as NumberLexeme, Big as BigLexeme};
 ghost use Rattle.gp_grammar.specs.Canonical as spec;
@@ -518,8 +518,7 @@ fn push_command(layout: &mut Layout, command: &Command) -> Result<(), NoMemory>
 /// The canonical text of a command: reserved words in capitals, names in lower case, every operator in brackets, and one
 /// space between lexemes but around brackets, commas and dots. Running out of memory is the only error.
 pub fn write_command(alloc: Global, command: &Command) -> Result<Vec<u8>, NoMemory>
-    ensures { IfOk result (λ text. text.items
-        ≡ laid_out (spec.command_lexemes (command_view command.now))) }
+    ensures { IfOk result (λ text. text.items ≡ spec.command_text (command_view command.now)) }
 {
     let mut layout = Layout::new(alloc);
     push_command(&mut layout, command)?;

@@ -75,7 +75,7 @@ fn split_line(bytes: &[u8]) -> (&[u8], &[u8])
 }
 
 /// A line of a script.
-#[derive(Clone, Copy, Debug)]
+#[derive(Clone, Copy)]
 pub struct Line<'a> {
     /// The line's number in the script, from 1.
     pub number: u32,
@@ -84,7 +84,7 @@ pub struct Line<'a> {
 }
 
 /// The remaining lines of a script that get a reply. [`lines`] makes it.
-#[derive(Debug, Drop)]
+#[derive(Drop)]
 pub struct LineIter<'a> {
     rest: &'a [u8],
     number: u32,

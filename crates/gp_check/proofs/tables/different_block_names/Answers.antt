@@ -1,4 +1,4 @@
-use Rattle.std.proofs.Common.{rules, arith}
+use Rattle.std.proofs.Common.{rules}
 use Rattle.gp_check.proofs.NamesLemmas.{map_of_views}
 use Rattle.gp_check.proofs.tables.different_block_names.Goals as goal
 
