@@ -1,17 +1,22 @@
 -- One more line of a script.
-use Rattle.std.proofs.Common.{suc, zero, suc-add, length, ◌≡◌, ℕ, ◌+◌, ◌-◌, ◌<◌, ◌≤◌, Bool, true, false, ◌||◌, nat_le, nat_lt, List, [], ◌∷◌, ◌++◌, refl, sym, ap, ◌∙◌, subst, append_assoc, arith, inl, inr}
+use Rattle.std.proofs.Common.{Some, Result, Ok, Err, suc, zero, suc-add, length, ◌≡◌, ℕ, ◌+◌, ◌-◌, ◌<◌, ◌≤◌, Bool, true, false, ◌||◌, nat_le, nat_lt, List, [], ◌∷◌, ◌++◌, refl, sym, ap, ◌∙◌, subst, append_assoc, arith, inl, inr}
 use Rattle.std.specs.List.{flat_map}
 use Rattle.std.proofs.lemmas.Bool.{cases_lt, lt-ltb, le-ltb, le-leb, lt-leb}
 use Rattle.std.proofs.lemmas.List.{append-nil}
 use Rattle.gp_base.specs.declared.table.Table.{Table}
 use Rattle.std.specs.List.Sorted.{IsStrictlyIncreasing}
 use Rattle.gp_syntax.specs.Lines.{numbers_of, script_lines}
+use Rattle.gp_base.specs.declared.refusal.Refusal.{Refusal}
+use Rattle.gp_grammar.specs.Syntax.{ScriptLine}
+use Rattle.gp_grammar.specs.LineReading.{Fault}
+use Rattle.gp_syntax.specs.Refusals.{refusal_of, refusal_in}
 use Rattle.gp_engine.specs.declared.reply.Reply.{Reply}
+use Rattle.gp_engine.specs.declared.reply.Reply.TheVariants as reply
 use Rattle.gp_engine.specs.Replies.{is_refusal, line_text}
 use Rattle.gp_engine.specs.State.{State, empty_state}
 use Rattle.gp_engine.specs.Kept.{Kept, kept}
 use Rattle.gp_engine.specs.History.{NumberedReply, outcome_if, line_outcome, most_before, replies_from, replies_of, replies_text, has_refusal}
-use Rattle.gprom_cli.specs.Script.{FollowsLine}
+use Rattle.gprom_cli.specs.Script.{FollowsLine, FollowsRead}
 use Rattle.gprom_cli.proofs.Progress.{IsProgress, max_lines_run}
 
 -- before the first line
@@ -76,3 +81,11 @@ goes_on script engine new left line lines text refused reply way follows up_to =
 pub ends : (script : List ℕ) (engine : Kept) (left : ℕ) (text : List ℕ) (refused : Bool) → IsProgress script engine left [] text refused
     → (text ≡ replies_text (replies_of script)) × (refused ≡ has_refusal (replies_of script))
 ends script engine left text refused way = (sym (append-nil text) ∙ way.text_so_far, sym (or-nothing refused) ∙ way.refused_so_far)
+
+-- a line that is refused for a fault in its text is refused by the history
+pub refused-read : (read : Result ScriptLine Fault) (refusal : Refusal) (runs : Bool) (number : ℕ) (engine : Kept) → refusal_in read ≡ Some refusal
+    → FollowsRead engine engine runs number read (reply.Refused refusal)
+refused-read (Ok line) refusal runs number engine fault = absurd cc
+refused-read (Err fault) refusal runs number engine is =
+    let same : refusal_of fault ≡ refusal = cc in
+    record { reply = λ state represented. ap reply.Refused (sym same); state = λ state represented. represented }
