@@ -18,9 +18,9 @@ mod semiring_name;
 mod token_kind;
 
 pub use laws::{
-    canonical_lexemes_are_parsed, command_texts_are_read, commands_are_parsed,
-    questions_are_parsed, questions_are_read, script_lines_are_parsed, script_lines_are_read,
-    terms_are_parsed,
+    canonical_lexemes_are_parsed, canonical_texts_are_read, command_texts_are_read,
+    commands_are_parsed, questions_are_parsed, questions_are_read, script_lines_are_parsed,
+    script_lines_are_read, terms_are_parsed,
 };
 pub use level::Level;
 pub use limits::{

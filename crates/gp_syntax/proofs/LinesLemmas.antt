@@ -1,5 +1,5 @@
 -- The first of std's lines, found by the first line feed, and the order of the numbers of lines.
-use Rattle.std.proofs.Common.{◌≡◌, ℕ, zero, suc, ◌+◌, ◌<◌, ◌≤◌, Bool, true, false, eqb, cond, List, [], ◌∷◌, length, take, drop, filter, refl, ap, suc-add, ◌∙◌, arith, inl, inr, get_or}
+use Rattle.std.proofs.Common.{◌≡◌, ℕ, zero, suc, ◌+◌, ◌<◌, ◌≤◌, Bool, true, false, eqb, cond, List, [], ◌∷◌, length, take, drop, filter, refl, ap, suc-add, ◌∙◌, arith, inl, inr}
 use Rattle.std.specs.List.{AllByRecursion, position_or_len, slice_split, enumerate_from, before_first, after_first}
 use Rattle.std.specs.List.Sorted.{IsStrictlyIncreasing}
 use Rattle.std.specs.Str.Lines.{lines, lines_of_parts, strip_carriage_return}

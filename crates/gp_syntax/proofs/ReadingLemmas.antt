@@ -1,5 +1,5 @@
 -- A text that passes the tests before the parser is read as the parser finds it.
-use Rattle.std.proofs.Common.{◌≡◌, ℕ, ◌+◌, Bool, true, false, cond, List, length, Option, Some, None, Result, Ok, Err, refl, sym, ap, subst, ◌∙◌, inl, inr}
+use Rattle.std.proofs.Common.{◌≡◌, ℕ, ◌+◌, Bool, true, false, cond, List, length, Option, Some, None, Result, Ok, Err, sym, ap, subst, ◌∙◌, inl, inr}
 use Rattle.std.specs.Option.{option_map}
 use Rattle.gp_base.specs.declared.limit.Limit.{Limit}
 use Rattle.gp_base.specs.declared.refusal.Refusal.TheVariants.{E14}
@@ -13,8 +13,8 @@ use Rattle.gp_grammar.specs.declared.limits.TheConstants.{MAX_OPEN}
 use Rattle.gp_grammar.specs.Syntax.{Lexemes, Bytes}
 use Rattle.gp_grammar.specs.Depth.{is_too_deep}
 use Rattle.gp_grammar.specs.Limits.{Shape, depth, passed_limit}
-use Rattle.gp_grammar.specs.LineReading.{Fault, not_utf8, over, syntax, column_of, placed, read_lexemes, read_lexed, read_text, within_shape}
-use Rattle.gp_grammar.specs.Parsing.{Outcome, Parser, whole}
+use Rattle.gp_grammar.specs.LineReading.{Fault, not_utf8, over, syntax, column_of, placed, read_lexed, read_text, within_shape}
+use Rattle.gp_grammar.specs.Parsing.{Parser, whole}
 use Rattle.gp_syntax.specs.declared.error.ReadStop.{ReadStop}
 use Rattle.gp_syntax.specs.declared.error.ReadStop.TheVariants.{Refused, NoMemory}
 use Rattle.gp_syntax.specs.Refusals.{Returns, limit_of, refusal_in}

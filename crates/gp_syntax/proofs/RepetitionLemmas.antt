@@ -1,8 +1,7 @@
 -- One step of a loop over the items of a list, and its exits.
-use Rattle.std.proofs.Common.{◌≡◌, ℕ, ◌<◌, List, [], ◌∷◌, ◌++◌, map, length, Option, Some, None, Result, Ok, Err, IfOk, refl, sym, ap, subst, ◌∙◌}
+use Rattle.std.proofs.Common.{◌≡◌, ℕ, ◌<◌, List, [], ◌∷◌, ◌++◌, map, length, Some, None, Ok, Err, IfOk, refl, sym, ap, subst, ◌∙◌}
 use Rattle.std.proofs.lemmas.List.{map_push}
 use Rattle.gp_lexer.specs.declared.lexeme.Symbol.{Symbol}
-use Rattle.gp_lexer.specs.declared.lexeme.Symbol.TheVariants as s
 use Rattle.gp_grammar.specs.Syntax.{Lexemes}
 use Rattle.gp_grammar.specs.Parsing.{Outcome, Parser, ◌>>=◌, strip}
 use Rattle.gp_grammar.specs.CommandParsing.{many, push, repeat}

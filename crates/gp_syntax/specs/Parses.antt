@@ -1,5 +1,5 @@
 -- Machinery: what a parser of the code returns, against the parser as a function.
-use Rattle.std.specs.Prelude.{◌≡◌, ◌<◌, ℕ, List, length, Option, Some, None, Result, Ok, Err}
+use Rattle.std.specs.Prelude.{◌≡◌, ◌<◌, List, length, Option, Some, None, Result, Ok, Err}
 use denote.Ref.{Bor}
 use Rattle.gp_lexer.specs.declared.lexeme.Lexeme.{Lexeme}
 use Rattle.gp_grammar.specs.Syntax as y

@@ -1,5 +1,5 @@
 -- Machinery: parts of the parser of questions.
-use Rattle.std.specs.Prelude.{ℕ, true, false, List, map, Option, None, Ok, codes}
+use Rattle.std.specs.Prelude.{ℕ, true, false, List, map, None, Ok, codes}
 use Rattle.gp_lexer.specs.declared.lexeme.Symbol.TheVariants as s
 use Rattle.gp_grammar.specs.Syntax as y
 use Rattle.gp_grammar.specs.Parsing.{Parser, ◌>>=◌, identifier}

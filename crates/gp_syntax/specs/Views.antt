@@ -1,5 +1,5 @@
 -- Part of the statement: the abstract syntax of the parsed values, without the pointers in their boxes.
-use Rattle.std.specs.Prelude.{List, map, Option}
+use Rattle.std.specs.Prelude.{map, Option}
 use Rattle.std.specs.Option.{option_map}
 use Rattle.gp_grammar.specs.Syntax as y
 use Rattle.gp_syntax.specs.declared.term.Term.{Term, Null, Int, Text, Col, Binary', Neg', Not', IsNull', IsTrue', Case'}

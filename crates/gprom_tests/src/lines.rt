@@ -87,8 +87,9 @@ fn longest_comment_gets_no_reply(rt: HostRuntime) -> Result<(), Fail> {
 /// Whether the line is read as a line of the session whose command has this canonical text.
 fn reads(alloc: Global, line: &[u8], session: u32, text: &[u8]) -> Result<bool, NoMemory> {
     match read_line(alloc, line) {
-        Ok(read) => Ok(read.session == session
-            && write_command(alloc, &read.command)?.as_slice() == text),
+        Ok(read) => Ok(
+            read.session == session && write_command(alloc, &read.command)?.as_slice() == text,
+        ),
         Err(_) => Ok(false),
     }
 }

@@ -22,7 +22,9 @@ fn replies(
     requires { engine.old.line < line }
     ensures { OnOk result (engine.new.line ≤ line) }
 {
-    let command = read_command(alloc, command.as_bytes())?;
+    let Ok(command) = read_command(alloc, command.as_bytes()) else {
+        return Ok(false);
+    };
     let reply = engine.line(line, session, command)?;
     let mut out = Vec::new(alloc);
     write_reply(alloc, line, engine.tables(), reply, &mut out)?;

@@ -1,4 +1,4 @@
-use Rattle.std.proofs.Common.{◌≡◌, ap, ◌∙◌, sym}
+use Rattle.std.proofs.Common.{ap, ◌∙◌, sym}
 use Rattle.gp_lexer.specs.Layout.{written}
 use Rattle.gp_grammar.specs.Canonical.{term_lexemes}
 use Rattle.gp_syntax.specs.Views.{term_view}

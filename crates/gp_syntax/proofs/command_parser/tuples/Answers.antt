@@ -1,12 +1,10 @@
-use Rattle.std.proofs.Common.{◌≡◌, map, arith, length, sym}
+use Rattle.std.proofs.Common.{arith}
 use Rattle.std.proofs.lemmas.Result.{err_from_is_err_and}
 use Rattle.gp_lexer.specs.declared.lexeme.Symbol.TheVariants as s
-use Rattle.gp_grammar.specs.Parsing.{strip, term}
 use Rattle.gp_grammar.specs.CommandParsing as spec
 use Rattle.gp_grammar.specs.CommandParsing.{◌then◌}
 use Rattle.gp_grammar.proofs.CommandCompleteness.{shrinks-tuple}
-use Rattle.gp_syntax.specs.Views as v
-use Rattle.gp_syntax.proofs.RepetitionLemmas.{many-done, many-step, many-step-viewed, many-fault, item-shorter}
+use Rattle.gp_syntax.proofs.RepetitionLemmas.{many-done, many-step, many-fault, item-shorter}
 use Rattle.gp_syntax.proofs.command_parser.tuples.Goals as goal
 
 pub returns-in_err-next : goal.returns-in_err-next

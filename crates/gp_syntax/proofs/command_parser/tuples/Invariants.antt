@@ -1,9 +1,8 @@
-use Rattle.std.proofs.Common.{◌≡◌, length, map}
+use Rattle.std.proofs.Common.{◌≡◌, length}
 use Rattle.gp_lexer.specs.declared.lexeme.Symbol.TheVariants as s
-use Rattle.gp_grammar.specs.Parsing.{strip, term}
+use Rattle.gp_grammar.specs.Parsing.{strip}
 use Rattle.gp_grammar.specs.CommandParsing as spec
 use Rattle.gp_grammar.specs.CommandParsing.{◌then◌}
-use Rattle.gp_syntax.specs.Views as v
 use Rattle.gp_syntax.proofs.command_parser.tuples.Given as goal
 
 abbrev pub invariant-loop-after : goal.invariant-loop-after

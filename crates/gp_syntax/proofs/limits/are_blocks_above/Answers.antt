@@ -1,5 +1,4 @@
 use Rattle.std.proofs.Common.{sym, ◌∙◌}
-use Rattle.gp_grammar.specs.declared.limits.TheConstants.{MAX_COLUMNS, MAX_FROM}
 use Rattle.gp_syntax.proofs.LimitLemmas.{blocks-above}
 use Rattle.gp_syntax.proofs.limits.are_blocks_above.Goals as goal
 

@@ -1,5 +1,5 @@
 use Rattle.std.proofs.Common.{sym, ◌∙◌}
-use Rattle.gp_grammar.specs.declared.limits.TheConstants.{MAX_COLUMNS, MAX_FROM}
+use Rattle.gp_grammar.specs.declared.limits.TheConstants.{MAX_FROM}
 use Rattle.gp_syntax.proofs.LimitLemmas.{tables-above}
 use Rattle.gp_syntax.proofs.limits.have_many_tables.Goals as goal
 

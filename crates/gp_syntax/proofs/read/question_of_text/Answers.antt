@@ -1,7 +1,6 @@
-use Rattle.gp_grammar.specs.CommandParsing.{command, script_line}
 use Rattle.gp_grammar.specs.QuestionParsing.{question}
-use Rattle.gp_grammar.specs.Limits.{command_shape, line_shape, question_shape}
-use Rattle.gp_syntax.specs.Views.{command_view, line_view, question_view}
+use Rattle.gp_grammar.specs.Limits.{question_shape}
+use Rattle.gp_syntax.specs.Views.{question_view}
 use Rattle.gp_syntax.proofs.ReadingLemmas.{parsed-returns}
 use Rattle.gp_syntax.proofs.read.question_of_text.Goals as goal
 

@@ -1,4 +1,4 @@
-use Rattle.std.proofs.Common.{◌≡◌, refl, sym, ap, subst, arith, rules, ◌∙◌, Some, Ok, Err, length, ◌<◌, Result}
+use Rattle.std.proofs.Common.{◌≡◌, sym, ap, arith, ◌∙◌, Some, Err}
 use Rattle.std.proofs.lemmas.Result.{err_from_is_err_and}
 use Rattle.gp_grammar.specs.declared.level.Level.{Level}
 use Rattle.gp_grammar.specs.declared.op.Op.{Op}
