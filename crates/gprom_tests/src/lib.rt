@@ -2,7 +2,7 @@
 //! hand, the real files and the real output.
 //!
 //! Reading order: `values.rt` (cells, rows, refusals), `files.rt` (shelves and sinks), `lines.rt` (lines and commands of a script),
-//! `replies.rt` (the engine and the texts of replies), `calls.rt` (the whole call).
+//! `replies.rt` (the engine and the texts of replies), `checks.rt` (names and types), `calls.rt` (the whole call).
 //!
 //! Each test is a `for` over a table of cases, and a helper that borrows compares one case:
 //!
@@ -15,6 +15,8 @@
 
 #[cfg(test)]
 mod calls;
+#[cfg(test)]
+mod checks;
 #[cfg(test)]
 mod files;
 #[cfg(test)]
