@@ -10,7 +10,7 @@ use Rattle.gp_grammar.specs.declared.op.Op.{Op}
 use Rattle.gp_grammar.specs.Syntax.{Lexemes, Term, null, int, text, col}
 use Rattle.gp_grammar.specs.Capping.{binary, neg, not, is_null, is_true, case}
 use Rattle.gp_grammar.specs.Operators.{operator_of, comparison_of}
-use Rattle.gp_grammar.specs.Parsing.{Outcome, Parser, is_symbol, ◌>>=◌, strip, expected, expect, identifier, next_operator, by_option, with_rest, chain_within, chain, joined, column_with, column, truth_test, value_test, is_test, optional_test, brackets, choice, primary_by, primary, signed, factor, sum, compared, test, negated, negation, operand, operations, term_within, term}
+use Rattle.gp_grammar.specs.Parsing.{Outcome, Parser, is_symbol, ◌>>=◌, strip, expected, expect, identifier, next_operator, by_option, with_rest, chain_within, chain, joined, column_with, column, truth_test, value_test, is_test, optional_test, brackets, choice, primary_by, primary, signed, factor, sum, compared, full_test, negated, negation, operand, operations, term_within, term}
 
 -- two outcomes are equal, and leave fewer lexemes than this
 pub record Agree {A : Type 0} (n : ℕ) (p q : Outcome (A × Lexemes)) : Type 0 where
@@ -209,8 +209,8 @@ module _ (n : ℕ) (f g : Parser Term) (agrees : AgreeBelow n f g) where
       agree-bind (length o.1) (suc (length ts)) (sum f o.1) (sum g o.1) (λ r. Ok (binary o.0 left r.0, r.1)) (λ r. Ok (binary o.0 left r.0, r.1)) (sum-agree o.1 (omega arith))
       (λ r lt'. agree-refl _ (Ok (binary o.0 left r.0, r.1)) (omega arith))
 
-  test-agree : AgreeBelow (suc n) (test f) (test g)
-  unfolding test
+  test-agree : AgreeBelow (suc n) (full_test f) (full_test g)
+  unfolding full_test
   test-agree ts lt =
       agree-bind (length ts) (length ts) (sum f ts) (sum g ts)
       (λ r. compared f r.0 r.1 (next_operator comparison_of r.1) >>= (λ b. optional_test b.0 b.1 (strip s.Is b.1)))
@@ -225,7 +225,7 @@ module _ (n : ℕ) (f g : Parser Term) (agrees : AgreeBelow n f g) where
   negated-agree : (ts : Lexemes) (o : Option Lexemes) → length ts < suc n → IfSome o (λ rest. length rest < length ts) → Agree (length ts) (negated f ts o) (negated g ts o)
   negated-agree ts None lt h = test-agree ts lt
   negated-agree ts (Some rest) lt h =
-      agree-bind (length rest) (length ts) (test f rest) (test g rest) (λ r. Ok (not r.0, r.1)) (λ r. Ok (not r.0, r.1)) (test-agree rest (omega arith))
+      agree-bind (length rest) (length ts) (full_test f rest) (full_test g rest) (λ r. Ok (not r.0, r.1)) (λ r. Ok (not r.0, r.1)) (test-agree rest (omega arith))
       (λ r lt'. agree-refl _ (Ok (not r.0, r.1)) (omega arith))
 
   negation-agree : AgreeBelow (suc n) (negation f) (negation g)

@@ -55,7 +55,7 @@ rank g.primary = 7
 abbrev reads : Phrase → Parser Term
 reads (g.operations at) ts = r.operations term at ts
 reads g.negation ts = r.negation term ts
-reads g.test ts = r.test term ts
+reads g.test ts = r.full_test term ts
 reads g.comparison ts = r.sum term ts >>= (λ x. r.compared term x.0 x.1 (next_operator comparison_of x.1))
 reads g.factor ts = r.factor term ts
 reads g.primary ts = r.primary term ts
@@ -226,8 +226,8 @@ compared_then x = r.compared term x.0 x.1 (next_operator comparison_of x.1)
 abbrev whether_then : Term × Lexemes → Outcome (Term × Lexemes)
 whether_then b = r.optional_test b.0 b.1 (strip s.Is b.1)
 
-test-of : (ts rest : Lexemes) (x : Term) → reads g.comparison ts ≡ Ok (x, rest) → r.test term ts ≡ r.optional_test x rest (strip s.Is rest)
-unfolding r.test
+test-of : (ts rest : Lexemes) (x : Term) → reads g.comparison ts ≡ Ok (x, rest) → r.full_test term ts ≡ r.optional_test x rest (strip s.Is rest)
+unfolding r.full_test
 test-of ts rest x h = sym (bind-assoc (r.sum term ts) compared_then whether_then) ∙ ap (λ p. p >>= whether_then) h
 
 level-of : (at : Level) (ts rest : Lexemes) (x : Term) → r.operand term at ts ≡ Ok (x, rest) → r.operations term at ts ≡ r.chain (operator_of at) (r.operand term at) x rest
@@ -258,11 +258,11 @@ choice-of : (ts ts2 ts3 rest : Lexemes) (x y z : Term) → term ts ≡ Ok (x, Si
 unfolding r.choice expect
 choice-of ts ts2 ts3 rest x y z a b c = ap (λ p. p >>= choice2) a ∙ ap (λ p. p >>= choice3 x) b ∙ ap (λ p. p >>= choice4 x y) c
 
-negation-not : (ts rest : Lexemes) (x : Term) → r.test term ts ≡ Ok (x, rest) → r.negation term (Sign s.Not ∷ ts) ≡ Ok (not x, rest)
+negation-not : (ts rest : Lexemes) (x : Term) → r.full_test term ts ≡ Ok (x, rest) → r.negation term (Sign s.Not ∷ ts) ≡ Ok (not x, rest)
 unfolding r.negation
 negation-not ts rest x h = ap (λ p. p >>= (λ y. Ok (not y.0, y.1))) h
 
-negation-plain : (ts rest : Lexemes) (x : Term) → strip s.Not ts ≡ None → r.test term ts ≡ Ok (x, rest) → r.negation term ts ≡ Ok (x, rest)
+negation-plain : (ts rest : Lexemes) (x : Term) → strip s.Not ts ≡ None → r.full_test term ts ≡ Ok (x, rest) → r.negation term ts ≡ Ok (x, rest)
 unfolding r.negation
 negation-plain ts rest x e h = ap (λ o. r.negated term ts o) e ∙ h
 

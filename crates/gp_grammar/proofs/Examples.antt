@@ -59,11 +59,11 @@ too_big = refl
 
 -- NOT NOT stops at the second NOT, and two signs at the second one
 second_not : whole p.term (Sign s.Not ∷ Sign s.Not ∷ Word (codes "a") ∷ []) ≡ Err (Sign s.Not ∷ Word (codes "a") ∷ [])
-unfolding p.term p.term_within p.joined p.negation p.test p.factor
+unfolding p.term p.term_within p.joined p.negation p.full_test p.factor
 second_not = refl
 
 second_sign : whole p.term (Sign s.Minus ∷ Sign s.Minus ∷ Number 1 ∷ []) ≡ Err (Sign s.Minus ∷ Number 1 ∷ [])
-unfolding p.term p.term_within p.joined p.negation p.test p.factor
+unfolding p.term p.term_within p.joined p.negation p.full_test p.factor
 second_sign = refl
 
 -- `q1.2.3` stops at the second dot, and `i0` at once
@@ -101,7 +101,7 @@ unfolding is_utf8 chars lib.Utf8.encode lex.lexed lex.lexed_from lex.lexeme_at l
 big_number = refl
 
 line_end : r.script_line_of (codes "s2: SELECT * FROM nowhere WHERE") ≡ Err (r.syntax 32)
-unfolding is_utf8 chars lib.Utf8.encode lex.lexed lex.lexed_from lex.lexeme_at lex.word_at lex.reserved_word symbol_text lex.number_at lex.sign_at p.expect c.insert c.query c.block c.items c.item c.condition c.separated c.many c.repeat c.tuple p.term p.term_within p.joined p.chain p.chain_within p.negation p.test p.factor p.column p.brackets p.value_test
+unfolding is_utf8 chars lib.Utf8.encode lex.lexed lex.lexed_from lex.lexeme_at lex.word_at lex.reserved_word symbol_text lex.number_at lex.sign_at p.expect c.insert c.query c.block c.items c.item c.condition c.separated c.many c.repeat c.tuple p.term p.term_within p.joined p.chain p.chain_within p.negation p.full_test p.factor p.column p.brackets p.value_test
 line_end = refl
 
 version_too_big : r.question_of (codes "AS OF 9223372036854775808 SELECT * FROM r") ≡ Err (r.syntax 7)
@@ -114,7 +114,7 @@ second_part = refl
 
 canonical_update : option_map command_text (result_ok (r.command_of (codes "update R set b = -b * c + 'x' where not a = b and b is null or a <> c")))
     ≡ Some (codes "UPDATE r SET b = (((-b) * c) + 'x') WHERE (((NOT (a = b)) AND (b IS NULL)) OR (a <> c))")
-unfolding is_utf8 chars lib.Utf8.encode lex.lexed lex.lexed_from lex.lexeme_at lex.word_at lex.reserved_word symbol_text lex.number_at lex.sign_at p.expect c.update c.set_term c.separated c.many c.repeat c.condition p.term p.term_within p.joined p.chain p.chain_within p.negation p.test p.factor p.column p.brackets p.value_test cap.binary cap.neg cap.not cap.is_null written
+unfolding is_utf8 chars lib.Utf8.encode lex.lexed lex.lexed_from lex.lexeme_at lex.word_at lex.reserved_word symbol_text lex.number_at lex.sign_at p.expect c.update c.set_term c.separated c.many c.repeat c.condition p.term p.term_within p.joined p.chain p.chain_within p.negation p.full_test p.factor p.column p.brackets p.value_test cap.binary cap.neg cap.not cap.is_null written
 canonical_update = refl
 
 -- 61 open brackets are too deep, 60 are not, and one that closes makes room

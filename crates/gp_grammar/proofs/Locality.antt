@@ -343,8 +343,8 @@ module _ (t : Lexeme) (m m' : Lexemes) where
     local-sum : Local (suc n) (r.operations term l.Sum)
     local-sum = local-operations l.Sum (suc n) (local-operations l.Product (suc n) local-factor)
 
-    local-test : Local (suc n) (r.test term)
-    unfolding r.test
+    local-test : Local (suc n) (r.full_test term)
+    unfolding r.full_test
     local-test = local-bind (suc n) (r.sum term) _ local-sum (λ x. local-bind (suc n) (λ ts. r.compared term x ts (next_operator comparison_of ts)) (λ b. r.optional_test b.0 b.1 (strip s.Is b.1))
         (local-next_operator n comparison_of (r.compared term x) (λ o ts. r.sum term ts >>= (λ y. Ok (binary o x y.0, y.1))) (local-ok (suc n) x)
         (λ o. local-bind n (r.sum term) _ (local-weaken (suc n) n (r.sum term) (omega arith) local-sum) (λ y. local-ok n (binary o x y))) (λ ts o. refl))
@@ -352,7 +352,7 @@ module _ (t : Lexeme) (m m' : Lexemes) where
 
     local-negation : Local (suc n) (r.negation term)
     unfolding r.negation
-    local-negation = local-strip (suc n) s.Not (r.negated term) _ local-test (local-bind (suc n) (r.test term) (λ x. Ok (not x.0, x.1)) local-test (λ x. local-ok (suc n) (not x))) (λ ts rest. refl)
+    local-negation = local-strip (suc n) s.Not (r.negated term) _ local-test (local-bind (suc n) (r.full_test term) (λ x. Ok (not x.0, x.1)) local-test (λ x. local-ok (suc n) (not x))) (λ ts rest. refl)
 
     local-terms : Local (suc n) (r.operations term l.Disjunction)
     local-terms = local-operations l.Disjunction (suc n) (local-operations l.Conjunction (suc n) local-negation)

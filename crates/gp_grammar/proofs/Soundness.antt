@@ -294,8 +294,8 @@ module _ (f : Parser Term) (sound : (ts : Lexemes) → Sound BuildsTerm ts (f ts
       (sound-bind (Builds (g.operations l.Sum)) (λ b y. Builds g.comparison (a ++ (Sign w.symbol ∷ b)) y) o.1 (r.sum f o.1) (λ r. Ok (binary o.0 left r.0, r.1)) (sum-sound o.1)
       (λ used rest x h. sound-ok _ rest (binary o.0 left x) (rw append-nil (built.compared o.0 w.symbol a used left x w.is is h)))))
 
-  test-sound : (ts : Lexemes) → Sound (Builds g.test) ts (r.test f ts)
-  unfolding r.test
+  test-sound : (ts : Lexemes) → Sound (Builds g.test) ts (r.full_test f ts)
+  unfolding r.full_test
   test-sound ts =
       sound-bind (Builds (g.operations l.Sum)) (Builds g.test) ts (r.sum f ts) _ (sum-sound ts) (λ a rest x is.
       sound-bind (λ b y. Builds g.comparison (a ++ b) y) (λ b y. Builds g.test (a ++ b) y) rest (r.compared f x rest (next_operator comparison_of rest)) (λ b. r.optional_test b.0 b.1 (strip s.Is b.1))
@@ -304,11 +304,11 @@ module _ (f : Parser Term) (sound : (ts : Lexemes) → Sound BuildsTerm ts (f ts
       (optional_test-sound (a ++ b) y is2 rest2 (strip s.Is rest2) refl)))
 
   negated-sound : (ts : Lexemes) (o : Option Lexemes) → strip s.Not ts ≡ o → Sound (Builds g.negation) ts (r.negated f ts o)
-  negated-sound ts None e = sound-phrase (Builds g.test) (Builds g.negation) ts (r.test f ts) (λ b y i. built.not_negated b y i) (test-sound ts)
+  negated-sound ts None e = sound-phrase (Builds g.test) (Builds g.negation) ts (r.full_test f ts) (λ b y i. built.not_negated b y i) (test-sound ts)
   negated-sound ts (Some rest) e =
       sound-at (Builds g.negation) ts (Sign s.Not ∷ rest) _ (strip-split s.Not ts rest e)
-      (sound-shift (Builds g.negation) (Sign s.Not ∷ []) rest (r.test f rest >>= (λ r. Ok (not r.0, r.1)))
-      (sound-bind (Builds g.test) (λ b y. Builds g.negation (Sign s.Not ∷ b) y) rest (r.test f rest) (λ r. Ok (not r.0, r.1)) (test-sound rest)
+      (sound-shift (Builds g.negation) (Sign s.Not ∷ []) rest (r.full_test f rest >>= (λ r. Ok (not r.0, r.1)))
+      (sound-bind (Builds g.test) (λ b y. Builds g.negation (Sign s.Not ∷ b) y) rest (r.full_test f rest) (λ r. Ok (not r.0, r.1)) (test-sound rest)
       (λ used rest x is. sound-ok _ rest (not x) (rw append-nil (built.negated used x is)))))
 
   negation-sound : (ts : Lexemes) → Sound (Builds g.negation) ts (r.negation f ts)

@@ -162,15 +162,15 @@ module _ (term : Parser Term) where
   compared left ts None = Ok (left, ts)
   compared left ts (Some o) = sum o.1 >>= (λ r. Ok (binary o.0 left r.0, r.1))
 
-  unfoldable pub test : Parser Term
-  test ts = do
+  unfoldable pub full_test : Parser Term
+  full_test ts = do
     left ← sum ts
     both ← compared left.0 left.1 (next_operator comparison_of left.1)
     optional_test both.0 both.1 (strip s.Is both.1)
 
   abbrev pub negated : Lexemes → Option Lexemes → Outcome (Term × Lexemes)
-  negated ts None = test ts
-  negated ts (Some rest) = test rest >>= (λ r. Ok (not r.0, r.1))
+  negated ts None = full_test ts
+  negated ts (Some rest) = full_test rest >>= (λ r. Ok (not r.0, r.1))
 
   unfoldable pub negation : Parser Term
   negation ts = negated ts (strip s.Not ts)

@@ -251,9 +251,9 @@ fn compared<'a>(
 
 /// A sum or a comparison of two, with or without IS.
 #[cycle(terms)]
-#[tactic(auto, unfolding(gp_grammar::specs::Parsing::test))]
+#[tactic(auto, unfolding(gp_grammar::specs::Parsing::full_test))]
 fn test(alloc: Global, lexemes: &[Lexeme]) -> Result<(Built, &[Lexeme]), ParseStop<'_>>
-    ensures value { Parses built_view result (spec.test spec.term lexemes.now) }
+    ensures value { Parses built_view result (spec.full_test spec.term lexemes.now) }
     ensures shorter { Shortens result lexemes.now }
 {
     let (left, rest) = operations(alloc, lexemes, Level::Sum)?;

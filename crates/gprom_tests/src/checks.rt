@@ -1,8 +1,9 @@
 //! The check of names and types.
 
+use crate::lines::command_of;
 use gp_base::{Catalog, NoMemory, write_refusal};
 use gp_check::{CheckStop, check, check_table, typing_follows_the_rules};
-use gp_syntax::{Command, read_command};
+use gp_syntax::Command;
 use std::alloc::Global;
 use std::test::Fail;
 
@@ -23,8 +24,8 @@ fn stop_of(alloc: Global, catalog: &Catalog, command: &Command) -> Option<CheckS
 
 /// Adds the table of a CREATE TABLE to the catalogue, and answers whether it was added.
 fn creates(alloc: Global, catalog: &mut Catalog, text: &str) -> bool {
-    match read_command(alloc, text.as_bytes()) {
-        Ok(Command::Create { table }) => catalog.add(table).is_ok(),
+    match command_of(alloc, text.as_bytes()) {
+        Some(Command::Create { table }) => catalog.add(table).is_ok(),
         _ => false,
     }
 }
@@ -32,7 +33,7 @@ fn creates(alloc: Global, catalog: &mut Catalog, text: &str) -> bool {
 /// The text of the refusal of a command, which is empty where it passes the check.
 fn refusal_of(alloc: Global, catalog: &Catalog, text: &str) -> Result<Vec<u8>, NoMemory> {
     let mut out = Vec::new(alloc);
-    if let Ok(command) = read_command(alloc, text.as_bytes()) {
+    if let Some(command) = command_of(alloc, text.as_bytes()) {
         if let Some(CheckStop::Refused(refusal)) = stop_of(alloc, catalog, &command) {
             write_refusal(alloc, &refusal, &mut out)?;
         }

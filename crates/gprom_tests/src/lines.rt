@@ -2,7 +2,7 @@
 
 use gp_base::{NoMemory, write_refusal};
 use gp_grammar::canonical_texts_are_read;
-use gp_syntax::{ReadStop, lines, read_command, read_line, read_question, write_command};
+use gp_syntax::{Command, ReadStop, lines, read_command, read_line, read_question, write_command};
 use std::alloc::{AllocError, Global};
 use std::process::Abort;
 use std::test::Fail;
@@ -139,11 +139,20 @@ fn commands_are_read(rt: HostRuntime) -> Result<(), Fail> {
     Ok(())
 }
 
+/// The command of a short text.
+pub(crate) fn command_of(alloc: Global, text: &[u8]) -> Option<Command> {
+    if text.len() < 10_000 {
+        read_command(alloc, text).ok()
+    } else {
+        None
+    }
+}
+
 /// Whether the command of the text has the text again.
 fn is_canonical(alloc: Global, text: &[u8]) -> Result<bool, NoMemory> {
-    match read_command(alloc, text) {
-        Ok(command) => Ok(write_command(alloc, &command)?.as_slice() == text),
-        Err(_) => Ok(false),
+    match command_of(alloc, text) {
+        Some(command) => Ok(write_command(alloc, &command)?.as_slice() == text),
+        None => Ok(false),
     }
 }
 

@@ -2,10 +2,10 @@
 
 ghost use Rattle.std.specs.Prelude.{◌<◌, ◌≤◌, OnOk};
 
+use crate::lines::command_of;
 use crate::values::{Given, row_of};
 use gp_base::{NoMemory, Refusal, Sequence};
 use gp_engine::{Engine, Reply, every_line_has_one_reply, write_reply};
-use gp_syntax::read_command;
 use std::alloc::Global;
 use std::process::Abort;
 use std::test::Fail;
@@ -22,7 +22,7 @@ fn replies(
     requires { engine.old.line < line }
     ensures { OnOk result (engine.new.line ≤ line) }
 {
-    let Ok(command) = read_command(alloc, command.as_bytes()) else {
+    let Some(command) = command_of(alloc, command.as_bytes()) else {
         return Ok(false);
     };
     let reply = engine.line(line, session, command)?;
