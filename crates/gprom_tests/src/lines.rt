@@ -129,6 +129,21 @@ const COMMANDS: &[(&[u8], u32, &[u8])] = &[
         2,
         b"INSERT INTO r SELECT ((a - 1) - 2) FROM r WHERE (a < 3)",
     ),
+    (
+        b"s1: INSERT INTO r VALUES (9223372036854775807, -9223372036854775807)",
+        1,
+        b"INSERT INTO r VALUES (9223372036854775807, -9223372036854775807)",
+    ),
+    (
+        b"s1: INSERT INTO r VALUES (009223372036854775807, -009223372036854775808)",
+        1,
+        b"INSERT INTO r VALUES (9223372036854775807, -9223372036854775808)",
+    ),
+    (
+        b"s1: DELETE FROM r WHERE a = -9223372036854775807",
+        1,
+        b"DELETE FROM r WHERE (a = (-9223372036854775807))",
+    ),
 ];
 
 #[test]
@@ -199,8 +214,16 @@ const FAULTS: &[(&[u8], &str)] = &[
         "E03 syntax fault at column 27",
     ),
     (
+        b"s1: INSERT INTO r VALUES (009223372036854775808)",
+        "E03 syntax fault at column 27",
+    ),
+    (
         b"s1: INSERT INTO r VALUES (9223372036854775809)",
         "E02 lexical fault at column 27",
+    ),
+    (
+        b"s1: DELETE FROM r WHERE a = -9223372036854775808",
+        "E03 syntax fault at column 30",
     ),
     (b"s1: COMMIT\r", "E02 lexical fault at column 11"),
     (
@@ -227,14 +250,66 @@ fn longest_line_is_read(rt: HostRuntime) -> Result<(), Fail> {
     Ok(())
 }
 
+/// Lines that are a start, a piece so many times and an end, and their refusals, which are empty where the line is read.
+const REPEATED: &[(&[u8], &[u8], u32, &[u8], &str)] = &[
+    (
+        b"s1: SELECT ",
+        b"(",
+        60,
+        b"",
+        "E03 syntax fault at column 72",
+    ),
+    (b"s1: SELECT ", b"(", 61, b"", "E14 limit depth"),
+    (b"", b"(", 4096, b"", "E14 limit depth"),
+    (b"s1: SELECT a", b" + 1", 59, b" FROM r", ""),
+    (b"s1: SELECT a", b" + 1", 60, b" FROM r", "E14 limit depth"),
+    (b"s1: SELECT -a", b" + 1", 99, b" FROM r", "E14 limit depth"),
+    (b"s1: SELECT a", b" + 1", 100, b" FROM r", "E14 limit nodes"),
+    (b"s1: SELECT a", b", a", 15, b" FROM r", ""),
+    (b"s1: SELECT a", b", a", 16, b" FROM r", "E14 limit columns"),
+    (b"s1: SELECT * FROM r", b", r", 3, b"", ""),
+    (b"s1: SELECT * FROM r", b", r", 4, b"", "E14 limit from"),
+    (
+        b"s1: SELECT * FROM r",
+        b" UNION ALL SELECT * FROM r",
+        7,
+        b"",
+        "",
+    ),
+    (
+        b"s1: SELECT * FROM r",
+        b" UNION ALL SELECT * FROM r",
+        8,
+        b"",
+        "E14 limit branches",
+    ),
+    (b"s1: INSERT INTO r VALUES (1)", b", (1)", 99, b"", ""),
+    (
+        b"s1: INSERT INTO r VALUES (1)",
+        b", (1)",
+        100,
+        b"",
+        "E14 limit values",
+    ),
+    (b"s1: INSERT INTO r VALUES ('", b"''", 255, b"')", ""),
+    (
+        b"s1: INSERT INTO r VALUES ('",
+        b"''",
+        256,
+        b"')",
+        "E02 lexical fault at column 27",
+    ),
+];
+
 #[test]
-fn deep_brackets_are_refused(rt: HostRuntime) -> Result<(), Fail> {
-    let line = repeated(rt.alloc(), b"s1: SELECT ", b"(", 61, b"")?;
-    assert!(rt; refuses(rt.alloc(), &line, "E14 limit depth")?);
-    let line = repeated(rt.alloc(), b"", b"(", 4096, b"")?;
-    assert!(rt; refuses(rt.alloc(), &line, "E14 limit depth")?);
-    let line = repeated(rt.alloc(), b"s1: SELECT ", b"(", 60, b"")?;
-    assert!(rt; refuses(rt.alloc(), &line, "E03 syntax fault at column 72")?);
+fn limits_are_kept(rt: HostRuntime) -> Result<(), Fail> {
+    for (start, piece, times, end, refusal) in REPEATED {
+        let line = repeated(rt.alloc(), start, piece, *times, end)?;
+        assert!(rt;
+            refuses(rt.alloc(), &line, refusal)?,
+            "{times} of {piece:?} after {start:?}"
+        );
+    }
     Ok(())
 }
 
