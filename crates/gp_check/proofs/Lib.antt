@@ -3,3 +3,4 @@ pub mod TypingLemmas
 pub mod NamesLemmas
 pub mod MeaningLemmas
 pub mod FittingLemmas
+pub mod ValidLemmas

@@ -200,8 +200,11 @@ fn check_statement(alloc: Global, catalog: &Catalog, command: &Command) -> Resul
 
 /// Checks a statement against the tables of the catalogue: the statement with tables and columns by number, or the refusal
 /// of the first fault. A refusal is E04 to E08 or E15. The faults are looked for phase by phase, each over the whole
-/// statement before the next: tables that are not there (E04), FROM names that stand twice (E06), columns that are not
+/// statement before the next: tables that are not there (E04), FROM names that are repeated (E06), columns that are not
 /// there or ambiguous (E05, E06), columns that are set twice (E08), numbers of columns (E15), and types (E07).
+///
+/// The statement of a valid command fits a catalogue of valid tables. A command that was read is valid
+/// ([`crate::read_commands_are_valid`]), and so is a table that such a command creates ([`crate::created_tables_are_valid`]).
 pub fn check(alloc: Global, catalog: &Catalog, command: &Command) -> Result<Stmt, CheckStop>
     requires { is_statement (command_view command.now) ≡ true }
     ensures checked { Checks statement_view result
@@ -213,7 +216,8 @@ pub fn check(alloc: Global, catalog: &Catalog, command: &Command) -> Result<Stmt
     check_statement(alloc, catalog, command)
 }
 
-/// Checks the query of a question, as [`check`] checks a SELECT.
+/// Checks the query of a question, as [`check`] checks a SELECT. The query of a question that was read is valid
+/// ([`crate::read_questions_are_valid`]).
 pub fn check_query(alloc: Global, catalog: &Catalog, query: &Query) -> Result<Select, CheckStop>
     ensures checked { Checks select_view result (checked_query catalog.now (query_view query.now)) }
     ensures fits { IfOk result (λ select. tables_are_valid catalog.now ≡ true
@@ -223,8 +227,8 @@ pub fn check_query(alloc: Global, catalog: &Catalog, query: &Query) -> Result<Se
     check_blocks(alloc, catalog, query.blocks.as_slice())
 }
 
-/// Checks a new table. The refusal is E08 exactly if its name is that of a table, or a column's name stands twice: it names
-/// the table, or else the first column whose name stands before.
+/// Checks a new table. The refusal is E08 exactly if its name is that of a table, or the name of a column is repeated: it
+/// names the table, or else the first column with the name of an earlier one.
 pub fn check_table(catalog: &Catalog, table: &Table) -> Result<(), CheckStop>
     ensures { Finds result (f.table_refusal catalog.now table.now) }
 {

@@ -2,7 +2,8 @@
 //!
 //! In reading order: [`check`] checks a statement of a session, [`check_query`] the query of a question, [`check_table`] a
 //! new table. In `specs/`, `Scopes` says what names stand for, `Typing` which terms are well typed, `Faults` which refusal
-//! comes first, `Meaning` which statement a command means, and `Checking` puts these together.
+//! comes first, `Meaning` which statement a command means, and `Checking` puts these together. The statements of `Valid`
+//! commands fit their catalogue, and by the laws every command that was read is valid.
 //!
 //! ```text
 //! match check(alloc, &catalog, &command) {
@@ -29,4 +30,7 @@ mod widths;
 
 pub use checker::{check, check_query, check_table};
 pub use error::CheckStop;
-pub use laws::typing_follows_the_rules;
+pub use laws::{
+    created_tables_are_valid, read_commands_are_valid, read_lines_are_valid,
+    read_questions_are_valid, typing_follows_the_rules,
+};

@@ -1,4 +1,4 @@
-//! Names that stand twice.
+//! Repeated names.
 
 ghost use Rattle.std.specs.Prelude.{◌≡◌, List, ℕ, map, option_copied};
 ghost use Rattle.std.specs.List.{list_any};
@@ -54,8 +54,8 @@ fn is_among<T: Named>(items: &[T], name: &Name) -> bool
     false
 }
 
-/// The first name that stands before in the list, if there is one. The items before it have different names, so where there
-/// are only so many names, the walk ends early.
+/// The first name that an earlier item of the list has, if there is one. The items before it have different names, so where
+/// there are only so many names, the walk ends early.
 pub fn first_repeated<T: Named>(items: &[T]) -> Option<&Name>
     ensures { option_copied result ≡ first_repeated (map T.label items.now) }
 {

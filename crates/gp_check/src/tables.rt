@@ -1,4 +1,4 @@
-//! Tables that are not there, and FROM names that stand twice.
+//! Missing tables and repeated FROM names.
 
 ghost use Rattle.std.specs.Prelude.{◌≡◌, map};
 ghost use Rattle.gp_syntax.specs.Views.{block_view};
@@ -42,7 +42,7 @@ pub fn known_tables(catalog: &Catalog, blocks: &[Block]) -> Result<(), CheckStop
     Ok(())
 }
 
-/// Refuses a FROM name that stands twice in a block.
+/// Refuses a repeated FROM name of a block.
 fn different_block_names(block: &Block) -> Result<(), CheckStop>
     ensures { Finds result (items_fault (block_view block.now)) }
 {
@@ -54,7 +54,7 @@ fn different_block_names(block: &Block) -> Result<(), CheckStop>
     }
 }
 
-/// Refuses the first FROM name that stands twice in its block.
+/// Refuses the first FROM name that is repeated in its block.
 pub fn different_names(blocks: &[Block]) -> Result<(), CheckStop>
     ensures { Finds result (first_fault items_fault (map block_view blocks.now)) }
 {
