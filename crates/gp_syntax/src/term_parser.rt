@@ -122,7 +122,7 @@ fn value_test(
 {
     match strip(lexemes, Symbol::Null) {
         None => {
-            let rest = expect(lexemes, Symbol::True)?;
+            let (left, rest) = before(left, lexemes, Symbol::True)?;
             Ok((Built::is_true(alloc, left, yes)?, rest))
         }
         Some(rest) => Ok((Built::is_null(alloc, left, yes)?, rest)),
