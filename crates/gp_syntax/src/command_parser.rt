@@ -190,7 +190,7 @@ fn named(table: &Name, name: &Name) -> Result<Item, NoMemory>
     ensures { IfOk result (λ item. item_view item ≡ spec.named table.now name.now) }
 {
     let table = table.clone()?;
-    let name = name.clone()?;
+    let (name, table) = with_name(name, table)?;
     Ok(Item { table, name })
 }
 

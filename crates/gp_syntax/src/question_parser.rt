@@ -1,15 +1,17 @@
 //! The parser of questions: one function for each rule of the grammar. Most keywords of questions are names elsewhere.
 
-ghost use Rattle.std.specs.Prelude.{◌≡◌, [], List, map};
+ghost use Rattle.std.specs.Prelude.{◌≡◌, [], IfOk, List, map};
 ghost use Rattle.std.specs.Option.{option_map};
+ghost use Rattle.gp_grammar.specs.CommandParsing.{query};
 ghost use Rattle.gp_grammar.specs.Parsing.{whole};
 ghost use Rattle.gp_grammar.specs.QuestionParsing as spec;
 ghost use Rattle.gp_grammar.specs.Syntax as y;
 ghost use Rattle.gp_grammar.specs.Syntax.{rule_of};
 ghost use Rattle.gp_syntax.specs.Parses.{Parses, ParsesAll, Strips, Extends, pushed};
 ghost use Rattle.gp_syntax.specs.QuestionParts.{pattern_view, rules_view, rules_of, ends_rules, explained, reenacted, versions};
-ghost use Rattle.gp_syntax.specs.Views.{how_view, question_view, rule_view, state_view};
+ghost use Rattle.gp_syntax.specs.Views.{how_view, query_view, question_view, rule_view, state_view};
 
+use crate::command::Query;
 use crate::command_parser::query;
 use crate::error::ParseStop;
 use crate::lexeme_parser::{expect, identifier, strip};
@@ -369,14 +371,39 @@ fn how(alloc: Global, lexemes: &[Lexeme]) -> Result<(How, &[Lexeme]), ParseStop<
     }
 }
 
+/// The value and a state.
+fn with_state<T: Drop>(
+    value: T,
+    lexemes: &[Lexeme],
+) -> Result<((T, State), &[Lexeme]), ParseStop<'_>>
+    ensures value { IfOk result (λ r. r.0.0 ≡ value) }
+    ensures state { Parses (λ r. state_view r.1) result (spec.state lexemes.now) }
+{
+    let (state, rest) = state(lexemes)?;
+    Ok(((value, state), rest))
+}
+
+/// The value and a query.
+fn with_query<T: Drop>(
+    alloc: Global,
+    value: T,
+    lexemes: &[Lexeme],
+) -> Result<((T, Query), &[Lexeme]), ParseStop<'_>>
+    ensures value { IfOk result (λ r. r.0.0 ≡ value) }
+    ensures query { Parses (λ r. query_view r.1) result (query lexemes.now) }
+{
+    let (query, rest) = query(alloc, lexemes)?;
+    Ok(((value, query), rest))
+}
+
 /// A question that asks a query.
 #[tactic(auto, unfolding(gp_grammar::specs::QuestionParsing::ask))]
 fn ask(alloc: Global, lexemes: &[Lexeme]) -> Result<(Question, &[Lexeme]), ParseStop<'_>>
     ensures { Parses question_view result (spec.ask lexemes.now) }
 {
     let (how, rest) = how(alloc, lexemes)?;
-    let (state, rest) = state(rest)?;
-    let (query, rest) = query(alloc, rest)?;
+    let ((how, state), rest) = with_state(how, rest)?;
+    let ((how, query), rest) = with_query(alloc, how, rest)?;
     Ok((Question::Ask { how, state, query }, rest))
 }
 

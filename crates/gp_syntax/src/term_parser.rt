@@ -10,7 +10,7 @@ ghost use Rattle.gp_syntax.specs.Parses.{Parses, Shortens, built_view, ends_with
 use crate::built::Built;
 use crate::error::ParseStop;
 use crate::lexeme_parser::{expect, identifier, strip};
-use crate::parsed::before;
+use crate::parsed::{before, with_name};
 use crate::term::Term;
 use gp_base::Name;
 use gp_grammar::{Level, Op};
@@ -102,8 +102,9 @@ fn column<'a>(
         }
         Some(rest) => {
             let (name, rest) = identifier(rest)?;
-            let item = Some(word.clone()?);
-            let col = name.clone()?;
+            let item = word.clone()?;
+            let (col, item) = with_name(name, item)?;
+            let item = Some(item);
             Ok((Built::leaf(Term::Col { item, col }), rest))
         }
     }
