@@ -5,8 +5,9 @@ use Rattle.gp_lexer.specs.declared.lexeme.Lexeme.{Lexeme}
 use Rattle.gp_grammar.specs.Syntax as y
 use Rattle.gp_grammar.specs.Syntax.{Lexemes}
 use Rattle.gp_lexer.specs.declared.lexeme.Symbol.TheVariants as s
-use Rattle.gp_grammar.specs.Parsing.{Outcome, Parser}
-use Rattle.gp_grammar.specs.CommandParsing.{◌then◌, block}
+use Rattle.gp_lexer.specs.declared.lexeme.Symbol.{Symbol}
+use Rattle.gp_grammar.specs.Parsing.{Outcome, Parser, ◌>>=◌, expect}
+use Rattle.gp_grammar.specs.CommandParsing.{◌then◌, block, item, push, separated}
 use Rattle.gp_syntax.specs.declared.error.ParseStop.{ParseStop}
 use Rattle.gp_syntax.specs.declared.error.ParseStop.TheVariants.{At, NoMemory}
 use Rattle.gp_syntax.specs.declared.built.Built.{Built}
@@ -43,8 +44,26 @@ ParsesAll view (Err NoMemory) parsed = Unit {0}
 abbrev pub union_block : Parser y.Block
 union_block = s.All then block
 
+-- a FROM
+abbrev pub from_clause : Parser (List y.Item)
+from_clause = s.From then separated item
+
 -- the lexemes behind a word that has to be the first
 abbrev pub Strips : Result (Bor (List Lexeme)) ParseStop → Lexemes → Option Lexemes → Type 0
 Strips (Ok rest) lexemes stripped = stripped ≡ Some rest.now
 Strips (Err (At rest)) lexemes stripped = (stripped ≡ None) × (rest.now ≡ lexemes)
 Strips (Err NoMemory) lexemes stripped = Unit {0}
+
+-- the item at the end of a list
+abbrev pub pushed : {A : Type 0} → List A → Outcome (A × Lexemes) → Outcome (List A × Lexemes)
+pushed found parsed = parsed >>= (λ r. Ok (push found r.0, r.1))
+
+-- the same as Parses for a parser that adds what it parses to a list
+abbrev pub Extends : {A : Type 0} → List A → Result (Bor (List Lexeme)) ParseStop → Outcome (List A × Lexemes) → Type 0
+Extends list (Ok rest) parsed = parsed ≡ Ok (list, rest.now)
+Extends list (Err (At rest)) parsed = parsed ≡ Err rest.now
+Extends list (Err NoMemory) parsed = Unit {0}
+
+-- a parser and the symbol behind it
+abbrev pub ends_with : {A : Type 0} → Symbol → Parser A → Parser A
+ends_with symbol p ts = p ts >>= (λ r. expect symbol r.1 >>= (λ rest. Ok (r.0, rest)))

@@ -1,5 +1,5 @@
 -- Machinery: parts of the parser of questions.
-use Rattle.std.specs.Prelude.{ℕ, true, false, List, map, None, Ok, codes}
+use Rattle.std.specs.Prelude.{ℕ, true, false, List, map, Option, None, Ok, codes}
 use Rattle.gp_lexer.specs.declared.lexeme.Symbol.TheVariants as s
 use Rattle.gp_grammar.specs.Syntax as y
 use Rattle.gp_grammar.specs.Parsing.{Parser, ◌>>=◌, identifier}
@@ -11,6 +11,10 @@ use Rattle.gp_syntax.specs.Views.{rule_view}
 
 abbrev pub rules_view : Rules → y.Rules
 rules_view rules = record { rules = map rule_view rules.rules; other = rules.other }
+
+-- rules and the number behind their ELSE
+abbrev pub rules_of : List y.Rule → Option ℕ → y.Rules
+rules_of rules other = record { rules = rules; other = other }
 
 abbrev pub pattern_view : Pattern → y.Pattern
 pattern_view pattern = record { kind = pattern.kind; t = pattern.t; k = pattern.k; n = pattern.n }

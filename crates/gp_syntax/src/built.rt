@@ -6,9 +6,11 @@
 ghost use Rattle.std.specs.Prelude.{◌≡◌, ◌≤◌, ◌+◌, ◌*◌, IfOk};
 ghost use Rattle.gp_grammar.specs.Capping as capping;
 ghost use Rattle.gp_grammar.specs.Limits as limits;
+ghost use Rattle.gp_grammar.specs.Syntax as y;
 ghost use Rattle.gp_grammar.specs.declared.limits.TheConstants.{MAX_NODES};
 ghost use Rattle.gp_syntax.specs.Views.{term_view};
 
+use crate::parsed::{Parsed, boxed_pair, boxed_triple, only};
 use crate::term::Term;
 use gp_base::NoMemory;
 use gp_grammar::{MAX_NODES, Op};
@@ -23,6 +25,12 @@ pub(crate) struct Built {
     pub nodes: usize,
     ghost counted: { nodes ≡ limits.nodes (term_view term) },
     ghost bounded: { nodes ≤ 3 * MAX_NODES + 1 },
+}
+
+impl Parsed for Built {
+    ghost Tree = { y.Term };
+
+    ghost view = { λ built. term_view built.term };
 }
 
 impl Built {
@@ -41,17 +49,14 @@ impl Built {
             ≡ capping.binary op (term_view left.term) (term_view right.term)) }
     {
         if left.nodes > MAX_NODES {
-            return Ok(left);
+            return Ok(only(left, right));
         }
         if right.nodes > MAX_NODES {
-            return Ok(right);
+            return Ok(only(right, left));
         }
         let nodes = left.nodes + right.nodes + 1;
-        let term = Term::Binary {
-            op,
-            left: Box::new(alloc, left.term)?,
-            right: Box::new(alloc, right.term)?,
-        };
+        let (left, right) = boxed_pair(alloc, left.term, right.term)?;
+        let term = Term::Binary { op, left, right };
         Ok(Built { term, nodes })
     }
 
@@ -118,20 +123,17 @@ impl Built {
             ≡ capping.case (term_view when.term) (term_view first.term) (term_view other.term)) }
     {
         if when.nodes > MAX_NODES {
-            return Ok(when);
+            return Ok(only(when, (first, other)));
         }
         if first.nodes > MAX_NODES {
-            return Ok(first);
+            return Ok(only(first, (when, other)));
         }
         if other.nodes > MAX_NODES {
-            return Ok(other);
+            return Ok(only(other, (when, first)));
         }
         let nodes = when.nodes + first.nodes + other.nodes + 1;
-        let term = Term::Case {
-            when: Box::new(alloc, when.term)?,
-            first: Box::new(alloc, first.term)?,
-            other: Box::new(alloc, other.term)?,
-        };
+        let (when, first, other) = boxed_triple(alloc, when.term, first.term, other.term)?;
+        let term = Term::Case { when, first, other };
         Ok(Built { term, nodes })
     }
 }

@@ -7,7 +7,7 @@ ghost use Rattle.gp_lexer.specs.Layout.{put, written};
 ghost use Rattle.gp_lexer.specs.declared.lexeme.Lexeme.{Lexeme};
 ghost use Rattle.gp_lexer.specs.declared.lexeme.Lexeme.TheVariants.{Symbol as Sign, Number as NumberLexeme, Big as BigLexeme};
 ghost use Rattle.gp_grammar.specs.Canonical as spec;
-ghost use Rattle.gp_grammar.specs.Syntax.{create, insert, insert_select, update, delete};
+ghost use Rattle.gp_grammar.specs.Syntax.{binary, case, create, insert, insert_select, update, delete};
 ghost use Rattle.gp_syntax.specs.Layouts.{insert_into, separator_lexemes};
 ghost use Rattle.gp_syntax.specs.Views.{term_view, set_view, item_view, items_view, block_view, query_view, condition_view, command_view};
 
@@ -107,71 +107,77 @@ fn push_symbols(layout: &mut Layout, first: Symbol, second: Symbol) -> Result<()
     layout.push_symbol(second)
 }
 
+/// Writes a sign and a term in brackets.
+#[cycle(term_writers)]
+#[tactic(auto, using(crate::proofs::CanonicalLemmas::writes))]
+fn push_signed(layout: &mut Layout, sign: Symbol, part: &Term) -> Result<(), NoMemory>
+    ensures { OnOk result (layout.new ≡ written layout.old
+        (spec.bracketed (Sign sign ∷ spec.term_lexemes (term_view part.now)))) }
+{
+    push_symbols(layout, Symbol::Open, sign)?;
+    push_term(layout, part)?;
+    layout.push_symbol(Symbol::Close)
+}
+
+/// Writes a term and its test in brackets.
+#[cycle(term_writers)]
+#[tactic(auto, using(crate::proofs::CanonicalLemmas::writes))]
+fn push_tested(layout: &mut Layout, part: &Term, yes: bool, tested: Symbol) -> Result<(), NoMemory>
+    ensures { OnOk result (layout.new ≡ written layout.old (spec.bracketed
+        (spec.term_lexemes (term_view part.now) ++ (spec.is_lexemes yes ++ (Sign tested ∷ []))))) }
+{
+    layout.push_symbol(Symbol::Open)?;
+    push_term(layout, part)?;
+    push_test(layout, yes, tested)?;
+    layout.push_symbol(Symbol::Close)
+}
+
+/// Writes two terms with an operator between them in brackets.
+#[cycle(term_writers)]
+#[tactic(auto, using(crate::proofs::CanonicalLemmas::writes))]
+fn push_binary(layout: &mut Layout, op: Op, left: &Term, right: &Term) -> Result<(), NoMemory>
+    ensures { OnOk result (layout.new ≡ written layout.old
+        (spec.term_lexemes (binary op (term_view left.now) (term_view right.now)))) }
+{
+    layout.push_symbol(Symbol::Open)?;
+    push_term(layout, left)?;
+    layout.push_symbol(symbol_of(op))?;
+    push_term(layout, right)?;
+    layout.push_symbol(Symbol::Close)
+}
+
+/// Writes a CASE.
+#[cycle(term_writers)]
+#[tactic(auto, using(crate::proofs::CanonicalLemmas::writes))]
+fn push_case(layout: &mut Layout, when: &Term, first: &Term, other: &Term) -> Result<(), NoMemory>
+    ensures { OnOk result (layout.new ≡ written layout.old
+        (spec.term_lexemes (case (term_view when.now) (term_view first.now) (term_view other.now)))) }
+{
+    push_symbols(layout, Symbol::Case, Symbol::When)?;
+    push_term(layout, when)?;
+    layout.push_symbol(Symbol::Then)?;
+    push_term(layout, first)?;
+    layout.push_symbol(Symbol::Else)?;
+    push_term(layout, other)?;
+    layout.push_symbol(Symbol::End)
+}
+
+#[cycle(term_writers)]
 #[tactic(auto, using(crate::proofs::CanonicalLemmas::writes))]
 fn push_term(layout: &mut Layout, term: &Term) -> Result<(), NoMemory>
     ensures { OnOk result (layout.new ≡ written layout.old (spec.term_lexemes (term_view term.now))) }
 {
     match term {
-        Term::Null => {
-            layout.push_symbol(Symbol::Null)?;
-            Ok(())
-        }
-        Term::Int(number) => {
-            push_number(layout, *number)?;
-            Ok(())
-        }
-        Term::Text(text) => {
-            layout.push_text(text)?;
-            Ok(())
-        }
-        Term::Col { item, col } => {
-            push_column(layout, item, col)?;
-            Ok(())
-        }
-        Term::Binary { op, left, right } => {
-            layout.push_symbol(Symbol::Open)?;
-            push_term(layout, left)?;
-            layout.push_symbol(symbol_of(*op))?;
-            push_term(layout, right)?;
-            layout.push_symbol(Symbol::Close)?;
-            Ok(())
-        }
-        Term::Neg(part) => {
-            push_symbols(layout, Symbol::Open, Symbol::Minus)?;
-            push_term(layout, part)?;
-            layout.push_symbol(Symbol::Close)?;
-            Ok(())
-        }
-        Term::Not(part) => {
-            push_symbols(layout, Symbol::Open, Symbol::Not)?;
-            push_term(layout, part)?;
-            layout.push_symbol(Symbol::Close)?;
-            Ok(())
-        }
-        Term::IsNull { term, yes } => {
-            layout.push_symbol(Symbol::Open)?;
-            push_term(layout, term)?;
-            push_test(layout, *yes, Symbol::Null)?;
-            layout.push_symbol(Symbol::Close)?;
-            Ok(())
-        }
-        Term::IsTrue { term, yes } => {
-            layout.push_symbol(Symbol::Open)?;
-            push_term(layout, term)?;
-            push_test(layout, *yes, Symbol::True)?;
-            layout.push_symbol(Symbol::Close)?;
-            Ok(())
-        }
-        Term::Case { when, first, other } => {
-            push_symbols(layout, Symbol::Case, Symbol::When)?;
-            push_term(layout, when)?;
-            layout.push_symbol(Symbol::Then)?;
-            push_term(layout, first)?;
-            layout.push_symbol(Symbol::Else)?;
-            push_term(layout, other)?;
-            layout.push_symbol(Symbol::End)?;
-            Ok(())
-        }
+        Term::Null => layout.push_symbol(Symbol::Null),
+        Term::Int(number) => push_number(layout, *number),
+        Term::Text(text) => layout.push_text(text),
+        Term::Col { item, col } => push_column(layout, item, col),
+        Term::Binary { op, left, right } => push_binary(layout, *op, left, right),
+        Term::Neg(part) => push_signed(layout, Symbol::Minus, part),
+        Term::Not(part) => push_signed(layout, Symbol::Not, part),
+        Term::IsNull { term, yes } => push_tested(layout, term, *yes, Symbol::Null),
+        Term::IsTrue { term, yes } => push_tested(layout, term, *yes, Symbol::True),
+        Term::Case { when, first, other } => push_case(layout, when, first, other),
     }
 }
 

@@ -1,18 +1,25 @@
 //! The parser of commands and of the lines of scripts: one function for each rule of the grammar.
 
 ghost use Rattle.std.specs.Prelude.{◌≡◌, ◌∷◌, IfOk, List, map, Ok};
+ghost use Rattle.gp_base.specs.declared.cell.Cell.{Cell};
+ghost use Rattle.gp_base.specs.declared.table.Column.{Column};
 ghost use Rattle.gp_lexer.specs.declared.lexeme.Lexeme.{Lexeme};
 ghost use Rattle.gp_lexer.specs.declared.lexeme.Lexeme.TheVariants.{Number as NumberLexeme};
 ghost use Rattle.gp_grammar.specs.CommandGrammar.{session_of};
 ghost use Rattle.gp_grammar.specs.CommandParsing as spec;
-ghost use Rattle.gp_grammar.specs.Parsing.{term, whole, ended};
-ghost use Rattle.gp_syntax.specs.Parses.{Parses, ParsesAll, union_block};
+ghost use Rattle.gp_grammar.specs.Parsing.{term, whole};
+ghost use Rattle.gp_grammar.specs.Syntax as y;
+ghost use Rattle.gp_grammar.proofs.Shrinking.{shrinks-term};
+ghost use Rattle.gp_grammar.proofs.CommandCompleteness.{shrinks-column, shrinks-literal, shrinks-tuple, shrinks-item, shrinks-set_term, shrinks-all};
+ghost use Rattle.gp_syntax.specs.Parses.{Parses, ParsesAll, Extends, pushed, from_clause, union_block};
 ghost use Rattle.gp_syntax.specs.Views.{term_view, set_view, item_view, items_view, block_view, query_view, condition_view, command_view, line_view};
 
 use crate::command::{Block, Command, Item, Items, Query, ScriptLine, SetTerm};
 use crate::error::ParseStop;
 use crate::lexeme_parser::{expect, identifier, strip};
+use crate::list_parser::{ParsedList, in_brackets, parse_others, separated};
 use crate::names::session_of;
+use crate::parsed::{Parsed, ended, with_name};
 use crate::term::Term;
 use crate::term_parser::built_term;
 use gp_base::{Cell, Column, Kind, Name, NoMemory, Row, Sequence, Table};
@@ -58,23 +65,24 @@ fn column(lexemes: &[Lexeme]) -> Result<(Column, &[Lexeme]), ParseStop<'_>>
     }
 }
 
-/// Columns with commas between them.
-#[tactic(auto, unfolding(gp_grammar::specs::CommandParsing::separated))]
-fn columns(
-    alloc: Global,
-    lexemes: &[Lexeme],
-) -> Result<(Sequence<Column>, &[Lexeme]), ParseStop<'_>>
-    ensures { Parses (λ columns. columns) result (spec.separated spec.column lexemes.now) }
-{
-    let (first, mut rest) = column(lexemes)?;
-    let mut found = Sequence::new(alloc);
-    found.push(first)?;
-    while let Some(after) = strip(rest, Symbol::Comma) {
-        let (next, others) = column(after)?;
-        found.push(next)?;
-        rest = others;
+impl ParsedList for Sequence<Column> {
+    ghost Tree = { Column };
+
+    ghost items = { λ list. list };
+
+    ghost item = { spec.column };
+
+    fn parse_next<'a>(
+        &mut self,
+        _alloc: Global,
+        lexemes: &'a [Lexeme],
+    ) -> Result<&'a [Lexeme], ParseStop<'a>> {
+        let (next, rest) = column(lexemes)?;
+        self.push(next)?;
+        Ok(rest)
     }
-    Ok((found, rest))
+
+    ghost shrinks = { shrinks-column };
 }
 
 /// A number with the sign `-`.
@@ -122,20 +130,24 @@ fn literal(lexemes: &[Lexeme]) -> Result<(Cell, &[Lexeme]), ParseStop<'_>>
     }
 }
 
-/// Literals with commas between them.
-#[tactic(auto, unfolding(gp_grammar::specs::CommandParsing::separated))]
-fn literals(alloc: Global, lexemes: &[Lexeme]) -> Result<(Row, &[Lexeme]), ParseStop<'_>>
-    ensures { Parses (λ row. row) result (spec.separated spec.literal lexemes.now) }
-{
-    let (first, mut rest) = literal(lexemes)?;
-    let mut found = Row::new(alloc);
-    found.push(first)?;
-    while let Some(after) = strip(rest, Symbol::Comma) {
-        let (next, others) = literal(after)?;
-        found.push(next)?;
-        rest = others;
+impl ParsedList for Row {
+    ghost Tree = { Cell };
+
+    ghost items = { λ row. row };
+
+    ghost item = { spec.literal };
+
+    fn parse_next<'a>(
+        &mut self,
+        _alloc: Global,
+        lexemes: &'a [Lexeme],
+    ) -> Result<&'a [Lexeme], ParseStop<'a>> {
+        let (next, rest) = literal(lexemes)?;
+        self.push(next)?;
+        Ok(rest)
     }
-    Ok((found, rest))
+
+    ghost shrinks = { shrinks-literal };
 }
 
 /// A tuple of a VALUES.
@@ -143,26 +155,34 @@ fn literals(alloc: Global, lexemes: &[Lexeme]) -> Result<(Row, &[Lexeme]), Parse
 fn tuple(alloc: Global, lexemes: &[Lexeme]) -> Result<(Row, &[Lexeme]), ParseStop<'_>>
     ensures { Parses (λ row. row) result (spec.tuple lexemes.now) }
 {
-    let rest = expect(lexemes, Symbol::Open)?;
-    let (row, rest) = literals(alloc, rest)?;
-    let rest = expect(rest, Symbol::Close)?;
-    Ok((row, rest))
+    in_brackets(alloc, Row::new(alloc), lexemes)
+}
+
+impl ParsedList for Sequence<Row> {
+    ghost Tree = { List Cell };
+
+    ghost items = { λ list. list };
+
+    ghost item = { spec.tuple };
+
+    fn parse_next<'a>(
+        &mut self,
+        alloc: Global,
+        lexemes: &'a [Lexeme],
+    ) -> Result<&'a [Lexeme], ParseStop<'a>> {
+        let (next, rest) = tuple(alloc, lexemes)?;
+        self.push(next)?;
+        Ok(rest)
+    }
+
+    ghost shrinks = { shrinks-tuple };
 }
 
 /// Tuples with commas between them.
-#[tactic(auto, unfolding(gp_grammar::specs::CommandParsing::separated))]
 fn tuples(alloc: Global, lexemes: &[Lexeme]) -> Result<(Sequence<Row>, &[Lexeme]), ParseStop<'_>>
     ensures { Parses (λ rows. rows) result (spec.separated spec.tuple lexemes.now) }
 {
-    let (first, mut rest) = tuple(alloc, lexemes)?;
-    let mut found = Sequence::new(alloc);
-    found.push(first)?;
-    while let Some(after) = strip(rest, Symbol::Comma) {
-        let (next, others) = tuple(alloc, after)?;
-        found.push(next)?;
-        rest = others;
-    }
-    Ok((found, rest))
+    separated(alloc, Sequence::new(alloc), lexemes)
 }
 
 /// A table of a FROM under this name.
@@ -170,7 +190,7 @@ fn named(table: &Name, name: &Name) -> Result<Item, NoMemory>
     ensures { IfOk result (λ item. item_view item ≡ spec.named table.now name.now) }
 {
     let table = table.clone()?;
-    let name = name.clone()?;
+    let (name, table) = with_name(name, table)?;
     Ok(Item { table, name })
 }
 
@@ -209,39 +229,61 @@ fn item(lexemes: &[Lexeme]) -> Result<(Item, &[Lexeme]), ParseStop<'_>>
     alias(table, rest)
 }
 
+impl ParsedList for Sequence<Item> {
+    ghost Tree = { y.Item };
+
+    ghost items = { λ list. map item_view list };
+
+    ghost item = { spec.item };
+
+    fn parse_next<'a>(
+        &mut self,
+        _alloc: Global,
+        lexemes: &'a [Lexeme],
+    ) -> Result<&'a [Lexeme], ParseStop<'a>> {
+        let (next, rest) = item(lexemes)?;
+        self.push(next)?;
+        Ok(rest)
+    }
+
+    ghost shrinks = { shrinks-item };
+}
+
 /// Tables of a FROM with commas between them.
-#[tactic(auto, unfolding(gp_grammar::specs::CommandParsing::separated))]
 fn from_items(
     alloc: Global,
     lexemes: &[Lexeme],
 ) -> Result<(Sequence<Item>, &[Lexeme]), ParseStop<'_>>
     ensures { Parses (map item_view) result (spec.separated spec.item lexemes.now) }
 {
-    let (first, mut rest) = item(lexemes)?;
-    let mut found = Sequence::new(alloc);
-    found.push(first)?;
-    while let Some(after) = strip(rest, Symbol::Comma) {
-        let (next, others) = item(after)?;
-        found.push(next)?;
-        rest = others;
+    separated(alloc, Sequence::new(alloc), lexemes)
+}
+
+impl ParsedList for Sequence<Term> {
+    ghost Tree = { y.Term };
+
+    ghost items = { λ list. map term_view list };
+
+    ghost item = { term };
+
+    fn parse_next<'a>(
+        &mut self,
+        alloc: Global,
+        lexemes: &'a [Lexeme],
+    ) -> Result<&'a [Lexeme], ParseStop<'a>> {
+        let (next, rest) = term(alloc, lexemes)?;
+        self.push(next)?;
+        Ok(rest)
     }
-    Ok((found, rest))
+
+    ghost shrinks = { shrinks-term };
 }
 
 /// Terms with commas between them.
-#[tactic(auto, unfolding(gp_grammar::specs::CommandParsing::separated))]
 fn terms(alloc: Global, lexemes: &[Lexeme]) -> Result<(Sequence<Term>, &[Lexeme]), ParseStop<'_>>
     ensures { Parses (map term_view) result (spec.separated term lexemes.now) }
 {
-    let (first, mut rest) = term(alloc, lexemes)?;
-    let mut found = Sequence::new(alloc);
-    found.push(first)?;
-    while let Some(after) = strip(rest, Symbol::Comma) {
-        let (next, others) = term(alloc, after)?;
-        found.push(next)?;
-        rest = others;
-    }
-    Ok((found, rest))
+    separated(alloc, Sequence::new(alloc), lexemes)
 }
 
 /// What a SELECT lists.
@@ -272,6 +314,34 @@ fn condition(alloc: Global, lexemes: &[Lexeme]) -> Result<(Option<Term>, &[Lexem
     }
 }
 
+/// The value and a WHERE, if it follows.
+fn with_condition<T: Drop>(
+    alloc: Global,
+    value: T,
+    lexemes: &[Lexeme],
+) -> Result<((T, Option<Term>), &[Lexeme]), ParseStop<'_>>
+    ensures value { IfOk result (λ r. r.0.0 ≡ value) }
+    ensures condition { Parses (λ r. condition_view r.1) result (spec.condition lexemes.now) }
+{
+    let (cond, rest) = condition(alloc, lexemes)?;
+    Ok(((value, cond), rest))
+}
+
+/// The value and a FROM.
+#[tactic(auto, unfolding(gp_grammar::specs::CommandParsing::block))]
+fn with_from<T: Drop>(
+    alloc: Global,
+    value: T,
+    lexemes: &[Lexeme],
+) -> Result<((T, Sequence<Item>), &[Lexeme]), ParseStop<'_>>
+    ensures value { IfOk result (λ r. r.0.0 ≡ value) }
+    ensures from { Parses (λ r. map item_view r.1) result (from_clause lexemes.now) }
+{
+    let rest = expect(lexemes, Symbol::From)?;
+    let (from, rest) = from_items(alloc, rest)?;
+    Ok(((value, from), rest))
+}
+
 /// A SELECT.
 #[tactic(auto, unfolding(gp_grammar::specs::CommandParsing::block))]
 fn block(alloc: Global, lexemes: &[Lexeme]) -> Result<(Block, &[Lexeme]), ParseStop<'_>>
@@ -279,9 +349,8 @@ fn block(alloc: Global, lexemes: &[Lexeme]) -> Result<(Block, &[Lexeme]), ParseS
 {
     let rest = expect(lexemes, Symbol::Select)?;
     let (items, rest) = select_items(alloc, rest)?;
-    let rest = expect(rest, Symbol::From)?;
-    let (from, rest) = from_items(alloc, rest)?;
-    let (cond, rest) = condition(alloc, rest)?;
+    let ((items, from), rest) = with_from(alloc, items, rest)?;
+    let (((items, from), cond), rest) = with_condition(alloc, (items, from), rest)?;
     Ok((Block { items, from, cond }, rest))
 }
 
@@ -293,19 +362,48 @@ fn union_block(alloc: Global, lexemes: &[Lexeme]) -> Result<(Block, &[Lexeme]), 
     block(alloc, rest)
 }
 
+impl ParsedList for Sequence<Block> {
+    ghost Tree = { y.Block };
+
+    ghost items = { λ list. map block_view list };
+
+    ghost item = { union_block };
+
+    fn parse_next<'a>(
+        &mut self,
+        alloc: Global,
+        lexemes: &'a [Lexeme],
+    ) -> Result<&'a [Lexeme], ParseStop<'a>> {
+        let (next, rest) = union_block(alloc, lexemes)?;
+        self.push(next)?;
+        Ok(rest)
+    }
+
+    ghost shrinks = { shrinks-all };
+}
+
+/// Adds the SELECT that the lexemes begin with, and gives the lexemes behind it.
+fn push_block<'a>(
+    alloc: Global,
+    found: &mut Sequence<Block>,
+    lexemes: &'a [Lexeme],
+) -> Result<&'a [Lexeme], ParseStop<'a>>
+    ensures { Extends (map block_view found.new) result
+        (pushed (map block_view found.old) (spec.block lexemes.now)) }
+{
+    let (first, rest) = block(alloc, lexemes)?;
+    found.push(first)?;
+    Ok(rest)
+}
+
 /// SELECTs with UNION ALL between them.
 #[tactic(auto, unfolding(gp_grammar::specs::CommandParsing::query))]
 fn blocks(alloc: Global, lexemes: &[Lexeme]) -> Result<(Sequence<Block>, &[Lexeme]), ParseStop<'_>>
     ensures { Parses (map block_view) result (spec.query lexemes.now) }
 {
-    let (first, mut rest) = block(alloc, lexemes)?;
     let mut found = Sequence::new(alloc);
-    found.push(first)?;
-    while let Some(after) = strip(rest, Symbol::Union) {
-        let (next, others) = union_block(alloc, after)?;
-        found.push(next)?;
-        rest = others;
-    }
+    let rest = push_block(alloc, &mut found, lexemes)?;
+    let rest = parse_others(alloc, &mut found, Symbol::Union, rest)?;
     Ok((found, rest))
 }
 
@@ -325,27 +423,38 @@ fn set_term(alloc: Global, lexemes: &[Lexeme]) -> Result<(SetTerm, &[Lexeme]), P
     let (name, rest) = identifier(lexemes)?;
     let rest = expect(rest, Symbol::Eq)?;
     let (term, rest) = term(alloc, rest)?;
-    let col = name.clone()?;
+    let (col, term) = with_name(name, term)?;
     Ok((SetTerm { col, term }, rest))
 }
 
+impl ParsedList for Sequence<SetTerm> {
+    ghost Tree = { y.SetTerm };
+
+    ghost items = { λ list. map set_view list };
+
+    ghost item = { spec.set_term };
+
+    fn parse_next<'a>(
+        &mut self,
+        alloc: Global,
+        lexemes: &'a [Lexeme],
+    ) -> Result<&'a [Lexeme], ParseStop<'a>> {
+        let (next, rest) = set_term(alloc, lexemes)?;
+        self.push(next)?;
+        Ok(rest)
+    }
+
+    ghost shrinks = { shrinks-set_term };
+}
+
 /// Assignments with commas between them.
-#[tactic(auto, unfolding(gp_grammar::specs::CommandParsing::separated))]
 fn set_terms(
     alloc: Global,
     lexemes: &[Lexeme],
 ) -> Result<(Sequence<SetTerm>, &[Lexeme]), ParseStop<'_>>
     ensures { Parses (map set_view) result (spec.separated spec.set_term lexemes.now) }
 {
-    let (first, mut rest) = set_term(alloc, lexemes)?;
-    let mut found = Sequence::new(alloc);
-    found.push(first)?;
-    while let Some(after) = strip(rest, Symbol::Comma) {
-        let (next, others) = set_term(alloc, after)?;
-        found.push(next)?;
-        rest = others;
-    }
-    Ok((found, rest))
+    separated(alloc, Sequence::new(alloc), lexemes)
 }
 
 /// A CREATE TABLE, behind its first word.
@@ -355,10 +464,8 @@ fn create(alloc: Global, lexemes: &[Lexeme]) -> Result<(Command, &[Lexeme]), Par
 {
     let rest = expect(lexemes, Symbol::Table)?;
     let (name, rest) = identifier(rest)?;
-    let rest = expect(rest, Symbol::Open)?;
-    let (cols, rest) = columns(alloc, rest)?;
-    let rest = expect(rest, Symbol::Close)?;
-    let name = name.clone()?;
+    let (cols, rest) = in_brackets(alloc, Sequence::new(alloc), rest)?;
+    let (name, cols) = with_name(name, cols)?;
     Ok((
         Command::Create {
             table: Table { name, cols },
@@ -377,12 +484,12 @@ fn insert(alloc: Global, lexemes: &[Lexeme]) -> Result<(Command, &[Lexeme]), Par
     match strip(rest, Symbol::Values) {
         Some(rest) => {
             let (rows, rest) = tuples(alloc, rest)?;
-            let table = table.clone()?;
+            let (table, rows) = with_name(table, rows)?;
             Ok((Command::Insert { table, rows }, rest))
         }
         None => {
             let (query, rest) = query(alloc, rest)?;
-            let table = table.clone()?;
+            let (table, query) = with_name(table, query)?;
             Ok((Command::InsertSelect { table, query }, rest))
         }
     }
@@ -396,8 +503,8 @@ fn update(alloc: Global, lexemes: &[Lexeme]) -> Result<(Command, &[Lexeme]), Par
     let (name, rest) = identifier(lexemes)?;
     let rest = expect(rest, Symbol::Set)?;
     let (sets, rest) = set_terms(alloc, rest)?;
-    let (cond, rest) = condition(alloc, rest)?;
-    let table = name.clone()?;
+    let ((sets, cond), rest) = with_condition(alloc, sets, rest)?;
+    let (table, (sets, cond)) = with_name(name, (sets, cond))?;
     Ok((Command::Update { table, sets, cond }, rest))
 }
 
@@ -409,7 +516,7 @@ fn delete(alloc: Global, lexemes: &[Lexeme]) -> Result<(Command, &[Lexeme]), Par
     let rest = expect(lexemes, Symbol::From)?;
     let (name, rest) = identifier(rest)?;
     let (cond, rest) = condition(alloc, rest)?;
-    let table = name.clone()?;
+    let (table, cond) = with_name(name, cond)?;
     Ok((Command::Delete { table, cond }, rest))
 }
 
@@ -482,14 +589,16 @@ fn session_command(
     }
 }
 
-/// A line that ends where these lexemes begin, if there are none.
-fn ended_line(line: ScriptLine, lexemes: &[Lexeme]) -> Result<ScriptLine, ParseStop<'_>>
-    ensures { ParsesAll line_view result (ended (line_view line, lexemes.now)) }
-{
-    match lexemes {
-        [] => Ok(line),
-        _ => Err(ParseStop::At(lexemes)),
-    }
+impl Parsed for ScriptLine {
+    ghost Tree = { y.ScriptLine };
+
+    ghost view = { line_view };
+}
+
+impl Parsed for Command {
+    ghost Tree = { y.Command };
+
+    ghost view = { command_view };
 }
 
 /// The line of a script that the lexemes are.
@@ -498,8 +607,8 @@ pub(crate) fn script_line(alloc: Global, lexemes: &[Lexeme]) -> Result<ScriptLin
 {
     let (line, rest) = session_command(alloc, lexemes)?;
     match strip(rest, Symbol::Semicolon) {
-        Some(rest) => ended_line(line, rest),
-        None => ended_line(line, rest),
+        Some(rest) => ended(line, rest),
+        None => ended(line, rest),
     }
 }
 
@@ -508,8 +617,5 @@ pub(crate) fn whole_command(alloc: Global, lexemes: &[Lexeme]) -> Result<Command
     ensures { ParsesAll command_view result (whole spec.command lexemes.now) }
 {
     let (command, rest) = command(alloc, lexemes)?;
-    match rest {
-        [] => Ok(command),
-        _ => Err(ParseStop::At(rest)),
-    }
+    ended(command, rest)
 }

@@ -1,18 +1,22 @@
 //! The parser of questions: one function for each rule of the grammar. Most keywords of questions are names elsewhere.
 
-ghost use Rattle.std.specs.Prelude.{◌≡◌, [], map};
+ghost use Rattle.std.specs.Prelude.{◌≡◌, [], IfOk, List, map};
 ghost use Rattle.std.specs.Option.{option_map};
-ghost use Rattle.gp_grammar.specs.Parsing.{whole, ended};
+ghost use Rattle.gp_grammar.specs.CommandParsing.{query};
+ghost use Rattle.gp_grammar.specs.Parsing.{whole};
 ghost use Rattle.gp_grammar.specs.QuestionParsing as spec;
+ghost use Rattle.gp_grammar.specs.Syntax as y;
 ghost use Rattle.gp_grammar.specs.Syntax.{rule_of};
-ghost use Rattle.gp_syntax.specs.Parses.{Parses, ParsesAll, Strips};
-ghost use Rattle.gp_syntax.specs.QuestionParts.{pattern_view, rules_view, ends_rules, explained, reenacted, versions};
-ghost use Rattle.gp_syntax.specs.Views.{how_view, question_view, rule_view, state_view};
+ghost use Rattle.gp_syntax.specs.Parses.{Parses, ParsesAll, Strips, Extends, pushed};
+ghost use Rattle.gp_syntax.specs.QuestionParts.{pattern_view, rules_view, rules_of, ends_rules, explained, reenacted, versions};
+ghost use Rattle.gp_syntax.specs.Views.{how_view, query_view, question_view, rule_view, state_view};
 
+use crate::command::Query;
 use crate::command_parser::query;
 use crate::error::ParseStop;
 use crate::lexeme_parser::{expect, identifier, strip};
 use crate::names::pattern_name;
+use crate::parsed::{Parsed, ended};
 use crate::question::{How, Question, Rule, State};
 use gp_base::Sequence;
 use gp_grammar::{MAX_PATTERN_NUMBER, SemiringName, TokenKind};
@@ -229,51 +233,74 @@ fn rule(lexemes: &[Lexeme]) -> Result<(Rule, &[Lexeme]), ParseStop<'_>>
 }
 
 /// The number behind ELSE, and the end of the rules.
-fn else_number(
-    rules: Sequence<Rule>,
-    lexemes: &[Lexeme],
-) -> Result<(Rules, &[Lexeme]), ParseStop<'_>>
-    ensures { Parses rules_view result (spec.else_number (map rule_view rules) lexemes.now) }
+#[tactic(auto, unfolding(gp_grammar::specs::Parsing::expect))]
+fn else_number(lexemes: &[Lexeme]) -> Result<(Option<u64>, &[Lexeme]), ParseStop<'_>>
+    ensures { (found : List y.Rule) → Parses (rules_of found) result (spec.else_number found lexemes.now) }
 {
     let (number, rest) = number(lexemes)?;
     let rest = expect(rest, Symbol::Close)?;
-    Ok((
-        Rules {
-            rules,
-            other: Some(number),
-        },
-        rest,
-    ))
+    Ok((Some(number), rest))
 }
 
 /// The end of rules without ELSE.
-fn end_of_rules(
-    rules: Sequence<Rule>,
-    lexemes: &[Lexeme],
-) -> Result<(Rules, &[Lexeme]), ParseStop<'_>>
-    ensures { Parses rules_view result (ends_rules (map rule_view rules) lexemes.now) }
+#[tactic(auto, unfolding(gp_grammar::specs::Parsing::expect))]
+fn end_of_rules(lexemes: &[Lexeme]) -> Result<(Option<u64>, &[Lexeme]), ParseStop<'_>>
+    ensures { (found : List y.Rule) → Parses (rules_of found) result (ends_rules found lexemes.now) }
 {
     let rest = expect(lexemes, Symbol::Close)?;
-    Ok((Rules { rules, other: None }, rest))
+    Ok((None, rest))
 }
 
-/// Rules, behind their opening bracket. Behind a comma a rule or ELSE follows.
-fn rules_from(alloc: Global, lexemes: &[Lexeme]) -> Result<(Rules, &[Lexeme]), ParseStop<'_>>
-    ensures { Parses rules_view result (spec.rules_from [] lexemes.now) }
+/// Adds the rule that the lexemes begin with, and gives the lexemes behind it.
+fn push_rule<'a>(
+    found: &mut Sequence<Rule>,
+    lexemes: &'a [Lexeme],
+) -> Result<&'a [Lexeme], ParseStop<'a>>
+    ensures { Extends (map rule_view found.new) result
+        (pushed (map rule_view found.old) (spec.rule lexemes.now)) }
 {
-    let mut found = Sequence::new(alloc);
+    let (rule, rest) = rule(lexemes)?;
+    found.push(rule)?;
+    Ok(rest)
+}
+
+/// Adds the rules behind an opening bracket, and gives the number behind ELSE. Behind a comma a rule or ELSE follows.
+fn push_rules<'a>(
+    found: &mut Sequence<Rule>,
+    lexemes: &'a [Lexeme],
+) -> Result<(Option<u64>, &'a [Lexeme]), ParseStop<'a>>
+    ensures { Parses (rules_of (map rule_view found.new)) result
+        (spec.rules_from (map rule_view found.old) lexemes.now) }
+{
     let mut rest = lexemes;
     loop {
-        let (next, after) = rule(rest)?;
-        found.push(next)?;
+        let after = push_rule(found, rest)?;
         match strip(after, Symbol::Comma) {
-            None => return end_of_rules(found, after),
+            None => return end_of_rules(after),
             Some(others) => match strip(others, Symbol::Else) {
-                Some(others) => return else_number(found, others),
+                Some(others) => return else_number(others),
                 None => rest = others,
             },
         }
     }
+}
+
+/// Rules, behind their opening bracket.
+fn rules_from(alloc: Global, lexemes: &[Lexeme]) -> Result<(Rules, &[Lexeme]), ParseStop<'_>>
+    ensures { Parses rules_view result (spec.rules_from [] lexemes.now) }
+{
+    let mut rules = Sequence::new(alloc);
+    let (other, rest) = push_rules(&mut rules, lexemes)?;
+    Ok((Rules { rules, other }, rest))
+}
+
+/// Rules without a pattern, behind their ELSE.
+fn only_else(alloc: Global, lexemes: &[Lexeme]) -> Result<(Rules, &[Lexeme]), ParseStop<'_>>
+    ensures { Parses rules_view result (spec.else_number [] lexemes.now) }
+{
+    let (other, rest) = else_number(lexemes)?;
+    let rules = Sequence::new(alloc);
+    Ok((Rules { rules, other }, rest))
 }
 
 /// Rules in brackets, if they follow.
@@ -281,17 +308,13 @@ fn rules_from(alloc: Global, lexemes: &[Lexeme]) -> Result<(Rules, &[Lexeme]), P
 fn optional_rules(alloc: Global, lexemes: &[Lexeme]) -> Result<(Rules, &[Lexeme]), ParseStop<'_>>
     ensures { Parses rules_view result (spec.rules lexemes.now) }
 {
-    let none = Sequence::new(alloc);
     match strip(lexemes, Symbol::Open) {
-        None => Ok((
-            Rules {
-                rules: none,
-                other: None,
-            },
-            lexemes,
-        )),
+        None => {
+            let rules = Sequence::new(alloc);
+            Ok((Rules { rules, other: None }, lexemes))
+        }
         Some(rest) => match strip(rest, Symbol::Else) {
-            Some(rest) => else_number(none, rest),
+            Some(rest) => only_else(alloc, rest),
             None => rules_from(alloc, rest),
         },
     }
@@ -348,14 +371,39 @@ fn how(alloc: Global, lexemes: &[Lexeme]) -> Result<(How, &[Lexeme]), ParseStop<
     }
 }
 
+/// The value and a state.
+fn with_state<T: Drop>(
+    value: T,
+    lexemes: &[Lexeme],
+) -> Result<((T, State), &[Lexeme]), ParseStop<'_>>
+    ensures value { IfOk result (λ r. r.0.0 ≡ value) }
+    ensures state { Parses (λ r. state_view r.1) result (spec.state lexemes.now) }
+{
+    let (state, rest) = state(lexemes)?;
+    Ok(((value, state), rest))
+}
+
+/// The value and a query.
+fn with_query<T: Drop>(
+    alloc: Global,
+    value: T,
+    lexemes: &[Lexeme],
+) -> Result<((T, Query), &[Lexeme]), ParseStop<'_>>
+    ensures value { IfOk result (λ r. r.0.0 ≡ value) }
+    ensures query { Parses (λ r. query_view r.1) result (query lexemes.now) }
+{
+    let (query, rest) = query(alloc, lexemes)?;
+    Ok(((value, query), rest))
+}
+
 /// A question that asks a query.
 #[tactic(auto, unfolding(gp_grammar::specs::QuestionParsing::ask))]
 fn ask(alloc: Global, lexemes: &[Lexeme]) -> Result<(Question, &[Lexeme]), ParseStop<'_>>
     ensures { Parses question_view result (spec.ask lexemes.now) }
 {
     let (how, rest) = how(alloc, lexemes)?;
-    let (state, rest) = state(rest)?;
-    let (query, rest) = query(alloc, rest)?;
+    let ((how, state), rest) = with_state(how, rest)?;
+    let ((how, query), rest) = with_query(alloc, how, rest)?;
     Ok((Question::Ask { how, state, query }, rest))
 }
 
@@ -384,14 +432,10 @@ fn open_question(alloc: Global, lexemes: &[Lexeme]) -> Result<(Question, &[Lexem
     }
 }
 
-/// A question that ends where these lexemes begin, if there are none.
-fn ended_question(question: Question, lexemes: &[Lexeme]) -> Result<Question, ParseStop<'_>>
-    ensures { ParsesAll question_view result (ended (question_view question, lexemes.now)) }
-{
-    match lexemes {
-        [] => Ok(question),
-        _ => Err(ParseStop::At(lexemes)),
-    }
+impl Parsed for Question {
+    ghost Tree = { y.Question };
+
+    ghost view = { question_view };
 }
 
 /// The question that the lexemes are.
@@ -400,7 +444,7 @@ pub(crate) fn whole_question(alloc: Global, lexemes: &[Lexeme]) -> Result<Questi
 {
     let (question, rest) = open_question(alloc, lexemes)?;
     match strip(rest, Symbol::Semicolon) {
-        Some(rest) => ended_question(question, rest),
-        None => ended_question(question, rest),
+        Some(rest) => ended(question, rest),
+        None => ended(question, rest),
     }
 }

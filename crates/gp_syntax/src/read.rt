@@ -1,14 +1,18 @@
 //! Reading lines and texts.
 
 ghost use Rattle.std.specs.Prelude.{◌≡◌, ◌+◌, ◌<◌, ◌-◌, ◌^◌, length};
+ghost use Rattle.std.specs.Option.{option_map};
 ghost use Rattle.std.specs.Str.{is_utf8};
 ghost use Rattle.gp_base.specs.declared.refusal.Refusal.TheVariants.{E03 as SyntaxFault};
 ghost use Rattle.gp_lexer.specs.Lexing.{lexed};
 ghost use Rattle.gp_grammar.specs.CommandParsing.{command, script_line};
-ghost use Rattle.gp_grammar.specs.Limits.{passed_limit, command_shape, line_shape, question_shape};
+ghost use Rattle.gp_grammar.specs.Limits.{Shape, passed_limit, command_shape, line_shape, question_shape};
 ghost use Rattle.gp_grammar.specs.LineReading.{column_of, command_of, question_of, read_text, script_line_of, within_shape};
+ghost use Rattle.gp_grammar.specs.Parsing.{Parser, whole};
 ghost use Rattle.gp_grammar.specs.QuestionParsing.{question};
-ghost use Rattle.gp_syntax.specs.Refusals.{Returns};
+ghost use Rattle.gp_grammar.specs.Syntax as y;
+ghost use Rattle.gp_syntax.specs.Parses.{ParsesAll};
+ghost use Rattle.gp_syntax.specs.Refusals.{Returns, limit_of};
 ghost use Rattle.gp_syntax.specs.Tests.{shallow, tested_lexemes};
 ghost use Rattle.gp_syntax.specs.Views.{command_view, line_view, question_view};
 
@@ -80,36 +84,104 @@ fn syntax_refusal(lexemes: &Lexemes, rest: &[Lexeme], len: usize) -> Refusal
     Refusal::E03 { column }
 }
 
-#[tactic(auto, using(crate::proofs::ReadingLemmas::limits))]
-fn limited_command(command: Command) -> Result<Command, ReadStop>
-    ensures { Returns command_view result
-        (within_shape (command_view command) (passed_limit (command_shape (command_view command)))) }
-{
-    match command_limit(&command) {
-        Some(limit) => Err(ReadStop::Refused(Refusal::E14 { limit })),
-        None => Ok(command),
+/// What a whole text is read as.
+trait Statement: Drop + Sized {
+    /// Its abstract syntax.
+    ghost Tree: { Type 0 };
+    /// The abstract syntax of a value.
+    ghost view: { Self → Self.Tree };
+    /// The parser of a text.
+    ghost parser: { Parser Self.Tree };
+    /// What the limits apply to.
+    ghost shape: { Self.Tree → Shape };
+
+    /// The statement that the lexemes are.
+    fn parse(alloc: Global, lexemes: &[Lexeme]) -> Result<Self, ParseStop<'_>>
+        ensures { ParsesAll Self.view result (whole Self.parser lexemes.now) };
+
+    /// The first limit that the statement passes.
+    fn limit(&self) -> Option<Limit>
+        ensures { result ≡ option_map limit_of (passed_limit (Self.shape (Self.view self.now))) };
+}
+
+impl Statement for Command {
+    ghost Tree = { y.Command };
+
+    ghost view = { command_view };
+
+    ghost parser = { command };
+
+    ghost shape = { command_shape };
+
+    fn parse(alloc: Global, lexemes: &[Lexeme]) -> Result<Command, ParseStop<'_>> {
+        whole_command(alloc, lexemes)
+    }
+
+    fn limit(&self) -> Option<Limit> {
+        command_limit(self)
     }
 }
 
-#[tactic(auto, using(crate::proofs::ReadingLemmas::limits))]
-fn limited_line(line: ScriptLine) -> Result<ScriptLine, ReadStop>
-    ensures { Returns line_view result
-        (within_shape (line_view line) (passed_limit (line_shape (line_view line)))) }
-{
-    match command_limit(&line.command) {
-        Some(limit) => Err(ReadStop::Refused(Refusal::E14 { limit })),
-        None => Ok(line),
+impl Statement for ScriptLine {
+    ghost Tree = { y.ScriptLine };
+
+    ghost view = { line_view };
+
+    ghost parser = { script_line };
+
+    ghost shape = { line_shape };
+
+    fn parse(alloc: Global, lexemes: &[Lexeme]) -> Result<ScriptLine, ParseStop<'_>> {
+        script_line(alloc, lexemes)
+    }
+
+    fn limit(&self) -> Option<Limit> {
+        command_limit(&self.command)
     }
 }
 
-#[tactic(auto, using(crate::proofs::ReadingLemmas::limits))]
-fn limited_question(question: Question) -> Result<Question, ReadStop>
-    ensures { Returns question_view result
-        (within_shape (question_view question) (passed_limit (question_shape (question_view question)))) }
+impl Statement for Question {
+    ghost Tree = { y.Question };
+
+    ghost view = { question_view };
+
+    ghost parser = { question };
+
+    ghost shape = { question_shape };
+
+    fn parse(alloc: Global, lexemes: &[Lexeme]) -> Result<Question, ParseStop<'_>> {
+        whole_question(alloc, lexemes)
+    }
+
+    fn limit(&self) -> Option<Limit> {
+        question_limit(self)
+    }
+}
+
+/// The statement, unless it passes a limit.
+fn limited<T: Statement>(statement: T) -> Result<T, ReadStop>
+    ensures { Returns T.view result
+        (within_shape (T.view statement) (passed_limit (T.shape (T.view statement)))) }
 {
-    match question_limit(&question) {
+    match statement.limit() {
         Some(limit) => Err(ReadStop::Refused(Refusal::E14 { limit })),
-        None => Ok(question),
+        None => Ok(statement),
+    }
+}
+
+/// The statement that the text is read as.
+#[tactic(auto, using(crate::proofs::ReadingLemmas::readings))]
+fn read_text<T: Statement>(alloc: Global, text: &[u8]) -> Result<T, ReadStop>
+    requires { length text.now < 2 ^ 32 - 1 }
+    ensures { Returns T.view result (read_text T.parser T.shape text.now) }
+{
+    let lexemes = tested_lexemes(alloc, text)?;
+    match T::parse(alloc, lexemes.lexemes()) {
+        Ok(statement) => limited(statement),
+        Err(ParseStop::At(rest)) => {
+            Err(ReadStop::Refused(syntax_refusal(&lexemes, rest, text.len())))
+        }
+        Err(ParseStop::NoMemory) => Err(ReadStop::NoMemory),
     }
 }
 
@@ -118,49 +190,11 @@ fn limited_question(question: Question) -> Result<Question, ReadStop>
 /// A text is refused for the first of these: it is not UTF-8 (E01); no lexeme can be read at a place (E02); more than 60
 /// brackets and CASEs are open (E14 `depth`); it is no command (E03, at the first lexeme that fits nothing); it passes a
 /// limit (E14 `columns`, `from`, `branches`, `values`, `nodes` or `depth`, in this order).
-#[tactic(auto, using(crate::proofs::ReadingLemmas::readings))]
 pub fn read_command(alloc: Global, text: &[u8]) -> Result<Command, ReadStop>
     requires { length text.now < 2 ^ 32 - 1 }
     ensures exact { Returns command_view result (command_of text.now) }
 {
-    let lexemes = tested_lexemes(alloc, text)?;
-    match whole_command(alloc, lexemes.lexemes()) {
-        Ok(command) => limited_command(command),
-        Err(ParseStop::At(rest)) => {
-            Err(ReadStop::Refused(syntax_refusal(&lexemes, rest, text.len())))
-        }
-        Err(ParseStop::NoMemory) => Err(ReadStop::NoMemory),
-    }
-}
-
-#[tactic(auto, using(crate::proofs::ReadingLemmas::readings))]
-fn line_of_text(alloc: Global, text: &[u8]) -> Result<ScriptLine, ReadStop>
-    requires { length text.now < 2 ^ 32 - 1 }
-    ensures { Returns line_view result (read_text script_line line_shape text.now) }
-{
-    let lexemes = tested_lexemes(alloc, text)?;
-    match script_line(alloc, lexemes.lexemes()) {
-        Ok(line) => limited_line(line),
-        Err(ParseStop::At(rest)) => {
-            Err(ReadStop::Refused(syntax_refusal(&lexemes, rest, text.len())))
-        }
-        Err(ParseStop::NoMemory) => Err(ReadStop::NoMemory),
-    }
-}
-
-#[tactic(auto, using(crate::proofs::ReadingLemmas::readings))]
-fn question_of_text(alloc: Global, text: &[u8]) -> Result<Question, ReadStop>
-    requires { length text.now < 2 ^ 32 - 1 }
-    ensures { Returns question_view result (read_text question question_shape text.now) }
-{
-    let lexemes = tested_lexemes(alloc, text)?;
-    match whole_question(alloc, lexemes.lexemes()) {
-        Ok(question) => limited_question(question),
-        Err(ParseStop::At(rest)) => {
-            Err(ReadStop::Refused(syntax_refusal(&lexemes, rest, text.len())))
-        }
-        Err(ParseStop::NoMemory) => Err(ReadStop::NoMemory),
-    }
+    read_text(alloc, text)
 }
 
 /// Reads a line of a script: a session, a command and perhaps a semicolon.
@@ -173,7 +207,7 @@ pub fn read_line(alloc: Global, line: &[u8]) -> Result<ScriptLine, ReadStop>
     if line.len() > MAX_LINE_LENGTH {
         return Err(ReadStop::Refused(Refusal::E16));
     }
-    line_of_text(alloc, line)
+    read_text(alloc, line)
 }
 
 /// Reads a question, perhaps with a semicolon behind it. Refusals come as from [`read_line`].
@@ -183,5 +217,5 @@ pub fn read_question(alloc: Global, line: &[u8]) -> Result<Question, ReadStop>
     if line.len() > MAX_LINE_LENGTH {
         return Err(ReadStop::Refused(Refusal::E16));
     }
-    question_of_text(alloc, line)
+    read_text(alloc, line)
 }

@@ -5,11 +5,12 @@ ghost use Rattle.std.specs.Prelude.{◌≡◌, ◌<◌, ◌≤◌, IfOk, IfSome,
 ghost use Rattle.std.specs.Option.{option_map};
 ghost use Rattle.gp_grammar.specs.Operators.{operator_of, comparison_of};
 ghost use Rattle.gp_grammar.specs.Parsing as spec;
-ghost use Rattle.gp_syntax.specs.Parses.{Parses, Shortens, built_view};
+ghost use Rattle.gp_syntax.specs.Parses.{Parses, Shortens, built_view, ends_with};
 
 use crate::built::Built;
 use crate::error::ParseStop;
 use crate::lexeme_parser::{expect, identifier, strip};
+use crate::parsed::{before, with_name};
 use crate::term::Term;
 use gp_base::Name;
 use gp_grammar::{Level, Op};
@@ -101,8 +102,9 @@ fn column<'a>(
         }
         Some(rest) => {
             let (name, rest) = identifier(rest)?;
-            let item = Some(word.clone()?);
-            let col = name.clone()?;
+            let item = word.clone()?;
+            let (col, item) = with_name(name, item)?;
+            let item = Some(item);
             Ok((Built::leaf(Term::Col { item, col }), rest))
         }
     }
@@ -121,7 +123,7 @@ fn value_test(
 {
     match strip(lexemes, Symbol::Null) {
         None => {
-            let rest = expect(lexemes, Symbol::True)?;
+            let (left, rest) = before(left, lexemes, Symbol::True)?;
             Ok((Built::is_true(alloc, left, yes)?, rest))
         }
         Some(rest) => Ok((Built::is_null(alloc, left, yes)?, rest)),
@@ -147,6 +149,20 @@ fn optional_test(
     }
 }
 
+/// A term and the symbol behind it.
+#[cycle(terms)]
+fn term_before(
+    alloc: Global,
+    lexemes: &[Lexeme],
+    symbol: Symbol,
+) -> Result<(Built, &[Lexeme]), ParseStop<'_>>
+    ensures value { Parses built_view result (ends_with symbol spec.term lexemes.now) }
+    ensures shorter { Shortens result lexemes.now }
+{
+    let (term, rest) = built_term(alloc, lexemes)?;
+    before(term, rest, symbol)
+}
+
 /// A term in brackets, behind the opening one.
 #[cycle(terms)]
 #[tactic(auto, unfolding(gp_grammar::specs::Parsing::brackets))]
@@ -154,9 +170,7 @@ fn brackets(alloc: Global, lexemes: &[Lexeme]) -> Result<(Built, &[Lexeme]), Par
     ensures value { Parses built_view result (spec.brackets spec.term lexemes.now) }
     ensures shorter { Shortens result lexemes.now }
 {
-    let (inner, rest) = built_term(alloc, lexemes)?;
-    let rest = expect(rest, Symbol::Close)?;
-    Ok((inner, rest))
+    term_before(alloc, lexemes, Symbol::Close)
 }
 
 /// A CASE, behind its first word.
@@ -167,12 +181,9 @@ fn choice(alloc: Global, lexemes: &[Lexeme]) -> Result<(Built, &[Lexeme]), Parse
     ensures shorter { Shortens result lexemes.now }
 {
     let rest = expect(lexemes, Symbol::When)?;
-    let (when, rest) = built_term(alloc, rest)?;
-    let rest = expect(rest, Symbol::Then)?;
-    let (first, rest) = built_term(alloc, rest)?;
-    let rest = expect(rest, Symbol::Else)?;
-    let (other, rest) = built_term(alloc, rest)?;
-    let rest = expect(rest, Symbol::End)?;
+    let (when, rest) = term_before(alloc, rest, Symbol::Then)?;
+    let (first, rest) = term_before(alloc, rest, Symbol::Else)?;
+    let (other, rest) = term_before(alloc, rest, Symbol::End)?;
     Ok((Built::case(alloc, when, first, other)?, rest))
 }
 

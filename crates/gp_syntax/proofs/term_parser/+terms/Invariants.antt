@@ -8,6 +8,9 @@ use Rattle.gp_syntax.proofs.term_parser.+terms.Given as goal
 abbrev pub decreases-brackets : goal.decreases-brackets
 decreases-brackets l = 16 * length l.lexemes.now + 14
 
+abbrev pub decreases-term_before : goal.decreases-term_before
+decreases-term_before l = 16 * length l.lexemes.now + 13
+
 abbrev pub decreases-primary_by : goal.decreases-primary_by
 decreases-primary_by l = 16 * length l.lexemes.now + 15
 

@@ -1,0 +1,8 @@
+use Rattle.std.proofs.Common.{sym}
+use Rattle.gp_grammar.specs.Limits.{passed_limit}
+use Rattle.gp_syntax.proofs.ReadingLemmas.{limited}
+use Rattle.gp_syntax.proofs.read.limited.Goals as goal
+
+pub returns-in-Some : goal.returns-in-Some
+returns-in-Some g c =
+    limited (g.T.Statement.view c.args.statement) (passed_limit (g.T.Statement.shape (g.T.Statement.view c.args.statement))) c.in-Some.limit (sym c.in-Some.ensures)
