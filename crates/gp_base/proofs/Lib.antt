@@ -1,5 +1,9 @@
 pub mod CatalogLemmas
 pub mod CellLemmas
+pub mod IdentityLaws
+pub mod IdentityLemmas
+pub mod MonomialLemmas
 pub mod OrderLemmas
+pub mod ProductLaws
 pub mod TextLemmas
 pub mod WritingLemmas

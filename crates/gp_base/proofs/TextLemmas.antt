@@ -11,8 +11,8 @@ use Rattle.std.proofs.lemmas.List.{length-append}
 use Rattle.std.proofs.lemmas.Str.Parse.{digit_from_value}
 use Rattle.std.proofs.lemmas.Fmt.{decimal_is_IsNumeral, decimal_nonempty, signed_decimal_injective}
 use Rattle.gp_base.specs.declared.cell.Cell.{Cell}
-use Rattle.gp_base.specs.declared.cell.Cell.TheVariants.{Null, Int, Text}
-use Rattle.gp_base.specs.Cells.{IsInRange, AreInRange}
+use Rattle.gp_base.specs.declared.cell.Cell.TheVariants.{Null, Int, Text, Id, Mark, Mono}
+use Rattle.gp_base.specs.Cells.{IsPlain, ArePlain}
 use Rattle.gp_base.specs.Texts.{quoted_byte, cell_text, row_text}
 
 -- the empty text, or one that begins with a comma
@@ -138,7 +138,7 @@ quoted-determined (a ∷ t) (b ∷ u) r s end last e = elim (cases_Bool (eqb a 3
 -- ---- cells
 
 -- the end of a cell's text is determined, and so is the cell
-cell-determined : (one other : Cell) (r s : List ℕ) → IsInRange one → IsInRange other → IsEnd r → IsEnd s → cell_text one ++ r ≡ cell_text other ++ s → (one ≡ other) × (r ≡ s)
+cell-determined : (one other : Cell) (r s : List ℕ) → IsPlain one → IsPlain other → IsEnd r → IsEnd s → cell_text one ++ r ≡ cell_text other ++ s → (one ≡ other) × (r ≡ s)
 cell-determined Null Null r s fits suits end last e = (refl, (high-determined (codes "NULL") (codes "NULL") r s null-high null-high end last e).1)
 cell-determined Null (Int m) r s fits suits end last e = absurd (null-no_number m suits (high-determined (codes "NULL") (signed_decimal m) r s null-high (number-high m suits) end last e).0)
 cell-determined Null (Text u) r s fits suits end last e = absurd (high-no_quote (codes "NULL") r _ null-high end e)
@@ -154,16 +154,31 @@ cell-determined (Text t) (Text u) r s fits suits end last e =
     sym (append_assoc (flat_map quoted_byte t) (39 ∷ []) r) ∙ ap (drop 1) e ∙ append_assoc (flat_map quoted_byte u) (39 ∷ []) s in
     let parts = quoted-determined t u r s end last inside in
     (ap Text parts.0, parts.1)
+cell-determined Null (Id id) r s fits suits end last e = absurd suits
+cell-determined Null (Mark mark) r s fits suits end last e = absurd suits
+cell-determined Null (Mono monomial) r s fits suits end last e = absurd suits
+cell-determined (Int n) (Id id) r s fits suits end last e = absurd suits
+cell-determined (Int n) (Mark mark) r s fits suits end last e = absurd suits
+cell-determined (Int n) (Mono monomial) r s fits suits end last e = absurd suits
+cell-determined (Text t) (Id id) r s fits suits end last e = absurd suits
+cell-determined (Text t) (Mark mark) r s fits suits end last e = absurd suits
+cell-determined (Text t) (Mono monomial) r s fits suits end last e = absurd suits
+cell-determined (Id id) other r s fits suits end last e = absurd fits
+cell-determined (Mark mark) other r s fits suits end last e = absurd fits
+cell-determined (Mono monomial) other r s fits suits end last e = absurd fits
 
 -- no cell has the empty text
 number-some : (number : ℤ) (rest : List ℕ) → FitsSigned w64 number → [] ≡ signed_decimal number ++ rest → ⊥
 number-some (pos n) rest fits e = omega (arith, decimal_nonempty n (omega (arith, fits.sfits)), length-append (decimal n) rest, ap length e)
 number-some (negsuc n) rest fits e = cc
 
-cell-some : (cell : Cell) (rest : List ℕ) → IsInRange cell → [] ≡ cell_text cell ++ rest → ⊥
+cell-some : (cell : Cell) (rest : List ℕ) → IsPlain cell → [] ≡ cell_text cell ++ rest → ⊥
 cell-some Null rest fits e = cc
 cell-some (Int number) rest fits e = number-some number rest fits e
 cell-some (Text text) rest fits e = cc
+cell-some (Id id) rest fits e = absurd fits
+cell-some (Mark mark) rest fits e = absurd fits
+cell-some (Mono monomial) rest fits e = absurd fits
 
 -- ---- rows
 
@@ -175,7 +190,7 @@ others-end : (cells : List Cell) → IsEnd (others_text cells)
 others-end [] = tt
 others-end (cell ∷ cells) = refl
 
-others-injective : (one other : List Cell) → AreInRange one → AreInRange other → others_text one ≡ others_text other → one ≡ other
+others-injective : (one other : List Cell) → ArePlain one → ArePlain other → others_text one ≡ others_text other → one ≡ other
 others-injective [] [] fits suits e = refl
 others-injective [] (b ∷ more) fits suits e = absurd cc
 others-injective (a ∷ cells) [] fits suits e = absurd cc
@@ -186,7 +201,7 @@ others-injective (a ∷ cells) (b ∷ more) fits suits e =
     cc
 
 -- rows with equal texts are equal
-pub row_text-injective : (one other : List Cell) → AreInRange one → AreInRange other → row_text one ≡ row_text other → one ≡ other
+pub row_text-injective : (one other : List Cell) → ArePlain one → ArePlain other → row_text one ≡ row_text other → one ≡ other
 row_text-injective [] [] fits suits e = refl
 row_text-injective [] (b ∷ more) fits suits e = absurd (cell-some b (others_text more) suits.0 e)
 row_text-injective (a ∷ cells) [] fits suits e = absurd (cell-some a (others_text cells) fits.0 (sym e))

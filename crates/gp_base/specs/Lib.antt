@@ -1,7 +1,13 @@
+pub mod Annotated
 pub mod Catalogs
 pub mod Cells
+pub mod Identities
+pub mod IdentityCodes
+pub mod IdentityOrder
 pub mod Names
 pub mod Order
 pub mod Refusals
 pub mod Texts
+pub mod TokenOrder
+pub mod Tokens
 pub mod Writing

@@ -2,6 +2,7 @@
 use Rattle.std.specs.Prelude.{ℕ, List, [], ◌∷◌, codes, Option, Some, None}
 use Rattle.std.specs.List.{concat}
 use Rattle.std.specs.Fmt.{decimal}
+use Rattle.gp_base.specs.Identities.{identity_text}
 use Rattle.gp_base.specs.declared.limit.Limit.{Limit}
 use Rattle.gp_base.specs.declared.limit.Limit.TheVariants as l
 use Rattle.gp_base.specs.declared.refusal.Fate.{Fate}
@@ -47,6 +48,8 @@ refusal_text r.E07 = codes "E07 type"
 refusal_text (r.E08 name) = concat (codes "E08 name twice " ∷ name ∷ [])
 refusal_text r.E09 = codes "E09 transaction active"
 refusal_text r.E10 = codes "E10 no transaction"
+refusal_text (r.E11 t other table id) =
+    concat (codes "E11 transaction " ∷ decimal t ∷ codes " lost to " ∷ decimal other ∷ codes " on " ∷ table ∷ codes " " ∷ identity_text id ∷ [])
 refusal_text (r.E12 table) = concat (codes "E12 more than 10000 rows in " ∷ table ∷ [])
 refusal_text r.E13 = codes "E13 identity over 64 nodes"
 refusal_text (r.E14 limit) = concat (codes "E14 limit " ∷ limit_text limit ∷ [])

@@ -5,10 +5,12 @@ ghost use Rattle.std.specs.Fmt.{decimal};
 ghost use Rattle.std.specs.List.{concat};
 ghost use Rattle.gp_base.specs.Refusals.{column_text, fate_text, limit_text, refusal_text};
 
+use crate::display::id_text;
 use crate::error::NoMemory;
 use crate::join::text_of_pieces;
 use crate::limit::Limit;
 use crate::name::Name;
+use crate::row_id::RowId;
 use crate::text::Text;
 use std::alloc::Global;
 
@@ -68,6 +70,18 @@ pub enum Refusal {
     E09,
     /// The command is allowed inside a transaction only, and the session has none.
     E10,
+    /// The COMMIT is lost: a row that the transaction wrote was also written by a transaction that committed after the
+    /// BEGIN. Of such rows it names the first, by table and then by identity.
+    E11 {
+        /// The transaction.
+        t: u32,
+        /// The first transaction that committed such a write.
+        other: u32,
+        /// The table.
+        table: Name,
+        /// The identity of the row.
+        id: RowId,
+    },
     /// An INSERT would leave too many rows in the table.
     E12 {
         /// The table.
@@ -211,6 +225,34 @@ fn fate_refusal_text(alloc: Global, t: u64, fate: Fate) -> Result<Vec<u8>, NoMem
     )
 }
 
+fn lost_refusal_text(
+    alloc: Global,
+    t: u32,
+    other: u32,
+    table: &Name,
+    id: &RowId,
+) -> Result<Vec<u8>, NoMemory>
+    ensures { IfOk result (λ text. text.items
+        ≡ refusal_text (Refusal.E11 t other table.now id.now)) }
+{
+    let t = t.to_string(alloc)?;
+    let other = other.to_string(alloc)?;
+    let id = id_text(alloc, id)?;
+    text_of_pieces(
+        alloc,
+        &[
+            b"E11 transaction ",
+            t.as_bytes(),
+            b" lost to ",
+            other.as_bytes(),
+            b" on ",
+            table.as_bytes(),
+            b" ",
+            &id,
+        ],
+    )
+}
+
 fn version_refusal_text(alloc: Global, version: u32, table: &Name) -> Result<Vec<u8>, NoMemory>
     ensures { IfOk result (λ text. text.items ≡ refusal_text (Refusal.E24 version table.now)) }
 {
@@ -260,6 +302,12 @@ fn refusal_text(alloc: Global, refusal: &Refusal) -> Result<Vec<u8>, NoMemory>
         Refusal::E08 { name } => text_of_pieces(alloc, &[b"E08 name twice ", name.as_bytes()]),
         Refusal::E09 => text_of_pieces(alloc, &[b"E09 transaction active"]),
         Refusal::E10 => text_of_pieces(alloc, &[b"E10 no transaction"]),
+        Refusal::E11 {
+            t,
+            other,
+            table,
+            id,
+        } => lost_refusal_text(alloc, *t, *other, table, id),
         Refusal::E12 { table } => {
             text_of_pieces(alloc, &[b"E12 more than 10000 rows in ", table.as_bytes()])
         }

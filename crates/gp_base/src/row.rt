@@ -19,9 +19,13 @@ pub struct Row {
 impl Model for Row {
     ghost use Rattle.std.specs.Prelude.{List};
     ghost use Rattle.gp_base.specs.declared.cell.Cell.{Cell};
+    ghost use Rattle.gp_base.specs.contracts.cell.Cell as cell;
+    ghost use Rattle.std.specs.Coded.{coded_list};
     ghost use Rattle.gp_base.specs.Cells.{AreInRange};
 
     ghost Value = { List Cell };
+
+    ghost coded = { coded_list cell.the_row.coded };
 
     ghost view = { λ a. a.cells };
 

@@ -20,10 +20,12 @@ abbrev pub kind_type : Kind → TermType
 kind_type kind.Int = Int
 kind_type kind.Text = Text
 
+-- a cell of a system column has no type of the language, and gets that of NULL
 abbrev pub cell_type : Cell → TermType
 cell_type cell.Null = Null
 cell_type (cell.Int n) = Int
 cell_type (cell.Text bytes) = Text
+cell_type _ = Null
 
 -- a value is no condition
 abbrev pub is_value : TermType → Bool

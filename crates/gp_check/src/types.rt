@@ -29,7 +29,7 @@ pub fn kind_type(kind: Kind) -> TermType
     }
 }
 
-/// The type of a literal.
+/// The type of a literal. A cell of a system column has no type of the language, and gets that of NULL.
 pub fn cell_type(cell: &Cell) -> TermType
     ensures { result ≡ t.cell_type cell.now }
 {
@@ -37,6 +37,7 @@ pub fn cell_type(cell: &Cell) -> TermType
         Cell::Null => TermType::Null,
         Cell::Int(_) => TermType::Int,
         Cell::Text(_) => TermType::Text,
+        Cell::Id(_) | Cell::Mark(_) | Cell::Mono(_) => TermType::Null,
     }
 }
 

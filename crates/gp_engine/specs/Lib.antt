@@ -4,3 +4,4 @@ pub mod Replies
 pub mod Event
 pub mod History
 pub mod Kept
+pub mod KeptCode

@@ -27,11 +27,9 @@ is_int kind.Text = false
 abbrev pub is_integer_table : Table → Bool
 is_integer_table table = list_all (λ (column : Column). is_int column.kind) table.cols && all_differ table.cols
 
--- an integer, and neither NULL nor a text
 abbrev pub is_number : Cell → Bool
-is_number cell.Null = false
 is_number (cell.Int number) = true
-is_number (cell.Text text) = false
+is_number _ = false
 
 abbrev pub are_numbers : List (List Cell) → Bool
 are_numbers rows = list_all (λ (row : List Cell). list_all is_number row) rows

@@ -30,8 +30,11 @@ pub struct Engine {
 impl Model for Engine {
     ghost use Rattle.std.specs.Prelude.{◌≤◌, length};
     ghost use Rattle.gp_engine.specs.Kept.{Kept};
+    ghost use Rattle.gp_engine.specs.KeptCode.{coded_kept};
 
     ghost Value = { Kept };
+
+    ghost coded = { coded_kept };
 
     ghost view = { λ a. record {
       tables = a.tables;

@@ -81,9 +81,8 @@ fn is_number(cell: &Cell) -> bool
     ensures { result ≡ is_number cell.now }
 {
     match cell {
-        Cell::Null => false,
         Cell::Int(_) => true,
-        Cell::Text(_) => false,
+        _ => false,
     }
 }
 

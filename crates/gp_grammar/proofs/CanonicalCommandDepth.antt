@@ -146,6 +146,9 @@ cell-even n cell.Null = λ room rest h. refl
 cell-even n (cell.Int (pos m)) = λ room rest h. refl
 cell-even n (cell.Int (negsuc m)) = negative-even n (eqb (suc m) (2 ^ 63)) (suc m)
 cell-even n (cell.Text bytes) = λ room rest h. refl
+cell-even n (cell.Id id) = λ room rest h. refl
+cell-even n (cell.Mark mark) = λ room rest h. refl
+cell-even n (cell.Mono monomial) = λ room rest h. refl
 
 tuple-even : (n : ℕ) (x : List Cell) → Balanced (suc n) (tuple_lexemes x)
 tuple-even n x = in-brackets n (listed_lexemes cell_lexemes x) (list-even n (Sign s.Comma ∷ []) cell_lexemes (comma-balanced n) (cell-even n) x)

@@ -75,11 +75,13 @@ kind_lexeme kind.Text = Sign s.Text
 abbrev pub column_definition_lexemes : Column → Lexemes
 column_definition_lexemes column = Word column.name ∷ kind_lexeme column.kind ∷ []
 
+-- a cell of a system column is in no command, and is written as NULL
 abbrev pub cell_lexemes : Cell → Lexemes
 cell_lexemes cell.Null = Sign s.Null ∷ []
 cell_lexemes (cell.Int (pos n)) = Number n ∷ []
 cell_lexemes (cell.Int (negsuc n)) = Sign s.Minus ∷ (if suc n == 2 ^ 63 then Big else Number (suc n)) ∷ []
 cell_lexemes (cell.Text bytes) = Text bytes ∷ []
+cell_lexemes _ = Sign s.Null ∷ []
 
 abbrev pub tuple_lexemes : List Cell → Lexemes
 tuple_lexemes cells = bracketed (listed_lexemes cell_lexemes cells)

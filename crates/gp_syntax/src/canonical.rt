@@ -315,6 +315,7 @@ impl LexemeFormat<Cell> for CellFormat {
             Cell::Null => layout.push_symbol(Symbol::Null),
             Cell::Int(number) => push_literal(layout, *number),
             Cell::Text(text) => layout.push_text(text),
+            Cell::Id(_) | Cell::Mark(_) | Cell::Mono(_) => layout.push_symbol(Symbol::Null),
         }
     }
 }

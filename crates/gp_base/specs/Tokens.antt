@@ -1,0 +1,96 @@
+-- Part of the statement: the tokens of provenance polynomials, and monomials: finite products of tokens, each with its count (Green,
+-- Karvounarakis and Tannen 2007). Their counts stop at the greatest number of 64 bits.
+use Rattle.std.specs.Prelude.{ℕ, ◌+◌, ◌≤◌, min, List, [], ◌∷◌, codes, unwrap_or, if◌then◌else◌, ◌==◌, IsTrue}
+use Rattle.std.specs.List.{concat}
+use Rattle.std.specs.Fmt.{decimal}
+use Rattle.std.specs.Ordering.{nat_cmp, ordering_then, on, then_cmp}
+use Rattle.std.specs.declared.cmp.Ordering.{Ordering}
+use Rattle.std.specs.declared.cmp.Ordering.TheVariants.{Less, Greater}
+use Rattle.std.specs.Cmp.Lexicographic.{slice_cmp}
+use Rattle.std.specs.FinMap.{find, is_sorted}
+use Rattle.std.specs.FinMap.Entries.{by_order}
+use Rattle.gp_base.specs.Writing.{joined}
+use Rattle.gp_base.specs.declared.token.Token.{Token}
+use Rattle.gp_base.specs.declared.token.Token.TheVariants.{Inserted, Queried, Updated}
+
+-- by kind, in this order, then by transaction, statement and row
+abbrev pub token_cmp : Token → Token → Ordering
+token_cmp (Inserted t k n) (Inserted u l m) = ordering_then (nat_cmp t u) (ordering_then (nat_cmp k l) (nat_cmp n m))
+token_cmp (Inserted t k n) (Queried u l) = Less
+token_cmp (Inserted t k n) (Updated u l) = Less
+token_cmp (Queried t k) (Inserted u l m) = Greater
+token_cmp (Queried t k) (Queried u l) = ordering_then (nat_cmp t u) (nat_cmp k l)
+token_cmp (Queried t k) (Updated u l) = Less
+token_cmp (Updated t k) (Inserted u l m) = Greater
+token_cmp (Updated t k) (Queried u l) = Greater
+token_cmp (Updated t k) (Updated u l) = ordering_then (nat_cmp t u) (nat_cmp k l)
+
+-- its numbers have 32 bits
+abbrev pub IsToken : Token → Type 0
+IsToken (Inserted t k n) = (t ≤ 0xffff_ffff) × ((k ≤ 0xffff_ffff) × (n ≤ 0xffff_ffff))
+IsToken (Queried t k) = (t ≤ 0xffff_ffff) × (k ≤ 0xffff_ffff)
+IsToken (Updated t k) = (t ≤ 0xffff_ffff) × (k ≤ 0xffff_ffff)
+
+-- the greatest count
+abbrev pub greatest_count : ℕ
+greatest_count = 0xffff_ffff_ffff_ffff
+
+-- tokens in ascending order, each with its count
+abbrev pub Monomial : Type 0
+Monomial = List (Token × ℕ)
+
+-- the product of no tokens
+abbrev pub one : Monomial
+one = []
+
+-- one token
+abbrev pub once : Token → Monomial
+once token = (token, 1) ∷ []
+
+-- a pair of the one monomial merged with the other, where `rest` multiplies what follows the pair
+abbrev pub times_from : Token × ℕ → (Monomial → Monomial) → Monomial → Monomial
+times_from pair rest [] = pair ∷ rest []
+times_from pair rest (other ∷ others) =
+    by_order (token_cmp pair.0 other.0)
+    (pair ∷ rest (other ∷ others))
+    ((pair.0, min (pair.1 + other.1) greatest_count) ∷ rest others)
+    (other ∷ times_from pair rest others)
+
+-- the product: the tokens of both in order; the counts of a common token add up, and stop at the greatest count
+abbrev pub times : Monomial → Monomial → Monomial
+times [] others = others
+times (pair ∷ pairs) others = times_from pair (times pairs) others
+
+-- the count of a token, 0 where it is absent
+abbrev pub power : Monomial → Token → ℕ
+power monomial token = unwrap_or (find token_cmp token monomial) 0
+
+-- by the first pair that differs: its token, then its count; a proper prefix is less
+abbrev pub monomial_cmp : Monomial → Monomial → Ordering
+monomial_cmp = slice_cmp (then_cmp (on (λ pair. pair.0) token_cmp) (on (λ pair. pair.1) nat_cmp))
+
+-- a token with a count
+abbrev pub IsPower : Token × ℕ → Type 0
+IsPower pair = IsToken pair.0 × ((1 ≤ pair.1) × (pair.1 ≤ greatest_count))
+
+abbrev pub ArePowers : Monomial → Type 0
+ArePowers [] = Unit {0}
+ArePowers (pair ∷ pairs) = IsPower pair × ArePowers pairs
+
+-- tokens strictly rise, and each has a count
+pub record IsMonomial (monomial : Monomial) : Type 0 where
+  pub sorted : IsTrue (is_sorted token_cmp monomial)
+  pub powers : ArePowers monomial
+
+-- i, q or u and the numbers
+abbrev pub token_text : Token → List ℕ
+token_text (Inserted t k n) = concat (codes "i" ∷ decimal t ∷ codes "." ∷ decimal k ∷ codes "." ∷ decimal n ∷ [])
+token_text (Queried t k) = concat (codes "q" ∷ decimal t ∷ codes "." ∷ decimal k ∷ [])
+token_text (Updated t k) = concat (codes "u" ∷ decimal t ∷ codes "." ∷ decimal k ∷ [])
+
+-- a count above 1 is an exponent
+abbrev pub power_text : Token × ℕ → List ℕ
+power_text pair = if pair.1 == 1 then token_text pair.0 else concat (token_text pair.0 ∷ codes "^" ∷ decimal pair.1 ∷ [])
+
+abbrev pub monomial_text : Monomial → List ℕ
+monomial_text = joined power_text (codes "*")
