@@ -50,6 +50,23 @@ abbrev mutual
   cond_is_simple (or c d) = cond_is_simple c && cond_is_simple d
   cond_is_simple (not c) = cond_is_simple c
 
+-- the conditions of its CASEs are simple
+abbrev mutual
+  pub has_simple_conditions : Expr → Bool
+  has_simple_conditions (col n) = true
+  has_simple_conditions (constant cell) = true
+  has_simple_conditions (add a b) = has_simple_conditions a && has_simple_conditions b
+  has_simple_conditions (sub a b) = has_simple_conditions a && has_simple_conditions b
+  has_simple_conditions (mul a b) = has_simple_conditions a && has_simple_conditions b
+  has_simple_conditions (neg a) = has_simple_conditions a
+  has_simple_conditions (case c a b) = cond_is_simple c && (has_simple_conditions a && has_simple_conditions b)
+  has_simple_conditions (new_id t k b parts) = parts_have_simple_conditions parts
+  has_simple_conditions (times a b) = has_simple_conditions a && has_simple_conditions b
+
+  pub parts_have_simple_conditions : Parts → Bool
+  parts_have_simple_conditions no_parts = true
+  parts_have_simple_conditions (part a others) = has_simple_conditions a && parts_have_simple_conditions others
+
 -- each column number passes the one test, and each constant the other
 module _ (column_passes : ℕ → Bool) (constant_passes : Cell → Bool) where
   abbrev mutual

@@ -1,4 +1,5 @@
 -- Part of the statement: the expressions and conditions of the code without the pointers in their boxes.
+use Rattle.std.specs.Prelude.{List, [], ◌∷◌}
 use Rattle.gp_expr.specs.Expressions as e
 use Rattle.gp_expr.specs.declared.expr.Expr.{Expr, Col, Const, Add', Sub', Mul', Neg', Case', NewId', Times', Row_of-Expr, end_of-Expr, more_of-Expr}
 use Rattle.gp_expr.specs.declared.expr.Cond.{Cond, True, Cmp', IsNull', IsTrue', And', Or', Not'}
@@ -27,3 +28,8 @@ abbrev mutual
   pub parts_view : {m : _} → Row_of-Expr m → e.Parts
   parts_view end_of-Expr = e.no_parts
   parts_view (more_of-Expr a others) = e.part (expr_view a) (parts_view others)
+
+-- the parts of an identity as a list
+abbrev pub parts_of : List Expr → e.Parts
+parts_of [] = e.no_parts
+parts_of (a ∷ others) = e.part (expr_view a) (parts_of others)

@@ -1,7 +1,8 @@
 //! Expressions and conditions over the columns of a row.
 //!
 //! In reading order: [`Expr`] is an expression, which has a cell as its value, [`Cond`] a condition, [`Cmp`] a comparison,
-//! and [`Ternary`] the truth of a condition. In `specs/`, `Expressions` has expressions without the pointers of their boxes,
+//! and [`Ternary`] the truth of a condition. [`eval_simple`] and [`truth`] evaluate them on a row, [`eval`] also those that make
+//! identities and provenance; [`size`] and [`cond_size`] count nodes. In `specs/`, `Expressions` has expressions without the pointers of their boxes,
 //! which all contracts speak of, and `Views` maps the types of the code to them.
 //!
 //! ```text
@@ -11,8 +12,16 @@
 //! ```
 #![tactic(auto)]
 
+mod arithmetic;
+mod error;
+mod evaluation;
 mod expr;
+mod logic;
+mod sizes;
 mod ternary;
 
+pub use error::EvalStop;
+pub use evaluation::{eval, eval_simple, truth};
 pub use expr::{Cmp, Cond, Expr};
+pub use sizes::{cond_size, size};
 pub use ternary::Ternary;
