@@ -1,0 +1,9 @@
+pub mod Bags
+pub mod Erasure
+pub mod Lists
+pub mod Permutations
+pub mod PlainBags
+pub mod ScanLemmas
+pub mod ScanOrder
+pub mod StepBags
+pub mod Worked

@@ -1,3 +1,12 @@
-pub mod Statements
-pub mod Views
+pub mod Answers
+pub mod Effects
 pub mod Fitting
+pub mod Plain
+pub mod PlainViews
+pub mod Reannotation
+pub mod SameRows
+pub mod Scans
+pub mod Statements
+pub mod Stops
+pub mod Views
+pub mod WellBuilt

@@ -1,8 +1,12 @@
-//! Statements over numbered tables and columns, as the check of names and types gives them.
+//! Statements over numbered tables and columns, as the check of names and types gives them, and the plain algebra, in which
+//! questions are computed.
 //!
-//! In reading order: [`Stmt`] is a statement, [`Select`] a query of [`Branch`]es, [`SetExpr`] an assignment of an UPDATE. In
-//! `specs/`, `Statements` has them without the pointers of their expressions, `Views` maps the types of the code to those,
-//! and `Fitting` says when a statement or a query fits the tables of a catalogue.
+//! In reading order: [`Stmt`] is a statement, [`Select`] a query of [`Branch`]es, [`SetExpr`] an assignment of an UPDATE.
+//! [`PProgram`] is a plain program: steps [`PStep`] and a last [`PQuery`]; [`scans`] gives the tables and versions that it
+//! reads. In `specs/`, `Statements` and `Plain` have these types without the pointers of their boxes, and `Views` and
+//! `PlainViews` map the types of the code to those. `Answers` and `Effects` say what queries and statements mean over
+//! annotated rows, `Plain` and `Stops` what a plain program gives and where it stops, and `Fitting` when a statement or a
+//! query fits the tables of a catalogue. The laws of these definitions begin with [`answers_respect_bags`].
 //!
 //! ```text
 //! // DELETE FROM the first table, all rows
@@ -10,6 +14,15 @@
 //! ```
 #![tactic(auto)]
 
+mod laws;
+mod plain;
+mod scan;
 mod statement;
 
+pub use laws::{
+    annotations_commute, answers_respect_bags, programs_read_their_scans, programs_respect_bags,
+    statements_respect_bags,
+};
+pub use plain::{PProgram, PQuery, PStep, ScanAt};
+pub use scan::scans;
 pub use statement::{Branch, Select, SetExpr, Stmt};

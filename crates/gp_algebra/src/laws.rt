@@ -1,0 +1,91 @@
+//! Laws of the definitions that contracts cite. Each function does nothing: its postconditions are the laws. A law with a
+//! type parameter holds for annotations of every type, as monomials, the elements of a semiring, or nothing at all.
+
+ghost use Rattle.std.specs.Prelude.{◌≡◌, ℕ, List, map};
+ghost use Rattle.std.specs.List.Sorted.{IsPermutation};
+ghost use Rattle.gp_base.specs.Annotated.{Annotations, Database, plain};
+ghost use Rattle.gp_algebra.specs.Answers.{answer};
+ghost use Rattle.gp_algebra.specs.Effects.{is_over_nodes, is_over_rows, step, wrote};
+ghost use Rattle.gp_algebra.specs.Plain.{PlainEnvironment, PlainProgram, program_meaning};
+ghost use Rattle.gp_algebra.specs.Reannotation.{IsHomomorphism, database_reannotated, element_reannotated, forgotten, reannotated};
+ghost use Rattle.gp_algebra.specs.SameRows.{HaveSameRows};
+ghost use Rattle.gp_algebra.specs.Scans.{AgreeOn, HaveSameRowsOn, program_scans};
+ghost use Rattle.gp_algebra.specs.Statements.{Select, Statement};
+ghost use Rattle.gp_algebra.specs.Stops.{program_stop};
+
+/// Databases with the same rows, in any order, give answers with the same elements, in any order.
+pub fn answers_respect_bags<M>()
+    ensures answers { (kind : Annotations M) (select : Select) (db other : Database M)
+        → HaveSameRows db other
+        → IsPermutation (answer kind select db) (answer kind select other) }
+{}
+
+/// On databases with the same rows, in any order, a statement leaves the same rows, writes the same rows, and is over the
+/// same limits.
+pub fn statements_respect_bags<M>()
+    ensures effects { (kind : Annotations M) (t k : ℕ) (statement : Statement)
+        (db other : Database M) → HaveSameRows db other
+        → HaveSameRows (step kind t k statement db) (step kind t k statement other) }
+    ensures written { (kind : Annotations M) (t k : ℕ) (statement : Statement)
+        (db other : Database M) → HaveSameRows db other
+        → IsPermutation (wrote kind t k statement db) (wrote kind t k statement other) }
+    ensures rows { (kind : Annotations M) (most t k : ℕ) (statement : Statement)
+        (db other : Database M) → HaveSameRows db other
+        → is_over_rows kind most t k statement db ≡ is_over_rows kind most t k statement other }
+    ensures nodes { (kind : Annotations M) (most t k : ℕ) (statement : Statement)
+        (db other : Database M) → HaveSameRows db other
+        → is_over_nodes kind most t k statement db ≡ is_over_nodes kind most t k statement other }
+{}
+
+/// Annotations decide nothing: a homomorphism of annotations commutes with answers and with statements, row by row in the
+/// same order (Green, Karvounarakis and Tannen 2007), and neither the rows that a statement writes nor the limits that it is
+/// over depend on annotations. Forgetting annotations is a homomorphism. Products of monomials need no order and no
+/// brackets: they are a commutative monoid, by [`gp_base::monomials_are_a_commutative_monoid`].
+pub fn annotations_commute<M, N>()
+    ensures answers { (kind : Annotations M) (other : Annotations N) (h : M → N)
+        → IsHomomorphism kind other h → (select : Select) (db : Database M)
+        → answer other select (database_reannotated h db)
+        ≡ map (element_reannotated h) (answer kind select db) }
+    ensures effects { (kind : Annotations M) (other : Annotations N) (h : M → N)
+        → IsHomomorphism kind other h
+        → (t k : ℕ) (statement : Statement) (db : Database M) (table : ℕ)
+        → step other t k statement (database_reannotated h db) table
+        ≡ map (reannotated h) (step kind t k statement db table) }
+    ensures written { (kind : Annotations M) (other : Annotations N) (h : M → N)
+        → IsHomomorphism kind other h → (t k : ℕ) (statement : Statement) (db : Database M)
+        → wrote other t k statement (database_reannotated h db) ≡ wrote kind t k statement db }
+    ensures rows { (kind : Annotations M) (other : Annotations N) (h : M → N)
+        → IsHomomorphism kind other h
+        → (most t k : ℕ) (statement : Statement) (db : Database M)
+        → is_over_rows other most t k statement (database_reannotated h db)
+        ≡ is_over_rows kind most t k statement db }
+    ensures nodes { (kind : Annotations M) (other : Annotations N) (h : M → N)
+        → IsHomomorphism kind other h
+        → (most t k : ℕ) (statement : Statement) (db : Database M)
+        → is_over_nodes other most t k statement (database_reannotated h db)
+        ≡ is_over_nodes kind most t k statement db }
+    ensures forgetting { (kind : Annotations M) → IsHomomorphism kind plain forgotten }
+{}
+
+/// The rows of a plain program and where it stops depend on the tables and versions that it scans, and on nothing else.
+pub fn programs_read_their_scans()
+    ensures meaning { (program : PlainProgram) (env other : PlainEnvironment)
+        → AgreeOn (program_scans program) env other
+        → program_meaning env program ≡ program_meaning other program }
+    ensures stop { (most_rows most_nodes : ℕ) (program : PlainProgram)
+        (env other : PlainEnvironment) → AgreeOn (program_scans program) env other
+        → program_stop most_rows most_nodes env program
+        ≡ program_stop most_rows most_nodes other program }
+{}
+
+/// The order of rows does not matter: if the tables that a plain program scans have the same rows, in any order, it gives
+/// the same rows, in any order, and stops at the same step.
+pub fn programs_respect_bags()
+    ensures meaning { (program : PlainProgram) (env other : PlainEnvironment)
+        → HaveSameRowsOn (program_scans program) env other
+        → IsPermutation (program_meaning env program) (program_meaning other program) }
+    ensures stop { (most_rows most_nodes : ℕ) (program : PlainProgram)
+        (env other : PlainEnvironment) → HaveSameRowsOn (program_scans program) env other
+        → program_stop most_rows most_nodes env program
+        ≡ program_stop most_rows most_nodes other program }
+{}

@@ -1,0 +1,97 @@
+//! The plain algebra: queries and programs over rows of cells. Tables are numbered by their places in the catalogue, from
+//! 0, and columns from 1.
+
+use gp_base::{Row, Sequence};
+use gp_expr::{Cond, Expr};
+
+/// A query. Its meaning is a bag of rows.
+#[derive(Drop)]
+pub enum PQuery {
+    /// The rows of a table in a version.
+    Scan {
+        /// The table.
+        table: u32,
+        /// The version, from 0.
+        version: u32,
+    },
+    /// The rows of an earlier step.
+    Step {
+        /// Its number.
+        j: u32,
+    },
+    /// The rows for which the condition is true.
+    Filter {
+        /// The rows.
+        input: Box<PQuery>,
+        /// The condition.
+        cond: Cond,
+    },
+    /// For each row, the values of the expressions on it.
+    Project {
+        /// The rows.
+        input: Box<PQuery>,
+        /// The expressions.
+        exprs: Sequence<Expr>,
+    },
+    /// Each left row followed by each right row.
+    Product {
+        /// The left rows.
+        left: Box<PQuery>,
+        /// The right rows.
+        right: Box<PQuery>,
+    },
+    /// The rows of both.
+    Union {
+        /// The first rows.
+        left: Box<PQuery>,
+        /// The second rows.
+        right: Box<PQuery>,
+    },
+    /// These rows.
+    Values {
+        /// The rows.
+        rows: Sequence<Row>,
+    },
+    /// A transaction's rows onto a later version: the later rows whose identities the transaction has not written, and its
+    /// own marked rows. It has written an identity if a marked row of it has that identity, or if it has no row with that
+    /// identity but its base has.
+    Publish {
+        /// The column of the identity; the mark is in the next one.
+        at: u32,
+        /// The rows that the transaction read.
+        base: Box<PQuery>,
+        /// Its own rows at the end.
+        mine: Box<PQuery>,
+        /// The rows of the version before its commit.
+        later: Box<PQuery>,
+    },
+}
+
+/// A step: the contents of a table after a statement.
+#[derive(Drop)]
+pub struct PStep {
+    /// The number of the statement.
+    pub j: u32,
+    /// The table.
+    pub table: u32,
+    /// The contents. That of an INSERT is a [`PQuery::Union`].
+    pub query: PQuery,
+}
+
+/// A program: steps, which are taken in order, and a last query.
+#[derive(Drop)]
+pub struct PProgram {
+    /// The steps, in rising order of their numbers.
+    pub steps: Sequence<PStep>,
+    /// The last query.
+    pub last: PQuery,
+}
+
+/// A table in a version.
+#[derive(Clone, Copy, PartialEq, Eq, PartialOrd, Ord)]
+pub struct ScanAt {
+    /// The table.
+    pub table: u32,
+    /// The version.
+    pub version: u32,
+}
