@@ -1,0 +1,23 @@
+//! The executor: the answer of a query over the rows of tables, and the rows of a plain program.
+//!
+//! In reading order: [`Views`] are the rows of the tables and [`choose`] the answer of a query over them, one [`Chosen`] for
+//! each choice of rows. [`Env`] is what a program scans; [`run`] gives the rows of its last query and [`run_table`] those of
+//! a program that ends in a table, without a limit on their number. [`ExecStop`] and [`ChooseStop`] are the reasons
+//! why there are none.
+//!
+//! ```text
+//! // every element of the answer, at most 50,000
+//! let chosen = choose(alloc, &select, &views, MAX_ANSWER_ROWS)?;
+//! ```
+#![tactic(auto)]
+
+mod env;
+mod error;
+mod limit;
+mod row;
+mod search;
+
+pub use env::{Env, Scanned};
+pub use error::{ChooseStop, ExecStop};
+pub use limit::{MAX_ANSWER_ROWS, MAX_TABLE_ROWS};
+pub use search::{Chosen, Views, choose};
