@@ -25,7 +25,7 @@ fn stop_of(alloc: Global, catalog: &Catalog, command: &Command) -> Option<CheckS
 }
 
 /// Adds the table of a CREATE TABLE to the catalogue, and answers whether it was added.
-fn creates(alloc: Global, catalog: &mut Catalog, text: &str) -> bool {
+pub(crate) fn creates(alloc: Global, catalog: &mut Catalog, text: &str) -> bool {
     match command_of(alloc, text.as_bytes()) {
         Some(Command::Create { table }) => catalog.add(table).is_ok(),
         _ => false,

@@ -2,7 +2,8 @@
 //! hand, the real files and the real output.
 //!
 //! Reading order: `values.rt` (cells, rows, refusals), `files.rt` (shelves and sinks), `lines.rt` (lines and commands of a script),
-//! `replies.rt` (the engine and the texts of replies), `checks.rt` (names and types), `calls.rt` (the whole call).
+//! `provenance.rt` (identities, tokens, monomials), `checks.rt` (names and types), `queries.rt` (expressions and answers), `replies.rt` (the
+//! engine and the texts of replies), `calls.rt` (the whole call).
 //!
 //! Each test is a `for` over a table of cases, and a helper that borrows compares one case:
 //!
@@ -21,6 +22,10 @@ mod checks;
 mod files;
 #[cfg(test)]
 mod lines;
+#[cfg(test)]
+mod provenance;
+#[cfg(test)]
+mod queries;
 #[cfg(test)]
 mod replies;
 #[cfg(test)]
