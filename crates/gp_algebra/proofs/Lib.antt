@@ -1,9 +1,11 @@
 pub mod Bags
+pub mod BuiltLemmas
 pub mod Erasure
 pub mod Lists
 pub mod Permutations
 pub mod PlainBags
 pub mod ScanLemmas
 pub mod ScanOrder
+pub mod SimpleLemmas
 pub mod StepBags
 pub mod Worked

@@ -6,6 +6,7 @@ pub mod PlainViews
 pub mod Reannotation
 pub mod SameRows
 pub mod Scans
+pub mod Simple
 pub mod Statements
 pub mod Stops
 pub mod Views

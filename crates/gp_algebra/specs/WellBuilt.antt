@@ -27,10 +27,14 @@ abbrev pub may_be_identity : Expr → Bool
 may_be_identity (e.new_id t k b parts) = parts_are_simple parts
 may_be_identity e = makes_no_identity e
 
+-- one of these numbers
+abbrev pub is_among : List ℕ → ℕ → Bool
+is_among numbers j = list_any (λ i. i == j) numbers
+
 -- a query that makes no identities and reads these steps only
 abbrev pub query_is_built : List ℕ → Plain → Bool
 query_is_built earlier (scan table version) = true
-query_is_built earlier (step j) = list_any (λ i. i == j) earlier
+query_is_built earlier (step j) = is_among earlier j
 query_is_built earlier (select query c) = query_is_built earlier query && cond_is_simple c
 query_is_built earlier (project query exprs) = query_is_built earlier query && list_all makes_no_identity exprs
 query_is_built earlier (product left right) = query_is_built earlier left && query_is_built earlier right

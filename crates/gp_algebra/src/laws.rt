@@ -1,16 +1,19 @@
 //! Laws of the definitions that contracts cite. Each function does nothing: its postconditions are the laws. A law with a
 //! type parameter holds for annotations of every type, as monomials, the elements of a semiring, or nothing at all.
 
-ghost use Rattle.std.specs.Prelude.{◌≡◌, ℕ, List, map};
+ghost use Rattle.std.specs.Prelude.{◌≡◌, ℕ, true, List, map};
 ghost use Rattle.std.specs.List.Sorted.{IsPermutation};
+ghost use Rattle.gp_base.specs.declared.table.Table.{Table};
 ghost use Rattle.gp_base.specs.Annotated.{Annotations, Database, plain};
 ghost use Rattle.gp_algebra.specs.Answers.{answer};
 ghost use Rattle.gp_algebra.specs.Effects.{is_over_nodes, is_over_rows, step, wrote};
+ghost use Rattle.gp_algebra.specs.Fitting.{select_fits, statement_fits};
 ghost use Rattle.gp_algebra.specs.Plain.{PlainEnvironment, PlainProgram, program_meaning};
 ghost use Rattle.gp_algebra.specs.Reannotation.{IsHomomorphism, database_reannotated, element_reannotated, forgotten, reannotated};
 ghost use Rattle.gp_algebra.specs.SameRows.{HaveSameRows};
 ghost use Rattle.gp_algebra.specs.Scans.{AgreeOn, HaveSameRowsOn, program_scans};
-ghost use Rattle.gp_algebra.specs.Statements.{Select, Statement};
+ghost use Rattle.gp_algebra.specs.Simple.{select_is_simple};
+ghost use Rattle.gp_algebra.specs.Statements.{Select, Statement, insert_select, read};
 ghost use Rattle.gp_algebra.specs.Stops.{program_stop};
 
 /// Databases with the same rows, in any order, give answers with the same elements, in any order.
@@ -88,4 +91,15 @@ pub fn programs_respect_bags()
         (env other : PlainEnvironment) → HaveSameRowsOn (program_scans program) env other
         → program_stop most_rows most_nodes env program
         ≡ program_stop most_rows most_nodes other program }
+{}
+
+/// A query that fits a catalogue is simple, so the executor takes what the check of names and types gives.
+pub fn fitting_queries_are_simple()
+    ensures queries { (tables : List Table) (select : Select)
+        → select_fits tables select ≡ true → select_is_simple select ≡ true }
+    ensures inserts { (tables : List Table) (table : ℕ) (select : Select)
+        → statement_fits tables (insert_select table select) ≡ true
+        → select_is_simple select ≡ true }
+    ensures reads { (tables : List Table) (select : Select)
+        → statement_fits tables (read select) ≡ true → select_is_simple select ≡ true }
 {}

@@ -3,10 +3,11 @@
 //!
 //! In reading order: [`Stmt`] is a statement, [`Select`] a query of [`Branch`]es, [`SetExpr`] an assignment of an UPDATE.
 //! [`PProgram`] is a plain program: steps [`PStep`] and a last [`PQuery`]; [`scans`] gives the tables and versions that it
-//! reads. In `specs/`, `Statements` and `Plain` have these types without the pointers of their boxes, and `Views` and
-//! `PlainViews` map the types of the code to those. `Answers` and `Effects` say what queries and statements mean over
-//! annotated rows, `Plain` and `Stops` what a plain program gives and where it stops, and `Fitting` when a statement or a
-//! query fits the tables of a catalogue. The laws of these definitions begin with [`answers_respect_bags`].
+//! reads. [`select_is_simple`] and [`is_well_built`] test what the executor asks for. In `specs/`, `Statements` and `Plain`
+//! have these types without the pointers of their boxes, and `Views` and `PlainViews` map the types of the code to those.
+//! `Answers` and `Effects` say what queries and statements mean over annotated rows, `Plain` and `Stops` what a plain program
+//! gives and where it stops, and `Fitting` when a statement or a query fits the tables of a catalogue. The laws of these
+//! definitions begin with [`answers_respect_bags`].
 //!
 //! ```text
 //! // DELETE FROM the first table, all rows
@@ -14,15 +15,19 @@
 //! ```
 #![tactic(auto)]
 
+mod built;
 mod laws;
 mod plain;
 mod scan;
+mod simple;
 mod statement;
 
+pub use built::is_well_built;
 pub use laws::{
-    annotations_commute, answers_respect_bags, programs_read_their_scans, programs_respect_bags,
-    statements_respect_bags,
+    annotations_commute, answers_respect_bags, fitting_queries_are_simple,
+    programs_read_their_scans, programs_respect_bags, statements_respect_bags,
 };
 pub use plain::{PProgram, PQuery, PStep, ScanAt};
 pub use scan::scans;
+pub use simple::select_is_simple;
 pub use statement::{Branch, Select, SetExpr, Stmt};

@@ -2,7 +2,7 @@
 //!
 //! In reading order: [`Expr`] is an expression, which has a cell as its value, [`Cond`] a condition, [`Cmp`] a comparison,
 //! and [`Ternary`] the truth of a condition. [`eval_simple`] and [`truth`] evaluate them on a row, [`eval`] also those that make
-//! identities and provenance; [`size`] and [`cond_size`] count nodes. In `specs/`, `Expressions` has expressions without the pointers of their boxes,
+//! identities and provenance; [`is_simple`] and [`cond_is_simple`] test for the former, [`size`] and [`cond_size`] count nodes. In `specs/`, `Expressions` has expressions without the pointers of their boxes,
 //! which all contracts speak of, and `Views` maps the types of the code to them.
 //!
 //! ```text
@@ -17,11 +17,13 @@ mod error;
 mod evaluation;
 mod expr;
 mod logic;
+mod simple;
 mod sizes;
 mod ternary;
 
 pub use error::EvalStop;
 pub use evaluation::{eval, eval_simple, truth};
 pub use expr::{Cmp, Cond, Expr};
+pub use simple::{cond_is_simple, is_simple};
 pub use sizes::{cond_size, size};
 pub use ternary::Ternary;

@@ -1,0 +1,80 @@
+-- Lemmas of well-built programs: the numbers of the steps so far, the newest first, and the steps in their order.
+use Rattle.std.proofs.Common.{◌≡◌, ℕ, suc, ◌+◌, ◌<◌, Bool, true, false, List, [], ◌∷◌, ◌++◌, map, length, get_or, take, drop, refl, sym, ap, ◌∙◌, add-one, drop-cons}
+use Rattle.std.specs.Prelude.{◌&&◌, ◌||◌, ◌==◌, nat_lt}
+use Rattle.std.specs.List.{list_all, list_any}
+use Rattle.std.proofs.lemmas.List.{take_more}
+use Rattle.gp_expr.specs.Expressions.{is_simple}
+use Rattle.gp_expr.specs.declared.expr.Expr.{Expr}
+use Rattle.gp_expr.specs.Views.{expr_view, parts_of}
+use Rattle.gp_algebra.specs.declared.plain.PStep.{PStep}
+use Rattle.gp_algebra.specs.PlainViews.{query_view, step_view}
+use Rattle.gp_algebra.specs.WellBuilt.{parts_are_simple, is_among, is_above, step_is_built, steps_are_built, numbers_after}
+
+or_moved : (a b c : Bool) → (a || (b || c)) ≡ ((b || a) || c)
+or_moved true true c = refl
+or_moved true false c = refl
+or_moved false true c = refl
+or_moved false false c = refl
+
+and_moved : (a b c : Bool) → (a && (b && c)) ≡ ((b && a) && c)
+and_moved true true c = refl
+and_moved true false c = refl
+and_moved false true c = refl
+and_moved false false c = refl
+
+and_grouped : (a b c : Bool) → (a && (b && c)) ≡ ((a && b) && c)
+and_grouped true b c = refl
+and_grouped false b c = refl
+
+or_nothing : (a : Bool) → (a || false) ≡ a
+or_nothing true = refl
+or_nothing false = refl
+
+and_nothing : (a : Bool) → (a && true) ≡ a
+and_nothing true = refl
+and_nothing false = refl
+
+any_number : (f : ℕ → Bool) (earlier : List ℕ) (steps : List PStep) → list_any f (numbers_after earlier (map step_view steps)) ≡ (list_any (λ (s : PStep). f s.j) steps || list_any f earlier)
+any_number f earlier [] = refl
+any_number f earlier (s ∷ steps) = any_number f (s.j ∷ earlier) steps ∙ or_moved (list_any (λ (s : PStep). f s.j) steps) (f s.j) (list_any f earlier)
+
+all_numbers : (f : ℕ → Bool) (earlier : List ℕ) (steps : List PStep) → list_all f (numbers_after earlier (map step_view steps)) ≡ (list_all (λ (s : PStep). f s.j) steps && list_all f earlier)
+all_numbers f earlier [] = refl
+all_numbers f earlier (s ∷ steps) = all_numbers f (s.j ∷ earlier) steps ∙ and_moved (list_all (λ (s : PStep). f s.j) steps) (f s.j) (list_all f earlier)
+
+-- a step has the number
+pub is_among-is : (steps : List PStep) (j : ℕ) → list_any (λ (s : PStep). s.j == j) steps ≡ is_among (numbers_after [] (map step_view steps)) j
+is_among-is steps j = sym (any_number (λ i. i == j) [] steps ∙ or_nothing (list_any (λ (s : PStep). s.j == j) steps))
+
+-- the number is above those of all steps
+pub is_above-is : (steps : List PStep) (j : ℕ) → list_all (λ (s : PStep). nat_lt s.j j) steps ≡ is_above (numbers_after [] (map step_view steps)) j
+is_above-is steps j = sym (all_numbers (λ i. nat_lt i j) [] steps ∙ and_nothing (list_all (λ (s : PStep). nat_lt s.j j) steps))
+
+-- one more step
+pub numbers_after-push : (earlier : List ℕ) (steps : List PStep) (s : PStep) → numbers_after earlier (map step_view (steps ++ s ∷ [])) ≡ s.j ∷ numbers_after earlier (map step_view steps)
+numbers_after-push earlier [] s = refl
+numbers_after-push earlier (t ∷ steps) s = numbers_after-push (t.j ∷ earlier) steps s
+
+-- the parts of an identity as a list
+pub parts-simple : (parts : List Expr) → list_all (λ part. is_simple (expr_view part)) parts ≡ parts_are_simple (parts_of parts)
+parts-simple [] = refl
+parts-simple (a ∷ others) = ap (λ b. is_simple (expr_view a) && b) (parts-simple others)
+
+abbrev numbers : List PStep → List ℕ
+numbers steps = numbers_after [] (map step_view steps)
+
+-- the steps from a place on: the one at it is well built over those before it, and so are the others
+pub steps-here : (steps : List PStep) (i : ℕ) (s : PStep) → i < length steps → s ≡ get_or steps i s →
+    steps_are_built (numbers_after [] (map step_view (take i steps))) (map step_view (drop i steps))
+    ≡ ((is_above (numbers_after [] (map step_view (take i steps))) s.j && step_is_built (numbers_after [] (map step_view (take i steps))) (query_view s.query))
+    && steps_are_built (numbers_after [] (map step_view (take (i + 1) steps))) (map step_view (drop (i + 1) steps)))
+steps-here steps i s within same =
+    let rest = drop (suc i) steps in
+    let before = take i steps in
+    let next : take (i + 1) steps ≡ before ++ s ∷ [] = take_more steps i s within ∙ ap (λ (x : PStep). before ++ x ∷ []) (sym same) in
+    let here : drop i steps ≡ s ∷ rest = drop-cons steps i s within ∙ ap (λ (x : PStep). x ∷ rest) (sym same) in
+    let after : numbers_after [] (map step_view (take (i + 1) steps)) ≡ s.j ∷ numbers before = ap numbers next ∙ numbers_after-push [] before s in
+    ap (λ list. steps_are_built (numbers before) (map step_view list)) here
+    ∙ (and_grouped (is_above (numbers before) s.j) (step_is_built (numbers before) (query_view s.query)) (steps_are_built (s.j ∷ numbers before) (map step_view rest))
+    ∙ ap (λ b. (is_above (numbers before) s.j && step_is_built (numbers before) (query_view s.query)) && b)
+    (ap (λ list. steps_are_built list (map step_view rest)) (sym after) ∙ rw (add-one) refl))
