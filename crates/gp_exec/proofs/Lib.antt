@@ -1,3 +1,9 @@
 pub mod ChoosingLemmas
+pub mod EarlyLemmas
+pub mod EvaluationLemmas
 pub mod ListLemmas
+pub mod ProgramLemmas
+pub mod PublishingLemmas
+pub mod RelationLemmas
 pub mod StepLemmas
+pub mod StepRowsLemmas

@@ -1,3 +1,5 @@
 pub mod Choosing
+pub mod Evaluating
+pub mod Publishing
 pub mod Running
 pub mod Search

@@ -5,19 +5,29 @@
 //! a program that ends in a table, without a limit on their number. [`ExecStop`] and [`ChooseStop`] are the reasons
 //! why there are none.
 //!
+//! Inside, `search` is the nested loops of [`choose`] and `early` the tests that prune them. `relation` has the operators of
+//! the plain algebra over lists of rows, `publication` the one that puts a transaction onto a later version, `evaluation`
+//! evaluates a query by them, and `program` takes the steps of a program in turn.
+//!
 //! ```text
 //! // every element of the answer, at most 50,000
 //! let chosen = choose(alloc, &select, &views, MAX_ANSWER_ROWS)?;
 //! ```
 #![tactic(auto)]
 
+mod early;
 mod env;
 mod error;
+mod evaluation;
 mod limit;
+mod program;
+mod publication;
+mod relation;
 mod row;
 mod search;
 
 pub use env::{Env, Scanned};
 pub use error::{ChooseStop, ExecStop};
 pub use limit::{MAX_ANSWER_ROWS, MAX_TABLE_ROWS};
+pub use program::{run, run_table};
 pub use search::{Chosen, Views, choose};
