@@ -1,0 +1,6 @@
+pub mod HeldLemmas
+pub mod LaterLemmas
+pub mod OrderLemmas
+pub mod SameLemmas
+pub mod SpanLemmas
+pub mod WritesLemmas

@@ -1,0 +1,4 @@
+pub mod Commits
+pub mod SpanCodes
+pub mod Spans
+pub mod Written

@@ -1,0 +1,132 @@
+//! The row versions of a table.
+
+ghost use Rattle.std.specs.Prelude.{◌≡◌, ℕ, ◌+◌, ◌-◌, ◌++◌, ◌<◌, ◌≤◌, [], IfOk, OnOk, length, slice_get};
+ghost use Rattle.std.specs.List.{range_with_len};
+ghost use Rattle.std.specs.List.Sorted.{IsPermutation, IsSortedByKey};
+ghost use Rattle.std.specs.Option.{option_cmp};
+ghost use Rattle.gp_base.specs.Annotated.{plain};
+ghost use Rattle.gp_versions.specs.Commits.{AreBelow, AreDistinct, after_commit, live_rows, unwritten_rows};
+ghost use Rattle.gp_versions.specs.Spans.{AreWhole, NoOverlap, rows_at, span_cmp, spans_at, written_after};
+
+use crate::as_of::AsOf;
+use crate::commit::commit_spans;
+use crate::later::written_after;
+use crate::order::sorted_places;
+use crate::span::Span;
+use crate::writes::Writes;
+use gp_base::{NoMemory, RowId};
+use std::alloc::Global;
+use std::marker::Model;
+
+/// The row versions of a table, since its creation: its spans, in the order in which they began. Spans of one identity
+/// never overlap, so each version has at most one row of an identity, and each span holds at least one version.
+#[derive(Drop)]
+pub struct VersionTable {
+    spans: Vec<Span>,
+}
+
+impl Model for VersionTable {
+    ghost use Rattle.std.specs.Prelude.{◌-◌, vec_capacity, vec_len};
+    ghost use Rattle.gp_versions.specs.Spans.{AreWhole, NoOverlap, Versions};
+    ghost use Rattle.gp_versions.specs.SpanCodes.{versions_code};
+
+    ghost Value = { Versions };
+
+    ghost coded = { versions_code };
+
+    ghost view = { λ a. record {
+      spans = a.spans.items;
+      spare = vec_capacity a.spans - vec_len a.spans;
+    } };
+
+    ghost invariant = { λ a. NoOverlap a.spans.items × AreWhole a.spans.items };
+}
+
+impl VersionTable {
+    /// A table without spans.
+    pub fn new(alloc: Global) -> VersionTable
+        ensures { result.spans ≡ [] }
+    {
+        VersionTable {
+            spans: Vec::new(alloc),
+        }
+    }
+
+    /// The number of spans.
+    pub fn len(&self) -> usize
+        ensures { result ≡ length self.now.spans }
+    {
+        self.spans.len()
+    }
+
+    /// The spans, in the order in which they began.
+    pub fn as_slice(&self) -> &[Span]
+        ensures spans { result.now ≡ self.now.spans }
+        ensures apart { NoOverlap self.now.spans }
+        ensures whole { AreWhole self.now.spans }
+    {
+        self.spans.as_slice()
+    }
+
+    /// The span at a place; places are numbered from 0, in the order in which the spans began.
+    pub fn span(&self, place: u32) -> &Span
+        requires { place < length self.now.spans }
+        ensures { slice_get self.now.spans place ≡ Some result.now }
+    {
+        &self.spans[place as usize]
+    }
+
+    /// The places of the spans, in order of identity, and for one identity in order of their beginning. Places that 32 bits
+    /// cannot number run out of memory.
+    pub fn spans(&self, alloc: Global) -> Result<Vec<u32>, NoMemory>
+        ensures places { IfOk result
+            (λ places. IsPermutation (range_with_len 0 (length self.now.spans)) places.items) }
+        ensures sorted { IfOk result (λ places. IsSortedByKey
+            (slice_get self.now.spans) (option_cmp span_cmp) places.items) }
+    {
+        sorted_places(alloc, &self.spans)
+    }
+
+    /// The spans that hold the version, in the order in which they began.
+    pub fn as_of(&self, v: u32) -> AsOf<'_>
+        ensures { result ≡ spans_at v self.now.spans }
+    {
+        AsOf::new(&self.spans, v)
+    }
+
+    /// The least version above v at which a span of the identity begins or ends, or None if there is none.
+    pub fn written_after(&self, id: &RowId, v: u32) -> Option<u32>
+        ensures { result ≡ written_after id.now v self.now.spans }
+    {
+        written_after(self.spans.as_slice(), id, v)
+    }
+
+    /// Makes room for at least n more spans. The spans are unchanged, also if memory runs out.
+    pub fn reserve(&mut self, n: u32) -> Result<(), NoMemory>
+        ensures unchanged { self.new.spans ≡ self.old.spans }
+        ensures spare { OnOk result (n ≤ self.new.spare) }
+    {
+        self.spans.reserve(n as usize)?;
+        Ok(())
+    }
+
+    /// Makes a version: ends the open spans of the written identities there, and begins a span for each write that has a
+    /// row. The version is above all versions at which a span begins or ends, the writes are of different identities, and
+    /// there is room for them, so that nothing can fail. Earlier versions keep their rows. The new version has the rows of
+    /// the version before it without those of the written identities, and then the rows that the writes leave.
+    pub fn append_commit(&mut self, version: u32, writes: Writes)
+        requires first { 1 ≤ version }
+        requires above { AreBelow version self.old.spans }
+        requires distinct { AreDistinct writes }
+        requires room { length writes ≤ self.old.spare }
+        ensures spans { self.new.spans ≡ after_commit version writes self.old.spans }
+        ensures older { (v : ℕ) → v < version
+            → rows_at plain v self.new.spans ≡ rows_at plain v self.old.spans }
+        ensures newest { rows_at plain version self.new.spans
+            ≡ unwritten_rows writes (rows_at plain (version - 1) self.old.spans)
+            ++ live_rows plain writes }
+        ensures below { AreBelow (version + 1) self.new.spans }
+    {
+        commit_spans(&mut self.spans, version, writes);
+    }
+}
