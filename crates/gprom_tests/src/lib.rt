@@ -2,8 +2,8 @@
 //! hand, the real files and the real output.
 //!
 //! Reading order: `values.rt` (cells, rows, refusals), `files.rt` (shelves and sinks), `lines.rt` (lines and commands of a script),
-//! `provenance.rt` (identities, tokens, monomials), `checks.rt` (names and types), `queries.rt` (expressions and answers), `replies.rt` (the
-//! engine and the texts of replies), `calls.rt` (the whole call).
+//! `provenance.rt` (identities, tokens, monomials), `checks.rt` (names and types), `queries.rt` (expressions and answers), `programs.rt` (plain
+//! programs), `versions.rt` (row versions), `replies.rt` (the engine and the texts of replies), `calls.rt` (the whole call).
 //!
 //! Each test is a `for` over a table of cases, and a helper that borrows compares one case:
 //!
@@ -23,6 +23,8 @@ mod files;
 #[cfg(test)]
 mod lines;
 #[cfg(test)]
+mod programs;
+#[cfg(test)]
 mod provenance;
 #[cfg(test)]
 mod queries;
@@ -30,3 +32,5 @@ mod queries;
 mod replies;
 #[cfg(test)]
 mod values;
+#[cfg(test)]
+mod versions;

@@ -95,12 +95,18 @@ const ORDERED_IDENTITIES: &[(Numbers, &[Numbers])] = &[
     ((2, 1, 1), &[(1, 1, 2)]),
 ];
 
+/// One of these identities.
+fn ordered_id(alloc: Global, place: usize) -> Result<Option<RowId>, NoMemory> {
+    match ORDERED_IDENTITIES.get(place) {
+        Some((numbers, sources)) => id_of(alloc, *numbers, sources),
+        None => Ok(None),
+    }
+}
+
 /// The result of the comparison of two of these identities.
 fn compared(alloc: Global, left: usize, right: usize) -> Result<Option<Ordering>, NoMemory> {
-    let (numbers, sources) = ORDERED_IDENTITIES[left];
-    let left = id_of(alloc, numbers, sources)?;
-    let (numbers, sources) = ORDERED_IDENTITIES[right];
-    let right = id_of(alloc, numbers, sources)?;
+    let left = ordered_id(alloc, left)?;
+    let right = ordered_id(alloc, right)?;
     match (&left, &right) {
         (Some(left), Some(right)) => Ok(Some(left.compare(right))),
         _ => Ok(None),
@@ -170,10 +176,18 @@ const ORDERED_MONOMIALS: &[&[Token]] = &[
     &[U3],
 ];
 
+/// One of these monomials.
+fn ordered_monomial(alloc: Global, place: usize) -> Result<Monomial, NoMemory> {
+    match ORDERED_MONOMIALS.get(place) {
+        Some(tokens) => monomial_of(alloc, tokens),
+        None => Ok(Monomial::one(alloc)),
+    }
+}
+
 /// The result of the comparison of two of these monomials.
 fn compared_monomials(alloc: Global, left: usize, right: usize) -> Result<Ordering, NoMemory> {
-    let left = monomial_of(alloc, ORDERED_MONOMIALS[left])?;
-    let right = monomial_of(alloc, ORDERED_MONOMIALS[right])?;
+    let left = ordered_monomial(alloc, left)?;
+    let right = ordered_monomial(alloc, right)?;
     Ok(left.compare(&right))
 }
 

@@ -2,7 +2,7 @@
 
 use crate::checks::creates;
 use crate::lines::command_of;
-use gp_algebra::{Select, Stmt};
+use gp_algebra::{Select, Stmt, select_is_simple};
 use gp_base::{Catalog, NoMemory, Row, RowId, Sequence, Stored, write_id, write_row};
 use gp_check::check;
 use gp_exec::{ChooseStop, Chosen, Views, choose};
@@ -34,12 +34,19 @@ fn given_rows(alloc: Global, catalog: &Catalog, text: &str) -> Option<Sequence<R
     }
 }
 
+/// The number of the row at this place, from 1.
+fn number_at(place: usize) -> u32 {
+    match u32::try_from(place) {
+        Ok(place) => place.saturating_add(1),
+        Err(_) => u32::MAX,
+    }
+}
+
 /// The rows with the identities 1.1.1, 1.1.2 and so on.
 fn stored_rows(alloc: Global, rows: &[Row]) -> Result<Sequence<Stored>, NoMemory> {
     let mut all = Sequence::new(alloc);
-    for row in rows {
-        let n = all.as_slice().len() as u32 + 1;
-        if let Some(id) = RowId::new(1, 1, n, Vec::new(alloc)) {
+    for (place, row) in rows.iter().enumerate() {
+        if let Some(id) = RowId::new(1, 1, number_at(place), Vec::new(alloc)) {
             let row = row.clone()?;
             all.push(Stored { id, row })?;
         }
@@ -78,6 +85,9 @@ impl OneTable {
         let Some(select) = select_of(alloc, &self.catalog, text) else {
             return Ok(None);
         };
+        if !select_is_simple(&select) {
+            return Ok(None);
+        }
         match choose(alloc, &select, &self.views, most) {
             Ok(chosen) => Ok(Some(chosen)),
             Err(ChooseStop::TooMany) => Ok(None),

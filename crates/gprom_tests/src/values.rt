@@ -18,7 +18,8 @@ pub(crate) enum Given {
     Text(&'static str),
 }
 
-fn cell_of(alloc: Global, given: Given) -> Result<Cell, NoMemory> {
+/// The cell.
+pub(crate) fn cell_of(alloc: Global, given: Given) -> Result<Cell, NoMemory> {
     match given {
         Given::Null => Ok(Cell::Null),
         Given::Int(number) => Ok(Cell::Int(number)),
@@ -45,7 +46,7 @@ fn rows_of(alloc: Global, rows: &[&[Given]]) -> Result<Vec<Row>, NoMemory> {
 }
 
 /// The texts of the rows, each with a line feed.
-fn lines_of(alloc: Global, rows: &[Row]) -> Result<Vec<u8>, NoMemory> {
+pub(crate) fn lines_of(alloc: Global, rows: &[Row]) -> Result<Vec<u8>, NoMemory> {
     let mut out = Vec::new(alloc);
     for row in rows {
         write_row(alloc, row, &mut out)?;
