@@ -1,0 +1,11 @@
+use Rattle.gp_machine.proofs.ActiveLemmas.{begin_view, step_view, active_view}
+use Rattle.gp_machine.proofs.laws.transactions_keep_their_invariant.Goals as goal
+
+pub returns-clause-begin : goal.returns-clause-begin
+returns-clause-begin g c t base different unmarked others = begin_view t base different unmarked others
+
+pub returns-clause-statement : goal.returns-clause-statement
+returns-clause-statement g c kind t k statement base view written is = step_view kind t k statement base view written is
+
+pub returns-clause-reached : goal.returns-clause-reached
+returns-clause-reached g c kind limits state reached session active e = active_view kind limits state reached session active e

@@ -1,0 +1,205 @@
+-- Part of the statement: what the command of a line does to the state, and the reply to it. Under snapshot isolation (Berenson and others, SIGMOD
+-- 1995) a transaction reads the version that was newest when it began, and its own writes; its commit makes the next version. A refused line
+-- leaves the state unchanged, but a COMMIT that is lost ends its transaction.
+use Rattle.std.specs.Prelude.{ℕ, zero, suc, ◌+◌, nat_le, nat_lt, Bool, true, false, List, [], ◌∷◌, ◌++◌, length, filter, Option, Some, None, Result, Ok, Err, slice_get, if◌then◌else◌}
+use Rattle.std.specs.Option.{option_map_or}
+use Rattle.gp_base.specs.declared.limit.Limit.TheVariants as limit
+use Rattle.gp_base.specs.declared.refusal.Refusal.{Refusal}
+use Rattle.gp_base.specs.declared.refusal.Refusal.TheVariants.{E09, E10, E11, E12, E13, E14, E27}
+use Rattle.gp_base.specs.declared.table.Table.{Table}
+use Rattle.gp_base.specs.Annotated.{Annotations, Database}
+use Rattle.gp_grammar.specs.Syntax.{Command}
+use Rattle.gp_algebra.specs.Statements.{Statement, insert, insert_select, update, delete, read}
+use Rattle.gp_algebra.specs.Answers.{answer, cells_of}
+use Rattle.gp_algebra.specs.Effects.{step, wrote, is_over_rows, is_over_nodes}
+use Rattle.gp_machine.specs.declared.reply.Reply.{Reply}
+use Rattle.gp_machine.specs.declared.reply.Reply.TheVariants as reply
+use Rattle.gp_machine.specs.Actions.{Action, Create, Begin, Commit, Rollback, Run, action_of}
+use Rattle.gp_machine.specs.Committed.{is_written, next_version}
+use Rattle.gp_machine.specs.Conflicts.{Conflict, least_conflict}
+use Rattle.gp_machine.specs.Entries.{End, RolledBack, Lost, Created, Began, Ran, Committed, Ended, versions_in, transactions_in, statements_in, begin_version, committer_of}
+use Rattle.gp_machine.specs.Limits.{Limits}
+use Rattle.gp_machine.specs.State.{Active, State, with_value}
+
+-- a line that was read: its number, from 1, its session and its command
+pub record Line : Type 0 where
+  pub number : ℕ
+  pub session : ℕ
+  pub command : Command
+
+-- the name of the table at a place, or nothing if there is none
+abbrev pub name_at : ℕ → List Table → List ℕ
+name_at place tables = option_map_or (λ (table : Table). table.name) (slice_get tables place) []
+
+-- the table that a statement writes; a query writes none, and is given the first
+abbrev pub target_of : Statement → ℕ
+target_of (insert table rows) = table
+target_of (insert_select table select) = table
+target_of (update table sets c) = table
+target_of (delete table c) = table
+target_of (read select) = 0
+
+-- ---- refusals
+
+-- CREATE TABLE: the number of tables is tested before the names
+abbrev pub creation_refusal : Limits → List Table → Table → Option Refusal
+creation_refusal limits tables table = if nat_le limits.tables (length tables) then Some (E14 limit.Tables) else limits.created tables table
+
+-- A statement is counted before it is checked, in its transaction and then among all.
+abbrev pub count_refusal : Limits → ℕ → ℕ → Option Refusal
+count_refusal limits own all =
+    if nat_le limits.steps own then Some (E14 limit.Steps)
+    else if nat_le limits.statements all then Some (E14 limit.Statements)
+    else None
+
+module _ {M : Type 0} (kind : Annotations M) where
+  -- a SELECT that gives more rows than these
+  abbrev pub is_over_answer : ℕ → Statement → Database M → Bool
+  is_over_answer most (read select) db = nat_lt most (length (answer kind select db))
+  is_over_answer most (insert table rows) db = false
+  is_over_answer most (insert_select table select) db = false
+  is_over_answer most (update table sets c) db = false
+  is_over_answer most (delete table c) db = false
+
+  -- a statement that was checked: its rows, its identities, its answer
+  abbrev pub refusal_of : Limits → List Table → ℕ → ℕ → Statement → Database M → Option Refusal
+  refusal_of limits tables t k statement view =
+      if is_over_rows kind limits.rows t k statement view then Some (E12 (name_at (target_of statement) tables))
+      else if is_over_nodes kind limits.nodes t k statement view then Some E13
+      else if is_over_answer limits.answer statement view then Some E27
+      else None
+
+  -- the reply to a statement: the rows of a query, or the number of rows that it wrote
+  abbrev pub reply_of : ℕ → ℕ → Statement → Database M → Reply
+  reply_of t k (read select) view = reply.Rows (cells_of (answer kind select view))
+  reply_of t k (insert table rows) view = reply.Wrote (length (wrote kind t k (insert table rows) view))
+  reply_of t k (insert_select table select) view = reply.Wrote (length (wrote kind t k (insert_select table select) view))
+  reply_of t k (update table sets c) view = reply.Wrote (length (wrote kind t k (update table sets c) view))
+  reply_of t k (delete table c) view = reply.Wrote (length (wrote kind t k (delete table c) view))
+
+-- a refusal leaves the state unchanged
+abbrev pub refused : {M : Type 0} → State M → Refusal → State M × Reply
+refused state refusal = (state, reply.Refused refusal)
+
+-- ---- outside a transaction
+
+module _ {M : Type 0} (state : State M) (line session : ℕ) where
+  -- CREATE TABLE: one more table, empty in every version
+  abbrev pub created : Table → State M
+  created table = record state { catalogue = state.catalogue ++ table ∷ []; entries = Created line session table ∷ state.entries }
+
+  abbrev pub creating : Table → Option Refusal → State M × Reply
+  creating table (Some refusal) = refused state refusal
+  creating table None = (created table, reply.Created (length state.catalogue))
+
+  -- BEGIN: the next transaction reads the newest version
+  abbrev pub began : State M
+  began =
+      let t = suc (transactions_in state.entries) in
+      let view = state.committed (versions_in state.entries) in
+      record state {
+        entries = Began line session t ∷ state.entries;
+        views = with_value t (λ k. view) state.views;
+        active = with_value session (Some (record { transaction = t; statements = zero; view = view; written = [] })) state.active;
+      }
+
+  abbrev pub beginning : Bool → State M × Reply
+  beginning true = refused state (E14 limit.Transactions)
+  beginning false = (began, reply.Began (suc (transactions_in state.entries)) (versions_in state.entries))
+
+-- ---- statements
+
+module _ {M : Type 0} (kind : Annotations M) (state : State M) (line session : ℕ) (active : Active M) (command : Command) where
+  -- the transaction reads what the statement leaves from now on
+  abbrev pub accepted : Statement → State M
+  accepted statement =
+      let t = active.transaction in
+      let k = suc active.statements in
+      let view = step kind t k statement active.view in
+      record state {
+        entries = Ran line session command t statement ∷ state.entries;
+        views = with_value t (with_value k view (state.views t)) state.views;
+        active = with_value session (Some (record active { statements = k; view = view; written = active.written ++ wrote kind t k statement active.view })) state.active;
+      }
+
+  abbrev pub ran : Statement → Option Refusal → State M × Reply
+  ran statement (Some refusal) = refused state refusal
+  ran statement None = (accepted statement, reply_of kind active.transaction (suc active.statements) statement active.view)
+
+  -- by the refusal of the counts, and by the check
+  abbrev pub running : Limits → Option Refusal → Result Statement Refusal → State M × Reply
+  running limits (Some refusal) checked = refused state refusal
+  running limits None (Err refusal) = refused state refusal
+  running limits None (Ok statement) =
+      ran statement (refusal_of kind limits state.catalogue active.transaction (suc active.statements) statement active.view)
+
+-- ---- the end of a transaction
+
+-- the conflict that a commit is lost by, if there is one
+abbrev pub conflict_of : {M : Type 0} → State M → Active M → Option Conflict
+conflict_of state active = least_conflict state.written (begin_version active.transaction state.entries) (versions_in state.entries) active.written
+
+-- the rows that a commit publishes in the first tables, this many
+abbrev pub published_rows : {M : Type 0} → Active M → ℕ → ℕ
+published_rows active zero = zero
+published_rows active (suc table) = published_rows active table + length (filter (λ row. is_written table row.identity active.written) (active.view table))
+
+-- whether a commit would publish too many rows
+abbrev pub is_full : {M : Type 0} → Limits → State M → Active M → Bool
+is_full limits state active = nat_lt limits.published (state.rows + published_rows active (length state.catalogue))
+
+module _ {M : Type 0} (state : State M) (line session : ℕ) (active : Active M) where
+  -- ROLLBACK, or a COMMIT that is lost: the session has no transaction
+  abbrev pub ended : End → State M
+  ended end = record state { entries = Ended line session end active.transaction ∷ state.entries; active = with_value session None state.active }
+
+  -- COMMIT: the next version
+  abbrev pub published : State M
+  published =
+      let version = suc (versions_in state.entries) in
+      record state {
+        entries = Committed line session active.transaction ∷ state.entries;
+        committed = with_value version (next_version (state.committed (versions_in state.entries)) active.view active.written) state.committed;
+        written = with_value version active.written state.written;
+        rows = state.rows + published_rows active (length state.catalogue);
+        active = with_value session None state.active;
+      }
+
+  -- A commit is lost to the transaction that committed the conflict. The number of published rows is tested after that, and leaves the
+  -- transaction active.
+  abbrev pub committing : Option Conflict → Bool → State M × Reply
+  committing (Some conflict) full = (
+    ended Lost,
+    reply.Refused (E11 active.transaction (committer_of conflict.version state.entries) (name_at conflict.pair.table state.catalogue) conflict.pair.identity),
+  )
+  committing None true = refused state (E14 limit.Versions)
+  committing None false = (published, reply.Committed active.transaction (suc (versions_in state.entries)))
+
+-- ---- the event
+
+module _ {M : Type 0} (kind : Annotations M) (limits : Limits) where
+  -- CREATE TABLE and BEGIN are allowed only outside a transaction, all else only inside one.
+  abbrev pub answered : State M → ℕ → ℕ → Option (Active M) → Action → State M × Reply
+  answered state line session None (Create table) = creating state line session table (creation_refusal limits state.catalogue table)
+  answered state line session None Begin = beginning state line session (nat_le limits.transactions (transactions_in state.entries))
+  answered state line session None Commit = refused state E10
+  answered state line session None Rollback = refused state E10
+  answered state line session None (Run command) = refused state E10
+  answered state line session (Some active) (Create table) = refused state E09
+  answered state line session (Some active) Begin = refused state E09
+  answered state line session (Some active) Commit = committing state line session active (conflict_of state active) (is_full limits state active)
+  answered state line session (Some active) Rollback = (ended state line session active RolledBack, reply.RolledBack active.transaction)
+  answered state line session (Some active) (Run command) =
+      running kind state line session active command limits (count_refusal limits active.statements (statements_in state.entries)) (limits.checked state.catalogue command)
+
+  -- what the command of a line does in a session, and the reply to it
+  abbrev pub event : State M → ℕ → ℕ → Command → State M × Reply
+  event state line session command = answered state line session (state.active session) (action_of command)
+
+  abbrev pub line_event : State M → Line → State M × Reply
+  line_event state line = event state line.number line.session line.command
+
+  -- the state that some lines leave
+  abbrev pub after : State M → List Line → State M
+  after state [] = state
+  after state (line ∷ lines) = after (line_event state line).0 lines

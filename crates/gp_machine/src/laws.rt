@@ -1,0 +1,258 @@
+//! Laws of the history machine. Each function does nothing: its postconditions are the laws. A law with a type parameter
+//! holds for annotations of every type, as monomials, the elements of a semiring, or nothing at all.
+
+ghost use Rattle.std.specs.Prelude.{Bool, ◌≡◌, ◌≢◌, ℕ, zero, suc, ◌-◌, ◌<◌, ◌≤◌, true, false, List, [], ◌∷◌, ◌++◌, length, map, Option, Some, None};
+ghost use Rattle.std.specs.List.{AllByRecursion};
+ghost use Rattle.std.specs.List.Sorted.{IsPermutation};
+ghost use Rattle.gp_base.specs.Annotated.{Annotated, Annotations, Database, plain};
+ghost use Rattle.gp_base.specs.Identities.{Identity, transaction_of};
+ghost use Rattle.gp_grammar.specs.Syntax as y;
+ghost use Rattle.gp_versions.specs.declared.span.Span.{Span};
+ghost use Rattle.gp_versions.specs.Commits.{AreBelow};
+ghost use Rattle.gp_versions.specs.Spans.{AreWhole, NoOverlap, holds_at};
+ghost use Rattle.gp_algebra.specs.Effects.{Written, step, wrote};
+ghost use Rattle.gp_algebra.specs.Reannotation.{IsHomomorphism, forgotten, reannotated};
+ghost use Rattle.gp_algebra.specs.Answers.{answer};
+ghost use Rattle.gp_algebra.specs.Statements.{Select, Statement};
+ghost use Rattle.gp_machine.specs.declared.reply.Reply.{Reply};
+ghost use Rattle.gp_machine.specs.Actions.{action_of};
+ghost use Rattle.gp_machine.specs.Annotating.{annotated, annotated_versions, computed, identified};
+ghost use Rattle.gp_machine.specs.Committed.{cleared, is_written};
+ghost use Rattle.gp_machine.specs.Conflicts.{Conflict, IsLeastConflict, least_conflict};
+ghost use Rattle.gp_machine.specs.EngineLine.{Answers, FindsConflict, Follows, ShowsConflict};
+ghost use Rattle.gp_machine.specs.Entries.{Entry, begin_version, committer_of, log_of, statement_count, version_of, versions_in};
+ghost use Rattle.gp_machine.specs.Event.{Line, after, line_event, published};
+ghost use Rattle.gp_machine.specs.HistorySpans.{as_of, next_written, span_after, span_count, spans_from, state_spans};
+ghost use Rattle.gp_machine.specs.Limits.{ChecksTargets, Limits};
+ghost use Rattle.gp_machine.specs.Points.{IsAsked, at_point, held_at, run_stop};
+ghost use Rattle.gp_machine.specs.Publishing.{at_commit};
+ghost use Rattle.gp_machine.specs.Questions.{AreAlike, annotated_answer, held_answer, rows_answer};
+ghost use Rattle.gp_machine.specs.Reached.{CountsAreWithin, IsReached};
+ghost use Rattle.gp_machine.specs.Recorded.{is_recorded};
+ghost use Rattle.gp_machine.specs.Represents.{Kept, Overlay, Represents, kept_start};
+ghost use Rattle.gp_machine.specs.State.{Active, State, start};
+ghost use Rattle.gp_machine.specs.StateReannotation.{outcome_reannotated, state_reannotated};
+ghost use Rattle.gp_machine.specs.Views.{HaveDifferentIdentities, IsViewOf};
+
+/// Every state that lines lead to is that of a history: its versions are what its commits published, a transaction begins
+/// before it commits, the first committer wins, and what each transaction reads is what its run gives.
+pub fn reached_states_are_histories<M>()
+    ensures start { (kind : Annotations M) (limits : Limits) → IsReached kind limits start }
+    ensures event { (kind : Annotations M) (limits : Limits) (state : State M) (line : Line)
+        → IsReached kind limits state → IsReached kind limits
+        (line_event kind limits state line).0 }
+    ensures after { (kind : Annotations M) (limits : Limits) (lines : List Line)
+        → IsReached kind limits (after kind limits start lines) }
+{}
+
+/// A running transaction keeps its invariant. It holds at its BEGIN, if the version has no row twice, none marked, and none
+/// that the transaction made; every statement keeps it; and it holds of every active transaction of a reached state.
+pub fn transactions_keep_their_invariant<M>()
+    ensures begin { (t : ℕ) (base : Database M)
+        → ((table : ℕ) → HaveDifferentIdentities (base table))
+        → ((table : ℕ) → AllByRecursion (λ row. row.mark ≡ false) (base table))
+        → ((table : ℕ) → AllByRecursion (λ row. transaction_of row.identity ≢ t) (base table))
+        → IsViewOf t zero base base [] }
+    ensures statement { (kind : Annotations M) (t k : ℕ) (statement : Statement)
+        (base view : Database M) (written : List Written) → IsViewOf t k base view written
+        → IsViewOf t (suc k) base (step kind t (suc k) statement view)
+        (written ++ wrote kind t (suc k) statement view) }
+    ensures reached { (kind : Annotations M) (limits : Limits) (state : State M)
+        → IsReached kind limits state → (session : ℕ) (active : Active M)
+        → state.active session ≡ Some active
+        → IsViewOf active.transaction active.statements
+        (state.committed (begin_version active.transaction state.entries))
+        active.view active.written }
+{}
+
+/// An engine without annotations follows the history machine, if it keeps what represents the state, and answers each line
+/// as its methods have to. The empty engine represents the empty state. The conflict of a commit is any that is found to be the
+/// one of the history (`line`); the one that the spans show is (`shown`). A line that is not recorded leaves the engine unchanged.
+pub fn engines_follow_the_history()
+    ensures start { Represents kept_start start }
+    ensures line { (limits : Limits) (line : Line) (old new : Kept) (answer : Reply)
+        (conflict : Overlay → Option Conflict)
+        → ((lines : List Line) → Represents old (after plain limits start lines)
+        → FindsConflict old (after plain limits start lines) line.session conflict)
+        → Answers limits old line.number line.session new answer conflict
+        (old.sessions line.session) (action_of line.command)
+        → Follows limits old new line answer }
+    ensures shown { (limits : Limits) (line : Line) (old new : Kept) (answer : Reply)
+        (conflict : Overlay → Option Conflict)
+        → ((overlay : Overlay) → old.sessions line.session ≡ Some overlay
+        → ShowsConflict old overlay (conflict overlay))
+        → Answers limits old line.number line.session new answer conflict
+        (old.sessions line.session) (action_of line.command)
+        → Follows limits old new line answer }
+    ensures unchanged { (limits : Limits) (old new : Kept) (line : Line) (answer : Reply)
+        (conflict : Overlay → Option Conflict) → Answers limits old line.number line.session new
+        answer conflict (old.sessions line.session) (action_of line.command)
+        → is_recorded (action_of line.command) answer ≡ false → new ≡ old }
+{}
+
+/// Annotations decide nothing: a homomorphism of annotations commutes with every line, which gets the same reply, and with all
+/// lines. So the rows of every version and of every view are those without annotations, and so are the spans.
+pub fn annotations_change_no_reply<M, N>()
+    ensures event { (kind : Annotations M) (other : Annotations N) (h : M → N)
+        → IsHomomorphism kind other h → (limits : Limits) (state : State M) (line : Line)
+        → line_event other limits (state_reannotated h state) line
+        ≡ outcome_reannotated h (line_event kind limits state line) }
+    ensures after { (kind : Annotations M) (other : Annotations N) (h : M → N)
+        → IsHomomorphism kind other h → (limits : Limits) (lines : List Line)
+        → after other limits start lines ≡ state_reannotated h (after kind limits start lines) }
+    ensures forgetting { (kind : Annotations M) (limits : Limits) (lines : List Line)
+        → after plain limits start lines
+        ≡ state_reannotated forgotten (after kind limits start lines) }
+    ensures spans { (h : M → N) (state : State M) (table : ℕ)
+        → state_spans (state_reannotated h state) table ≡ state_spans state table }
+{}
+
+/// The spans of a reached state hold the rows of every version, in the same order, and with the annotations of the version that
+/// they begin with they are the version. Spans of one row do not overlap, none is empty, and one that holds a version ends at
+/// the next version that wrote its row. A commit ends open spans and begins new ones.
+pub fn spans_hold_the_versions<M>()
+    ensures rows { (kind : Annotations M) (limits : Limits) (state : State M)
+        → IsReached kind limits state
+        → (version table : ℕ) → version ≤ versions_in state.entries
+        → as_of plain (state_spans state) version table
+        ≡ map (reannotated forgotten) (state.committed version table) }
+    ensures annotated { (kind : Annotations M) (limits : Limits) (state : State M)
+        → IsReached kind limits state
+        → (version table : ℕ) → version ≤ versions_in state.entries
+        → annotated kind (state_spans state) state.committed version table
+        ≡ state.committed version table }
+    ensures apart { (kind : Annotations M) (limits : Limits) (state : State M)
+        → IsReached kind limits state → (table : ℕ) → NoOverlap (state_spans state table) }
+    ensures whole { (state : State M) (table : ℕ) → AreWhole (state_spans state table) }
+    ensures below { (state : State M) (table : ℕ)
+        → AreBelow (suc (versions_in state.entries)) (state_spans state table) }
+    ensures ends { (state : State M) (table : ℕ) → AllByRecursion
+        (λ (span : Span). (version : ℕ) → version ≤ versions_in state.entries
+        → holds_at version span ≡ true → span.to ≡ next_written state.written table span.id version
+        (versions_in state.entries - version)) (state_spans state table) }
+    ensures commit { (state : State M) (line session : ℕ) (active : Active M) (table : ℕ)
+        → state_spans (published state line session active) table
+        ≡ map (span_after (suc (versions_in state.entries))
+        (λ id. is_written table id active.written)) (state_spans state table)
+        ++ spans_from (suc (versions_in state.entries))
+        (published state line session active).committed
+        (published state line session active).written table
+        (suc (versions_in state.entries)) }
+{}
+
+/// A line that is not recorded leaves the state unchanged; a line that is recorded adds one entry to the log. All accepted
+/// lines are recorded, and of the refused ones a COMMIT that is lost, which ends its transaction.
+pub fn accepted_lines_are_recorded<M>()
+    ensures unchanged { (kind : Annotations M) (limits : Limits) (state : State M) (line : Line)
+        → is_recorded (action_of line.command) (line_event kind limits state line).1 ≡ false
+        → (line_event kind limits state line).0 ≡ state }
+    ensures recorded { (kind : Annotations M) (limits : Limits) (state : State M) (line : Line)
+        → is_recorded (action_of line.command) (line_event kind limits state line).1 ≡ true
+        → (entry : Entry)
+        × ((line_event kind limits state line).0.entries ≡ entry ∷ state.entries) }
+{}
+
+/// A commit is lost exactly where a version after the begin version wrote one of the rows of the transaction. The conflict is
+/// the least such row, by table and then by identity, with the first such version, in whatever order the rows are tested.
+pub fn conflicts_are_least()
+    ensures some { (written : ℕ → List Written) (begin versions : ℕ) (pairs : List Written)
+        (conflict : Conflict) → begin ≤ versions
+        → least_conflict written begin versions pairs ≡ Some conflict
+        → IsLeastConflict written begin versions pairs conflict }
+    ensures none { (written : ℕ → List Written) (begin versions : ℕ) (pairs : List Written)
+        → begin ≤ versions → least_conflict written begin versions pairs ≡ None
+        → (version table : ℕ) (id : Identity) → begin < version → version ≤ versions
+        → is_written table id pairs ≡ true → is_written table id (written version) ≡ false }
+    ensures same { (written : ℕ → List Written) (begin versions : ℕ) (pairs others : List Written)
+        → begin ≤ versions
+        → ((pair : Written) (version : ℕ) → begin < version → version ≤ versions
+        → is_written pair.table pair.identity (written version) ≡ true
+        → is_written pair.table pair.identity pairs
+        ≡ is_written pair.table pair.identity others)
+        → least_conflict written begin versions pairs
+        ≡ least_conflict written begin versions others }
+{}
+
+/// The log and the spans of a history, in whatever order, hold the history: its versions with their annotations, what a
+/// transaction that made a version read after each of its statements, and what its commit published. So every query gives the
+/// same answer, with the same annotations, as on the database that the history held. The run of such a transaction passes no
+/// limit. Publishing by marks and absence, as a query does, is the commit itself.
+pub fn logs_and_spans_hold_the_history<M>()
+    ensures answers { (kind : Annotations M) (limits : Limits) (lines : List Line)
+        (spans : ℕ → List Span) → ((table : ℕ)
+        → IsPermutation (spans table) (state_spans (after kind limits start lines) table))
+        → (point : y.State) → IsAsked (after kind limits start lines).entries point
+        → (query : Select) → IsPermutation
+        (answer kind query (at_point kind (after kind limits start lines).entries point
+        (annotated_versions kind (after kind limits start lines).entries spans)))
+        (answer kind query (held_at (after kind limits start lines) point)) }
+    ensures stops { (kind : Annotations M) (limits : Limits) (lines : List Line)
+        (spans : ℕ → List Span) → ((table : ℕ)
+        → IsPermutation (spans table) (state_spans (after kind limits start lines) table))
+        → (t k version : ℕ) → version_of t (after kind limits start lines).entries ≡ Some version
+        → k ≤ statement_count t (after kind limits start lines).entries
+        → run_stop kind limits (log_of (after kind limits start lines).entries) t k
+        (annotated_versions kind (after kind limits start lines).entries spans) ≡ None }
+    ensures consistent { (kind : Annotations M) (limits : Limits) (state : State M)
+        → IsReached kind limits state → (spans : ℕ → List Span)
+        → ((table : ℕ) → IsPermutation (spans table) (state_spans state table))
+        → (u table : ℕ) → u ≤ versions_in state.entries → IsPermutation
+        (identified (computed kind (log_of state.entries) spans u u table))
+        (identified (as_of kind spans u table)) }
+    ensures commits { (kind : Annotations M) (limits : Limits) (state : State M)
+        → IsReached kind limits state → (u : ℕ) → u < versions_in state.entries → (table : ℕ)
+        → cleared (at_commit kind (log_of state.entries)
+        (committer_of (suc u) state.entries) u state.committed) table
+        ≡ state.committed (suc u) table }
+{}
+
+/// Without annotations, the rows of the spans do, and no version need be computed.
+pub fn spans_answer_without_annotations()
+    ensures answers { (limits : Limits) (lines : List Line) (spans : ℕ → List Span) → ((table : ℕ)
+        → IsPermutation (spans table) (state_spans (after plain limits start lines) table))
+        → (point : y.State) → IsAsked (after plain limits start lines).entries point
+        → (query : Select) → IsPermutation
+        (answer plain query
+        (at_point plain (after plain limits start lines).entries point (as_of plain spans)))
+        (answer plain query (held_at (after plain limits start lines) point)) }
+{}
+
+/// No count passes its limit, and so the log has few lines.
+pub fn counts_are_within_their_limits<M>()
+    ensures within { (kind : Annotations M) (limits : Limits) (lines : List Line)
+        → CountsAreWithin limits (after kind limits start lines) }
+{}
+
+/// The commits of a history publish as many rows as it has spans, if the check passes no statement that writes a table that is
+/// not there. The spans are those of the tables of the catalogue.
+pub fn commits_publish_the_spans<M>()
+    ensures count { (kind : Annotations M) (limits : Limits) → ChecksTargets limits
+        → (lines : List Line) → (after kind limits start lines).rows
+        ≡ span_count (after kind limits start lines)
+        (length (after kind limits start lines).catalogue) }
+    ensures beyond { (kind : Annotations M) (limits : Limits) → ChecksTargets limits
+        → (lines : List Line) (place : ℕ)
+        → length (after kind limits start lines).catalogue ≤ place
+        → state_spans (after kind limits start lines) place ≡ [] }
+{}
+
+/// Every question is answered from the log and the spans as the history would answer it: with the same refusal, or with the same
+/// elements in any order. No run stops, and no computed version differs from the one of the spans, whatever test of equal
+/// tables is used, if it passes tables with the same rows in any order.
+pub fn questions_are_answered_by_the_history<M>()
+    ensures annotated { (kind : Annotations M) (limits : Limits) (lines : List Line)
+        (spans : ℕ → List Span) → ((table : ℕ)
+        → IsPermutation (spans table) (state_spans (after kind limits start lines) table))
+        → (agree : List (Annotated M) → List (Annotated M) → Bool)
+        → ((rows others : List (Annotated M))
+        → IsPermutation (identified rows) (identified others) → agree rows others ≡ true)
+        → (point : y.State) (query : Select) → AreAlike
+        (annotated_answer kind limits agree (after kind limits start lines).catalogue
+        (after kind limits start lines).entries spans point query)
+        (held_answer kind limits (after kind limits start lines) point query) }
+    ensures rows { (limits : Limits) (lines : List Line) (spans : ℕ → List Span) → ((table : ℕ)
+        → IsPermutation (spans table) (state_spans (after plain limits start lines) table))
+        → (point : y.State) (query : Select) → AreAlike
+        (rows_answer limits (after plain limits start lines).entries spans point query)
+        (held_answer plain limits (after plain limits start lines) point query) }
+{}
