@@ -1,0 +1,49 @@
+-- The rows of an INSERT are new, and those of a VALUES list have small identities.
+use Rattle.std.proofs.Common.{◌≡◌, ℕ, suc, IfOk, Result, Ok, Err, Bool, true, false, not, List, [], ◌∷◌, map, length, refl, ap, sym, subst}
+use Rattle.std.specs.List.{AllByRecursion}
+use Rattle.gp_base.specs.declared.cell.Cell.{Cell}
+use Rattle.gp_base.specs.declared.stored.Stored.{Stored}
+use Rattle.gp_base.specs.Annotated.{plain}
+use Rattle.gp_algebra.specs.Answers.{answer}
+use Rattle.gp_algebra.specs.Statements.{Select}
+use Rattle.gp_algebra.specs.Effects.{given_from, made}
+use Rattle.gp_versions.specs.Spans.{Versions}
+use Rattle.gp_txn.specs.Inserting.{AreApart, AreNew, Makes, are_large}
+use Rattle.gp_txn.specs.declared.error.StmtStop.{StmtStop}
+use Rattle.gp_txn.specs.Overlay.{PlainRow, Writes, HoldsOwn, HoldsOthers, own_row, table_at, view_of, writes_at}
+use Rattle.gp_txn.proofs.PairLemmas.{Pairwise}
+use Rattle.gp_txn.proofs.DistinctLemmas.{RowsDiffer, IsMade, given_rows-differ, given_rows-made, made_rows-differ, made_rows-made}
+use Rattle.gp_txn.proofs.OwnLemmas.{new-rows, view-differ}
+
+pub given-small : (t k n : ℕ) (rows : List (List Cell)) → are_large (given_from plain t k n rows) ≡ false
+given-small t k n [] = refl
+given-small t k n (cells ∷ rows) = given-small t k (suc n) rows
+
+pub given-length : (t k n : ℕ) (rows : List (List Cell)) → length (given_from plain t k n rows) ≡ length rows
+given-length t k n [] = refl
+given-length t k n (cells ∷ rows) = ap suc (given-length t k (suc n) rows)
+
+pub given-new : (t k : ℕ) (rows : List (List Cell)) (new : List Stored) → map own_row new ≡ given_from plain t k 1 rows → AreNew t k new
+given-new t k rows new are =
+    new-rows t k new (subst (Pairwise RowsDiffer) (sym are) (given_rows-differ plain t k 1 rows)) (subst (AllByRecursion (IsMade plain t k)) (sym are) (given_rows-made plain t k 1 rows))
+
+-- no two rows that a transaction sees of a table are of one identity
+pub views-differ : (writes : Writes) (versions : List Versions) → HoldsOwn writes → HoldsOthers writes.t versions → AreApart versions → (place : ℕ) → Pairwise RowsDiffer (view_of writes versions place)
+views-differ writes versions own others apart place =
+    view-differ writes.t writes.last writes.begin (writes_at place writes.tables).slots (writes_at place writes.tables).own (table_at place versions).spans (apart place) (others place) (own place)
+
+pub made-new : (k : ℕ) (select : Select) (writes : Writes) (versions : List Versions) (new : List Stored) → HoldsOwn writes → HoldsOthers writes.t versions → AreApart versions
+    → map own_row new ≡ map (made plain writes.t k) (answer plain select (view_of writes versions)) → AreNew writes.t k new
+made-new k select writes versions new own others apart are =
+    new-rows writes.t k new
+    (subst (Pairwise RowsDiffer) (sym are) (made_rows-differ plain writes.t k select (view_of writes versions) (views-differ writes versions own others apart)))
+    (subst (AllByRecursion (IsMade plain writes.t k)) (sym are) (made_rows-made plain writes.t k (answer plain select (view_of writes versions))))
+
+pub not-is : (b c : Bool) → not b ≡ c → b ≡ not c
+not-is true c is = ap not is
+not-is false c is = ap not is
+
+-- what holds of rows that were made
+pub when-made : (P : List Stored → Type 0) (result : Result (List Stored) StmtStop) (rows : List PlainRow) → Makes (map own_row) result rows → ((new : List Stored) → map own_row new ≡ rows → P new) → IfOk result P
+when-made P (Ok new) rows made each = each new made.0
+when-made P (Err stop) rows made each = tt

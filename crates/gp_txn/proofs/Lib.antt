@@ -1,0 +1,17 @@
+pub mod AfterLemmas
+pub mod AppliedLemmas
+pub mod CommitLemmas
+pub mod ConflictLemmas
+pub mod CountLemmas
+pub mod DistinctLemmas
+pub mod FitLemmas
+pub mod InsertLemmas
+pub mod LostLemmas
+pub mod OverlayLemmas
+pub mod OwnLemmas
+pub mod PairLemmas
+pub mod ReadLemmas
+pub mod StepLemmas
+pub mod VersionLemmas
+pub mod ViewLemmas
+pub mod WrittenLemmas

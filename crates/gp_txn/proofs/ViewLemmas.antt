@@ -1,0 +1,54 @@
+-- Loops that make the rows that a transaction sees, and that count them.
+use Rattle.std.proofs.Common.{◌≡◌, ℕ, ◌+◌, ◌<◌, true, false, List, [], ◌∷◌, ◌++◌, map, drop, length, get_or, refl, ap, sym, ◌∙◌, arith, add_assoc}
+use Rattle.std.proofs.lemmas.List.{map-append, drop-drop, append_assoc, length-append}
+use Rattle.gp_base.specs.declared.stored.Stored.{Stored}
+use Rattle.gp_base.specs.Annotated.{plain}
+use Rattle.gp_versions.specs.declared.span.Span.{Span}
+use Rattle.gp_versions.specs.Spans.{holds_at, row_of, rows_at}
+use Rattle.gp_txn.specs.declared.overlay.Slot.{Slot}
+use Rattle.gp_txn.specs.declared.overlay.Slot.TheVariants.{Same, Put, Dropped}
+use Rattle.gp_txn.specs.Overlay.{PlainRow, head_slot, shown, overlaid, own_row, stored_of}
+use Rattle.gp_txn.specs.Slots.{shown_count}
+use Rattle.gp_txn.proofs.OverlayLemmas.{rows-held, rows-passed}
+
+pub seen-held : (done : List Stored) (slots : List Slot) (place v : ℕ) (spans : List Span) (i : ℕ) (span : Span) → i < length spans → span ≡ get_or spans i span → holds_at v span ≡ true
+    → done ++ map stored_of (overlaid (drop place slots) (rows_at plain v (drop i spans))) ≡ (done ++ map stored_of (shown (head_slot (drop place slots)) (row_of plain span))) ++ map stored_of (overlaid (drop (place + 1) slots) (rows_at plain v (drop (i + 1) spans)))
+seen-held done slots place v spans i span within at held =
+    ap (λ rows. done ++ map stored_of (overlaid (drop place slots) rows)) (rows-held v spans i span within at held)
+    ∙ ap (λ others. done ++ map stored_of (shown (head_slot (drop place slots)) (row_of plain span) ++ overlaid others (rows_at plain v (drop (i + 1) spans)))) (drop-drop 1 place slots)
+    ∙ ap (λ (rows : List Stored). done ++ rows) (map-append stored_of (shown (head_slot (drop place slots)) (row_of plain span)) (overlaid (drop (place + 1) slots) (rows_at plain v (drop (i + 1) spans))))
+    ∙ sym (append_assoc done (map stored_of (shown (head_slot (drop place slots)) (row_of plain span))) (map stored_of (overlaid (drop (place + 1) slots) (rows_at plain v (drop (i + 1) spans)))))
+
+pub seen-passed : (done : List Stored) (slots : List Slot) (v : ℕ) (spans : List Span) (i : ℕ) (span : Span) → i < length spans → span ≡ get_or spans i span → holds_at v span ≡ false
+    → done ++ map stored_of (overlaid slots (rows_at plain v (drop i spans))) ≡ done ++ map stored_of (overlaid slots (rows_at plain v (drop (i + 1) spans)))
+seen-passed done slots v spans i span within at passed = ap (λ rows. done ++ map stored_of (overlaid slots rows)) (rows-passed v spans i span within at passed)
+
+own-stored : (own : List Stored) → map stored_of (map own_row own) ≡ own
+own-stored [] = refl
+own-stored (stored ∷ own) = ap (λ (others : List Stored). stored ∷ others) (own-stored own)
+
+pub view-stored : (slots : List Slot) (own : List Stored) (base : List PlainRow) → map stored_of (overlaid slots base ++ map own_row own) ≡ map stored_of (overlaid slots base) ++ own
+view-stored slots own base = map-append stored_of (overlaid slots base) (map own_row own) ∙ ap (λ (rows : List Stored). map stored_of (overlaid slots base) ++ rows) (own-stored own)
+
+length-shown : (slot : Slot) (row : PlainRow) → length (shown slot row) ≡ shown_count slot
+length-shown Same row = refl
+length-shown (Put cells) row = refl
+length-shown Dropped row = refl
+
+pub length-held : (count : ℕ) (slots : List Slot) (place v : ℕ) (spans : List Span) (i : ℕ) (span : Span) → i < length spans → span ≡ get_or spans i span → holds_at v span ≡ true
+    → count + length (overlaid (drop place slots) (rows_at plain v (drop i spans))) ≡ (count + shown_count (head_slot (drop place slots))) + length (overlaid (drop (place + 1) slots) (rows_at plain v (drop (i + 1) spans)))
+length-held count slots place v spans i span within at held =
+    ap (λ rows. count + length (overlaid (drop place slots) rows)) (rows-held v spans i span within at held)
+    ∙ ap (λ others. count + length (shown (head_slot (drop place slots)) (row_of plain span) ++ overlaid others (rows_at plain v (drop (i + 1) spans)))) (drop-drop 1 place slots)
+    ∙ ap (λ n. count + n) (length-append (shown (head_slot (drop place slots)) (row_of plain span)) (overlaid (drop (place + 1) slots) (rows_at plain v (drop (i + 1) spans))))
+    ∙ ap (λ n. count + (n + length (overlaid (drop (place + 1) slots) (rows_at plain v (drop (i + 1) spans))))) (length-shown (head_slot (drop place slots)) (row_of plain span))
+    ∙ sym (add_assoc count (shown_count (head_slot (drop place slots))) (length (overlaid (drop (place + 1) slots) (rows_at plain v (drop (i + 1) spans)))))
+
+pub length-passed : (count : ℕ) (slots : List Slot) (v : ℕ) (spans : List Span) (i : ℕ) (span : Span) → i < length spans → span ≡ get_or spans i span → holds_at v span ≡ false
+    → count + length (overlaid slots (rows_at plain v (drop i spans))) ≡ count + length (overlaid slots (rows_at plain v (drop (i + 1) spans)))
+length-passed count slots v spans i span within at passed = ap (λ rows. count + length (overlaid slots rows)) (rows-passed v spans i span within at passed)
+
+pub shown-few : (slot : Slot) → shown_count slot < 2
+shown-few Same = omega arith
+shown-few (Put cells) = omega arith
+shown-few Dropped = omega arith

@@ -1,0 +1,12 @@
+pub mod Applying
+pub mod Changes
+pub mod Committing
+pub mod Conflicts
+pub mod Counts
+pub mod Inserting
+pub mod LeastSoFar
+pub mod Overlay
+pub mod Prepared
+pub mod Slots
+pub mod Stops
+pub mod WritesCode

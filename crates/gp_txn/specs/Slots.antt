@@ -1,0 +1,81 @@
+-- Machinery: the slots and the inserted rows of a table after an UPDATE or a DELETE.
+use Rattle.std.specs.Prelude.{ℕ, Bool, false, List, [], ◌∷◌, ◌++◌, drop, slice_set, length, Option, Some, None, if◌then◌else◌}
+use Rattle.std.specs.List.{filter_map}
+use Rattle.gp_base.specs.declared.cell.Cell.{Cell}
+use Rattle.gp_base.specs.declared.stored.Stored.{Stored}
+use Rattle.gp_expr.specs.Values.{passes}
+use Rattle.gp_algebra.specs.Effects.{assigned}
+use Rattle.gp_txn.specs.declared.overlay.Slot.{Slot}
+use Rattle.gp_txn.specs.declared.overlay.Slot.TheVariants.{Same, Put, Dropped}
+use Rattle.gp_txn.specs.declared.overlay.TableWrites.{TableWrites}
+use Rattle.gp_txn.specs.Changes.{Change, update, delete, cond_of, touched}
+use Rattle.gp_txn.specs.Overlay.{PlainRow, Writes, head_slot}
+
+-- what the statement does to a row of these cells that passes its condition
+abbrev pub slot_for : Change → List Cell → Slot
+slot_for (update sets cond) cells = Put (assigned sets cells)
+slot_for (delete cond) cells = Dropped
+
+-- what it does to a row of these cells
+abbrev pub effect : Change → List Cell → Slot
+effect change cells = if passes (cond_of change) cells then slot_for change cells else Same
+
+-- the cells that are seen of a row of these cells
+abbrev pub seen : Slot → List Cell → Option (List Cell)
+seen Same cells = Some cells
+seen (Put now) cells = Some now
+seen Dropped cells = None
+
+-- how many rows are seen of it
+abbrev pub shown_count : Slot → ℕ
+shown_count Same = 1
+shown_count (Put now) = 1
+shown_count Dropped = 0
+
+-- whether a row passes that is seen
+abbrev pub passes_seen : Change → Option (List Cell) → Bool
+passes_seen change None = false
+passes_seen change (Some cells) = passes (cond_of change) cells
+
+abbrev pub is_touched : Change → Slot → List Cell → Bool
+is_touched change slot cells = passes_seen change (seen slot cells)
+
+-- the slot after the statement
+abbrev pub slot_seen : Change → Option (List Cell) → Slot
+slot_seen change None = Dropped
+slot_seen change (Some cells) = slot_for change cells
+
+abbrev pub changed_slot : Change → Slot → List Cell → Slot
+changed_slot change slot cells = if is_touched change slot cells then slot_seen change (seen slot cells) else slot
+
+abbrev pub changed_slots : Change → List Slot → List PlainRow → List Slot
+changed_slots change slots [] = []
+changed_slots change slots (row ∷ rows) = changed_slot change (head_slot slots) row.cells ∷ changed_slots change (drop 1 slots) rows
+
+-- an inserted row after the statement
+abbrev pub stored_after : Slot → Stored → Option Stored
+stored_after Same stored = Some stored
+stored_after (Put cells) stored = Some (record { id = stored.id; row = cells })
+stored_after Dropped stored = None
+
+abbrev pub changed_own : Change → List Stored → List Stored
+changed_own change own = filter_map (λ (stored : Stored). stored_after (effect change stored.row) stored) own
+
+-- the writes of a table after the statement, over the rows of the snapshot
+abbrev pub changed_table : Change → TableWrites → List PlainRow → TableWrites
+changed_table change writes base = record { slots = changed_slots change writes.slots base; own = changed_own change writes.own }
+
+-- what a transaction keeps after statement k, which left these writes of a table
+abbrev pub put_table : ℕ → ℕ → TableWrites → Writes → Writes
+put_table k place table writes = record { t = writes.t; begin = writes.begin; last = k; tables = slice_set writes.tables place table }
+
+-- the writes of a table with more inserted rows
+abbrev pub with_own : List Stored → TableWrites → TableWrites
+with_own new table = record { slots = table.slots; own = table.own ++ new }
+
+-- how many rows it writes
+abbrev pub count_touched : Change → List PlainRow → ℕ
+count_touched change rows = length (touched change rows)
+
+abbrev pub one_if : Bool → ℕ
+one_if b = if b then 1 else 0

@@ -1,0 +1,98 @@
+//! The writes of a commit to one table.
+
+ghost use Rattle.std.specs.Prelude.{◌≡◌, ◌++◌, IfOk, OnOk, drop, map};
+ghost use Rattle.std.specs.Option.{option_to_list};
+ghost use Rattle.gp_base.specs.Annotated.{plain};
+ghost use Rattle.gp_txn.specs.Overlay.{base_writes, head_slot, own_write, slot_write, table_writes};
+ghost use Rattle.gp_versions.specs.Spans.{row_of, rows_at};
+
+use crate::overlay::{Slot, TableWrites};
+use gp_base::{NoMemory, Row, RowId, Stored};
+use gp_versions::{Span, Write};
+use std::alloc::Global;
+
+/// The write that puts cells into a row.
+fn put(id: &RowId, cells: &Row) -> Result<Write, NoMemory>
+    ensures { IfOk result (λ write. write ≡ record { id = id.now; row = Some cells.now }) }
+{
+    let id = id.clone()?;
+    let row = Some(cells.clone()?);
+    Ok(Write { id, row })
+}
+
+/// What a commit writes of a row of the snapshot.
+fn slot_write(slots: &[Slot], place: usize, span: &Span) -> Result<Option<Write>, NoMemory>
+    ensures { IfOk result (λ write. write
+        ≡ slot_write (head_slot (drop place slots.now)) (row_of plain span.now)) }
+{
+    match slots.get(place) {
+        None | Some(Slot::Same) => Ok(None),
+        Some(Slot::Put(cells)) => Ok(Some(put(&span.id, cells)?)),
+        Some(Slot::Dropped) => Ok(Some(Write {
+            id: span.id.clone()?,
+            row: None,
+        })),
+    }
+}
+
+/// Adds what a commit writes of a row of the snapshot.
+fn push_write(
+    writes: &mut Vec<Write>,
+    slots: &[Slot],
+    place: usize,
+    span: &Span,
+) -> Result<(), NoMemory>
+    ensures { OnOk result (writes.new.items ≡ writes.old.items ++ option_to_list
+        (slot_write (head_slot (drop place slots.now)) (row_of plain span.now))) }
+{
+    if let Some(write) = slot_write(slots, place, span)? {
+        writes.push(write)?;
+    }
+    Ok(())
+}
+
+/// What a commit writes of the rows of the snapshot.
+fn base_writes(
+    alloc: Global,
+    slots: &[Slot],
+    spans: &[Span],
+    begin: u32,
+) -> Result<Vec<Write>, NoMemory>
+    ensures { IfOk result
+        (λ writes. writes.items ≡ base_writes slots.now (rows_at plain begin spans.now)) }
+{
+    let mut writes = Vec::new(alloc);
+    let mut place = 0usize;
+    for span in spans {
+        if span.holds(begin) {
+            push_write(&mut writes, slots, place, span)?;
+            place += 1;
+        }
+    }
+    Ok(writes)
+}
+
+/// Adds the rows that the transaction inserted.
+fn push_own(writes: &mut Vec<Write>, own: &[Stored]) -> Result<(), NoMemory>
+    ensures { OnOk result (writes.new.items ≡ writes.old.items ++ map own_write own.now) }
+{
+    for stored in own {
+        writes.push(put(&stored.id, &stored.row)?)?;
+    }
+    Ok(())
+}
+
+/// What a commit writes of a table.
+pub fn table_writes(
+    alloc: Global,
+    writes: &TableWrites,
+    spans: &[Span],
+    begin: u32,
+) -> Result<Vec<Write>, NoMemory>
+    ensures { IfOk result
+        (λ list. list.items ≡ table_writes writes.now (rows_at plain begin spans.now)) }
+{
+    let mut list = base_writes(alloc, writes.slots.as_slice(), spans, begin)?;
+    push_own(&mut list, writes.own.as_slice())?;
+    Ok(list)
+}
