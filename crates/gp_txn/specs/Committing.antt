@@ -4,8 +4,8 @@ use Rattle.std.specs.Prelude.{◌≡◌, ℕ, ◌+◌, ◌-◌, ◌<◌, ◌≤�
 use Rattle.gp_versions.specs.declared.span.Write.{Write}
 use Rattle.gp_versions.specs.Commits.{AreBelow, after_commit}
 use Rattle.gp_versions.specs.Spans.{Versions}
-use Rattle.gp_txn.specs.declared.commit.CommitStop.{CommitStop}
-use Rattle.gp_txn.specs.declared.commit.CommitStop.TheVariants as stop
+use Rattle.gp_txn.specs.declared.error.CommitStop.{CommitStop}
+use Rattle.gp_txn.specs.declared.error.CommitStop.TheVariants as stop
 use Rattle.gp_txn.specs.declared.conflict.Late.{Late}
 use Rattle.gp_txn.specs.declared.counting.TheConstants.{MAX_SPANS}
 use Rattle.gp_txn.specs.declared.overlay.TableWrites.{TableWrites}

@@ -13,39 +13,12 @@ ghost use Rattle.gp_versions.specs.Commits.{AreBelow, AreDistinct, after_commit}
 use crate::active::Active;
 use crate::conflict::{Conflict, first_conflict};
 use crate::counting::is_full;
+use crate::error::CommitStop;
 use crate::overlay::TableWrites;
 use crate::publishing::{prepare, publish, reserve_all};
-use gp_base::{NoMemory, RowId};
+use gp_base::NoMemory;
 use gp_versions::{VersionTable, Writes};
 use std::alloc::Global;
-
-/// Why nothing is committed.
-#[derive(Drop)]
-pub enum CommitStop {
-    /// A later commit wrote a row that the transaction updated or deleted.
-    Conflict {
-        /// The first later version that wrote the row.
-        version: u32,
-        /// The place of its table, the first one with such a row.
-        table: u32,
-        /// The identity of the row, the least one of the table.
-        id: RowId,
-    },
-    /// There would be more than [`MAX_SPANS`](crate::MAX_SPANS) spans.
-    Full,
-    /// Memory ran out.
-    NoMemory,
-}
-
-impl From<NoMemory> for CommitStop {
-    ghost use Rattle.gp_txn.specs.declared.commit.CommitStop.TheVariants as stop;
-
-    ghost from_gives = { λ _ e. e ≡ stop.NoMemory };
-
-    fn from(_error: NoMemory) -> CommitStop {
-        CommitStop::NoMemory
-    }
-}
 
 /// Stops a commit that a conflict loses.
 fn check_conflict(

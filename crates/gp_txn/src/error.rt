@@ -2,7 +2,7 @@
 
 ghost use Rattle.std.specs.Prelude.{◌≡◌};
 
-use gp_base::NoMemory;
+use gp_base::{NoMemory, RowId};
 use gp_exec::ChooseStop;
 
 /// Why a statement is not applied.
@@ -37,5 +37,33 @@ impl From<ChooseStop> for StmtStop {
             ChooseStop::TooMany => StmtStop::Rows,
             ChooseStop::NoMemory => StmtStop::NoMemory,
         }
+    }
+}
+
+/// Why nothing is committed.
+#[derive(Drop)]
+pub enum CommitStop {
+    /// A later commit wrote a row that the transaction updated or deleted.
+    Conflict {
+        /// The first later version that wrote the row.
+        version: u32,
+        /// The place of its table, the first one with such a row.
+        table: u32,
+        /// The identity of the row, the least one of the table.
+        id: RowId,
+    },
+    /// There would be more than [`MAX_SPANS`](crate::MAX_SPANS) spans.
+    Full,
+    /// Memory ran out.
+    NoMemory,
+}
+
+impl From<NoMemory> for CommitStop {
+    ghost use Rattle.gp_txn.specs.declared.error.CommitStop.TheVariants as stop;
+
+    ghost from_gives = { λ _ e. e ≡ stop.NoMemory };
+
+    fn from(_error: NoMemory) -> CommitStop {
+        CommitStop::NoMemory
     }
 }

@@ -41,8 +41,7 @@ mod updating;
 mod viewing;
 
 pub use active::Active;
-pub use commit::CommitStop;
 pub use counting::MAX_SPANS;
-pub use error::StmtStop;
+pub use error::{CommitStop, StmtStop};
 pub use laws::the_first_committer_wins;
 pub use overlay::{Slot, TableWrites};
