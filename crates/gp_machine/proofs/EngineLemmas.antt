@@ -127,7 +127,10 @@ start_represented = record {
   sessions = λ session. tt;
 }
 
-after_last : {M : Type 0} (kind : Annotations M) (limits : Limits) (state : State M) (lines : List Line) (line : Line)
+pub reached_after : (limits : Limits) (lines : List Line) → IsReached plain limits (after plain limits start lines)
+reached_after limits lines = all_reached plain limits lines
+
+pub after_last : {M : Type 0} (kind : Annotations M) (limits : Limits) (state : State M) (lines : List Line) (line : Line)
     → after kind limits state (lines ++ line ∷ []) ≡ (event kind limits (after kind limits state lines) line.number line.session line.command).0
 after_last kind limits state [] line = refl
 after_last kind limits state (first ∷ lines) line = after_last kind limits (event kind limits state first.number first.session first.command).0 lines line

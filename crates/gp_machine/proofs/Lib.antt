@@ -21,7 +21,7 @@ mod Simulation
 mod SpanCommit
 mod SpanEnds
 mod SpanGrowth
-mod SpanLaws
+pub mod SpanLaws
 mod SpanOrder
 mod SpanRows
 mod StepViews
