@@ -1,2 +1,10 @@
-pub mod KeptLemmas
-pub mod HistoryLemmas
+pub mod CommandLemmas
+pub mod ConflictLemmas
+pub mod FitLemmas
+pub mod FollowLemmas
+pub mod InvariantLemmas
+pub mod LineLemmas
+pub mod PublishLemmas
+pub mod SessionLemmas
+pub mod StartLemmas
+pub mod StopLemmas

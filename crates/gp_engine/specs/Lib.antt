@@ -1,7 +1,4 @@
-pub mod Step
-pub mod State
-pub mod Replies
-pub mod Event
-pub mod History
-pub mod Kept
-pub mod KeptCode
+pub mod Limits
+pub mod Engine
+pub mod EngineCode
+pub mod Methods

@@ -1,4 +1,2 @@
-pub mod Progress
 pub mod ReadingLemmas
 pub mod PromisesLemmas
-pub mod ScriptLemmas

@@ -5,8 +5,8 @@ use Rattle.std.specs.Option.{option_map}
 use Rattle.gp_io.specs.Shelf.{ShelfState, Files, content, Reports, ReportsMiss, ReportsReadFault}
 use Rattle.gp_io.specs.Sink.{SinkState, appended, WritesPrefix, Increased}
 use Rattle.gp_io.proofs.ShelfLemmas.{Reports-differs}
-use Rattle.gp_engine.specs.History.{replies_of, replies_text, has_refusal}
-use Rattle.gprom_cli.specs.declared.script.TheConstants.{MAX_SCRIPT_LENGTH}
+use Rattle.gp_script.specs.History.{replies_of, replies_text, has_refusal}
+use Rattle.gp_script.specs.declared.script.TheConstants.{MAX_SCRIPT_LENGTH}
 use Rattle.gprom_cli.specs.declared.status.Status.{Status}
 use Rattle.gprom_cli.specs.declared.status.Status.TheVariants as exit
 use Rattle.gprom_cli.specs.Args.{Run}

@@ -2,4 +2,3 @@ pub mod Args
 pub mod Status
 pub mod Call
 pub mod Promises
-pub mod Script

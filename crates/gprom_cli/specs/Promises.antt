@@ -3,8 +3,8 @@
 -- sink knows them; the real files and the real output know neither.
 use Rattle.std.specs.Prelude.{◌≡◌, ℕ, ◌≤◌, ◌<◌, List, length, Some, None}
 use Rattle.gp_io.specs.Sink.{Increased}
-use Rattle.gp_engine.specs.History.{replies_of, replies_text}
-use Rattle.gprom_cli.specs.declared.script.TheConstants.{MAX_SCRIPT_LENGTH}
+use Rattle.gp_script.specs.History.{replies_of, replies_text}
+use Rattle.gp_script.specs.declared.script.TheConstants.{MAX_SCRIPT_LENGTH}
 use Rattle.gprom_cli.specs.declared.status.Status.{Status}
 use Rattle.gprom_cli.specs.declared.status.Status.TheVariants.{Done, Refused, Usage, Absent, Unreadable, Unwritten, TooLong, OutOfMemory}
 use Rattle.gprom_cli.specs.Call.{Call, HasOutcome, WritesOutput, IsOrFails, script_content, answered_status, NoReadFault, ReportsMissing, ReportsUnreadable}

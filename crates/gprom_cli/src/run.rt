@@ -3,17 +3,18 @@
 ghost use Rattle.std.specs.Prelude.{◌≡◌, ◌≤◌, IfOk, length, map, string_bytes, Some, codes};
 ghost use Rattle.gp_io.specs.Shelf.{ShelfState};
 ghost use Rattle.gp_io.specs.Sink.{SinkState};
-ghost use Rattle.gp_engine.specs.History.{replies_of, replies_text};
+ghost use Rattle.gp_script.specs.History.{replies_of, replies_text};
 ghost use Rattle.gprom_cli.specs.Args.{command_of};
 ghost use Rattle.gprom_cli.specs.Status.{number_of, status_of};
 ghost use Rattle.gprom_cli.specs.Call.{HasOutcome, WritesOutput, IsExpected, answered_status, message};
 ghost use Rattle.gprom_cli.specs.Promises.{Promises};
 
 use crate::args::{RunArgs, parse};
-use crate::script::{MAX_SCRIPT_LENGTH, run_script};
 use crate::status::Status;
 use gp_base::NoMemory;
+use gp_engine::Engine;
 use gp_io::{Shelf, ShelfStop, Sink, SinkStop};
+use gp_script::{MAX_SCRIPT_LENGTH, run_script};
 use std::alloc::Global;
 
 /// The usage line.
@@ -61,7 +62,8 @@ fn answer<K: Sink>(alloc: Global, script: &[u8], out: &mut K) -> Status
     ensures { WritesOutput (replies_text (replies_of script.now)) (answered_status script.now)
         (K.state out.old) (K.state out.new) result }
 {
-    match run_script(alloc, script) {
+    let mut engine = Engine::new(alloc);
+    match run_script(alloc, script, &mut engine) {
         Ok(output) => write_output(
             out,
             &output.text,

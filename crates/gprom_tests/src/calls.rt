@@ -64,7 +64,7 @@ const SCRIPTS: &[(&str, &str, u8)] = &[
     ("\n \t\r\n  -- nothing\n", "", 0),
     (
         "s1: COMMIT\ns1: BEGIN\ns1: BEGIN\ns1: ROLLBACK\n",
-        "1 E10 no transaction\n2 begin 1 at 0\n3 E09 transaction active\n4 E29 not built\n",
+        "1 E10 no transaction\n2 begin 1 at 0\n3 E09 transaction active\n4 rolled back 1\n",
         1,
     ),
     (
@@ -87,18 +87,18 @@ fn scripts_are_answered(rt: HostRuntime) -> Result<(), Fail> {
 
 /// The replies to the smallest script with one of its lines refused.
 const REFUSED_IN_TURN: &[&str] = &[
-    "1 E29 not built\n2 begin 1 at 0\n3 E29 not built\n4 E29 not built\n5 committed 1 as 1\n",
-    "1 created r\n2 E29 not built\n3 E10 no transaction\n4 E10 no transaction\n5 E10 no transaction\n",
-    "1 created r\n2 begin 1 at 0\n3 E29 not built\n4 rows 0\n5 committed 1 as 1\n",
-    "1 created r\n2 begin 1 at 0\n3 wrote 1\n4 E29 not built\n5 committed 1 as 1\n",
-    "1 created r\n2 begin 1 at 0\n3 wrote 1\n4 rows 1\n  1, 10\n5 E29 not built\n",
+    "1 E10 no transaction\n2 begin 1 at 0\n3 E04 no table r\n4 E04 no table r\n5 committed 1 as 1\n",
+    "1 created r\n2 E10 no transaction\n3 E10 no transaction\n4 E10 no transaction\n5 E10 no transaction\n",
+    "1 created r\n2 begin 1 at 0\n3 E10 no transaction\n4 rows 0\n5 committed 1 as 1\n",
+    "1 created r\n2 begin 1 at 0\n3 wrote 1\n4 E10 no transaction\n5 committed 1 as 1\n",
+    "1 created r\n2 begin 1 at 0\n3 wrote 1\n4 rows 1\n  1, 10\n5 E10 no transaction\n",
 ];
 
-/// The smallest script with a line of another command at this place.
+/// The smallest script, where the line at this place is one of a session without a transaction.
 fn with_line_refused(alloc: Global, at: usize) -> Result<String, AllocError> {
     let mut script = String::new(alloc);
     for (place, line) in SMALLEST.lines().enumerate() {
-        script.push_str(if place == at { "s1: ROLLBACK" } else { line })?;
+        script.push_str(if place == at { "s2: COMMIT" } else { line })?;
         script.push_str("\n")?;
     }
     Ok(script)

@@ -3,7 +3,7 @@
 //!
 //! Reading order: `values.rt` (cells, rows, refusals), `files.rt` (shelves and sinks), `lines.rt` (lines and commands of a script),
 //! `provenance.rt` (identities, tokens, monomials), `checks.rt` (names and types), `queries.rt` (expressions and answers), `programs.rt` (plain
-//! programs), `versions.rt` (row versions), `replies.rt` (the engine and the texts of replies), `calls.rt` (the whole call).
+//! programs), `versions.rt` (row versions), `replies.rt` (whole scripts and the texts of replies), `calls.rt` (the whole call).
 //!
 //! Each test is a `for` over a table of cases, and a helper that borrows compares one case:
 //!

@@ -99,11 +99,11 @@ fn rows_are_sorted(rt: HostRuntime) -> Result<(), Fail> {
 #[test]
 fn refusals_have_texts(rt: HostRuntime) -> Result<(), Fail> {
     let mut out = Vec::new(rt.alloc());
-    for refusal in [Refusal::NotBuilt, Refusal::E09, Refusal::E10] {
+    for refusal in [Refusal::E09, Refusal::E10, Refusal::E16] {
         write_refusal(rt.alloc(), &refusal, &mut out)?;
     }
     assert!(rt;
-        out.as_slice() == b"E29 not builtE09 transaction activeE10 no transaction".as_slice()
+        out.as_slice() == b"E09 transaction activeE10 no transactionE16 line too long".as_slice()
     );
     Ok(())
 }

@@ -1,5 +1,5 @@
 use Rattle.std.proofs.Common.{◌+◌, ◌≤◌, length, Err, refl, ap, ◌∙◌, arith}
-use Rattle.gprom_cli.specs.declared.script.TheConstants.{MAX_SCRIPT_LENGTH}
+use Rattle.gp_script.specs.declared.script.TheConstants.{MAX_SCRIPT_LENGTH}
 use Rattle.gprom_cli.specs.Call.{Absent, Unreadable, TooLong, Answered}
 use Rattle.gprom_cli.proofs.ReadingLemmas.{long-file, whole-file}
 use Rattle.gprom_cli.proofs.run.run.Goals as goal

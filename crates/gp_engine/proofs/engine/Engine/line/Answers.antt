@@ -1,23 +1,26 @@
-use Rattle.std.proofs.Common.{◌≤◌, ◌∙◌, subst, sym}
-use Rattle.std.proofs.lemmas.Result.{IfOk-weaker}
+use Rattle.std.proofs.Common.{arith, ◌-◌, suc, sym, subst, ◌≡◌, Ok, Err}
+use Rattle.gp_machine.specs.Recorded.{is_recorded}
 use Rattle.gp_syntax.specs.Views.{command_view}
-use Rattle.gp_engine.proofs.KeptLemmas.{Leaves, follows-step, step-leaves}
+use Rattle.gp_engine.specs.Engine.{Engine, Follows, IsEngine, IsUnchanged}
+use Rattle.gp_engine.proofs.FitLemmas.{ok-map}
+use Rattle.gp_engine.proofs.LineLemmas.{follows_line, kept_line, unrecorded_line}
 use Rattle.gp_engine.proofs.engine.Engine.line.Goals as goal
 
-pub returns-in-Some-clause-follows : goal.returns-in-Some-clause-follows
-returns-in-Some-clause-follows c =
-    IfOk-weaker c.step.result _ _
-    (λ reply is. follows-step c.args.self.now c.step.new.self c.args.line c.args.session (command_view c.args.command) c.in-Some.step reply (sym c.in_ok-step.ensures ∙ c.in-Some.is) c.step.ensures.few is)
-    c.step.ensures.ok
+pub invariant_of-self : goal.invariant_of-self
+invariant_of-self c =
+    let last = c.requires.last in
+    kept_line c.self.inside.state c.line.new.self (c.args.session - 1) (command_view c.args.command.now) c.line.result c.self.invariant (omega (arith, last)) c.requires.valid c.line.ensures.ok c.line.ensures.err
 
-pub returns-in-Some-clause-unchanged : goal.returns-in-Some-clause-unchanged
-returns-in-Some-clause-unchanged c =
-    IfOk-weaker c.step.result _ _
-    (λ reply is refusal. (subst (Leaves c.args.line c.args.self.now) (sym is) (step-leaves c.args.line c.args.session c.args.self.now c.in-Some.step c.requires.above)).refused refusal)
-    c.step.ensures.ok
+pub returns-clause-follows : goal.returns-clause-follows
+returns-clause-follows c =
+    let first = c.requires.first in
+    let last = c.requires.last in
+    let session : suc (c.args.session - 1) ≡ c.args.session = omega (arith, first) in
+    ok-map _ _ c.line.result (λ answer does.
+    subst (λ n. Follows c.args.self.now c.line.new.self n (command_view c.args.command.now) answer) session
+    (rw (sym c.self.view_is) (follows_line c.self.inside.state c.line.new.self answer (c.args.session - 1) (command_view c.args.command.now) c.self.invariant (omega (arith, last)) does)))
+    c.line.ensures.ok
 
-pub returns-in-Some-clause-last_line : goal.returns-in-Some-clause-last_line
-returns-in-Some-clause-last_line c =
-    IfOk-weaker c.step.result _ (λ reply. c.step.new.self.line ≤ c.args.line)
-    (λ reply is. (subst (Leaves c.args.line c.args.self.now) (sym is) (step-leaves c.args.line c.args.session c.args.self.now c.in-Some.step c.requires.above)).up_to)
-    c.step.ensures.ok
+pub returns-clause-unrecorded : goal.returns-clause-unrecorded
+returns-clause-unrecorded c = ok-map _ _ c.line.result (λ answer does denied.
+    rw (sym c.self.view_is) (unrecorded_line c.self.inside.state c.line.new.self answer (c.args.session - 1) (command_view c.args.command.now) does denied)) c.line.ensures.ok

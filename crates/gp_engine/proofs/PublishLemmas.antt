@@ -1,0 +1,252 @@
+-- What a commit publishes is what the history machine asks of an engine, and the engine's invariant holds afterwards.
+use Rattle.std.proofs.Common.{◌≡◌, ◌≢◌, ℕ, zero, suc, pred, ◌+◌, ◌^◌, ◌<◌, ◌≤◌, true, false, List, [], ◌∷◌, ◌++◌, map, drop, length, Option, Some, None, refl, ap, sym, ◌∙◌, subst, arith, inl, inr}
+use Rattle.std.specs.Prelude.{nat_lt, if◌then◌else◌, slice_set}
+use Rattle.std.specs.List.{cons_option, filter_map, AllByRecursion}
+use Rattle.std.specs.Option.{option_map}
+use Rattle.std.proofs.lemmas.Bool.{cases_eq, cases_lt, le-ltb, lt-ltb}
+use Rattle.std.proofs.lemmas.List.{get_or-set_other, get_or-set_same, length-set, length_push}
+use Rattle.std.proofs.Math.ListN.{get_or-eq_default}
+use Rattle.gp_base.specs.declared.cell.Cell.{Cell}
+use Rattle.gp_base.specs.declared.stored.Stored.{Stored}
+use Rattle.gp_base.specs.Annotated.{plain}
+use Rattle.gp_base.specs.Identities.{Identity, transaction_of}
+use Rattle.gp_versions.specs.declared.span.Span.{Span}
+use Rattle.gp_versions.specs.declared.span.Write.{Write}
+use Rattle.gp_versions.specs.Commits.{AreBelow, after_commit, begun, ended}
+use Rattle.gp_versions.specs.Spans.{Versions, holds_at, row_of, rows_at, spans_at}
+use Rattle.gp_versions.proofs.SpanLemmas.{ended_id}
+use Rattle.gp_txn.specs.declared.counting.TheConstants.{MAX_SPANS}
+use Rattle.gp_txn.specs.declared.overlay.Slot.{Slot}
+use Rattle.gp_txn.specs.declared.overlay.Slot.TheVariants.{Same, Put, Dropped}
+use Rattle.gp_txn.specs.declared.overlay.TableWrites.{TableWrites}
+use Rattle.gp_txn.specs.Committing as txn
+use Rattle.gp_txn.specs.Committing.{commit_of, spans_left}
+use Rattle.gp_txn.specs.Counts.{count_rows, count_spans}
+use Rattle.gp_txn.specs.Overlay.{HoldsOwn, base_writes, database_at, head_slot, no_table, own_write, slot_write, table_at, view_of, view_rows, writes_at}
+use Rattle.gp_txn.proofs.AfterLemmas.{commit-count, commit-names, commit-none, commit-rows, others-after}
+use Rattle.gp_txn.proofs.CommitLemmas.{inserted-own}
+use Rattle.gp_txn.proofs.CountLemmas.{count-after}
+use Rattle.gp_txn.proofs.PairLemmas.{all-append, all-filter, all-map, all-weaker}
+use Rattle.gp_machine.specs.Entries.{Entry}
+use Rattle.gp_machine.specs.EngineLine.{marked_rows, rows_after}
+use Rattle.gp_machine.specs.Represents as machine
+use Rattle.gp_machine.specs.Represents.{AreWritesOf}
+use Rattle.gp_engine.specs.declared.running.Running.{Running}
+use Rattle.gp_engine.specs.Engine.{Engine, IsEngine, IsSession, kept_of, overlay_of, session_at, spans_of}
+use Rattle.gp_engine.specs.Methods.{with_session}
+
+-- ---- what a commit writes to each table
+
+-- the transaction reads no rows of tables that are not there
+abbrev pub ReadsNothingBeyond : Engine → Running → Type 0
+ReadsNothingBeyond engine running = (place : ℕ) → length engine.versions ≤ place → view_of running.active engine.versions place ≡ []
+
+-- the row versions of the tables are those after its commit
+abbrev pub HasCommitted : Engine → Running → List Versions → ℕ → Type 0
+HasCommitted engine running new version =
+    (place : ℕ) → place < length engine.versions
+    → (table_at place new).spans ≡ after_commit version (commit_of running.active.tables engine.versions running.active.begin place) (table_at place engine.versions).spans
+
+-- what a transaction commits to a table, and nothing beyond the last one
+abbrev pub published : Engine → Running → ℕ → List Write
+published engine running place =
+    if nat_lt place (length engine.versions) then commit_of running.active.tables engine.versions running.active.begin place else []
+
+module _ (engine : Engine) (running : Running) where
+  -- also where there is no table
+  published-is : ReadsNothingBeyond engine running → (place : ℕ) → published engine running place ≡ commit_of running.active.tables engine.versions running.active.begin place
+  published-is nothing place =
+      elim (cases_lt place (length engine.versions)) [
+        | inl low ↦ rw (lt-ltb place (length engine.versions) low) refl
+        | inr high ↦ rw (le-ltb place (length engine.versions) high) (sym (commit-none running.active engine.versions place high (nothing place high)))
+      ]
+
+  -- these are the writes that the history machine asks for
+  pub writes_of : List Entry → HoldsOwn running.active → ReadsNothingBeyond engine running → (place : ℕ)
+      → AreWritesOf (spans_of engine.versions) (overlay_of running) place (published engine running place)
+  writes_of entries own nothing place =
+      subst (AreWritesOf (spans_of engine.versions) (overlay_of running) place) (sym (published-is nothing place)) (record {
+        names = commit-names running.active engine.versions own place;
+        rows = commit-rows running.active engine.versions place;
+      })
+
+-- where there is no table, there are no spans
+no-spans : (versions : List Versions) (place : ℕ) → length versions ≤ place → spans_of versions place ≡ []
+no-spans versions place high = ap (λ (table : Versions). table.spans) (get_or-eq_default versions no_table high)
+
+-- the spans afterwards, also where there is no table
+pub spans_published : (engine : Engine) (running : Running) (new : List Versions) (version : ℕ) → length new ≡ length engine.versions
+    → HasCommitted engine running new version → (place : ℕ) → spans_of new place ≡ after_commit version (published engine running place) (spans_of engine.versions place)
+spans_published engine running new version same spans place =
+    elim (cases_lt place (length engine.versions)) [
+      | inl low ↦ rw (lt-ltb place (length engine.versions) low) (spans place low)
+      | inr high ↦
+          rw (le-ltb place (length engine.versions) high)
+          (no-spans new place (subst (λ n. n ≤ place) (sym same) high) ∙ sym (ap (after_commit version []) (no-spans engine.versions place high)))
+    ]
+
+-- ---- how many rows it publishes
+
+module _ (engine : Engine) (running : Running) where
+  -- the writes leave the marked rows of what the transaction reads
+  pub rows_published : (count : ℕ)
+      → count_rows (commit_of running.active.tables engine.versions running.active.begin) count
+      ≡ marked_rows (machine.view_of (spans_of engine.versions) (overlay_of running)) count
+  rows_published count =
+      commit-count running.active engine.versions (marked_rows (machine.view_of (spans_of engine.versions) (overlay_of running))) refl (λ place. refl) count
+
+  module _ (entries : List Entry) (tables : length engine.versions ≡ length engine.tables) where
+    pub left_published : spans_left running.active engine.versions ≡ rows_after (kept_of engine entries) (overlay_of running)
+    left_published =
+        ap (λ n. count_spans engine.versions (length engine.versions) + n) (rows_published (length engine.versions))
+        ∙ ap (λ n. count_spans engine.versions n + marked_rows (machine.view_of (spans_of engine.versions) (overlay_of running)) n) tables
+
+    -- too many
+    pub is_full : MAX_SPANS < spans_left running.active engine.versions → nat_lt MAX_SPANS (rows_after (kept_of engine entries) (overlay_of running)) ≡ true
+    is_full many = lt-ltb MAX_SPANS (rows_after (kept_of engine entries) (overlay_of running)) (subst (λ n. MAX_SPANS < n) left_published many)
+
+    -- not too many
+    pub has_room : spans_left running.active engine.versions ≤ MAX_SPANS → nat_lt MAX_SPANS (rows_after (kept_of engine entries) (overlay_of running)) ≡ false
+    has_room few = le-ltb MAX_SPANS (rows_after (kept_of engine entries) (overlay_of running)) (subst (λ n. n ≤ MAX_SPANS) left_published few)
+
+    -- the number of spans afterwards
+    pub count_published : (new : List Versions) (version : ℕ) → HasCommitted engine running new version → count_spans new (length engine.tables) ≡ rows_after (kept_of engine entries) (overlay_of running)
+    count_published new version spans =
+        subst (λ n. count_spans new n ≡ rows_after (kept_of engine entries) (overlay_of running)) tables
+        (count-after version (commit_of running.active.tables engine.versions running.active.begin) engine.versions new (length engine.versions) spans ∙ left_published)
+
+-- ---- whose rows they are
+
+-- a fact of the identities of all spans and writes holds of those of the spans afterwards
+module _ (P : Identity → Type 0) where
+  ids_ended : (version : ℕ) (writes : List Write) (spans : List Span) → AllByRecursion (λ (span : Span). P span.id) spans → AllByRecursion (λ (span : Span). P span.id) (map (ended version writes) spans)
+  ids_ended version writes spans all =
+      all-map (ended version writes) (λ (span : Span). P span.id) (λ (span : Span). P span.id) (λ span is. subst P (sym (ended_id version writes span)) is) spans all
+
+  ids_begun-one : (version : ℕ) (id : Identity) (row : Option (List Cell)) (rest : List Span) → P id → AllByRecursion (λ (span : Span). P span.id) rest
+      → AllByRecursion (λ (span : Span). P span.id) (cons_option (option_map (λ cells. record { id = id; from = version; to = None; row = cells }) row) rest)
+  ids_begun-one version id None rest is all = all
+  ids_begun-one version id (Some cells) rest is all = (is, all)
+
+  ids_begun : (version : ℕ) (writes : List Write) → AllByRecursion (λ (write : Write). P write.id) writes → AllByRecursion (λ (span : Span). P span.id) (filter_map (begun version) writes)
+  ids_begun version [] all = tt
+  ids_begun version (write ∷ writes) all = ids_begun-one version write.id write.row (filter_map (begun version) writes) all.0 (ids_begun version writes all.1)
+
+  pub ids_after : (version : ℕ) (writes : List Write) (spans : List Span) → AllByRecursion (λ (span : Span). P span.id) spans → AllByRecursion (λ (write : Write). P write.id) writes
+      → AllByRecursion (λ (span : Span). P span.id) (after_commit version writes spans)
+  ids_after version writes spans held wrote =
+      all-append (λ (span : Span). P span.id) (map (ended version writes) spans) (filter_map (begun version) writes)
+      (ids_ended version writes spans held) (ids_begun version writes wrote)
+
+  ids_slot : (slot : Slot) (span : Span) (rest : List Write) → P span.id → AllByRecursion (λ (write : Write). P write.id) rest → AllByRecursion (λ (write : Write). P write.id) (cons_option (slot_write slot (row_of plain span)) rest)
+  ids_slot Same span rest is all = all
+  ids_slot (Put cells) span rest is all = (is, all)
+  ids_slot Dropped span rest is all = (is, all)
+
+  ids_base : (slots : List Slot) (spans : List Span) → AllByRecursion (λ (span : Span). P span.id) spans → AllByRecursion (λ (write : Write). P write.id) (base_writes slots (map (row_of plain) spans))
+  ids_base slots [] all = tt
+  ids_base slots (span ∷ spans) all = ids_slot (head_slot slots) span (base_writes (drop 1 slots) (map (row_of plain) spans)) all.0 (ids_base (drop 1 slots) spans all.1)
+
+  -- a commit writes rows of the table, and rows that the transaction inserted
+  pub ids_written : (tables : List TableWrites) (versions : List Versions) (begin place : ℕ) → AllByRecursion (λ (span : Span). P span.id) (table_at place versions).spans
+      → AllByRecursion (λ (stored : Stored). P stored.id) (writes_at place tables).own
+      → AllByRecursion (λ (write : Write). P write.id) (commit_of tables versions begin place)
+  ids_written tables versions begin place held own =
+      let table = writes_at place tables in
+      let spans = (table_at place versions).spans in
+      all-append (λ (write : Write). P write.id) (base_writes table.slots (database_at begin versions place)) (map own_write table.own)
+      (ids_base table.slots (spans_at begin spans) (all-filter (λ (span : Span). P span.id) (holds_at begin) spans held))
+      (all-map own_write (λ (stored : Stored). P stored.id) (λ (write : Write). P write.id) (λ stored is. is) table.own own)
+
+-- ---- the sessions afterwards
+
+-- the transactions that are left, once that of the session at a place has ended
+pub session_left : (sessions : List (Option Running)) (place : ℕ) → place < length sessions → (session : ℕ) (running : Running)
+    → session_at session (slice_set sessions place None) ≡ Some running → (session ≢ suc place) × (session_at session sessions ≡ Some running)
+session_left sessions place within zero running at = absurd cc
+session_left sessions place within (suc other) running at =
+    elim (cases_eq other place) [
+      | inl same ↦ absurd (none-some (sym (get_or-set_same sessions place None None within) ∙ ap (λ (n : ℕ). session_at (suc n) (slice_set sessions place None)) (sym same) ∙ at))
+      | inr differ ↦ ((λ same. differ (ap pred same)), sym (get_or-set_other sessions place other None None differ) ∙ at)
+    ]
+  where
+    none-some : None ≡ Some running → ⊥
+    none-some e = cc
+
+-- ---- the engine after a COMMIT that makes a version
+
+module _ (old : Engine) (place : ℕ) (running : Running) (versions : List Versions) (kept : IsEngine old) (at : session_at (suc place) old.sessions ≡ Some running) (holds : HoldsOwn running.active)
+    (within : place < length old.sessions) (few : suc (length old.committers) < 2 ^ 32) (same : length versions ≡ length old.versions)
+    (commits : txn.Commits (suc (length old.committers)) running.active old.versions versions) where
+  abbrev committed : Engine
+  committed = record (with_session place None old) { versions = versions; committers = old.committers ++ running.active.t ∷ [] }
+
+  mine : IsSession old running
+  mine = kept.sessions (suc place) running at
+
+  one-more : length committed.committers ≡ suc (length old.committers)
+  one-more = omega (arith, length_push old.committers running.active.t)
+
+  below : (table : ℕ) → AreBelow (suc (length committed.committers)) (spans_of versions table)
+  below table = subst (λ n. AreBelow n (spans_of versions table)) (omega (arith, one-more)) (commits.below table)
+
+  abbrev IsMade : Identity → Type 0
+  IsMade id = transaction_of id ≤ old.transactions
+
+  made-own : (table : ℕ) → AllByRecursion (λ (stored : Stored). IsMade stored.id) (writes_at table running.active.tables).own
+  made-own table =
+      all-weaker (λ (stored : Stored). transaction_of stored.id ≡ running.active.t) (λ (stored : Stored). IsMade stored.id) (λ stored is. omega (arith, is, mine.began))
+      (writes_at table running.active.tables).own (inserted-own running.active.t running.active.last (writes_at table running.active.tables).own (holds table)).0
+
+  makers : (table : ℕ) → AllByRecursion (λ (span : Span). IsMade span.id) (spans_of versions table)
+  makers table =
+      elim (cases_lt table (length old.versions)) [
+        | inl low ↦
+            subst (AllByRecursion (λ (span : Span). IsMade span.id)) (sym (commits.spans table low))
+            (ids_after IsMade (suc (length old.committers)) (commit_of running.active.tables old.versions running.active.begin table) (spans_of old.versions table) (kept.makers table)
+            (ids_written IsMade running.active.tables old.versions running.active.begin table (kept.makers table) (made-own table)))
+        | inr high ↦ subst (AllByRecursion (λ (span : Span). IsMade span.id)) (sym (no-spans versions table (subst (λ n. n ≤ table) (sym same) high))) tt
+      ]
+
+  -- the others still read no rows of tables that are not there
+  nothing-beyond : (other : Running) → ReadsNothingBeyond old other → ReadsNothingBeyond committed other
+  nothing-beyond other nothing table high =
+      let high-before : length old.versions ≤ table = subst (λ n. n ≤ table) same high in
+      subst (λ spans. view_rows (writes_at table other.active.tables) (rows_at plain other.active.begin spans) ≡ []) (no-spans old.versions table high-before ∙ sym (no-spans versions table high))
+      (nothing table high-before)
+
+  others-stay : (session : ℕ) (other : Running) → session_at session committed.sessions ≡ Some other → IsSession committed other
+  others-stay session other found =
+      let left = session_left old.sessions place within session other found in
+      let was = kept.sessions session other left.1 in
+      record {
+        first = was.first;
+        began = was.began;
+        begin = omega (arith, was.begin, one-more);
+        last = was.last;
+        others =
+            others-after other.active.t (suc (length old.committers)) running.active old.versions versions same holds commits
+            (λ equal. left.0 (kept.apart session (suc place) other running left.1 at equal)) was.others;
+        beyond = nothing-beyond other was.beyond;
+      }
+
+  stays : IsEngine committed
+  stays = record {
+    valid = kept.valid;
+    tables = same ∙ kept.tables;
+    few = kept.few;
+    numbers = subst (λ n. n < 2 ^ 32) (sym one-more) few;
+    places = length-set old.sessions place None ∙ kept.places;
+    transactions = kept.transactions;
+    statements = kept.statements;
+    below = below;
+    makers = makers;
+    sessions = others-stay;
+    apart = λ session other a b first second. kept.apart session other a b (session_left old.sessions place within session a first).1 (session_left old.sessions place within other b second).1;
+  }
+
+-- the invariant holds
+pub engine_committed : (old new : Engine) (place : ℕ) (running : Running) → IsEngine old → session_at (suc place) old.sessions ≡ Some running → HoldsOwn running.active → place < length old.sessions
+    → suc (length old.committers) < 2 ^ 32 → length new.versions ≡ length old.versions → txn.Commits (suc (length old.committers)) running.active old.versions new.versions
+    → new ≡ record (with_session place None old) { versions = new.versions; committers = old.committers ++ running.active.t ∷ [] } → IsEngine new
+engine_committed old new place running kept at holds within few same commits is = subst IsEngine (sym is) (stays old place running new.versions kept at holds within few same commits)

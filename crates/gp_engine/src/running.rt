@@ -1,0 +1,189 @@
+//! The transaction of a session.
+
+ghost use Rattle.std.specs.Prelude.{◌≡◌, ◌<◌, ◌≤◌, true, IfOk, OnErr, List, length};
+ghost use Rattle.gp_base.specs.declared.table.Table.{Table};
+ghost use Rattle.gp_base.specs.declared.catalog.TheConstants.{MAX_TABLES};
+ghost use Rattle.gp_algebra.specs.Statements as s;
+ghost use Rattle.gp_algebra.specs.Fitting.{statement_fits};
+ghost use Rattle.gp_algebra.specs.Views.{select_view, statement_view};
+ghost use Rattle.gp_check.specs.Checking.{checked, is_statement};
+ghost use Rattle.gp_check.specs.Valid.{is_valid, tables_are_valid};
+ghost use Rattle.gp_machine.specs.Event.{count_refusal, name_at, target_of};
+ghost use Rattle.gp_syntax.specs.Views.{command_view};
+ghost use Rattle.gp_txn.specs.Applying.{is_applicable, is_readable};
+ghost use Rattle.gp_txn.specs.Overlay.{HoldsOthers};
+ghost use Rattle.gp_engine.specs.Limits.{limits};
+ghost use Rattle.gp_engine.specs.Methods.{Applies, Runs, refusal_in};
+ghost use Rattle.gp_engine.specs.declared.limit.TheConstants.{MAX_STATEMENTS, MAX_STEPS};
+
+use crate::limit::{MAX_STATEMENTS, MAX_STEPS};
+use gp_algebra::{Select, Stmt};
+use gp_base::{Catalog, Limit, NoMemory, Refusal};
+use gp_check::{CheckStop, check};
+use gp_exec::ChooseStop;
+use gp_machine::Reply;
+use gp_syntax::Command;
+use gp_txn::{Active, StmtStop};
+use gp_versions::VersionTable;
+use std::alloc::Global;
+
+/// A running transaction, with the number of its statements so far. A SELECT is counted too, so this may be above the number
+/// of the last statement that wrote.
+#[derive(Drop)]
+pub struct Running {
+    /// Its writes.
+    pub active: Active,
+    /// The number of its statements.
+    pub statements: u32,
+}
+
+/// The table that a statement writes; a query writes none, and gives the first.
+fn target(stmt: &Stmt) -> u32
+    ensures { result ≡ target_of (statement_view stmt.now) }
+{
+    match stmt {
+        Stmt::Insert { table, .. } => *table,
+        Stmt::InsertSelect { table, .. } => *table,
+        Stmt::Update { table, .. } => *table,
+        Stmt::Delete { table, .. } => *table,
+        Stmt::Read { .. } => 0,
+    }
+}
+
+/// The refusal of one more statement, if its transaction has this many and the script that many.
+fn count_refusal(own: u32, all: u32) -> Option<Refusal>
+    ensures { result ≡ count_refusal limits own all }
+{
+    if own >= MAX_STEPS {
+        return Some(Refusal::E14 {
+            limit: Limit::Steps,
+        });
+    }
+    if all >= MAX_STATEMENTS {
+        return Some(Refusal::E14 {
+            limit: Limit::Statements,
+        });
+    }
+    None
+}
+
+/// The refusal of an INSERT that would leave too many rows.
+fn too_many_rows(catalog: &Catalog, stmt: &Stmt) -> Result<Reply, NoMemory>
+    requires { target_of (statement_view stmt.now) < length catalog.now }
+    ensures { IfOk result (λ reply. reply ≡ Reply.Refused (Refusal.E12
+        (name_at (target_of (statement_view stmt.now)) catalog.now))) }
+{
+    let table = catalog.table(target(stmt)).name.clone()?;
+    Ok(Reply::Refused(Refusal::E12 { table }))
+}
+
+impl Running {
+    /// INSERT, UPDATE or DELETE.
+    fn write(
+        &mut self,
+        stmt: &Stmt,
+        catalog: &Catalog,
+        versions: &[VersionTable],
+    ) -> Result<Reply, NoMemory>
+        requires few { length versions.now ≤ MAX_TABLES }
+        requires tables { length versions.now ≡ length catalog.now }
+        requires writes { is_applicable (length versions.now) (statement_view stmt.now) ≡ true }
+        requires count { self.old.statements < MAX_STEPS }
+        requires last { self.old.active.last ≤ self.old.statements }
+        requires others { HoldsOthers self.old.active.t versions.now }
+        ensures ok { IfOk result (λ reply.
+            Applies catalog.now versions.now self.old self.new reply (statement_view stmt.now)
+            (refusal_in catalog.now versions.now self.old self.new reply
+            (statement_view stmt.now))) }
+        ensures err { OnErr result (self.new ≡ self.old) }
+    {
+        let k = self.statements + 1;
+        match self.active.apply(k, stmt, versions) {
+            Ok(rows) => {
+                self.statements = k;
+                Ok(Reply::Wrote { rows })
+            }
+            Err(StmtStop::Rows) => too_many_rows(catalog, stmt),
+            Err(StmtStop::Ancestry) => Ok(Reply::Refused(Refusal::E13)),
+            Err(StmtStop::NoMemory) => Err(NoMemory),
+        }
+    }
+
+    /// SELECT.
+    fn select(&mut self, select: &Select, versions: &[VersionTable]) -> Result<Reply, NoMemory>
+        requires few { length versions.now ≤ MAX_TABLES }
+        requires readable { is_readable (length versions.now) (select_view select.now) ≡ true }
+        requires count { self.old.statements < MAX_STEPS }
+        requires last { self.old.active.last ≤ self.old.statements }
+        ensures ok { IfOk result (λ reply. (tables : List Table) →
+            Applies tables versions.now self.old self.new reply (s.read (select_view select.now))
+            (refusal_in tables versions.now self.old self.new reply
+            (s.read (select_view select.now)))) }
+        ensures err { OnErr result (self.new ≡ self.old) }
+    {
+        match self.active.select(select, versions) {
+            Ok(rows) => {
+                self.statements += 1;
+                Ok(Reply::Rows(rows))
+            }
+            Err(ChooseStop::TooMany) => Ok(Reply::Refused(Refusal::E27)),
+            Err(ChooseStop::NoMemory) => Err(NoMemory),
+        }
+    }
+
+    /// A statement that was checked.
+    fn apply(
+        &mut self,
+        stmt: &Stmt,
+        catalog: &Catalog,
+        versions: &[VersionTable],
+    ) -> Result<Reply, NoMemory>
+        requires few { length versions.now ≤ MAX_TABLES }
+        requires tables { length versions.now ≡ length catalog.now }
+        requires fits { statement_fits catalog.now (statement_view stmt.now) ≡ true }
+        requires count { self.old.statements < MAX_STEPS }
+        requires last { self.old.active.last ≤ self.old.statements }
+        requires others { HoldsOthers self.old.active.t versions.now }
+        ensures ok { IfOk result (λ reply.
+            Applies catalog.now versions.now self.old self.new reply (statement_view stmt.now)
+            (refusal_in catalog.now versions.now self.old self.new reply
+            (statement_view stmt.now))) }
+        ensures err { OnErr result (self.new ≡ self.old) }
+    {
+        match stmt {
+            Stmt::Read { select } => self.select(select, versions),
+            _ => self.write(stmt, catalog, versions),
+        }
+    }
+
+    /// A statement of the transaction, where the script has so many.
+    pub fn run(
+        &mut self,
+        alloc: Global,
+        command: &Command,
+        all: u32,
+        catalog: &Catalog,
+        versions: &[VersionTable],
+    ) -> Result<Reply, NoMemory>
+        requires few { length versions.now ≤ MAX_TABLES }
+        requires tables { length versions.now ≡ length catalog.now }
+        requires statement { is_statement (command_view command.now) ≡ true }
+        requires valid { is_valid (command_view command.now) ≡ true }
+        requires catalog { tables_are_valid catalog.now ≡ true }
+        requires last { self.old.active.last ≤ self.old.statements }
+        requires others { HoldsOthers self.old.active.t versions.now }
+        ensures ok { IfOk result (λ reply. Runs catalog.now versions.now self.old self.new reply
+            (count_refusal limits self.old.statements all)
+            (checked catalog.now (command_view command.now))) }
+        ensures err { OnErr result (self.new ≡ self.old) }
+    {
+        if let Some(refusal) = count_refusal(self.statements, all) {
+            return Ok(Reply::Refused(refusal));
+        }
+        match check(alloc, catalog, command) {
+            Ok(stmt) => self.apply(&stmt, catalog, versions),
+            Err(CheckStop::Refused(refusal)) => Ok(Reply::Refused(refusal)),
+            Err(CheckStop::NoMemory) => Err(NoMemory),
+        }
+    }
+}

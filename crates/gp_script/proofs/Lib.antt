@@ -1,0 +1,4 @@
+mod HistoryLemmas
+mod Progress
+mod ReadingLemmas
+mod ScriptLemmas

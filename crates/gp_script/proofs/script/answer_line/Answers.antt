@@ -1,0 +1,19 @@
+use Rattle.gp_grammar.specs.LineReading.{script_line_of}
+use Rattle.gp_syntax.specs.Views.{line_view}
+use Rattle.gp_check.proofs.ValidLemmas.{line-read}
+use Rattle.gp_script.proofs.ReadingLemmas.{read-range}
+use Rattle.gp_script.proofs.ScriptLemmas.{refused-read}
+use Rattle.gp_script.proofs.script.answer_line.Goals as goal
+
+pub line-requires-clause-first : goal.line-requires-clause-first
+line-requires-clause-first c = (read-range c.args.bytes.now (line_view c.in-Ok.read) c.in-Ok.ensures.exact).0
+
+pub line-requires-clause-last : goal.line-requires-clause-last
+line-requires-clause-last c = (read-range c.args.bytes.now (line_view c.in-Ok.read) c.in-Ok.ensures.exact).1
+
+pub line-requires-clause-valid : goal.line-requires-clause-valid
+line-requires-clause-valid c = line-read c.args.bytes.now (line_view c.in-Ok.read) c.in-Ok.ensures.exact
+
+pub returns-in-Err-Refused-clause-follows : goal.returns-in-Err-Refused-clause-follows
+returns-in-Err-Refused-clause-follows c =
+    refused-read (script_line_of c.args.bytes.now) c.in-Err-Refused.refusal c.args.engine.now (rw c.in-Err-Refused.field-0-is at c.in-Err-Refused.ensures.exact)

@@ -1,0 +1,157 @@
+//! The texts of replies.
+
+ghost use Rattle.std.specs.Prelude.{◌≡◌, ◌++◌, IfOk, IfSome, OnOk, OnErr, string_bytes, List};
+ghost use Rattle.std.specs.List.{flat_map};
+ghost use Rattle.gp_base.specs.declared.table.Table.{Table};
+ghost use Rattle.gp_script.specs.Replies.{line_text, row_line};
+ghost use Rattle.gp_machine.specs.Event.{name_at};
+
+use gp_base::{Catalog, NoMemory, Refusal, Row, Sequence, sort_rows, write_refusal, write_row};
+use gp_machine::Reply;
+use std::alloc::Global;
+use std::fmt::Display;
+
+/// Enough bytes for the text of a reply without rows.
+const SHORT_TEXT: usize = 64;
+
+/// What the value displays. A script may have millions of refused lines, so a short text takes one allocation.
+fn short_text<D: Display + Drop>(alloc: Global, value: D) -> Result<String, NoMemory>
+    ensures { IfOk result (λ text. IfSome (D.output value) (λ bytes. string_bytes text ≡ bytes)) }
+{
+    let mut text = String::with_capacity(alloc, SHORT_TEXT)?;
+    text.write(value)?;
+    Ok(text)
+}
+
+/// The name of the table at a place, or nothing if there is none.
+fn name_at(catalog: &Catalog, place: u32) -> &[u8]
+    ensures { result.now ≡ name_at place catalog.now }
+{
+    if place < catalog.len() {
+        catalog.table(place).name.as_bytes()
+    } else {
+        &[]
+    }
+}
+
+fn created_text(
+    alloc: Global,
+    number: u32,
+    catalog: &Catalog,
+    table: u32,
+) -> Result<Vec<u8>, NoMemory>
+    ensures { IfOk result (λ text. text.items
+        ≡ line_text number catalog.now (Reply.Created table)) }
+{
+    let mut text = short_text(alloc, format_args!("{number} created "))?.into_bytes();
+    text.extend_from_slice(name_at(catalog, table))?;
+    text.push(b'\n')?;
+    Ok(text)
+}
+
+fn began_text(alloc: Global, number: u32, t: u32, version: u32) -> Result<Vec<u8>, NoMemory>
+    ensures { IfOk result (λ text. (tables : List Table)
+        → text.items ≡ line_text number tables (Reply.Began t version)) }
+{
+    let text = short_text(alloc, format_args!("{number} begin {t} at {version}\n"))?;
+    Ok(text.into_bytes())
+}
+
+fn wrote_text(alloc: Global, number: u32, rows: u32) -> Result<Vec<u8>, NoMemory>
+    ensures { IfOk result (λ text. (tables : List Table)
+        → text.items ≡ line_text number tables (Reply.Wrote rows)) }
+{
+    let text = short_text(alloc, format_args!("{number} wrote {rows}\n"))?;
+    Ok(text.into_bytes())
+}
+
+fn committed_text(alloc: Global, number: u32, t: u32, version: u32) -> Result<Vec<u8>, NoMemory>
+    ensures { IfOk result (λ text. (tables : List Table)
+        → text.items ≡ line_text number tables (Reply.Committed t version)) }
+{
+    let text = short_text(alloc, format_args!("{number} committed {t} as {version}\n"))?;
+    Ok(text.into_bytes())
+}
+
+fn rolled_back_text(alloc: Global, number: u32, t: u32) -> Result<Vec<u8>, NoMemory>
+    ensures { IfOk result (λ text. (tables : List Table)
+        → text.items ≡ line_text number tables (Reply.RolledBack t)) }
+{
+    let text = short_text(alloc, format_args!("{number} rolled back {t}\n"))?;
+    Ok(text.into_bytes())
+}
+
+fn refused_text(alloc: Global, number: u32, refusal: &Refusal) -> Result<Vec<u8>, NoMemory>
+    ensures { IfOk result (λ text. (tables : List Table)
+        → text.items ≡ line_text number tables (Reply.Refused refusal.now)) }
+{
+    let mut text = short_text(alloc, format_args!("{number} "))?.into_bytes();
+    write_refusal(alloc, refusal, &mut text)?;
+    text.push(b'\n')?;
+    Ok(text)
+}
+
+/// Appends the rows, each on a line of its own.
+fn write_row_lines(alloc: Global, rows: &[Row], text: &mut Vec<u8>) -> Result<(), NoMemory>
+    ensures { OnOk result (text.new.items ≡ text.old.items ++ flat_map row_line rows.now) }
+{
+    for row in rows {
+        text.extend_from_slice(b"  ")?;
+        write_row(alloc, row, text)?;
+        text.push(b'\n')?;
+    }
+    Ok(())
+}
+
+fn rows_text(
+    alloc: Global,
+    number: u32,
+    catalog: &Catalog,
+    rows: Sequence<Row>,
+) -> Result<Vec<u8>, NoMemory>
+    ensures { IfOk result (λ text. text.items ≡ line_text number catalog.now (Reply.Rows rows)) }
+{
+    let mut rows = rows.into_vec();
+    let count = rows.len();
+    sort_rows(&mut rows)?;
+    let mut text = short_text(alloc, format_args!("{number} rows {count}\n"))?.into_bytes();
+    write_row_lines(alloc, &rows, &mut text)?;
+    Ok(text)
+}
+
+/// The reply to a line, with the line's number.
+fn line_text(
+    alloc: Global,
+    number: u32,
+    catalog: &Catalog,
+    reply: Reply,
+) -> Result<Vec<u8>, NoMemory>
+    ensures { IfOk result (λ text. text.items ≡ line_text number catalog.now reply) }
+{
+    match reply {
+        Reply::Created { table } => created_text(alloc, number, catalog, table),
+        Reply::Began { t, version } => began_text(alloc, number, t, version),
+        Reply::Wrote { rows } => wrote_text(alloc, number, rows),
+        Reply::Rows(rows) => rows_text(alloc, number, catalog, rows),
+        Reply::Committed { t, version } => committed_text(alloc, number, t, version),
+        Reply::RolledBack { t } => rolled_back_text(alloc, number, t),
+        Reply::Refused(refusal) => refused_text(alloc, number, &refusal),
+    }
+}
+
+/// Appends the reply to a line: the line's number, a space and the reply's text, with rows in row order. `catalog` has the tables after
+/// the line. If memory runs out, `out` is unchanged.
+pub fn write_reply(
+    alloc: Global,
+    number: u32,
+    catalog: &Catalog,
+    reply: Reply,
+    out: &mut Vec<u8>,
+) -> Result<(), NoMemory>
+    ensures ok { OnOk result (out.new.items ≡ out.old.items ++ line_text number catalog.now reply) }
+    ensures err { OnErr result (out.new.items ≡ out.old.items) }
+{
+    let text = line_text(alloc, number, catalog, reply)?;
+    out.extend_from_slice(&text)?;
+    Ok(())
+}

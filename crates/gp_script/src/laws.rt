@@ -1,0 +1,49 @@
+//! Laws of the histories of scripts. The functions do nothing: their postconditions are the laws, and they cite laws of the history machine.
+
+ghost use Rattle.std.specs.Prelude.{◌≡◌, ℕ, false, List, map};
+ghost use Rattle.gp_base.specs.Annotated.{Annotations, plain};
+ghost use Rattle.gp_base.specs.declared.refusal.Refusal.{Refusal};
+ghost use Rattle.gp_syntax.specs.Lines.{numbers_of, script_lines};
+ghost use Rattle.gp_algebra.specs.Reannotation.{forgotten};
+ghost use Rattle.gp_machine.specs.Event.{after};
+ghost use Rattle.gp_machine.specs.Recorded.{is_lost};
+ghost use Rattle.gp_machine.specs.State.{State, start};
+ghost use Rattle.gp_machine.specs.StateReannotation.{state_reannotated};
+ghost use Rattle.gp_machine.specs.declared.reply.Reply.TheVariants as reply;
+ghost use Rattle.gp_engine.specs.Limits.{limits};
+ghost use Rattle.gp_script.specs.History.{NumberedReply, final_state, line_outcome, lines_read, replies_from, replies_of};
+
+use gp_machine::{accepted_lines_are_recorded, annotations_change_no_reply};
+
+/// Every line of a script that is neither blank nor a comment gets one reply, in order and with its number.
+pub fn every_line_has_one_reply()
+    ensures one_each { (script : List ℕ)
+        → map (λ (reply : NumberedReply). reply.number) (replies_of script)
+        ≡ numbers_of (script_lines script) }
+{}
+
+/// A line that is refused leaves the state unchanged, unless it is a COMMIT that is lost.
+pub fn refused_lines_change_nothing<M>()
+    ensures unchanged { (kind : Annotations M) (state : State M) (line : ℕ × List ℕ)
+        (refusal : Refusal) → (line_outcome kind state line).1 ≡ reply.Refused refusal
+        → is_lost refusal ≡ false → (line_outcome kind state line).0 ≡ state }
+{
+    accepted_lines_are_recorded::<M>()
+}
+
+/// The state that a script leaves is the one that its lines lead to, of those that were read. So the laws of the history
+/// machine hold of it.
+pub fn scripts_lead_to_histories<M>()
+    ensures reached { (kind : Annotations M) (script : List ℕ)
+        → final_state kind script ≡ after kind limits start (lines_read (script_lines script)) }
+{}
+
+/// The replies do not depend on annotations, and the state without annotations is the one with them, when they are forgotten.
+pub fn replies_have_no_annotations<M>()
+    ensures replies { (kind : Annotations M) (script : List ℕ)
+        → replies_from kind start (script_lines script) ≡ replies_of script }
+    ensures state { (kind : Annotations M) (script : List ℕ)
+        → final_state plain script ≡ state_reannotated forgotten (final_state kind script) }
+{
+    annotations_change_no_reply::<M, ()>()
+}
