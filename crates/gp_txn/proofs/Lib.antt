@@ -14,4 +14,5 @@ pub mod ReadLemmas
 pub mod StepLemmas
 pub mod VersionLemmas
 pub mod ViewLemmas
+pub mod WantedLemmas
 pub mod WrittenLemmas

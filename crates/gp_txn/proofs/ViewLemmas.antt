@@ -1,34 +1,49 @@
 -- Loops that make the rows that a transaction sees, and that count them.
-use Rattle.std.proofs.Common.{◌≡◌, ℕ, ◌+◌, ◌<◌, true, false, List, [], ◌∷◌, ◌++◌, map, drop, length, get_or, refl, ap, sym, ◌∙◌, arith, add_assoc}
+use Rattle.std.proofs.Common.{◌≡◌, ℕ, ◌+◌, ◌<◌, true, false, List, [], ◌∷◌, ◌++◌, map, drop, length, get_or, refl, ap, sym, ◌∙◌, arith, add_assoc, Option, None}
 use Rattle.std.proofs.lemmas.List.{map-append, drop-drop, append_assoc, length-append}
+use Rattle.std.proofs.lemmas.List.Elements.{filter-append}
 use Rattle.gp_base.specs.declared.stored.Stored.{Stored}
 use Rattle.gp_base.specs.Annotated.{plain}
+use Rattle.gp_expr.specs.Expressions.{Cond}
+use Rattle.gp_algebra.specs.Answers.{passes_where}
+use Rattle.gp_algebra.proofs.Lists.{filter-map}
 use Rattle.gp_versions.specs.declared.span.Span.{Span}
 use Rattle.gp_versions.specs.Spans.{holds_at, row_of, rows_at}
 use Rattle.gp_txn.specs.declared.overlay.Slot.{Slot}
 use Rattle.gp_txn.specs.declared.overlay.Slot.TheVariants.{Same, Put, Dropped}
 use Rattle.gp_txn.specs.Overlay.{PlainRow, head_slot, shown, overlaid, own_row, stored_of}
 use Rattle.gp_txn.specs.Slots.{shown_count}
+use Rattle.gp_txn.specs.Wanted.{wanted, wanted_own}
 use Rattle.gp_txn.proofs.OverlayLemmas.{rows-held, rows-passed}
 
-pub seen-held : (done : List Stored) (slots : List Slot) (place v : ℕ) (spans : List Span) (i : ℕ) (span : Span) → i < length spans → span ≡ get_or spans i span → holds_at v span ≡ true
-    → done ++ map stored_of (overlaid (drop place slots) (rows_at plain v (drop i spans))) ≡ (done ++ map stored_of (shown (head_slot (drop place slots)) (row_of plain span))) ++ map stored_of (overlaid (drop (place + 1) slots) (rows_at plain v (drop (i + 1) spans)))
-seen-held done slots place v spans i span within at held =
-    ap (λ rows. done ++ map stored_of (overlaid (drop place slots) rows)) (rows-held v spans i span within at held)
-    ∙ ap (λ others. done ++ map stored_of (shown (head_slot (drop place slots)) (row_of plain span) ++ overlaid others (rows_at plain v (drop (i + 1) spans)))) (drop-drop 1 place slots)
-    ∙ ap (λ (rows : List Stored). done ++ rows) (map-append stored_of (shown (head_slot (drop place slots)) (row_of plain span)) (overlaid (drop (place + 1) slots) (rows_at plain v (drop (i + 1) spans))))
-    ∙ sym (append_assoc done (map stored_of (shown (head_slot (drop place slots)) (row_of plain span))) (map stored_of (overlaid (drop (place + 1) slots) (rows_at plain v (drop (i + 1) spans)))))
+pub wanted-all : (rows : List PlainRow) → wanted None rows ≡ rows
+wanted-all [] = refl
+wanted-all (row ∷ rows) = ap (λ (others : List PlainRow). row ∷ others) (wanted-all rows)
 
-pub seen-passed : (done : List Stored) (slots : List Slot) (v : ℕ) (spans : List Span) (i : ℕ) (span : Span) → i < length spans → span ≡ get_or spans i span → holds_at v span ≡ false
-    → done ++ map stored_of (overlaid slots (rows_at plain v (drop i spans))) ≡ done ++ map stored_of (overlaid slots (rows_at plain v (drop (i + 1) spans)))
-seen-passed done slots v spans i span within at passed = ap (λ rows. done ++ map stored_of (overlaid slots rows)) (rows-passed v spans i span within at passed)
+wanted-append : (c : Option Cond) (xs ys : List PlainRow) → map stored_of (wanted c (xs ++ ys)) ≡ map stored_of (wanted c xs) ++ map stored_of (wanted c ys)
+wanted-append c xs ys = ap (λ (rows : List PlainRow). map stored_of rows) (filter-append (λ (row : PlainRow). passes_where c row.cells) xs ys) ∙ map-append stored_of (wanted c xs) (wanted c ys)
+
+pub seen-held : (c : Option Cond) (done : List Stored) (slots : List Slot) (place v : ℕ) (spans : List Span) (i : ℕ) (span : Span) → i < length spans → span ≡ get_or spans i span → holds_at v span ≡ true
+    → done ++ map stored_of (wanted c (overlaid (drop place slots) (rows_at plain v (drop i spans)))) ≡ (done ++ map stored_of (wanted c (shown (head_slot (drop place slots)) (row_of plain span)))) ++ map stored_of (wanted c (overlaid (drop (place + 1) slots) (rows_at plain v (drop (i + 1) spans))))
+seen-held c done slots place v spans i span within at held =
+    ap (λ rows. done ++ map stored_of (wanted c (overlaid (drop place slots) rows))) (rows-held v spans i span within at held)
+    ∙ ap (λ others. done ++ map stored_of (wanted c (shown (head_slot (drop place slots)) (row_of plain span) ++ overlaid others (rows_at plain v (drop (i + 1) spans))))) (drop-drop 1 place slots)
+    ∙ ap (λ (rows : List Stored). done ++ rows) (wanted-append c (shown (head_slot (drop place slots)) (row_of plain span)) (overlaid (drop (place + 1) slots) (rows_at plain v (drop (i + 1) spans))))
+    ∙ sym (append_assoc done (map stored_of (wanted c (shown (head_slot (drop place slots)) (row_of plain span)))) (map stored_of (wanted c (overlaid (drop (place + 1) slots) (rows_at plain v (drop (i + 1) spans))))))
+
+pub seen-passed : (c : Option Cond) (done : List Stored) (slots : List Slot) (v : ℕ) (spans : List Span) (i : ℕ) (span : Span) → i < length spans → span ≡ get_or spans i span → holds_at v span ≡ false
+    → done ++ map stored_of (wanted c (overlaid slots (rows_at plain v (drop i spans)))) ≡ done ++ map stored_of (wanted c (overlaid slots (rows_at plain v (drop (i + 1) spans))))
+seen-passed c done slots v spans i span within at passed = ap (λ rows. done ++ map stored_of (wanted c (overlaid slots rows))) (rows-passed v spans i span within at passed)
 
 own-stored : (own : List Stored) → map stored_of (map own_row own) ≡ own
 own-stored [] = refl
 own-stored (stored ∷ own) = ap (λ (others : List Stored). stored ∷ others) (own-stored own)
 
-pub view-stored : (slots : List Slot) (own : List Stored) (base : List PlainRow) → map stored_of (overlaid slots base ++ map own_row own) ≡ map stored_of (overlaid slots base) ++ own
-view-stored slots own base = map-append stored_of (overlaid slots base) (map own_row own) ∙ ap (λ (rows : List Stored). map stored_of (overlaid slots base) ++ rows) (own-stored own)
+own-wanted : (c : Option Cond) (own : List Stored) → map stored_of (wanted c (map own_row own)) ≡ wanted_own c own
+own-wanted c own = ap (λ (rows : List PlainRow). map stored_of rows) (filter-map (λ (row : PlainRow). passes_where c row.cells) own_row own) ∙ own-stored (wanted_own c own)
+
+pub view-stored : (c : Option Cond) (slots : List Slot) (own : List Stored) (base : List PlainRow) → map stored_of (wanted c (overlaid slots base ++ map own_row own)) ≡ map stored_of (wanted c (overlaid slots base)) ++ wanted_own c own
+view-stored c slots own base = wanted-append c (overlaid slots base) (map own_row own) ∙ ap (λ (rows : List Stored). map stored_of (wanted c (overlaid slots base)) ++ rows) (own-wanted c own)
 
 length-shown : (slot : Slot) (row : PlainRow) → length (shown slot row) ≡ shown_count slot
 length-shown Same row = refl

@@ -9,4 +9,5 @@ pub mod Overlay
 pub mod Prepared
 pub mod Slots
 pub mod Stops
+pub mod Wanted
 pub mod WritesCode

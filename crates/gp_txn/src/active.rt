@@ -1,15 +1,20 @@
 //! Running transactions.
 
-ghost use Rattle.std.specs.Prelude.{◌≡◌, ◌<◌, ◌≤◌, ◌++◌, ℕ, IfOk, OnOk, OnErr, [], length, map};
+ghost use Rattle.std.specs.Prelude.{◌≡◌, ◌<◌, ◌≤◌, ◌++◌, ℕ, true, IfOk, OnOk, OnErr, [], length, map};
+ghost use Rattle.std.specs.Option.{option_map};
 ghost use Rattle.gp_base.specs.declared.catalog.TheConstants.{MAX_TABLES};
 ghost use Rattle.gp_txn.specs.Overlay.{AreOwn, HoldsOwn, no_writes, stored_of, table_at, view_of, view_rows, writes_at};
 ghost use Rattle.gp_txn.specs.Slots.{put_table, with_own};
+ghost use Rattle.gp_txn.specs.Wanted.{wanted};
+ghost use Rattle.gp_expr.specs.Views.{cond_view};
+ghost use Rattle.gp_algebra.specs.Simple.{where_is_simple};
 ghost use Rattle.gp_base.specs.Annotated.{plain};
 ghost use Rattle.gp_versions.specs.Spans.{NoOverlap, rows_at};
 
 use crate::overlay::{Slot, TableWrites};
 use crate::viewing::{count_rows, view_rows};
 use gp_base::{MAX_TABLES, NoMemory, Sequence, Stored};
+use gp_expr::Cond;
 use gp_versions::{Span, VersionTable};
 use std::alloc::Global;
 use std::array;
@@ -128,13 +133,20 @@ impl Active {
         ensures { IfOk result
             (λ rows. rows ≡ map stored_of (view_of self.now versions.now table)) }
     {
-        self.view_over(table, spans_of(versions, table))
+        self.view_over(table, spans_of(versions, table), None)
     }
 
-    /// The rows of a table that it sees, over these spans.
-    pub(crate) fn view_over(&self, table: u32, spans: &[Span]) -> Result<Sequence<Stored>, NoMemory>
-        ensures { IfOk result (λ rows. rows ≡ map stored_of
-            (view_rows (writes_at table self.now.tables) (rows_at plain self.now.begin spans.now))) }
+    /// The rows of a table that it sees, over these spans: all of them, or those that pass a condition.
+    pub(crate) fn view_over(
+        &self,
+        table: u32,
+        spans: &[Span],
+        cond: Option<&Cond>,
+    ) -> Result<Sequence<Stored>, NoMemory>
+        requires { where_is_simple (option_map (λ c. cond_view c.now) cond) ≡ true }
+        ensures { IfOk result (λ rows. rows
+            ≡ map stored_of (wanted (option_map (λ c. cond_view c.now) cond.entry)
+            (view_rows (writes_at table self.now.tables) (rows_at plain self.now.begin spans.now)))) }
     {
         view_rows(
             self.alloc,
@@ -142,6 +154,7 @@ impl Active {
             self.own(table),
             spans,
             self.begin,
+            cond,
         )
     }
 

@@ -4,45 +4,50 @@ ghost use Rattle.std.specs.Prelude.{◌≡◌, ◌<◌, ◌≤◌, ℕ, true, If
 ghost use Rattle.gp_base.specs.declared.catalog.TheConstants.{MAX_TABLES};
 ghost use Rattle.gp_base.specs.Annotated.{plain};
 ghost use Rattle.gp_algebra.specs.Answers.{answer};
+ghost use Rattle.gp_algebra.specs.Simple.{select_is_simple};
 ghost use Rattle.gp_algebra.specs.Views.{select_view};
 ghost use Rattle.gp_exec.specs.declared.limit.TheConstants.{MAX_ANSWER_ROWS};
 ghost use Rattle.gp_exec.specs.Choosing.{Chooses, chosen_view};
 ghost use Rattle.gp_txn.specs.Applying.{Selects, is_readable};
 ghost use Rattle.gp_txn.specs.Inserting.{AreApart, reads_table};
 ghost use Rattle.gp_txn.specs.Overlay.{stored_of, view_of, view_rows, writes_at};
+ghost use Rattle.gp_txn.specs.Wanted.{row_where, wanted};
 ghost use Rattle.gp_versions.specs.Spans.{rows_at};
 
 use crate::active::{Active, spans_of};
-use crate::reading::{reads_table, rows_of};
+use crate::reading::{reads_table, row_where, rows_of};
 use gp_algebra::Select;
 use gp_base::{NoMemory, Row, Sequence, Stored};
 use gp_exec::{ChooseStop, Chosen, MAX_ANSWER_ROWS, Views, choose};
 use gp_versions::{Span, VersionTable};
 
 impl Active {
-    /// The rows of a table that it sees, if the query reads the table, else none.
+    /// The rows of a table that it sees and the query wants, if the query reads the table, else none.
     fn view_read(
         &self,
         select: &Select,
         table: u32,
         spans: &[Span],
     ) -> Result<Sequence<Stored>, NoMemory>
+        requires { select_is_simple (select_view select.now) ≡ true }
         ensures { IfOk result (λ rows. reads_table table (select_view select.now) ≡ true
-            → rows ≡ map stored_of
-            (view_rows (writes_at table self.now.tables) (rows_at plain self.now.begin spans.now))) }
+            → rows ≡ map stored_of (wanted (row_where (select_view select.now))
+            (view_rows (writes_at table self.now.tables) (rows_at plain self.now.begin spans.now)))) }
     {
         if reads_table(select, table) {
-            return self.view_over(table, spans);
+            return self.view_over(table, spans, row_where(select));
         }
         Ok(Sequence::new(self.alloc()))
     }
 
-    /// The rows of the tables that the query reads. The others are empty here.
+    /// The rows that the query wants of the tables that it reads. The other tables are empty here.
     fn views(&self, select: &Select, versions: &[VersionTable]) -> Result<Views, NoMemory>
-        requires { length versions.now ≤ MAX_TABLES }
+        requires few { length versions.now ≤ MAX_TABLES }
+        requires simple { select_is_simple (select_view select.now) ≡ true }
         ensures rows { IfOk result (λ views. (p : ℕ) → p < length versions.now
             → reads_table p (select_view select.now) ≡ true
-            → get_or views.tables p [] ≡ map stored_of (view_of self.now versions.now p)) }
+            → get_or views.tables p [] ≡ map stored_of (wanted (row_where (select_view select.now))
+            (view_of self.now versions.now p))) }
         ensures apart { IfOk result (λ views. AreApart versions.now) }
     {
         let mut tables = Sequence::new(self.alloc());

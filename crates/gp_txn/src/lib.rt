@@ -10,9 +10,9 @@
 //!
 //! Inside, `updating` is UPDATE and DELETE, and `assigning` the rows that an UPDATE makes; `inserting` makes the rows of an
 //! INSERT, and `applying` puts both behind one call. `viewing` makes the rows that a transaction sees, `choosing` answers
-//! queries over them, and `reading` tells the tables that they read. Of a commit, `conflict` finds the row that it is lost by,
-//! `committing` copies the writes of a table, `counting` counts the spans that they leave, and `publishing` makes room for
-//! them and then the version.
+//! queries over them, and `reading` tells which tables and rows they want. Of a commit, `conflict` finds the row that
+//! it is lost by, `committing` copies the writes of a table, `counting` counts the spans that they leave, and
+//! `publishing` makes room for them and then the version.
 //!
 //! ```text
 //! let mut active = Active::begin(alloc, 3, 2); // transaction 3, over version 2

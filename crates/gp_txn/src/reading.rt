@@ -1,14 +1,18 @@
-//! The tables that a query reads, and the rows that it gives.
+//! The tables and rows that a query reads, and the rows that it gives.
 
 ghost use Rattle.std.specs.Prelude.{◌≡◌, map, IfOk};
+ghost use Rattle.std.specs.Option.{option_map};
+ghost use Rattle.gp_expr.specs.Views.{cond_view};
 ghost use Rattle.gp_algebra.specs.Answers.{cells_of};
 ghost use Rattle.gp_algebra.specs.Views.{select_view};
 ghost use Rattle.gp_exec.specs.Choosing.{chosen_view};
 ghost use Rattle.gp_txn.specs.Inserting.{names_table, reads_table};
+ghost use Rattle.gp_txn.specs.Wanted.{row_where};
 
 use gp_algebra::Select;
 use gp_base::{NoMemory, Row, Sequence};
 use gp_exec::Chosen;
+use gp_expr::Cond;
 use std::alloc::Global;
 
 /// Whether the table is among those of a FROM.
@@ -33,6 +37,17 @@ pub fn reads_table(select: &Select, table: u32) -> bool
         }
     }
     false
+}
+
+/// The condition that each row has to pass that the query wants: that of a query of one table. In other queries a row is
+/// tested together with rows of other tables or under several conditions, so they want all rows of their tables.
+pub fn row_where(select: &Select) -> Option<&Cond>
+    ensures { option_map (λ c. cond_view c.now) result ≡ row_where (select_view select.now) }
+{
+    match select.branches.as_slice() {
+        [branch] if branch.from.as_slice().len() == 1 => branch.cond.as_ref(),
+        _ => None,
+    }
 }
 
 /// The rows of an answer.

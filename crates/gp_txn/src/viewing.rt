@@ -1,14 +1,19 @@
 //! What a transaction sees of a table.
 
-ghost use Rattle.std.specs.Prelude.{◌≡◌, ◌≤◌, ◌++◌, length, map, drop, IfOk, OnOk};
+ghost use Rattle.std.specs.Prelude.{◌≡◌, ◌≤◌, ◌++◌, ◌∷◌, [], true, length, map, drop, IfOk, OnOk};
 ghost use Rattle.std.specs.Option.{option_map};
 ghost use Rattle.gp_base.specs.Annotated.{plain};
+ghost use Rattle.gp_expr.specs.Views.{cond_view};
+ghost use Rattle.gp_algebra.specs.Answers.{passes_where};
+ghost use Rattle.gp_algebra.specs.Simple.{where_is_simple};
 ghost use Rattle.gp_versions.specs.Spans.{row_of, rows_at};
 ghost use Rattle.gp_txn.specs.Overlay.{head_slot, overlaid, shown, stored_of, view_rows};
 ghost use Rattle.gp_txn.specs.Slots.{seen, shown_count};
+ghost use Rattle.gp_txn.specs.Wanted.{wanted, wanted_own};
 
 use crate::overlay::Slot;
 use gp_base::{NoMemory, Row, Sequence, Stored};
+use gp_expr::{Cond, truth};
 use gp_versions::Span;
 use std::alloc::Global;
 
@@ -34,59 +39,99 @@ pub fn copied_row(stored: &Stored) -> Result<Stored, NoMemory>
     })
 }
 
-/// Adds what the transaction sees of a row of its snapshot.
+/// Whether a row of these cells passes the condition, if there is one. Rows are tested before they are copied, since the
+/// test takes no memory, and a copy makes three allocations or more.
+fn is_wanted(cond: Option<&Cond>, row: &Row) -> bool
+    requires { where_is_simple (option_map (λ c. cond_view c.now) cond) ≡ true }
+    ensures { result ≡ passes_where (option_map (λ c. cond_view c.now) cond.entry) row.now }
+{
+    match cond {
+        None => true,
+        Some(cond) => truth(cond, row).holds(),
+    }
+}
+
+/// Adds what the transaction sees of a row of its snapshot, if it is wanted.
 fn push_seen(
     rows: &mut Sequence<Stored>,
     slots: &[Slot],
     place: usize,
     span: &Span,
+    cond: Option<&Cond>,
 ) -> Result<(), NoMemory>
+    requires { where_is_simple (option_map (λ c. cond_view c.now) cond) ≡ true }
     ensures { OnOk result (rows.new ≡ rows.old
-        ++ map stored_of (shown (head_slot (drop place slots.now)) (row_of plain span.now))) }
+        ++ map stored_of (wanted (option_map (λ c. cond_view c.now) cond.entry)
+        (shown (head_slot (drop place slots.now)) (row_of plain span.now)))) }
 {
-    if let Some(cells) = seen(slots, place, &span.row) {
-        let id = span.id.clone()?;
-        let row = cells.clone()?;
-        rows.push(Stored { id, row })?;
+    match seen(slots, place, &span.row) {
+        Some(cells) if is_wanted(cond, cells) => {
+            let id = span.id.clone()?;
+            let row = cells.clone()?;
+            rows.push(Stored { id, row })
+        }
+        _ => Ok(()),
     }
-    Ok(())
 }
 
-/// What the transaction sees of the rows of version v.
+/// What the transaction sees of the rows of version v, as far as it is wanted.
 fn seen_rows(
     alloc: Global,
     slots: &[Slot],
     spans: &[Span],
     v: u32,
+    cond: Option<&Cond>,
 ) -> Result<Sequence<Stored>, NoMemory>
+    requires { where_is_simple (option_map (λ c. cond_view c.now) cond) ≡ true }
     ensures { IfOk result (λ rows. rows
-        ≡ map stored_of (overlaid slots.now (rows_at plain v spans.now))) }
+        ≡ map stored_of (wanted (option_map (λ c. cond_view c.now) cond.entry)
+        (overlaid slots.now (rows_at plain v spans.now)))) }
 {
     let mut rows = Sequence::new(alloc);
     let mut place = 0usize;
     for span in spans {
         if span.holds(v) {
-            push_seen(&mut rows, slots, place, span)?;
+            push_seen(&mut rows, slots, place, span, cond)?;
             place += 1;
         }
     }
     Ok(rows)
 }
 
-/// What the transaction sees of a table of which it keeps these slots and rows, over the rows of version v.
+/// Adds an inserted row, if it is wanted.
+fn push_wanted(
+    rows: &mut Sequence<Stored>,
+    stored: &Stored,
+    cond: Option<&Cond>,
+) -> Result<(), NoMemory>
+    requires { where_is_simple (option_map (λ c. cond_view c.now) cond) ≡ true }
+    ensures { OnOk result (rows.new ≡ rows.old
+        ++ wanted_own (option_map (λ c. cond_view c.now) cond.entry) (stored.now ∷ [])) }
+{
+    if is_wanted(cond, &stored.row) {
+        rows.push(copied_row(stored)?)?;
+    }
+    Ok(())
+}
+
+/// What the transaction sees of a table of which it keeps these slots and rows, over the rows of version v: all rows, or
+/// those that pass a condition.
 pub fn view_rows(
     alloc: Global,
     slots: &[Slot],
     own: &[Stored],
     spans: &[Span],
     v: u32,
+    cond: Option<&Cond>,
 ) -> Result<Sequence<Stored>, NoMemory>
-    ensures { IfOk result (λ rows. rows ≡ map stored_of
-        (view_rows (record { slots = slots.now; own = own.now }) (rows_at plain v spans.now))) }
+    requires { where_is_simple (option_map (λ c. cond_view c.now) cond) ≡ true }
+    ensures { IfOk result (λ rows. rows
+        ≡ map stored_of (wanted (option_map (λ c. cond_view c.now) cond.entry)
+        (view_rows (record { slots = slots.now; own = own.now }) (rows_at plain v spans.now)))) }
 {
-    let mut rows = seen_rows(alloc, slots, spans, v)?;
+    let mut rows = seen_rows(alloc, slots, spans, v, cond)?;
     for stored in own {
-        rows.push(copied_row(stored)?)?;
+        push_wanted(&mut rows, stored, cond)?;
     }
     Ok(rows)
 }

@@ -6,8 +6,13 @@ use Rattle.gp_exec.specs.Choosing.{database_view, row_view}
 use Rattle.gp_txn.specs.Applying.{reads_below}
 use Rattle.gp_txn.specs.Inserting.{reads_table}
 use Rattle.gp_txn.specs.Overlay.{view_of}
+use Rattle.gp_txn.specs.Wanted.{row_where}
 use Rattle.gp_txn.proofs.ReadLemmas.{answer-agree, below-read}
+use Rattle.gp_txn.proofs.WantedLemmas.{answer-wanted, wanted_of}
 use Rattle.gp_txn.proofs.active.Active.chosen.Goals as goal
+
+pub views-requires-clause-simple : goal.views-requires-clause-simple
+views-requires-clause-simple c = (and_parts (select_is_simple (select_view c.args.select.now)) (reads_below (length c.args.versions.now) (select_view c.args.select.now)) c.requires.readable).0
 
 pub choose-requires : goal.choose-requires
 choose-requires c = (and_parts (select_is_simple (select_view c.args.select.now)) (reads_below (length c.args.versions.now) (select_view c.args.select.now)) c.requires.readable).0
@@ -16,6 +21,7 @@ pub returns-clause-rows : goal.returns-clause-rows
 returns-clause-rows c =
     let select = select_view c.args.select.now in
     let views = c.in_ok-views.views in
-    let same = answer-agree select (view_of c.args.self.now c.args.versions.now) (database_view views)
+    let view = view_of c.args.self.now c.args.versions.now in
+    let same = answer-agree select (wanted_of (row_where select) view) (database_view views)
     (λ (p : ℕ) (is : reads_table p select ≡ true). ap (map row_view) (c.in_ok-views.ensures.rows p (below-read (length c.args.versions.now) p select (and_parts (select_is_simple select) (reads_below (length c.args.versions.now) select) c.requires.readable).1 is) is)) in
-    rw same at c.choose.ensures
+    rw (same, answer-wanted select view) at c.choose.ensures

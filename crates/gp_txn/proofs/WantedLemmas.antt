@@ -1,0 +1,61 @@
+-- The answer of a query depends only on the rows that it wants.
+use Rattle.std.proofs.Common.{◌≡◌, ℕ, Bool, true, false, cond, List, [], ◌∷◌, ◌++◌, map, refl, ap, sym, ◌∙◌, Option, None}
+use Rattle.std.specs.List.{filter, flat_map, list_all}
+use Rattle.std.proofs.lemmas.Bool.{and_parts}
+use Rattle.std.proofs.lemmas.List.{append-nil}
+use Rattle.gp_base.specs.Annotated.{plain, Database}
+use Rattle.gp_expr.specs.Expressions.{Cond, is_simple}
+use Rattle.gp_algebra.specs.Statements.{Branch, Select}
+use Rattle.gp_algebra.specs.Simple.{branch_is_simple, select_is_simple, where_is_simple}
+use Rattle.gp_algebra.specs.Answers.{Element, values, passes_where, joined, no_choice, answer}
+use Rattle.gp_txn.specs.Overlay.{PlainRow}
+use Rattle.gp_txn.specs.Wanted.{table_where, row_where, wanted}
+use Rattle.gp_txn.proofs.ViewLemmas.{wanted-all}
+
+-- ---- rows that are tested twice
+
+module _ {X Y : Type 0} (p : X → Bool) (q : Y → Bool) (f : X → Y) (same : (x : X) → q (f x) ≡ p x) where
+  tested : (b : Bool) (x : X) (xs ys : List X) → q (f x) ≡ b → filter q (flat_map (λ y. f y ∷ []) ys) ≡ filter q (flat_map (λ y. f y ∷ []) xs) → filter q (flat_map (λ y. f y ∷ []) (cond b (x ∷ ys) ys)) ≡ filter q (flat_map (λ y. f y ∷ []) (x ∷ xs))
+  tested true x xs ys is others = ap (λ zs. cond (q (f x)) (f x ∷ zs) zs) others
+  tested false x xs ys is others = others ∙ sym (ap (λ b. cond b (f x ∷ filter q (flat_map (λ y. f y ∷ []) xs)) (filter q (flat_map (λ y. f y ∷ []) xs))) is)
+
+  tested-again : (xs : List X) → filter q (flat_map (λ x. f x ∷ []) (filter p xs)) ≡ filter q (flat_map (λ x. f x ∷ []) xs)
+  tested-again [] = refl
+  tested-again (x ∷ xs) = tested (p x) x xs (filter p xs) (same x) (tested-again xs)
+
+-- ---- the answer
+
+-- the rows that are wanted of each table
+abbrev pub wanted_of : Option Cond → Database (Unit {0}) → Database (Unit {0})
+wanted_of c db place = wanted c (db place)
+
+all-wanted : (db : Database (Unit {0})) → wanted_of None db ≡ db
+all-wanted db = λ i place. wanted-all (db place) i
+
+branch-wanted : (branch : Branch) (from : List ℕ) (db : Database (Unit {0})) → branch.from ≡ from → answer plain (branch ∷ []) (wanted_of (table_where from branch.cond) db) ≡ answer plain (branch ∷ []) db
+branch-wanted branch [] db is = ap (answer plain (branch ∷ [])) (all-wanted db)
+branch-wanted branch (table ∷ []) db is =
+    rw is (ap (λ (elements : List (Element (Unit {0}))). map (λ (e : Element (Unit {0})). record e { cells = values branch.items e.cells }) elements ++ [])
+    (tested-again (λ (row : PlainRow). passes_where branch.cond row.cells) (λ (e : Element (Unit {0})). passes_where branch.cond e.cells) (λ row. joined plain 1 row (no_choice plain 1))
+    (λ row. ap (passes_where branch.cond) (append-nil row.cells)) (db table)))
+branch-wanted branch (table ∷ other ∷ from) db is = ap (answer plain (branch ∷ [])) (all-wanted db)
+
+pub answer-wanted : (select : Select) (db : Database (Unit {0})) → answer plain select (wanted_of (row_where select) db) ≡ answer plain select db
+answer-wanted [] db = ap (answer plain []) (all-wanted db)
+answer-wanted (branch ∷ []) db = branch-wanted branch branch.from db refl
+answer-wanted (branch ∷ other ∷ select) db = ap (answer plain (branch ∷ other ∷ select)) (all-wanted db)
+
+-- ---- its condition
+
+table-simple : (from : List ℕ) (c : Option Cond) → where_is_simple c ≡ true → where_is_simple (table_where from c) ≡ true
+table-simple [] c is = refl
+table-simple (table ∷ []) c is = is
+table-simple (table ∷ other ∷ from) c is = refl
+
+branches-simple : (select : Select) → list_all branch_is_simple select ≡ true → where_is_simple (row_where select) ≡ true
+branches-simple [] is = refl
+branches-simple (branch ∷ []) is = table-simple branch.from branch.cond (and_parts (list_all is_simple branch.items) (where_is_simple branch.cond) (and_parts (branch_is_simple branch) true is).0).1
+branches-simple (branch ∷ other ∷ select) is = refl
+
+pub row-simple : (select : Select) → select_is_simple select ≡ true → where_is_simple (row_where select) ≡ true
+row-simple select is = branches-simple select (and_parts _ (list_all branch_is_simple select) is).1
