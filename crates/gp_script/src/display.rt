@@ -148,7 +148,8 @@ pub fn write_reply(
     reply: Reply,
     out: &mut Vec<u8>,
 ) -> Result<(), NoMemory>
-    ensures ok { OnOk result (out.new.items ≡ out.old.items ++ line_text number catalog.now reply) }
+    ensures ok { OnOk result
+        (out.new.items ≡ out.old.items ++ line_text number catalog.now reply) }
     ensures err { OnErr result (out.new.items ≡ out.old.items) }
 {
     let text = line_text(alloc, number, catalog, reply)?;

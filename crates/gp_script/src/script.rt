@@ -40,13 +40,15 @@ fn answer_line(alloc: Global, engine: &mut Engine, bytes: &[u8]) -> Result<Reply
 }
 
 /// Runs the lines of a script in order on a new engine, and gives their replies: exactly those of the history of the script, whatever its
-/// bytes. The engine then represents the state that the history leaves. The only error is that memory ran out; the engine has then run some
-/// of the lines, the first ones.
+/// bytes. The engine then represents the state that the script leaves. The only error is that memory ran out; the engine then represents the
+/// state after the first lines, some number of them.
 pub fn run_script(alloc: Global, script: &[u8], engine: &mut Engine) -> Result<Output, NoMemory>
     requires length { length script.now ≤ MAX_SCRIPT_LENGTH }
     requires new { IsEngineOf engine.old start }
-    ensures text { IfOk result (λ output. output.text.items ≡ replies_text (replies_of script.now)) }
-    ensures refused { IfOk result (λ output. output.refused ≡ has_refusal (replies_of script.now)) }
+    ensures text { IfOk result (λ output.
+        output.text.items ≡ replies_text (replies_of script.now)) }
+    ensures refused { IfOk result (λ output.
+        output.refused ≡ has_refusal (replies_of script.now)) }
     ensures engine { OnOk result (IsEngineOf engine.new (final_state plain script.now)) }
     ensures err { OnErr result (HasRun script.now engine.new) }
 {

@@ -1,9 +1,9 @@
 -- Each promise follows from the outcome of a call.
-use Rattle.std.proofs.Common.{◌≡◌, ◌≢◌, ℕ, ◌+◌, ◌≤◌, ◌<◌, ◌⊎◌, [], take, suc, zero, Bool, true, false, cond, List, length, Option, Some, None, refl, sym, ap, ◌∙◌, subst, arith, inl, inr, ⊎_elim}
+use Rattle.std.proofs.Common.{◌≡◌, ℕ, ◌≤◌, ◌<◌, [], take, suc, zero, Bool, true, false, cond, List, length, Option, Some, None, refl, sym, ap, ◌∙◌, subst, arith, inr, ⊎_elim}
 use Rattle.std.specs.Prelude.{IfSome, IsSomeAnd, option_and_then}
 use Rattle.std.specs.Option.{option_map}
-use Rattle.gp_io.specs.Shelf.{ShelfState, Files, content, Reports, ReportsMiss, ReportsReadFault}
-use Rattle.gp_io.specs.Sink.{SinkState, appended, WritesPrefix, Increased}
+use Rattle.gp_io.specs.Shelf.{ShelfState, Files, content, Reports}
+use Rattle.gp_io.specs.Sink.{SinkState, appended, WritesPrefix}
 use Rattle.gp_io.proofs.ShelfLemmas.{Reports-differs}
 use Rattle.gp_script.specs.History.{replies_of, replies_text, has_refusal}
 use Rattle.gp_script.specs.declared.script.TheConstants.{MAX_SCRIPT_LENGTH}
@@ -11,8 +11,8 @@ use Rattle.gprom_cli.specs.declared.status.Status.{Status}
 use Rattle.gprom_cli.specs.declared.status.Status.TheVariants as exit
 use Rattle.gprom_cli.specs.Args.{Run}
 use Rattle.gprom_cli.specs.Status.{number_of, status_of}
-use Rattle.gprom_cli.specs.Call.{Call, Outcome, Usage, Absent, Unreadable, TooLong, Answered, OutOfMemory, HasOutcome, WritesOutput, IsOrFails, IsOutcomeOf, FindsScript, expected_output, exit_status, answered_status, script_content, NoReadFault, ReportsMissing, ReportsUnreadable}
-use Rattle.gprom_cli.specs.Promises.{Promises, IsClean, ReportsNothing}
+use Rattle.gprom_cli.specs.Call.{Call, Outcome, Usage, Absent, Unreadable, TooLong, Answered, OutOfMemory, HasOutcome, WritesOutput, IsOrFails, IsOutcomeOf, FindsScript, expected_output, exit_status, answered_status}
+use Rattle.gprom_cli.specs.Promises.{Promises, IsClean}
 
 -- a status has one number
 pub status_of-number_of : (s : Status) → status_of (number_of s) ≡ s

@@ -2,7 +2,7 @@
 use Rattle.std.specs.Prelude.{◌≡◌, ℕ, ◌≤◌, ◌<◌, ◌⊎◌, List, [], ◌∷◌, length, Option, Some, None, IfSome, IsSomeAnd, option_and_then, if◌then◌else◌, codes}
 use Rattle.std.specs.Option.{option_map}
 use Rattle.std.specs.List.{concat}
-use Rattle.gp_io.specs.Shelf.{ShelfState, Files, content, Reports, ReportsMiss, ReportsReadFault}
+use Rattle.gp_io.specs.Shelf.{ShelfState, content, Reports, ReportsMiss, ReportsReadFault}
 use Rattle.gp_io.specs.Sink.{SinkState, appended, WritesPrefix, Increased}
 use Rattle.gp_script.specs.History.{replies_of, replies_text, has_refusal}
 use Rattle.gp_script.specs.declared.script.TheConstants.{MAX_SCRIPT_LENGTH}

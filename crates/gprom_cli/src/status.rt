@@ -18,7 +18,7 @@ pub enum Status {
     Unreadable,
     /// The output reported a write error.
     Unwritten,
-    /// The script is longer than [`MAX_SCRIPT_LENGTH`](crate::MAX_SCRIPT_LENGTH).
+    /// The script is longer than [`MAX_SCRIPT_LENGTH`](gp_script::MAX_SCRIPT_LENGTH).
     TooLong,
     /// Memory ran out.
     OutOfMemory,
