@@ -1,0 +1,4 @@
+pub mod Kinds
+pub mod LogCode
+pub mod LogFacts
+pub mod Logs

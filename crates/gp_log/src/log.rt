@@ -1,0 +1,248 @@
+//! The log.
+
+ghost use Rattle.std.specs.Prelude.{◌≡◌, ◌<◌, ◌-◌, ◌^◌, ◌++◌, ◌∷◌, [], OnOk, OnErr, IsOk, if◌then◌else◌, true, false, length, slice_get, Some};
+ghost use Rattle.std.specs.Option.{option_map};
+ghost use Rattle.gp_algebra.specs.Views.{statement_view};
+ghost use Rattle.gp_log.specs.LogFacts.{numbered, open_in, tables_in, version_at};
+ghost use Rattle.gp_log.specs.Logs.{log_view};
+ghost use Rattle.gp_log.specs.Kinds.{begins, commits, created_by, creates, ends, is_statement, IsAddable};
+ghost use Rattle.gp_machine.specs.Entries.{begin_version, committer_of, fate_of, statement_at, statement_count, transactions_in, versions_in};
+
+use crate::entry::{Entry, What};
+use crate::facts;
+use gp_algebra::Stmt;
+use gp_base::{Catalog, Fate, NoMemory};
+use std::alloc::Global;
+use std::marker::Model;
+
+/// The accepted lines, in order. It keeps memory for the end of each transaction that has not ended, so that a transaction
+/// can always end.
+#[derive(Drop)]
+pub struct Log {
+    entries: Vec<Entry>,
+    catalog: Catalog,
+    begun: u32,
+    ended: u32,
+    commits: u32,
+    ready: bool,
+}
+
+impl Model for Log {
+    ghost use Rattle.std.specs.Prelude.{◌≡◌, ◌≤◌, ◌<◌, ◌+◌, ◌-◌, ◌^◌, if◌then◌else◌, vec_len, vec_capacity};
+    ghost use Rattle.gp_log.specs.LogFacts.{ends_in, tables_in};
+    ghost use Rattle.gp_log.specs.LogCode.{logged_code};
+    ghost use Rattle.gp_log.specs.Logs.{Logged, log_view};
+    ghost use Rattle.gp_machine.specs.Entries.{transactions_in, versions_in};
+
+    ghost Value = { Logged };
+
+    ghost coded = { logged_code };
+
+    ghost view = { λ a. record { entries = a.entries.items; ready = a.ready } };
+
+    ghost invariant = { λ a. (a.begun ≡ transactions_in (log_view a.entries.items))
+        × (a.ended ≡ ends_in (log_view a.entries.items))
+        × (a.commits ≡ versions_in (log_view a.entries.items))
+        × (a.catalog ≡ tables_in (log_view a.entries.items))
+        × (vec_len a.entries < 2 ^ 32)
+        × (vec_len a.entries + (a.begun - a.ended) + (if a.ready then 1 else 0) ≤ vec_capacity a.entries) };
+}
+
+/// 1 where the entry begins a transaction.
+fn begun_by(what: &What) -> u32
+    ensures { result ≡ if begins what.now then 1 else 0 }
+{
+    match what {
+        What::Begin => 1,
+        _ => 0,
+    }
+}
+
+/// 1 where the entry ends its transaction.
+fn ended_by(what: &What) -> u32
+    ensures { result ≡ if ends what.now then 1 else 0 }
+{
+    match what {
+        What::Commit | What::Lost | What::Rollback => 1,
+        _ => 0,
+    }
+}
+
+/// 1 where the entry makes a version.
+fn committed_by(what: &What) -> u32
+    ensures { result ≡ if commits what.now then 1 else 0 }
+{
+    match what {
+        What::Commit => 1,
+        _ => 0,
+    }
+}
+
+/// Adds the table of an entry to the catalogue, if it creates one.
+fn add_created(catalog: &mut Catalog, what: &What) -> Result<(), NoMemory>
+    requires { IsAddable catalog.old what.now }
+    ensures ok { OnOk result (catalog.new ≡ catalog.old ++ created_by what.now) }
+    ensures err { OnErr result (catalog.new ≡ catalog.old) }
+    ensures others { creates what.now ≡ false → IsOk result }
+{
+    match what {
+        What::Create(table) => match catalog.add(table.clone()?) {
+            Ok(_) => Ok(()),
+            // The name is new and there is room, so memory ran out.
+            Err(_) => Err(NoMemory),
+        },
+        _ => Ok(()),
+    }
+}
+
+impl Log {
+    /// An empty log, which takes no memory.
+    pub fn new(alloc: Global) -> Log
+        ensures entries { result.entries ≡ [] }
+        ensures ready { result.ready ≡ false }
+    {
+        Log {
+            entries: Vec::new(alloc),
+            catalog: Catalog::new(alloc),
+            begun: 0,
+            ended: 0,
+            commits: 0,
+            ready: false,
+        }
+    }
+
+    /// The number of entries.
+    pub fn len(&self) -> u32
+        ensures { result ≡ length self.now.entries }
+    {
+        self.entries.len() as u32
+    }
+
+    /// The entry at a place; places are numbered from 0, in the order of the lines.
+    pub fn entry(&self, place: u32) -> &Entry
+        requires { place < length self.now.entries }
+        ensures { slice_get self.now.entries place ≡ Some result.now }
+    {
+        &self.entries[place as usize]
+    }
+
+    /// The tables, in order of creation.
+    pub fn catalog(&self) -> &Catalog
+        ensures { result.now ≡ tables_in (log_view self.now.entries) }
+    {
+        &self.catalog
+    }
+
+    /// The transactions that have not ended.
+    fn open(begun: u32, ended: u32) -> usize
+        ensures { result ≡ begun - ended }
+    {
+        begun.saturating_sub(ended) as usize
+    }
+
+    /// Keeps a place for a statement: if the next entry is a statement, appending it does not run out of memory.
+    pub fn reserve(&mut self) -> Result<(), NoMemory>
+        ensures unchanged { self.new.entries ≡ self.old.entries }
+        ensures ok { OnOk result (self.new.ready ≡ true) }
+        ensures err { OnErr result (self.new ≡ self.old) }
+    {
+        let open = Log::open(self.begun, self.ended);
+        self.entries.reserve(open + 1)?;
+        self.ready = true;
+        Ok(())
+    }
+
+    /// Adds an entry behind the others. The end of a transaction never runs out of memory, and a statement does not where
+    /// a place is kept for it. A new table has another name than the others, and there are fewer than
+    /// [`MAX_TABLES`](gp_base::MAX_TABLES). If memory runs out, the log is unchanged.
+    pub fn append(&mut self, entry: Entry) -> Result<(), NoMemory>
+        requires few { length self.old.entries < 2 ^ 32 - 1 }
+        requires new { IsAddable (tables_in (log_view self.old.entries)) entry.what }
+        ensures ok { OnOk result (self.new.entries ≡ self.old.entries ++ entry ∷ []) }
+        ensures used { OnOk result (self.new.ready ≡ false) }
+        ensures err { OnErr result (self.new ≡ self.old) }
+        ensures ends { ends entry.what ≡ true
+            → 0 < open_in (log_view self.old.entries) → IsOk result }
+        ensures ready { is_statement entry.what ≡ true → self.old.ready ≡ true → IsOk result }
+    {
+        let begun = self.begun + begun_by(&entry.what);
+        let ended = self.ended + ended_by(&entry.what);
+        let commits = self.commits + committed_by(&entry.what);
+        let open = Log::open(begun, ended);
+        self.entries.reserve(open + 1)?;
+        add_created(&mut self.catalog, &entry.what)?;
+        self.entries.push_reserved(entry);
+        self.begun = begun;
+        self.ended = ended;
+        self.commits = commits;
+        self.ready = false;
+        Ok(())
+    }
+}
+
+impl Log {
+    /// The number of commits, which is the newest version.
+    pub fn commits(&self) -> u32
+        ensures { result ≡ versions_in (log_view self.now.entries) }
+    {
+        self.commits
+    }
+
+    /// What has become of the transaction, or None if no transaction has this number.
+    pub fn fate(&self, t: u32) -> Option<Fate>
+        ensures { result ≡ numbered t (transactions_in (log_view self.now.entries))
+            (fate_of t (log_view self.now.entries)) }
+    {
+        if 0 < t && t <= self.begun {
+            Some(facts::fate(&self.entries, t))
+        } else {
+            None
+        }
+    }
+
+    /// The newest version when the transaction began, or None if no transaction has this number.
+    pub fn begin_version(&self, t: u32) -> Option<u32>
+        ensures { result ≡ numbered t (transactions_in (log_view self.now.entries))
+            (begin_version t (log_view self.now.entries)) }
+    {
+        if 0 < t && t <= self.begun {
+            Some(facts::begin_version(&self.entries, t))
+        } else {
+            None
+        }
+    }
+
+    /// How many statements the transaction ran.
+    pub fn statement_count(&self, t: u32) -> u32
+        ensures { result ≡ statement_count t (log_view self.now.entries) }
+    {
+        facts::statement_count(&self.entries, t)
+    }
+
+    /// The statement of this number in the transaction, from 1, or None if there is none.
+    pub fn statement(&self, t: u32, k: u32) -> Option<&Stmt>
+        ensures { option_map (λ s. statement_view s.now) result
+            ≡ statement_at t k (log_view self.now.entries) }
+    {
+        facts::statement(&self.entries, t, k)
+    }
+
+    /// The transaction that made the version, or None if no commit did.
+    pub fn committer(&self, version: u32) -> Option<u32>
+        ensures { result ≡ numbered version (versions_in (log_view self.now.entries))
+            (committer_of version (log_view self.now.entries)) }
+    {
+        if 0 < version && version <= self.commits {
+            Some(facts::committer(&self.entries, version))
+        } else {
+            None
+        }
+    }
+
+    /// The number of commits at lines up to this one.
+    pub fn version_at(&self, line: u32) -> u32
+        ensures { result ≡ version_at line (log_view self.now.entries) }
+    {
+        facts::version_at(&self.entries, line)
+    }
+}
