@@ -2,6 +2,8 @@
 use Rattle.std.proofs.Common.{◌≡◌, true, refl}
 use Rattle.gp_base.specs.declared.table.Table.{Table}
 use Rattle.gp_check.specs.Checking.{is_statement}
+use Rattle.gp_grammar.specs.Syntax as y
+use Rattle.gp_machine.specs.Actions.{Run, action_of}
 use Rattle.gp_syntax.specs.Views.{command_view}
 use Rattle.gp_syntax.specs.declared.command.Command.{Command}
 use Rattle.gp_syntax.specs.declared.command.Command.TheVariants as c
@@ -18,3 +20,15 @@ is-statement (c.InsertSelect table query) create begin commit rollback = refl
 is-statement (c.Update table sets cond) create begin commit rollback = refl
 is-statement (c.Delete table cond) create begin commit rollback = refl
 is-statement (c.Select query) create begin commit rollback = refl
+
+-- a statement runs
+pub statement-runs : (command : y.Command) → is_statement command ≡ true → action_of command ≡ Run command
+statement-runs (y.create table) is = absurd cc
+statement-runs y.begin is = absurd cc
+statement-runs y.Command.commit is = absurd cc
+statement-runs y.rollback is = absurd cc
+statement-runs (y.insert table rows) is = refl
+statement-runs (y.insert_select table query) is = refl
+statement-runs (y.update table sets cond) is = refl
+statement-runs (y.delete table cond) is = refl
+statement-runs (y.select query) is = refl

@@ -1,11 +1,9 @@
--- The conflict that a commit finds in its tables of row versions is the one that the history machine takes from the spans, and the transaction that
--- made its version is in the log.
-use Rattle.std.proofs.Common.{◌≡◌, ℕ, suc, ◌<◌, ◌≤◌, Bool, true, false, cond, leb, ◌&&◌, ◌||◌, List, [], ◌∷◌, drop, length, get_or, Option, Some, None, refl, ap, sym, ◌∙◌, subst, subst₂, arith, inl, inr, length-append}
+-- The conflict that a commit finds in its tables of row versions is the one that the history machine takes from the spans.
+use Rattle.std.proofs.Common.{◌≡◌, ℕ, ◌<◌, ◌≤◌, Bool, true, false, cond, leb, ◌&&◌, ◌||◌, List, [], ◌∷◌, drop, length, Option, Some, None, refl, ap, sym, ◌∙◌, subst, subst₂, arith, inl, inr}
 use Rattle.std.specs.List.{AllByRecursion, cons_option, list_any}
 use Rattle.std.specs.Option.{option_map}
-use Rattle.std.proofs.lemmas.Bool.{and_parts, cases_lt, eq-eqb, false≢true, ltb-true, ne_eqb, or_right}
-use Rattle.std.proofs.Math.ListN.{get_or-append, get_or-eq_default}
-use Rattle.std.proofs.Math.Seq.{get_or_at}
+use Rattle.std.proofs.lemmas.Bool.{and_parts, cases_lt, false≢true, ltb-true, or_right}
+use Rattle.std.proofs.Math.ListN.{get_or-eq_default}
 use Rattle.gp_base.specs.Annotated.{plain}
 use Rattle.gp_base.specs.Identities.{Identity, same_identity}
 use Rattle.gp_versions.proofs.HeldLemmas.{held-end}
@@ -24,13 +22,13 @@ use Rattle.gp_txn.specs.declared.overlay.Slot.TheVariants.{Same, Put, Dropped}
 use Rattle.gp_machine.proofs.FoundLemmas as machine
 use Rattle.gp_machine.specs.Conflicts as conflicts
 use Rattle.gp_machine.specs.EngineLine.{FindsConflict, ShowsConflict}
-use Rattle.gp_machine.specs.Entries.{Entry, Created, Began, Ran, Committed, Ended, begin_version, committer_of, versions_in}
+use Rattle.gp_machine.specs.Entries.{begin_version}
 use Rattle.gp_machine.specs.Event.{conflict_of}
 use Rattle.gp_machine.specs.Reached.{IsReached}
 use Rattle.gp_machine.specs.Represents.{Kept, Overlay, Represents, RepresentsActive, RepresentsSession}
 use Rattle.gp_machine.specs.State.{Active, State}
-use Rattle.gp_engine.specs.Engine.{Engine, committers_in, kept_of, overlay_of, spans_of}
-use Rattle.gp_engine.specs.Limits.{limits}
+use Rattle.gp_engine.specs.Engine.{Engine, kept_of, overlay_of, spans_of}
+use Rattle.gp_log.specs.Limits.{limits}
 use Rattle.gp_engine.specs.declared.running.Running.{Running}
 
 -- ---- rows of the begin version
@@ -60,7 +58,7 @@ ends-turned : (next : Identity → Option ℕ) (spans : List Span) → AllByRecu
 ends-turned next [] ends = tt
 ends-turned next (span ∷ spans) ends = (sym ends.0, ends-turned next spans ends.1)
 
-module _ (running : Running) (engine : Engine) (entries : List Entry)
+module _ (running : Running) (engine : Engine)
     (apart : (place : ℕ) → NoOverlap (spans_of engine.versions place)) (whole : (place : ℕ) → AreWhole (spans_of engine.versions place)) where
   abbrev next : ℕ → Identity → Option ℕ
   next place id = written_after id running.active.begin (spans_of engine.versions place)
@@ -74,23 +72,23 @@ module _ (running : Running) (engine : Engine) (entries : List Entry)
   ends : (place : ℕ) → EndNext (next place) (spans_at running.active.begin (spans_of engine.versions place))
   ends place = ends-turned (next place) (spans_at running.active.begin (spans_of engine.versions place)) (held-end running.active.begin (spans_of engine.versions place) (apart place) (whole place))
 
-  pub shown_none : IsFirstConflict (length engine.versions) (lates_of running.active engine.versions) None → ShowsConflict (kept_of engine entries) (overlay_of running) None
+  pub shown_none : IsFirstConflict (length engine.versions) (lates_of running.active engine.versions) None → ShowsConflict (kept_of engine) (overlay_of running) None
   shown_none none place id named =
       not-lost running.active.tables engine.versions running.active.begin next ends none (record { table = place; identity = id }) (and_parts (holds (base place) id) (written place id) named).1
 
   shown-lost : (conflict : Conflict) → IsFirstConflict (length engine.versions) (lates_of running.active engine.versions) (Some conflict)
-      → ShowsConflict (kept_of engine entries) (overlay_of running) (Some (record { pair = record { table = conflict.place; identity = conflict.late.id }; version = conflict.late.version }))
+      → ShowsConflict (kept_of engine) (overlay_of running) (Some (record { pair = record { table = conflict.place; identity = conflict.late.id }; version = conflict.late.version }))
   shown-lost conflict first =
       let is = lost running.active.tables engine.versions running.active.begin next ends conflict first in (
         λ i. held (writes_at conflict.place running.active.tables).slots (base conflict.place) conflict.late.id is.written i && is.written i,
         (is.later, λ pair version named later. is.least pair version (and_parts (holds (base pair.table) pair.identity) (written pair.table pair.identity) named).1 later),
       )
 
-pub shown_some : (running : Running) (engine : Engine) (entries : List Entry) (conflict : Conflict)
+pub shown_some : (running : Running) (engine : Engine) (conflict : Conflict)
     → ((place : ℕ) → NoOverlap (spans_of engine.versions place)) → ((place : ℕ) → AreWhole (spans_of engine.versions place))
     → IsFirstConflict (length engine.versions) (lates_of running.active engine.versions) (Some conflict)
-    → ShowsConflict (kept_of engine entries) (overlay_of running) (Some (record { pair = record { table = conflict.place; identity = conflict.late.id }; version = conflict.late.version }))
-shown_some running engine entries conflict apart whole first = shown-lost running engine entries apart whole conflict first
+    → ShowsConflict (kept_of engine) (overlay_of running) (Some (record { pair = record { table = conflict.place; identity = conflict.late.id }; version = conflict.late.version }))
+shown_some running engine conflict apart whole first = shown-lost running engine apart whole conflict first
 
 -- ---- the conflict that the spans show is the one of the history machine
 
@@ -158,48 +156,21 @@ lates-within begin above slots (span ∷ spans) late within among =
     late-slot (head_slot slots) begin above span (lates (drop 1 slots) spans) late within.0 (lates-within begin above (drop 1 slots) spans late within.1) among
 
 -- a table that is not there has no spans
-no_lates : (running : Running) (engine : Engine) (place : ℕ) (late : Late) → length engine.versions ≤ place → IsAmong late (lates_of running.active engine.versions place) → ⊥
-no_lates running engine place late high among =
-    subst (λ (table : Versions). IsAmong late (lates (writes_at place running.active.tables).slots (spans_at running.active.begin table.spans))) (get_or-eq_default engine.versions no_table high) among
+no_lates : (running : Running) (versions : List Versions) (place : ℕ) (late : Late) → length versions ≤ place → IsAmong late (lates_of running.active versions place) → ⊥
+no_lates running versions place late high among =
+    subst (λ (table : Versions). IsAmong late (lates (writes_at place running.active.tables).slots (spans_at running.active.begin table.spans))) (get_or-eq_default versions no_table high) among
 
 -- the table of a conflict is there, and its version is one of those that were made
-pub late_bounds : (engine : Engine) (running : Running) (conflict : Conflict) (above : ℕ) → ((place : ℕ) → AreBelow above (spans_of engine.versions place))
-    → IsFirstConflict (length engine.versions) (lates_of running.active engine.versions) (Some conflict)
-    → (conflict.place < length engine.versions) × ((1 ≤ conflict.late.version) × (conflict.late.version < above))
-late_bounds engine running conflict above below first =
+pub late_bounds : (versions : List Versions) (running : Running) (conflict : Conflict) (above : ℕ) → ((place : ℕ) → AreBelow above (spans_of versions place))
+    → IsFirstConflict (length versions) (lates_of running.active versions) (Some conflict)
+    → (conflict.place < length versions) × ((1 ≤ conflict.late.version) × (conflict.late.version < above))
+late_bounds versions running conflict above below first =
     let within =
-    lates-within running.active.begin above (writes_at conflict.place running.active.tables).slots (spans_at running.active.begin (spans_of engine.versions conflict.place)) conflict.late
-    (ends-within running.active.begin above (spans_of engine.versions conflict.place) (below conflict.place)) first.1.0 in (
-      elim (cases_lt conflict.place (length engine.versions)) [
+    lates-within running.active.begin above (writes_at conflict.place running.active.tables).slots (spans_at running.active.begin (spans_of versions conflict.place)) conflict.late
+    (ends-within running.active.begin above (spans_of versions conflict.place) (below conflict.place)) first.1.0 in (
+      elim (cases_lt conflict.place (length versions)) [
         | inl low ↦ low
-        | inr high ↦ absurd (no_lates running engine conflict.place conflict.late high first.1.0)
+        | inr high ↦ absurd (no_lates running versions conflict.place conflict.late high first.1.0)
       ],
       (omega (arith, within.0), within.1),
     )
-
--- ---- the transaction that made the version of a conflict
-
-pub committers_count : (entries : List Entry) → length (committers_in entries) ≡ versions_in entries
-committers_count [] = refl
-committers_count (Created line session table ∷ older) = committers_count older
-committers_count (Began line session t ∷ older) = committers_count older
-committers_count (Ran line session command t statement ∷ older) = committers_count older
-committers_count (Committed line session t ∷ older) = let before = committers_count older in omega (arith, length-append (committers_in older) (t ∷ []), before)
-committers_count (Ended line session end t ∷ older) = committers_count older
-
-pub committer_is : (entries : List Entry) (u : ℕ) → u < versions_in entries → get_or (committers_in entries) u 0 ≡ committer_of (suc u) entries
-committer_is [] u within = absurd (omega (arith, within))
-committer_is (Created line session table ∷ older) u within = committer_is older u within
-committer_is (Began line session t ∷ older) u within = committer_is older u within
-committer_is (Ran line session command t statement ∷ older) u within = committer_is older u within
-committer_is (Committed line session t ∷ older) u within =
-    let count = committers_count older in
-    elim (cases_lt u (versions_in older)) [
-      | inl low ↦
-          get_or-append (committers_in older) (t ∷ []) 0 u (omega (arith, count, low)) ∙ committer_is older u low
-          ∙ sym (ap (λ b. cond b t (committer_of (suc u) older)) (ne_eqb (suc (versions_in older)) (suc u) (λ is. omega (arith, low, is))))
-      | inr high ↦
-          get_or_at (committers_in older) t [] 0 u (omega (arith, count, high, within))
-          ∙ sym (ap (λ b. cond b t (committer_of (suc u) older)) (eq-eqb (suc (versions_in older)) (suc u) (omega (arith, high, within))))
-    ]
-committer_is (Ended line session end t ∷ older) u within = committer_is older u within

@@ -1,12 +1,14 @@
 -- Every line keeps what the engine's invariant says.
-use Rattle.std.proofs.Common.{◌≡◌, ◌≢◌, ℕ, zero, suc, pred, ◌+◌, ◌^◌, ◌<◌, ◌≤◌, Bool, true, false, cond, List, [], ◌∷◌, ◌++◌, length, Option, Some, None, get_or, refl, ap, sym, ◌∙◌, subst, arith, inl, inr, ◌⊎◌}
-use Rattle.std.specs.Prelude.{if◌then◌else◌, nat_le, slice_set, Result, Ok, Err}
+use Rattle.std.proofs.Common.{◌≡◌, ◌≢◌, ℕ, zero, suc, pred, ◌+◌, ◌-◌, ◌^◌, ◌<◌, ◌≤◌, Bool, true, false, cond, List, [], ◌∷◌, ◌++◌, length, Option, Some, None, get_or, refl, ap, sym, ◌∙◌, subst, arith, inl, inr, ◌⊎◌}
+use Rattle.std.specs.Prelude.{if◌then◌else◌, nat_le, slice_set, IsSome, Result, Ok, Err}
 use Rattle.std.specs.List.{AllByRecursion}
-use Rattle.std.proofs.lemmas.Bool.{cases_eq, leb-false, ne_eqb}
+use Rattle.std.proofs.lemmas.Bool.{cases_eq, false≢true, leb-false, ne_eqb}
 use Rattle.std.proofs.lemmas.List.{get_or-set_other, get_or-set_same, length-set, length_push}
 use Rattle.std.proofs.Math.ListN.{get_or-eq_default}
 use Rattle.gp_base.specs.declared.catalog.TheConstants.{MAX_TABLES}
 use Rattle.gp_base.specs.declared.refusal.Refusal.{Refusal}
+use Rattle.gp_base.specs.declared.limit.Limit.TheVariants as limit
+use Rattle.gp_base.specs.declared.refusal.Refusal.TheVariants.{E09, E10, E14}
 use Rattle.gp_base.specs.declared.table.Table.{Table}
 use Rattle.gp_base.specs.Annotated.{Database, plain}
 use Rattle.gp_base.specs.Identities.{transaction_of}
@@ -23,15 +25,20 @@ use Rattle.gp_txn.specs.Overlay.{AreOthers, HoldsOthers, PlainRow, Writes, no_ta
 use Rattle.gp_txn.proofs.PairLemmas.{all-weaker}
 use Rattle.gp_machine.specs.declared.reply.Reply.{Reply}
 use Rattle.gp_machine.specs.Actions.{Action, Create, Begin, Commit, Rollback, Run, action_of}
-use Rattle.gp_machine.specs.Event.{count_refusal, creation_refusal, refusal_of, target_of}
-use Rattle.gp_machine.specs.Replies.{is_refusal}
+use Rattle.gp_machine.specs.Entries.{End, Entry, RolledBack, Lost, Created, Began, Ran, Committed, Ended, transactions_in, versions_in}
+use Rattle.gp_machine.specs.Event.{count_refusal, creation_refusal, target_of}
 use Rattle.gp_check.specs.Checking.{checked}
-use Rattle.gp_engine.specs.declared.limit.TheConstants.{MAX_TRANSACTIONS, MAX_STATEMENTS}
+use Rattle.gp_log.specs.declared.limit.TheConstants.{MAX_TRANSACTIONS, MAX_STATEMENTS}
+use Rattle.gp_log.specs.LogFacts.{ends_in, tables_in}
+use Rattle.gp_log.specs.Logs.{log_view}
+use Rattle.gp_log.proofs.CountLemmas.{log_view-length}
+use Rattle.gp_log.proofs.EntryLemmas.{entries-counted, versions-ended}
 use Rattle.gp_engine.specs.declared.running.Running.{Running}
-use Rattle.gp_engine.specs.Engine.{Engine, IsEngine, IsSession, IsUnchanged, session_at, spans_of}
-use Rattle.gp_engine.specs.Limits.{limits}
-use Rattle.gp_engine.specs.Methods.{Accepts, Adds, Applies, Begins, Commits, CountsAt, Creates, Declines, DoesAt, Runs, Starts, counted, is_read, loses, overflows, publishes, with_session}
-use Rattle.gp_engine.proofs.PublishLemmas.{engine_committed, session_left}
+use Rattle.gp_engine.specs.Engine.{Engine, IsEngine, IsSession, IsSound, IsUnchanged, count_running, entries_of, session_at, spans_of, statements_of, tables_of, transactions_of}
+use Rattle.gp_log.specs.Limits.{limits}
+use Rattle.gp_engine.specs.Methods.{Begins, Clears, Commits, Creates, DoesAt, HasPlace, Keeps, Records, Refuses, RunsAs, RunsChecked, is_read, loses, meaning_of, overflows, publishes, refusal_at}
+use Rattle.gp_engine.proofs.PublishLemmas.{committed_sound, session_left}
+use Rattle.gp_engine.proofs.SessionLemmas.{count-cleared, count-replaced, count-taken}
 
 -- ---- sessions
 
@@ -53,39 +60,80 @@ session-put sessions place put within (suc other) running at =
 pub within-sessions : (engine : Engine) (place : ℕ) → IsEngine engine → place < 64 → place < length engine.sessions
 within-sessions engine place kept within = subst (λ n. place < n) (sym kept.places) within
 
--- a transaction stays as it was, where the row versions are the same, and there are no fewer tables and no fewer transactions
-pub session-stays : (old new : Engine) (running : Running) → ((place : ℕ) → spans_of new.versions place ≡ spans_of old.versions place) → length old.versions ≤ length new.versions
-    → length new.committers ≡ length old.committers → old.transactions ≤ new.transactions → IsSession old running → IsSession new running
-session-stays old new running spans tables committers transactions was = record {
+-- ---- what the log has room for
+
+-- the log has as many entries as there are tables, begins, statements and ends
+pub few-entries : (engine : Engine) → IsEngine engine → length engine.log.entries < 2 ^ 32 - 1
+few-entries engine kept =
+    let count = entries-counted (entries_of engine) in
+    let long = log_view-length engine.log.entries in
+    let tables = kept.few in
+    let begun = kept.transactions in
+    let ran = kept.statements in
+    let unended = kept.unended in
+    omega (arith, count, long, tables, begun, ran, unended)
+
+pub few-versions : (engine : Engine) → IsEngine engine → versions_in (entries_of engine) ≤ MAX_TRANSACTIONS
+few-versions engine kept =
+    let ended = versions-ended (entries_of engine) in
+    let begun = kept.transactions in
+    let unended = kept.unended in
+    omega (arith, ended, begun, unended)
+
+-- the transaction of a session can end
+pub has-place : (engine : Engine) (place : ℕ) (running : Running) → IsEngine engine → get_or engine.sessions place None ≡ Some running → HasPlace engine.log
+has-place engine place running kept at =
+    let unended = kept.unended in
+    record { few = few-entries engine kept; unended = omega (arith, unended, count-cleared engine.sessions place running at) }
+
+pub has-place-some : (engine : Engine) (place : ℕ) → IsEngine engine → IsSome (get_or engine.sessions place None) → HasPlace engine.log
+has-place-some engine place kept there = by (get_or engine.sessions place None) refl there
+  where
+    by : (found : Option Running) → get_or engine.sessions place None ≡ found → IsSome found → HasPlace engine.log
+    by None at there = absurd (false≢true there)
+    by (Some running) at there = has-place engine place running kept at
+
+-- ---- the same facts of other parts
+
+-- an engine with these parts
+pub keeps-sound : (engine : Engine) (entries : List Entry) (versions : List Versions) (sessions : List (Option Running)) → Keeps engine entries versions sessions → IsSound entries versions sessions
+    → IsEngine engine
+keeps-sound engine entries versions sessions keeps sound =
+    subst (λ (x : List Entry × (List Versions × List (Option Running))). IsSound x.0 x.1.0 x.1.1) (λ i. (sym keeps.log_is i, (sym keeps.versions_are i, sym keeps.sessions_are i))) sound
+
+-- a transaction stays as it was, where the row versions are the same, and there are no fewer tables, versions and transactions
+pub session-stays : (entries later : List Entry) (versions others : List Versions) (running : Running) → ((place : ℕ) → spans_of others place ≡ spans_of versions place)
+    → length versions ≤ length others → versions_in entries ≤ versions_in later → transactions_in entries ≤ transactions_in later → IsSession entries versions running → IsSession later others running
+session-stays entries later versions others running spans tables committed begun was = record {
   first = was.first;
-  began = omega (arith, was.began, transactions);
-  begin = omega (arith, was.begin, committers);
+  began = omega (arith, was.began, begun);
+  begin = omega (arith, was.begin, committed);
   last = was.last;
   others = λ place. subst (AreOthers running.active.t) (sym (spans place)) (was.others place);
   beyond = λ place high. subst (λ held. view_rows (writes_at place running.active.tables) (rows_at plain running.active.begin held) ≡ []) (sym (spans place)) (was.beyond place (omega (arith, high, tables)));
 }
 
--- ---- the same row versions
-
 -- other row versions of the same spans
-respanned : (old : Engine) (versions : List Versions) → IsEngine old → ((place : ℕ) → spans_of versions place ≡ spans_of old.versions place) → length versions ≡ length old.versions
-    → IsEngine (record old { versions = versions })
-respanned old versions kept spans same = record {
+respanned : (entries : List Entry) (versions others : List Versions) (sessions : List (Option Running)) → IsSound entries versions sessions → ((place : ℕ) → spans_of others place ≡ spans_of versions place)
+    → length others ≡ length versions → IsSound entries others sessions
+respanned entries versions others sessions kept spans same = record {
   valid = kept.valid;
   tables = same ∙ kept.tables;
   few = kept.few;
-  numbers = kept.numbers;
   places = kept.places;
   transactions = kept.transactions;
   statements = kept.statements;
-  below = λ place. subst (AreBelow (suc (length old.committers))) (sym (spans place)) (kept.below place);
-  makers = λ place. subst (AllByRecursion (λ (span : Span). transaction_of span.id ≤ old.transactions)) (sym (spans place)) (kept.makers place);
-  sessions = λ session running at. session-stays old (record old { versions = versions }) running spans (omega (arith, same)) refl (omega arith) (kept.sessions session running at);
+  unended = kept.unended;
+  below = λ place. subst (AreBelow (suc (versions_in entries))) (sym (spans place)) (kept.below place);
+  makers = λ place. subst (AllByRecursion (λ (span : Span). transaction_of span.id ≤ transactions_in entries)) (sym (spans place)) (kept.makers place);
+  each = λ session running at. session-stays entries entries versions others running spans (omega (arith, same)) (omega arith) (omega arith) (kept.each session running at);
   apart = kept.apart;
 }
 
 pub unchanged_engine : (old new : Engine) → IsEngine old → IsUnchanged old new → IsEngine new
-unchanged_engine old new kept same = subst IsEngine (sym same.is) (respanned old new.versions kept same.spans same.tables)
+unchanged_engine old new kept same =
+    keeps-sound new (entries_of old) new.versions old.sessions (record { log_is = ap log_view same.entries; versions_are = refl; sessions_are = same.sessions })
+    (respanned (entries_of old) old.versions new.versions old.sessions kept same.spans same.tables)
 
 -- ---- CREATE TABLE
 
@@ -101,79 +149,63 @@ has-room : (full : Bool) (refusal : Refusal) (rest : Option Refusal) → (if ful
 has-room true refusal rest none = absurd cc
 has-room false refusal rest none = refl
 
-pub created_engine : (old new : Engine) (table : Table) (place : ℕ) → IsEngine old → is_valid (y.create table) ≡ true → length old.tables < MAX_TABLES → Adds old new table place → IsEngine new
-created_engine old new table place kept valid few adds =
-    let spans = spans-added old.versions adds.versions adds.empty in
-    let created : Engine = record old { tables = old.tables ++ table ∷ []; versions = old.versions ++ adds.versions ∷ [] } in
-    let versions-pushed = length_push old.versions adds.versions in
-    let tables-pushed = length_push old.tables table in
-    subst IsEngine (sym adds.is) (record {
-      valid = tables-added old.tables table kept.valid valid;
+created_sound : (entries : List Entry) (versions : List Versions) (sessions : List (Option Running)) (line session : ℕ) (table : Table) (added : Versions) → IsSound entries versions sessions
+    → is_valid (y.create table) ≡ true → length (tables_in entries) < MAX_TABLES → added.spans ≡ [] → IsSound (Created line session table ∷ entries) (versions ++ added ∷ []) sessions
+created_sound entries versions sessions line session table added kept valid few empty =
+    let spans = spans-added versions added empty in
+    let versions-pushed = length_push versions added in
+    let tables-pushed = length_push (tables_in entries) table in
+    record {
+      valid = tables-added (tables_in entries) table kept.valid valid;
       tables = omega (arith, versions-pushed, tables-pushed, kept.tables);
       few = omega (arith, tables-pushed, few);
-      numbers = kept.numbers;
       places = kept.places;
       transactions = kept.transactions;
       statements = kept.statements;
-      below = λ place. subst (AreBelow (suc (length old.committers))) (sym (spans place)) (kept.below place);
-      makers = λ place. subst (AllByRecursion (λ (span : Span). transaction_of span.id ≤ old.transactions)) (sym (spans place)) (kept.makers place);
-      sessions = λ session running at. session-stays old created running spans (omega (arith, versions-pushed)) refl (omega arith) (kept.sessions session running at);
+      unended = kept.unended;
+      below = λ place. subst (AreBelow (suc (versions_in entries))) (sym (spans place)) (kept.below place);
+      makers = λ place. subst (AllByRecursion (λ (span : Span). transaction_of span.id ≤ transactions_in entries)) (sym (spans place)) (kept.makers place);
+      each = λ other running at.
+          session-stays entries (Created line session table ∷ entries) versions (versions ++ added ∷ []) running spans (omega (arith, versions-pushed)) (omega arith) (omega arith) (kept.each other running at);
       apart = kept.apart;
-    })
+    }
 
 -- ---- another transaction of a session
 
-module _ (old : Engine) (place : ℕ) (after : Running) (transactions statements : ℕ) (kept : IsEngine old) (within : place < 64) where
-  -- the engine with it, and with these counts
-  abbrev replaced : Engine
-  replaced = record old { sessions = slice_set old.sessions place (Some after); transactions = transactions; statements = statements }
-
+module _ (entries later : List Entry) (versions : List Versions) (sessions : List (Option Running)) (place : ℕ) (after : Running) (kept : IsSound entries versions sessions)
+    (within : place < length sessions) where
   -- no other session has a transaction of its number
   abbrev IsAlone : Type 0
-  IsAlone = (session : ℕ) (other : Running) → session ≢ suc place → session_at session old.sessions ≡ Some other → other.active.t ≢ after.active.t
+  IsAlone = (session : ℕ) (other : Running) → session ≢ suc place → session_at session sessions ≡ Some other → other.active.t ≢ after.active.t
 
   -- whose transaction a session has
-  found : (session : ℕ) (running : Running) → session_at session replaced.sessions ≡ Some running
-      → ((session ≡ suc place) × (Some after ≡ Some running)) ⊎ ((session ≢ suc place) × (session_at session old.sessions ≡ Some running))
-  found session running at = session-put old.sessions place (Some after) (within-sessions old place kept within) session running at
+  found : (session : ℕ) (running : Running) → session_at session (slice_set sessions place (Some after)) ≡ Some running
+      → ((session ≡ suc place) × (Some after ≡ Some running)) ⊎ ((session ≢ suc place) × (session_at session sessions ≡ Some running))
+  found session running at = session-put sessions place (Some after) within session running at
 
-  module _ (more : old.transactions ≤ transactions) (few : transactions ≤ MAX_TRANSACTIONS) (counted : statements ≤ MAX_STATEMENTS) (mine : IsSession replaced after) (alone : IsAlone) where
-    sessions-stay : (session : ℕ) (running : Running) → session_at session replaced.sessions ≡ Some running → IsSession replaced running
-    sessions-stay session running at =
-        elim (found session running at) [
-          | inl here ↦ subst (IsSession replaced) (some-is after running here.1) mine
-          | inr there ↦ session-stays old replaced running (λ place. refl) (omega arith) refl more (kept.sessions session running there.1)
-        ]
+  sessions-stay : versions_in entries ≤ versions_in later → transactions_in entries ≤ transactions_in later → IsSession later versions after
+      → (session : ℕ) (running : Running) → session_at session (slice_set sessions place (Some after)) ≡ Some running → IsSession later versions running
+  sessions-stay committed begun mine session running at =
+      elim (found session running at) [
+        | inl here ↦ subst (IsSession later versions) (some-is after running here.1) mine
+        | inr there ↦ session-stays entries later versions versions running (λ place. refl) (omega arith) committed begun (kept.each session running there.1)
+      ]
 
-    stay-apart : (session other : ℕ) (a b : Running) → session_at session replaced.sessions ≡ Some a → session_at other replaced.sessions ≡ Some b → a.active.t ≡ b.active.t → session ≡ other
-    stay-apart session other a b first second equal =
-        elim (found session a first) [
-          | inl here ↦
-              elim (found other b second) [
-                | inl both ↦ here.0 ∙ sym both.0
-                | inr there ↦ absurd (alone other b there.0 there.1 (sym equal ∙ ap (λ (running : Running). running.active.t) (sym (some-is after a here.1))))
-              ]
-          | inr there ↦
-              elim (found other b second) [
-                | inl here ↦ absurd (alone session a there.0 there.1 (equal ∙ ap (λ (running : Running). running.active.t) (sym (some-is after b here.1))))
-                | inr both ↦ kept.apart session other a b there.1 both.1 equal
-              ]
-        ]
-
-    replaced_engine : IsEngine replaced
-    replaced_engine = record {
-      valid = kept.valid;
-      tables = kept.tables;
-      few = kept.few;
-      numbers = kept.numbers;
-      places = length-set old.sessions place (Some after) ∙ kept.places;
-      transactions = few;
-      statements = counted;
-      below = kept.below;
-      makers = λ place. all-weaker (λ (span : Span). transaction_of span.id ≤ old.transactions) (λ (span : Span). transaction_of span.id ≤ transactions) (λ span is. omega (arith, is, more)) (spans_of old.versions place) (kept.makers place);
-      sessions = sessions-stay;
-      apart = stay-apart;
-    }
+  stay-apart : IsAlone → (session other : ℕ) (a b : Running) → session_at session (slice_set sessions place (Some after)) ≡ Some a → session_at other (slice_set sessions place (Some after)) ≡ Some b
+      → a.active.t ≡ b.active.t → session ≡ other
+  stay-apart alone session other a b first second equal =
+      elim (found session a first) [
+        | inl here ↦
+            elim (found other b second) [
+              | inl both ↦ here.0 ∙ sym both.0
+              | inr there ↦ absurd (alone other b there.0 there.1 (sym equal ∙ ap (λ (running : Running). running.active.t) (sym (some-is after a here.1))))
+            ]
+        | inr there ↦
+            elim (found other b second) [
+              | inl here ↦ absurd (alone session a there.0 there.1 (equal ∙ ap (λ (running : Running). running.active.t) (sym (some-is after b here.1))))
+              | inr both ↦ kept.apart session other a b there.1 both.1 equal
+            ]
+      ]
 
 -- ---- BEGIN
 
@@ -181,41 +213,55 @@ module _ (old : Engine) (place : ℕ) (after : Running) (transactions statements
 nothing-written : (active : Writes) (versions : List Versions) (place : ℕ) → writes_at place active.tables ≡ no_writes → length versions ≤ place → view_of active versions place ≡ []
 nothing-written active versions place none high = (λ i. view_rows (none i) (rows_at plain active.begin (get_or-eq_default versions no_table high i).spans))
 
-pub began_engine : (old new : Engine) (answer : Reply) (place : ℕ) → IsEngine old → place < 64 → old.transactions < MAX_TRANSACTIONS → Starts old new answer place → IsEngine new
-began_engine old new answer place kept within few starts =
-    let after : Running = record { active = starts.active; statements = 0 } in
-    let t = starts.t in
-    let mine : IsSession (replaced old place after (suc old.transactions) old.statements kept within) after = record {
+began_sound : (entries : List Entry) (versions : List Versions) (sessions : List (Option Running)) (line place : ℕ) (active : Writes) → IsSound entries versions sessions → place < length sessions
+    → get_or sessions place None ≡ None → transactions_in entries < MAX_TRANSACTIONS → active.t ≡ suc (transactions_in entries) → active.begin ≡ versions_in entries → active.last ≡ 0
+    → ((table : ℕ) → writes_at table active.tables ≡ no_writes)
+    → IsSound (Began line (suc place) (suc (transactions_in entries)) ∷ entries) versions (slice_set sessions place (Some (record { active = active; statements = 0 })))
+began_sound entries versions sessions line place active kept within at few t begin last tables =
+    let after : Running = record { active = active; statements = 0 } in
+    let later = Began line (suc place) (suc (transactions_in entries)) ∷ entries in
+    let mine : IsSession later versions after = record {
       first = omega (arith, t);
       began = omega (arith, t);
-      begin = omega (arith, starts.begin);
-      last = omega (arith, starts.last);
-      others = λ table. all-weaker (λ (span : Span). transaction_of span.id ≤ old.transactions) (λ (span : Span). transaction_of span.id ≢ starts.active.t) (λ span is same. omega (arith, is, same, t)) (spans_of old.versions table) (kept.makers table);
-      beyond = λ table high. nothing-written starts.active old.versions table (starts.tables table) high;
+      begin = omega (arith, begin);
+      last = omega (arith, last);
+      others = λ table. all-weaker (λ (span : Span). transaction_of span.id ≤ transactions_in entries) (λ (span : Span). transaction_of span.id ≢ active.t) (λ span is same. omega (arith, is, same, t)) (spans_of versions table) (kept.makers table);
+      beyond = λ table high. nothing-written active versions table (tables table) high;
     } in
-    subst IsEngine (sym starts.is)
-    (replaced_engine old place after (suc old.transactions) old.statements kept within (omega arith) (omega (arith, few)) kept.statements mine
-    (λ session other elsewhere at same. omega (arith, (kept.sessions session other at).began, same, t)))
-
--- ---- the end of a transaction
-
-pub ended_engine : (old new : Engine) (place : ℕ) → IsEngine old → place < 64 → new ≡ with_session place None old → IsEngine new
-ended_engine old new place kept within is =
-    let left = session_left old.sessions place (within-sessions old place kept within) in
-    let ended : Engine = with_session place None old in
-    subst IsEngine (sym is) (record {
+    record {
       valid = kept.valid;
       tables = kept.tables;
       few = kept.few;
-      numbers = kept.numbers;
-      places = length-set old.sessions place None ∙ kept.places;
+      places = length-set sessions place (Some after) ∙ kept.places;
+      transactions = omega (arith, few);
+      statements = kept.statements;
+      unended = omega (arith, kept.unended, count-taken sessions place after within at);
+      below = kept.below;
+      makers = λ table. all-weaker (λ (span : Span). transaction_of span.id ≤ transactions_in entries) (λ (span : Span). transaction_of span.id ≤ suc (transactions_in entries)) (λ span is. omega (arith, is)) (spans_of versions table) (kept.makers table);
+      each = sessions-stay entries later versions sessions place after kept within (omega arith) (omega arith) mine;
+      apart = stay-apart entries later versions sessions place after kept within (λ session other elsewhere there same. omega (arith, (kept.each session other there).began, same, t));
+    }
+
+-- ---- the end of a transaction
+
+ended_sound : (entries : List Entry) (versions : List Versions) (sessions : List (Option Running)) (line session place : ℕ) (end : End) (t : ℕ) (running : Running) → IsSound entries versions sessions
+    → place < length sessions → get_or sessions place None ≡ Some running → IsSound (Ended line session end t ∷ entries) versions (slice_set sessions place None)
+ended_sound entries versions sessions line session place end t running kept within at =
+    let left = session_left sessions place within in
+    let later = Ended line session end t ∷ entries in
+    record {
+      valid = kept.valid;
+      tables = kept.tables;
+      few = kept.few;
+      places = length-set sessions place None ∙ kept.places;
       transactions = kept.transactions;
       statements = kept.statements;
+      unended = omega (arith, kept.unended, count-cleared sessions place running at);
       below = kept.below;
       makers = kept.makers;
-      sessions = λ session running at. session-stays old ended running (λ place. refl) (omega arith) refl (omega arith) (kept.sessions session running (left session running at).1);
-      apart = λ session other a b first second. kept.apart session other a b (left session a first).1 (left other b second).1;
-    })
+      each = λ other b found. session-stays entries later versions versions b (λ place. refl) (omega arith) (omega arith) (omega arith) (kept.each other b (left other b found).1);
+      apart = λ one other a b first second. kept.apart one other a b (left one a first).1 (left other b second).1;
+    }
 
 -- ---- a statement
 
@@ -236,79 +282,49 @@ step-beyond t k count (delete table c) db (inr low) place high = rows-elsewhere 
 step-beyond t k count (read select) db there place high = refl
 
 -- the counts are tested one after the other
-all-below : (steps full : Bool) (first second : Refusal) → (if steps then Some first else if full then Some second else None) ≡ None → full ≡ false
+pub all-below : (steps full : Bool) (first second : Refusal) → (if steps then Some first else if full then Some second else None) ≡ None → full ≡ false
 all-below true full first second none = absurd cc
 all-below false true first second none = absurd cc
 all-below false false first second none = refl
 
-counts-one : (answer : Reply) → counted answer ≤ 1
-counts-one answer = elim (is_refusal answer) as (λ b. (if b then 0 else 1) ≤ 1) [ true ↦ omega arith | false ↦ omega arith ]
-
--- the transaction keeps its number and the invariant, and the statement is counted within the limit
-record HasRun (old : Engine) (running after : Running) (answer : Reply) : Type 0 where
-  t : after.active.t ≡ running.active.t
-  session : IsSession old after
-  few : old.statements + counted answer ≤ MAX_STATEMENTS
-
-module _ (old : Engine) (running after : Running) (answer : Reply) (kept : IsEngine old) (was : IsSession old running) where
-  declined : (refusal : Refusal) → Declines old.tables old.versions running after answer refusal → HasRun old running after answer
-  declined refusal declines = record {
-    t = ap (λ (r : Running). r.active.t) declines.0;
-    session = subst (IsSession old) (sym declines.0) was;
-    few = subst (λ n. old.statements + n ≤ MAX_STATEMENTS) (sym (ap counted declines.1)) (omega (arith, kept.statements));
-  }
-
-  accepted : (statement : Statement) → count_refusal limits running.statements old.statements ≡ None → Accepts old.tables old.versions running after answer statement → HasRun old running after answer
-  accepted statement room accepts =
-      let below : old.statements < MAX_STATEMENTS = leb-false MAX_STATEMENTS old.statements (all-below (nat_le limits.steps running.statements) (nat_le MAX_STATEMENTS old.statements) _ _ room) in
-      record {
-        t = accepts.t;
-        session = record {
-          first = omega (arith, was.first, accepts.t);
-          began = omega (arith, was.began, accepts.t);
-          begin = omega (arith, was.begin, accepts.begin);
-          last = omega (arith, accepts.last, accepts.statements);
-          others = subst (λ t. HoldsOthers t old.versions) (sym accepts.t) was.others;
-          beyond = λ place high.
-              accepts.view place
-              ∙ step-beyond running.active.t (suc running.statements) (length old.versions) statement (view_of running.active old.versions) accepts.there place high
-              ∙ was.beyond place high;
-        };
-        few = omega (arith, below, counts-one answer);
-      }
-
-  applied : (statement : Statement) (refusal : Option Refusal) → count_refusal limits running.statements old.statements ≡ None
-      → Applies old.tables old.versions running after answer statement refusal → HasRun old running after answer
-  applied statement (Some refusal) room applies = declined refusal applies
-  applied statement None room applies = accepted statement room applies
-
-  has-run : (refusal : Option Refusal) (result : Result Statement Refusal) → count_refusal limits running.statements old.statements ≡ refusal
-      → Runs old.tables old.versions running after answer refusal result → HasRun old running after answer
-  has-run (Some refusal) result room runs = declined refusal runs
-  has-run None (Err refusal) room runs = declined refusal runs
-  has-run None (Ok statement) room runs =
-      applied statement (refusal_of plain limits old.tables running.active.t (suc running.statements) statement (view_of running.active old.versions)) room runs
-
-pub ran_engine : (old new : Engine) (answer : Reply) (place : ℕ) (running : Running) (command : Command) → IsEngine old → place < 64 → session_at (suc place) old.sessions ≡ Some running
-    → CountsAt old new answer place running command → IsEngine new
-ran_engine old new answer place running command kept within at counts =
-    let after = counts.after in
-    let ran = has-run old running after answer kept (kept.sessions (suc place) running at) (count_refusal limits running.statements old.statements) (checked old.tables command) refl counts.runs in
-    let all = old.statements + counted answer in
-    subst IsEngine (sym counts.is)
-    (replaced_engine old place after old.transactions all kept within (omega arith) kept.transactions ran.few
-    (session-stays old (replaced old place after old.transactions all kept within) after (λ place. refl) (omega arith) refl (omega arith) ran.session)
-    (λ session other elsewhere found same. elsewhere (kept.apart session (suc place) other running found at (same ∙ ran.t))))
-
--- ---- COMMIT
-
--- a conflict ends the transaction, and too many row versions leave it running
-pub commits_engine : (old new : Engine) (answer : Reply) (place : ℕ) (running : Running) → IsEngine old → place < 64 → session_at (suc place) old.sessions ≡ Some running
-    → Commits old new answer place running → IsEngine new
-commits_engine old new answer place running kept within at (loses conflict middle first unchanged is says) = ended_engine middle new place (unchanged_engine old middle kept unchanged) within is
-commits_engine old new answer place running kept within at (overflows first many unchanged says) = unchanged_engine old new kept unchanged
-commits_engine old new answer place running kept within at (publishes own same room commits is says) =
-    engine_committed old new place running kept at own (within-sessions old place kept within) room same commits is
+ran_sound : (old new : Engine) (answer : Reply) (line place : ℕ) (running : Running) (command : Command) (statement : Statement) → IsEngine old → place < 64
+    → get_or old.sessions place None ≡ Some running → statements_of old < MAX_STATEMENTS → Records old new answer line place running command statement → IsEngine new
+ran_sound old new answer line place running command statement kept within at below records =
+    let after = records.after in
+    let accepts = records.accepts in
+    let entries = entries_of old in
+    let later = Ran line (suc place) command running.active.t statement ∷ entries in
+    let was = kept.each (suc place) running at in
+    let inside = within-sessions old place kept within in
+    let mine : IsSession later old.versions after = record {
+      first = omega (arith, was.first, accepts.t);
+      began = omega (arith, was.began, accepts.t);
+      begin = omega (arith, was.begin, accepts.begin);
+      last = omega (arith, accepts.last, accepts.statements);
+      others = subst (λ t. HoldsOthers t old.versions) (sym accepts.t) was.others;
+      beyond = λ table high.
+          accepts.view table
+          ∙ step-beyond running.active.t (suc running.statements) (length old.versions) statement (view_of running.active old.versions) accepts.there table high
+          ∙ was.beyond table high;
+    } in
+    keeps-sound new later old.versions (slice_set old.sessions place (Some after)) records.keeps (record {
+      valid = kept.valid;
+      tables = kept.tables;
+      few = kept.few;
+      places = length-set old.sessions place (Some after) ∙ kept.places;
+      transactions = kept.transactions;
+      statements = omega (arith, below);
+      unended = count-same old.sessions place running after at (ends_in entries) (transactions_in entries) kept.unended;
+      below = kept.below;
+      makers = kept.makers;
+      each = sessions-stay entries later old.versions old.sessions place after kept inside (omega arith) (omega arith) mine;
+      apart = stay-apart entries later old.versions old.sessions place after kept inside
+          (λ session other elsewhere found same. elsewhere (kept.apart session (suc place) other running found at (same ∙ accepts.t)));
+    })
+  where
+    count-same : (sessions : List (Option Running)) (place : ℕ) (running after : Running) → get_or sessions place None ≡ Some running → (ends begun : ℕ) → count_running sessions + ends ≡ begun
+        → count_running (slice_set sessions place (Some after)) + ends ≡ begun
+    count-same sessions place running after at ends begun is = omega (arith, is, count-replaced sessions place running after at)
 
 -- ---- a line
 
@@ -320,36 +336,73 @@ created-valid (y.create own) table valid is = subst (λ t. is_valid (y.create t)
     create-is a b is = cc
 created-valid command table valid is = absurd cc
 
-module _ (old new : Engine) (answer : Reply) (place : ℕ) (kept : IsEngine old) (within : place < 64) where
+module _ (old new : Engine) (answer : Reply) (line place : ℕ) (kept : IsEngine old) (within : place < 64) where
   -- a refused line changes nothing
-  refused-engine : new ≡ old → IsEngine new
-  refused-engine is = subst IsEngine (sym is) kept
+  refused-engine : (refusal : Refusal) → Refuses old new answer refusal → IsEngine new
+  refused-engine refusal r = unchanged_engine old new kept r.0
 
-  creates-engine : (table : Table) (refusal : Option Refusal) → is_valid (y.create table) ≡ true → creation_refusal limits old.tables table ≡ refusal → Creates old new answer table refusal → IsEngine new
-  creates-engine table (Some refusal) valid is creates = refused-engine creates.0
-  creates-engine table None valid is creates =
-      created_engine old new table (length old.tables) kept valid
-      (leb-false MAX_TABLES (length old.tables) (has-room (nat_le MAX_TABLES (length old.tables)) _ (limits.created old.tables table) is)) creates.0
+  creates-engine : (session : ℕ) (table : Table) (refusal : Option Refusal) → is_valid (y.create table) ≡ true → creation_refusal limits (tables_of old) table ≡ refusal
+      → Creates old new answer line session table refusal → IsEngine new
+  creates-engine session table (Some refusal) valid is creates = refused-engine refusal creates
+  creates-engine session table None valid is creates =
+      keeps-sound new (Created line session table ∷ entries_of old) (old.versions ++ creates.added ∷ []) old.sessions creates.keeps
+      (created_sound (entries_of old) old.versions old.sessions line session table creates.added kept valid
+      (leb-false MAX_TABLES (length (tables_of old)) (has-room (nat_le MAX_TABLES (length (tables_of old))) _ (limits.created (tables_of old) table) is)) creates.empty)
 
-  begins-engine : (full : Bool) → nat_le MAX_TRANSACTIONS old.transactions ≡ full → Begins old new answer place full → IsEngine new
-  begins-engine true is begins = refused-engine begins.0
-  begins-engine false is begins = began_engine old new answer place kept within (leb-false MAX_TRANSACTIONS old.transactions is) begins
+  begins-engine : (full : Bool) → get_or old.sessions place None ≡ None → nat_le MAX_TRANSACTIONS (transactions_of old) ≡ full → Begins old new answer line place full → IsEngine new
+  begins-engine true at is begins = refused-engine (E14 limit.Transactions) begins
+  begins-engine false at is begins =
+      keeps-sound new (Began line (suc place) (suc (transactions_of old)) ∷ entries_of old) old.versions (slice_set old.sessions place (Some (record { active = begins.active; statements = 0 }))) begins.keeps
+      (began_sound (entries_of old) old.versions old.sessions line place begins.active kept (within-sessions old place kept within) at
+      (leb-false MAX_TRANSACTIONS (transactions_of old) is) begins.t begins.begin begins.last begins.tables)
+
+  module _ (running : Running) (at : get_or old.sessions place None ≡ Some running) where
+    ends-engine : (end : End) (t : ℕ) → Clears old new place (Ended line (suc place) end t) → IsEngine new
+    ends-engine end t clears =
+        keeps-sound new (Ended line (suc place) end t ∷ entries_of old) old.versions (slice_set old.sessions place None) clears
+        (ended_sound (entries_of old) old.versions old.sessions line (suc place) place end t running kept (within-sessions old place kept within) at)
+
+    -- a conflict ends the transaction, and too many row versions leave it running
+    commits-engine : Commits old new answer line place running → IsEngine new
+    commits-engine (loses conflict middle first unchanged clears says) =
+        let still = unchanged_engine old middle kept unchanged in
+        keeps-sound new (Ended line (suc place) Lost running.active.t ∷ entries_of middle) middle.versions (slice_set middle.sessions place None) clears
+        (ended_sound (entries_of middle) middle.versions middle.sessions line (suc place) place Lost running.active.t running still (within-sessions middle place still within)
+        (subst (λ sessions. get_or sessions place None ≡ Some running) (sym unchanged.sessions) at))
+    commits-engine (overflows first many unchanged says) = unchanged_engine old new kept unchanged
+    commits-engine (publishes own same commits keeps says) =
+        keeps-sound new (Committed line (suc place) running.active.t ∷ entries_of old) new.versions (slice_set old.sessions place None) keeps
+        (committed_sound (entries_of old) old.versions old.sessions line place running new.versions kept at own (within-sessions old place kept within) same commits)
+
+    checked-engine : (command : Command) (statement : Statement) (refusal : Option Refusal) → statements_of old < MAX_STATEMENTS
+        → RunsChecked old new answer line place running command statement refusal → IsEngine new
+    checked-engine command statement (Some refusal) below runs = refused-engine refusal runs
+    checked-engine command statement None below runs = ran_sound old new answer line place running command statement kept within at below runs
+
+    counted-engine : (command : Command) (refusal : Option Refusal) (checked : Result Statement Refusal) → count_refusal limits running.statements (statements_of old) ≡ refusal
+        → RunsAs old new answer line place running command (meaning_of refusal checked) → IsEngine new
+    counted-engine command (Some refusal) checked is runs = refused-engine refusal runs
+    counted-engine command None (Err refusal) is runs = refused-engine refusal runs
+    counted-engine command None (Ok statement) is runs =
+        checked-engine command statement (refusal_at old new answer line place running command statement)
+        (leb-false MAX_STATEMENTS (statements_of old) (all-below (nat_le limits.steps running.statements) (nat_le MAX_STATEMENTS (statements_of old)) _ _ is)) runs
 
   action-engine : (session : Option Running) (action : Action) → get_or old.sessions place None ≡ session → ((table : Table) → action ≡ Create table → is_valid (y.create table) ≡ true)
-      → DoesAt old new answer place session action → IsEngine new
-  action-engine None (Create table) at valid does = creates-engine table (creation_refusal limits old.tables table) (valid table refl) refl does
-  action-engine None Begin at valid does = begins-engine (nat_le MAX_TRANSACTIONS old.transactions) refl does
-  action-engine None Commit at valid does = refused-engine does.0
-  action-engine None Rollback at valid does = refused-engine does.0
-  action-engine None (Run command) at valid does = refused-engine does.0
-  action-engine (Some running) (Create table) at valid does = refused-engine does.0
-  action-engine (Some running) Begin at valid does = refused-engine does.0
-  action-engine (Some running) Commit at valid does = commits_engine old new answer place running kept within at does
-  action-engine (Some running) Rollback at valid does = ended_engine old new place kept within does.0
-  action-engine (Some running) (Run command) at valid does = ran_engine old new answer place running command kept within at does
+      → DoesAt old new answer line place session action → IsEngine new
+  action-engine None (Create table) at valid does = creates-engine (suc place) table (creation_refusal limits (tables_of old) table) (valid table refl) refl does
+  action-engine None Begin at valid does = begins-engine (nat_le MAX_TRANSACTIONS (transactions_of old)) at refl does
+  action-engine None Commit at valid does = refused-engine E10 does
+  action-engine None Rollback at valid does = refused-engine E10 does
+  action-engine None (Run command) at valid does = refused-engine E10 does
+  action-engine (Some running) (Create table) at valid does = refused-engine E09 does
+  action-engine (Some running) Begin at valid does = refused-engine E09 does
+  action-engine (Some running) Commit at valid does = commits-engine running at does
+  action-engine (Some running) Rollback at valid does = ends-engine running at RolledBack running.active.t does.0
+  action-engine (Some running) (Run command) at valid does =
+      counted-engine running at command (count_refusal limits running.statements (statements_of old)) (checked (tables_of old) command) refl does
 
 -- the invariant holds after every line
-pub does_engine : (old new : Engine) (answer : Reply) (place : ℕ) (command : Command) → IsEngine old → place < 64 → is_valid command ≡ true
-    → DoesAt old new answer place (get_or old.sessions place None) (action_of command) → IsEngine new
-does_engine old new answer place command kept within valid does =
-    action-engine old new answer place kept within (get_or old.sessions place None) (action_of command) refl (λ table is. created-valid command table valid is) does
+pub does_engine : (old new : Engine) (answer : Reply) (line place : ℕ) (command : Command) → IsEngine old → place < 64 → is_valid command ≡ true
+    → DoesAt old new answer line place (get_or old.sessions place None) (action_of command) → IsEngine new
+does_engine old new answer line place command kept within valid does =
+    action-engine old new answer line place kept within (get_or old.sessions place None) (action_of command) refl (λ table is. created-valid command table valid is) does

@@ -7,4 +7,5 @@ pub mod LineLemmas
 pub mod PublishLemmas
 pub mod SessionLemmas
 pub mod StartLemmas
+pub mod StatementLemmas
 pub mod StopLemmas

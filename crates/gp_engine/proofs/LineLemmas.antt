@@ -1,45 +1,50 @@
 -- A line that is not recorded changes nothing.
-use Rattle.std.proofs.Common.{◌≡◌, ℕ, zero, suc, ◌-◌, ◌≤◌, ◌<◌, Bool, true, false, Option, Some, None, Result, Ok, Err, length, get_or, refl, sym, ap, ◌∙◌, subst, arith}
-use Rattle.std.specs.Prelude.{nat_le, IfOk, OnErr}
+use Rattle.std.proofs.Common.{◌≡◌, ℕ, suc, ◌<◌, Bool, true, false, Option, Some, None, Result, Ok, Err, length, get_or, refl, sym, ap, ◌∙◌, subst}
+use Rattle.std.specs.Prelude.{nat_le, IfOk, IsSome, OnErr}
 use Rattle.std.proofs.lemmas.Bool.{false≢true}
 use Rattle.gp_base.specs.declared.refusal.Refusal.{Refusal}
 use Rattle.gp_base.specs.declared.refusal.Refusal.TheVariants.{E11}
+use Rattle.gp_base.specs.declared.table.Table.{Table}
 use Rattle.gp_base.specs.Annotated.{Database, plain}
 use Rattle.gp_algebra.specs.Statements.{Statement, insert, insert_select, update, delete, read}
-use Rattle.gp_check.specs.Checking.{checked}
+use Rattle.gp_check.specs.Checking.{checked, is_statement}
 use Rattle.gp_grammar.specs.Syntax.{Command}
 use Rattle.gp_txn.specs.Overlay.{view_of}
 use Rattle.gp_machine.specs.declared.reply.Reply.{Reply}
 use Rattle.gp_machine.specs.declared.reply.Reply.TheVariants as reply
 use Rattle.gp_machine.specs.Actions.{Action, Create, Begin, Commit, Rollback, Run, action_of}
-use Rattle.gp_machine.specs.Event.{event, creation_refusal, count_refusal, name_at, reply_of}
+use Rattle.gp_machine.specs.Entries.{committer_of}
+use Rattle.gp_machine.specs.Event.{creation_refusal, count_refusal, name_at, reply_of}
 use Rattle.gp_machine.specs.Recorded.{is_recorded}
-use Rattle.gp_machine.specs.State.{State}
 use Rattle.gp_engine.specs.declared.running.Running.{Running}
-use Rattle.gp_engine.specs.Engine.{Engine, Follows, IsEngine, IsEngineOf, IsUnchanged, spans_of}
-use Rattle.gp_engine.specs.declared.limit.TheConstants.{MAX_TRANSACTIONS}
-use Rattle.gp_engine.specs.Limits.{limits}
-use Rattle.gp_engine.specs.Methods.{Applies, Begins, Commits, CountsAt, Creates, Declines, DoesAt, Outside, Runs, counted, loses, overflows, publishes, refusal_in}
-use Rattle.gp_engine.proofs.FollowLemmas.{follows_at, stays}
+use Rattle.gp_engine.specs.Engine.{Engine, Follows, IsEngine, IsUnchanged, entries_of, newest_of, statements_of, tables_of, transactions_of}
+use Rattle.gp_log.specs.declared.limit.TheConstants.{MAX_TRANSACTIONS}
+use Rattle.gp_log.specs.Limits.{limits}
+use Rattle.gp_engine.specs.Methods.{Begins, Commits, Creates, DoesAt, Outside, Runs, RunsAs, RunsChecked, loses, meaning_of, overflows, publishes, refusal_at}
+use Rattle.gp_engine.proofs.CommandLemmas.{statement-runs}
+use Rattle.gp_engine.proofs.FollowLemmas.{follows_at}
 use Rattle.gp_base.specs.declared.error.NoMemory.{NoMemory}
 use Rattle.gp_check.specs.Valid.{is_valid}
 use Rattle.gp_engine.proofs.InvariantLemmas.{does_engine, unchanged_engine, within-sessions}
 
-pub follows_line : (old new : Engine) (answer : Reply) (place : ℕ) (command : Command) → IsEngine old → place < 64
-    → DoesAt old new answer place (get_or old.sessions place None) (action_of command) → Follows old new (suc place) command answer
-follows_line old new answer place command sound within does = record {
-  reply = λ state number engine. (follows_at old new answer state engine sound number place (within-sessions old place sound within) command does).1;
-  state = λ state number engine. (follows_at old new answer state engine sound number place (within-sessions old place sound within) command does).0;
+pub follows_line : (old new : Engine) (answer : Reply) (line place : ℕ) (command : Command) → IsEngine old → place < 64
+    → DoesAt old new answer line place (get_or old.sessions place None) (action_of command) → Follows old new line (suc place) command answer
+follows_line old new answer line place command sound within does = record {
+  reply = λ state engine. (follows_at old new answer state engine sound line place (within-sessions old place sound within) command does).1;
+  state = λ state engine. (follows_at old new answer state engine sound line place (within-sessions old place sound within) command does).0;
 }
+
+-- a statement in a session with a transaction
+pub runs-does : (old new : Engine) (answer : Reply) (line place : ℕ) (command : Command) → IsSome (get_or old.sessions place None) → is_statement command ≡ true
+    → ((running : Running) → get_or old.sessions place None ≡ Some running → Runs old new answer line place running command)
+    → DoesAt old new answer line place (get_or old.sessions place None) (action_of command)
+runs-does old new answer line place command there statement runs = by (get_or old.sessions place None) refl there
+  where
+    by : (found : Option Running) → get_or old.sessions place None ≡ found → IsSome found → DoesAt old new answer line place found (action_of command)
+    by None at there = absurd (false≢true there)
+    by (Some running) at there = subst (DoesAt old new answer line place (Some running)) (sym (statement-runs command statement)) (runs running at)
 
 -- ---- lines that are not recorded
-
-same-engine : (old new : Engine) → new ≡ old → IsUnchanged old new
-same-engine old new is = record {
-  is = is ∙ (λ i. record old { versions = (sym is i).versions });
-  spans = λ place. ap (λ (e : Engine). spans_of e.versions place) is;
-  tables = ap (λ (e : Engine). length e.versions) is;
-}
 
 -- a reply that is no refusal is recorded
 recorded : {A : Type 0} (answer expected : Reply) (test : Reply → Bool) → answer ≡ expected → test expected ≡ true → test answer ≡ false → A
@@ -52,60 +57,56 @@ recorded-reply command t k (update table sets c) view = refl
 recorded-reply command t k (delete table c) view = refl
 recorded-reply command t k (read select) view = refl
 
-module _ (old new : Engine) (answer : Reply) (place : ℕ) where
-  outside-unchanged : (action : Action) → Outside old new answer place action → is_recorded action answer ≡ false → IsUnchanged old new
-  outside-unchanged (Create table) does denied = creates (creation_refusal limits old.tables table) does
-    where
-      creates : (refusal : Option Refusal) → Creates old new answer table refusal → IsUnchanged old new
-      creates (Some refusal) r = same-engine old new r.0
-      creates None r = recorded answer (reply.Created (length old.tables)) (is_recorded (Create table)) r.1 refl denied
-  outside-unchanged Begin does denied = begins (nat_le MAX_TRANSACTIONS old.transactions) does
-    where
-      begins : (full : Bool) → Begins old new answer place full → IsUnchanged old new
-      begins true r = same-engine old new r.0
-      begins false r = recorded answer (reply.Began (suc old.transactions) (length old.committers)) (is_recorded Begin) r.says refl denied
-  outside-unchanged Commit does denied = same-engine old new does.0
-  outside-unchanged Rollback does denied = same-engine old new does.0
-  outside-unchanged (Run command) does denied = same-engine old new does.0
+module _ (old new : Engine) (answer : Reply) (line place : ℕ) where
+  creates-unchanged : (table : Table) (refusal : Option Refusal) → Creates old new answer line (suc place) table refusal → is_recorded (Create table) answer ≡ false → IsUnchanged old new
+  creates-unchanged table (Some refusal) r denied = r.0
+  creates-unchanged table None r denied = recorded answer (reply.Created (length (tables_of old))) (is_recorded (Create table)) r.says refl denied
 
-  commits-unchanged : (running : Running) → Commits old new answer place running → is_recorded Commit answer ≡ false → IsUnchanged old new
-  commits-unchanged running (loses conflict kept first same is says) denied =
-      recorded answer (reply.Refused (E11 running.active.t (get_or old.committers (conflict.late.version - 1) 0) (name_at conflict.place old.tables) conflict.late.id)) (is_recorded Commit) says refl denied
+  begins-unchanged : (full : Bool) → Begins old new answer line place full → is_recorded Begin answer ≡ false → IsUnchanged old new
+  begins-unchanged true r denied = r.0
+  begins-unchanged false r denied = recorded answer (reply.Began (suc (transactions_of old)) (newest_of old)) (is_recorded Begin) r.says refl denied
+
+  outside-unchanged : (action : Action) → Outside old new answer line place action → is_recorded action answer ≡ false → IsUnchanged old new
+  outside-unchanged (Create table) does denied = creates-unchanged table (creation_refusal limits (tables_of old) table) does denied
+  outside-unchanged Begin does denied = begins-unchanged (nat_le MAX_TRANSACTIONS (transactions_of old)) does denied
+  outside-unchanged Commit does denied = does.0
+  outside-unchanged Rollback does denied = does.0
+  outside-unchanged (Run command) does denied = does.0
+
+  commits-unchanged : (running : Running) → Commits old new answer line place running → is_recorded Commit answer ≡ false → IsUnchanged old new
+  commits-unchanged running (loses conflict kept first same clears says) denied =
+      recorded answer (reply.Refused (E11 running.active.t (committer_of conflict.late.version (entries_of old)) (name_at conflict.place (tables_of old)) conflict.late.id)) (is_recorded Commit) says refl denied
   commits-unchanged running (overflows first many same says) denied = same
-  commits-unchanged running (publishes own same room commits is says) denied = recorded answer (reply.Committed running.active.t (suc (length old.committers))) (is_recorded Commit) says refl denied
+  commits-unchanged running (publishes own same commits keeps says) denied = recorded answer (reply.Committed running.active.t (suc (newest_of old))) (is_recorded Commit) says refl denied
 
-  runs-unchanged : (running : Running) (command : Command) → get_or old.sessions place None ≡ Some running → CountsAt old new answer place running command → is_recorded (Run command) answer ≡ false → IsUnchanged old new
-  runs-unchanged running command at r denied = runs (count_refusal limits running.statements old.statements) (checked old.tables command) r.runs
-    where
-      declines : (refusal : Refusal) → Declines old.tables old.versions running r.after answer refusal → IsUnchanged old new
-      declines refusal d = same-engine old new (stays old new answer place running r.after at d.0 (ap counted d.1) r.is)
+  checked-unchanged : (running : Running) (command : Command) (statement : Statement) (refusal : Option Refusal) → RunsChecked old new answer line place running command statement refusal
+      → is_recorded (Run command) answer ≡ false → IsUnchanged old new
+  checked-unchanged running command statement (Some refusal) r denied = r.0
+  checked-unchanged running command statement None r denied =
+      recorded answer (reply_of plain running.active.t (suc running.statements) statement (view_of running.active old.versions)) (is_recorded (Run command)) r.accepts.says
+      (recorded-reply command running.active.t (suc running.statements) statement (view_of running.active old.versions)) denied
 
-      applies : (statement : Statement) (refusal : Option Refusal) → Applies old.tables old.versions running r.after answer statement refusal → IsUnchanged old new
-      applies statement (Some refusal) d = declines refusal d
-      applies statement None d =
-          recorded answer (reply_of plain running.active.t (suc running.statements) statement (view_of running.active old.versions)) (is_recorded (Run command)) d.says
-          (recorded-reply command running.active.t (suc running.statements) statement (view_of running.active old.versions)) denied
+  runs-unchanged : (running : Running) (command : Command) (meaning : Result Statement Refusal) → RunsAs old new answer line place running command meaning → is_recorded (Run command) answer ≡ false
+      → IsUnchanged old new
+  runs-unchanged running command (Err refusal) r denied = r.0
+  runs-unchanged running command (Ok statement) r denied = checked-unchanged running command statement (refusal_at old new answer line place running command statement) r denied
 
-      runs : (refusal : Option Refusal) (meaning : Result Statement Refusal) → Runs old.tables old.versions running r.after answer refusal meaning → IsUnchanged old new
-      runs (Some refusal) meaning d = declines refusal d
-      runs None (Err refusal) d = declines refusal d
-      runs None (Ok statement) d = applies statement (refusal_in old.tables old.versions running r.after answer statement) d
+  does-unchanged : (found : Option Running) (action : Action) → DoesAt old new answer line place found action → is_recorded action answer ≡ false → IsUnchanged old new
+  does-unchanged None action does denied = outside-unchanged action does denied
+  does-unchanged (Some running) (Create table) does denied = does.0
+  does-unchanged (Some running) Begin does denied = does.0
+  does-unchanged (Some running) Commit does denied = commits-unchanged running does denied
+  does-unchanged (Some running) Rollback does denied = recorded answer (reply.RolledBack running.active.t) (is_recorded Rollback) does.1 refl denied
+  does-unchanged (Some running) (Run command) does denied =
+      runs-unchanged running command (meaning_of (count_refusal limits running.statements (statements_of old)) (checked (tables_of old) command)) does denied
 
-  does-unchanged : (found : Option Running) (action : Action) → get_or old.sessions place None ≡ found → DoesAt old new answer place found action → is_recorded action answer ≡ false → IsUnchanged old new
-  does-unchanged None action at does denied = outside-unchanged action does denied
-  does-unchanged (Some running) (Create table) at does denied = same-engine old new does.0
-  does-unchanged (Some running) Begin at does denied = same-engine old new does.0
-  does-unchanged (Some running) Commit at does denied = commits-unchanged running does denied
-  does-unchanged (Some running) Rollback at does denied = recorded answer (reply.RolledBack running.active.t) (is_recorded Rollback) does.1 refl denied
-  does-unchanged (Some running) (Run command) at does denied = runs-unchanged running command at does denied
-
-pub unrecorded_line : (old new : Engine) (answer : Reply) (place : ℕ) (command : Command)
-    → DoesAt old new answer place (get_or old.sessions place None) (action_of command) → is_recorded (action_of command) answer ≡ false → IsUnchanged old new
-unrecorded_line old new answer place command does denied = does-unchanged old new answer place (get_or old.sessions place None) (action_of command) refl does denied
+pub unrecorded_line : (old new : Engine) (answer : Reply) (line place : ℕ) (command : Command)
+    → DoesAt old new answer line place (get_or old.sessions place None) (action_of command) → is_recorded (action_of command) answer ≡ false → IsUnchanged old new
+unrecorded_line old new answer line place command does denied = does-unchanged old new answer line place (get_or old.sessions place None) (action_of command) does denied
 
 -- ---- the invariant
 
-pub kept_line : (old new : Engine) (place : ℕ) (command : Command) (result : Result Reply NoMemory) → IsEngine old → place < 64 → is_valid command ≡ true
-    → IfOk result (λ answer. DoesAt old new answer place (get_or old.sessions place None) (action_of command)) → OnErr result (IsUnchanged old new) → IsEngine new
-kept_line old new place command (Ok answer) sound within valid does same = does_engine old new answer place command sound within valid does
-kept_line old new place command (Err error) sound within valid does same = unchanged_engine old new sound same
+pub kept_line : (old new : Engine) (line place : ℕ) (command : Command) (result : Result Reply NoMemory) → IsEngine old → place < 64 → is_valid command ≡ true
+    → IfOk result (λ answer. DoesAt old new answer line place (get_or old.sessions place None) (action_of command)) → OnErr result (IsUnchanged old new) → IsEngine new
+kept_line old new line place command (Ok answer) sound within valid does same = does_engine old new answer line place command sound within valid does
+kept_line old new line place command (Err error) sound within valid does same = unchanged_engine old new sound same

@@ -1,10 +1,10 @@
 -- What a commit publishes is what the history machine asks of an engine, and the engine's invariant holds afterwards.
-use Rattle.std.proofs.Common.{◌≡◌, ◌≢◌, ℕ, zero, suc, pred, ◌+◌, ◌^◌, ◌<◌, ◌≤◌, true, false, List, [], ◌∷◌, ◌++◌, map, drop, length, Option, Some, None, refl, ap, sym, ◌∙◌, subst, arith, inl, inr}
+use Rattle.std.proofs.Common.{◌≡◌, ◌≢◌, ℕ, zero, suc, pred, ◌+◌, ◌<◌, ◌≤◌, true, false, List, [], ◌∷◌, map, drop, length, Option, Some, None, refl, ap, sym, ◌∙◌, subst, arith, inl, inr}
 use Rattle.std.specs.Prelude.{nat_lt, if◌then◌else◌, slice_set}
 use Rattle.std.specs.List.{cons_option, filter_map, AllByRecursion}
 use Rattle.std.specs.Option.{option_map}
 use Rattle.std.proofs.lemmas.Bool.{cases_eq, cases_lt, le-ltb, lt-ltb}
-use Rattle.std.proofs.lemmas.List.{get_or-set_other, get_or-set_same, length-set, length_push}
+use Rattle.std.proofs.lemmas.List.{get_or-set_other, get_or-set_same, length-set}
 use Rattle.std.proofs.Math.ListN.{get_or-eq_default}
 use Rattle.gp_base.specs.declared.cell.Cell.{Cell}
 use Rattle.gp_base.specs.declared.stored.Stored.{Stored}
@@ -27,13 +27,13 @@ use Rattle.gp_txn.proofs.AfterLemmas.{commit-count, commit-names, commit-none, c
 use Rattle.gp_txn.proofs.CommitLemmas.{inserted-own}
 use Rattle.gp_txn.proofs.CountLemmas.{count-after}
 use Rattle.gp_txn.proofs.PairLemmas.{all-append, all-filter, all-map, all-weaker}
-use Rattle.gp_machine.specs.Entries.{Entry}
+use Rattle.gp_machine.specs.Entries.{Entry, Committed, transactions_in, versions_in}
 use Rattle.gp_machine.specs.EngineLine.{marked_rows, rows_after}
 use Rattle.gp_machine.specs.Represents as machine
 use Rattle.gp_machine.specs.Represents.{AreWritesOf}
 use Rattle.gp_engine.specs.declared.running.Running.{Running}
-use Rattle.gp_engine.specs.Engine.{Engine, IsEngine, IsSession, kept_of, overlay_of, session_at, spans_of}
-use Rattle.gp_engine.specs.Methods.{with_session}
+use Rattle.gp_engine.specs.Engine.{Engine, IsSession, IsSound, kept_of, overlay_of, session_at, spans_of, tables_of}
+use Rattle.gp_engine.proofs.SessionLemmas.{count-cleared}
 
 -- ---- what a commit writes to each table
 
@@ -62,9 +62,9 @@ module _ (engine : Engine) (running : Running) where
       ]
 
   -- these are the writes that the history machine asks for
-  pub writes_of : List Entry → HoldsOwn running.active → ReadsNothingBeyond engine running → (place : ℕ)
+  pub writes_of : HoldsOwn running.active → ReadsNothingBeyond engine running → (place : ℕ)
       → AreWritesOf (spans_of engine.versions) (overlay_of running) place (published engine running place)
-  writes_of entries own nothing place =
+  writes_of own nothing place =
       subst (AreWritesOf (spans_of engine.versions) (overlay_of running) place) (sym (published-is nothing place)) (record {
         names = commit-names running.active engine.versions own place;
         rows = commit-rows running.active engine.versions place;
@@ -95,24 +95,24 @@ module _ (engine : Engine) (running : Running) where
   rows_published count =
       commit-count running.active engine.versions (marked_rows (machine.view_of (spans_of engine.versions) (overlay_of running))) refl (λ place. refl) count
 
-  module _ (entries : List Entry) (tables : length engine.versions ≡ length engine.tables) where
-    pub left_published : spans_left running.active engine.versions ≡ rows_after (kept_of engine entries) (overlay_of running)
+  module _ (tables : length engine.versions ≡ length (tables_of engine)) where
+    pub left_published : spans_left running.active engine.versions ≡ rows_after (kept_of engine) (overlay_of running)
     left_published =
         ap (λ n. count_spans engine.versions (length engine.versions) + n) (rows_published (length engine.versions))
         ∙ ap (λ n. count_spans engine.versions n + marked_rows (machine.view_of (spans_of engine.versions) (overlay_of running)) n) tables
 
     -- too many
-    pub is_full : MAX_SPANS < spans_left running.active engine.versions → nat_lt MAX_SPANS (rows_after (kept_of engine entries) (overlay_of running)) ≡ true
-    is_full many = lt-ltb MAX_SPANS (rows_after (kept_of engine entries) (overlay_of running)) (subst (λ n. MAX_SPANS < n) left_published many)
+    pub is_full : MAX_SPANS < spans_left running.active engine.versions → nat_lt MAX_SPANS (rows_after (kept_of engine) (overlay_of running)) ≡ true
+    is_full many = lt-ltb MAX_SPANS (rows_after (kept_of engine) (overlay_of running)) (subst (λ n. MAX_SPANS < n) left_published many)
 
     -- not too many
-    pub has_room : spans_left running.active engine.versions ≤ MAX_SPANS → nat_lt MAX_SPANS (rows_after (kept_of engine entries) (overlay_of running)) ≡ false
-    has_room few = le-ltb MAX_SPANS (rows_after (kept_of engine entries) (overlay_of running)) (subst (λ n. n ≤ MAX_SPANS) left_published few)
+    pub has_room : spans_left running.active engine.versions ≤ MAX_SPANS → nat_lt MAX_SPANS (rows_after (kept_of engine) (overlay_of running)) ≡ false
+    has_room few = le-ltb MAX_SPANS (rows_after (kept_of engine) (overlay_of running)) (subst (λ n. n ≤ MAX_SPANS) left_published few)
 
     -- the number of spans afterwards
-    pub count_published : (new : List Versions) (version : ℕ) → HasCommitted engine running new version → count_spans new (length engine.tables) ≡ rows_after (kept_of engine entries) (overlay_of running)
+    pub count_published : (new : List Versions) (version : ℕ) → HasCommitted engine running new version → count_spans new (length (tables_of engine)) ≡ rows_after (kept_of engine) (overlay_of running)
     count_published new version spans =
-        subst (λ n. count_spans new n ≡ rows_after (kept_of engine entries) (overlay_of running)) tables
+        subst (λ n. count_spans new n ≡ rows_after (kept_of engine) (overlay_of running)) tables
         (count-after version (commit_of running.active.tables engine.versions running.active.begin) engine.versions new (length engine.versions) spans ∙ left_published)
 
 -- ---- whose rows they are
@@ -173,80 +173,71 @@ session_left sessions place within (suc other) running at =
     none-some : None ≡ Some running → ⊥
     none-some e = cc
 
--- ---- the engine after a COMMIT that makes a version
+-- ---- the invariant after a COMMIT that makes a version
 
-module _ (old : Engine) (place : ℕ) (running : Running) (versions : List Versions) (kept : IsEngine old) (at : session_at (suc place) old.sessions ≡ Some running) (holds : HoldsOwn running.active)
-    (within : place < length old.sessions) (few : suc (length old.committers) < 2 ^ 32) (same : length versions ≡ length old.versions)
-    (commits : txn.Commits (suc (length old.committers)) running.active old.versions versions) where
-  abbrev committed : Engine
-  committed = record (with_session place None old) { versions = versions; committers = old.committers ++ running.active.t ∷ [] }
+module _ (entries : List Entry) (held : List Versions) (sessions : List (Option Running)) (line place : ℕ) (running : Running) (versions : List Versions) (kept : IsSound entries held sessions)
+    (at : session_at (suc place) sessions ≡ Some running) (holds : HoldsOwn running.active) (within : place < length sessions) (same : length versions ≡ length held)
+    (commits : txn.Commits (suc (versions_in entries)) running.active held versions) where
+  abbrev later : List Entry
+  later = Committed line (suc place) running.active.t ∷ entries
 
-  mine : IsSession old running
-  mine = kept.sessions (suc place) running at
-
-  one-more : length committed.committers ≡ suc (length old.committers)
-  one-more = omega (arith, length_push old.committers running.active.t)
-
-  below : (table : ℕ) → AreBelow (suc (length committed.committers)) (spans_of versions table)
-  below table = subst (λ n. AreBelow n (spans_of versions table)) (omega (arith, one-more)) (commits.below table)
+  mine : IsSession entries held running
+  mine = kept.each (suc place) running at
 
   abbrev IsMade : Identity → Type 0
-  IsMade id = transaction_of id ≤ old.transactions
+  IsMade id = transaction_of id ≤ transactions_in entries
 
   made-own : (table : ℕ) → AllByRecursion (λ (stored : Stored). IsMade stored.id) (writes_at table running.active.tables).own
   made-own table =
       all-weaker (λ (stored : Stored). transaction_of stored.id ≡ running.active.t) (λ (stored : Stored). IsMade stored.id) (λ stored is. omega (arith, is, mine.began))
       (writes_at table running.active.tables).own (inserted-own running.active.t running.active.last (writes_at table running.active.tables).own (holds table)).0
 
-  makers : (table : ℕ) → AllByRecursion (λ (span : Span). IsMade span.id) (spans_of versions table)
-  makers table =
-      elim (cases_lt table (length old.versions)) [
+  made : (table : ℕ) → AllByRecursion (λ (span : Span). IsMade span.id) (spans_of versions table)
+  made table =
+      elim (cases_lt table (length held)) [
         | inl low ↦
             subst (AllByRecursion (λ (span : Span). IsMade span.id)) (sym (commits.spans table low))
-            (ids_after IsMade (suc (length old.committers)) (commit_of running.active.tables old.versions running.active.begin table) (spans_of old.versions table) (kept.makers table)
-            (ids_written IsMade running.active.tables old.versions running.active.begin table (kept.makers table) (made-own table)))
+            (ids_after IsMade (suc (versions_in entries)) (commit_of running.active.tables held running.active.begin table) (spans_of held table) (kept.makers table)
+            (ids_written IsMade running.active.tables held running.active.begin table (kept.makers table) (made-own table)))
         | inr high ↦ subst (AllByRecursion (λ (span : Span). IsMade span.id)) (sym (no-spans versions table (subst (λ n. n ≤ table) (sym same) high))) tt
       ]
 
   -- the others still read no rows of tables that are not there
-  nothing-beyond : (other : Running) → ReadsNothingBeyond old other → ReadsNothingBeyond committed other
+  nothing-beyond : (other : Running) → ((table : ℕ) → length held ≤ table → view_of other.active held table ≡ []) → (table : ℕ) → length versions ≤ table → view_of other.active versions table ≡ []
   nothing-beyond other nothing table high =
-      let high-before : length old.versions ≤ table = subst (λ n. n ≤ table) same high in
-      subst (λ spans. view_rows (writes_at table other.active.tables) (rows_at plain other.active.begin spans) ≡ []) (no-spans old.versions table high-before ∙ sym (no-spans versions table high))
+      let high-before : length held ≤ table = subst (λ n. n ≤ table) same high in
+      subst (λ spans. view_rows (writes_at table other.active.tables) (rows_at plain other.active.begin spans) ≡ []) (no-spans held table high-before ∙ sym (no-spans versions table high))
       (nothing table high-before)
 
-  others-stay : (session : ℕ) (other : Running) → session_at session committed.sessions ≡ Some other → IsSession committed other
+  others-stay : (session : ℕ) (other : Running) → session_at session (slice_set sessions place None) ≡ Some other → IsSession later versions other
   others-stay session other found =
-      let left = session_left old.sessions place within session other found in
-      let was = kept.sessions session other left.1 in
+      let left = session_left sessions place within session other found in
+      let was = kept.each session other left.1 in
       record {
         first = was.first;
         began = was.began;
-        begin = omega (arith, was.begin, one-more);
+        begin = omega (arith, was.begin);
         last = was.last;
         others =
-            others-after other.active.t (suc (length old.committers)) running.active old.versions versions same holds commits
+            others-after other.active.t (suc (versions_in entries)) running.active held versions same holds commits
             (λ equal. left.0 (kept.apart session (suc place) other running left.1 at equal)) was.others;
         beyond = nothing-beyond other was.beyond;
       }
 
-  stays : IsEngine committed
-  stays = record {
+  next : suc (versions_in entries) + 1 ≡ suc (versions_in later)
+  next = omega arith
+
+  pub committed_sound : IsSound later versions (slice_set sessions place None)
+  committed_sound = record {
     valid = kept.valid;
     tables = same ∙ kept.tables;
     few = kept.few;
-    numbers = subst (λ n. n < 2 ^ 32) (sym one-more) few;
-    places = length-set old.sessions place None ∙ kept.places;
+    places = length-set sessions place None ∙ kept.places;
     transactions = kept.transactions;
     statements = kept.statements;
-    below = below;
-    makers = makers;
-    sessions = others-stay;
-    apart = λ session other a b first second. kept.apart session other a b (session_left old.sessions place within session a first).1 (session_left old.sessions place within other b second).1;
+    unended = omega (arith, kept.unended, count-cleared sessions place running at);
+    below = λ table. subst (λ n. AreBelow n (spans_of versions table)) next (commits.below table);
+    makers = made;
+    each = others-stay;
+    apart = λ session other a b first second. kept.apart session other a b (session_left sessions place within session a first).1 (session_left sessions place within other b second).1;
   }
-
--- the invariant holds
-pub engine_committed : (old new : Engine) (place : ℕ) (running : Running) → IsEngine old → session_at (suc place) old.sessions ≡ Some running → HoldsOwn running.active → place < length old.sessions
-    → suc (length old.committers) < 2 ^ 32 → length new.versions ≡ length old.versions → txn.Commits (suc (length old.committers)) running.active old.versions new.versions
-    → new ≡ record (with_session place None old) { versions = new.versions; committers = old.committers ++ running.active.t ∷ [] } → IsEngine new
-engine_committed old new place running kept at holds within few same commits is = subst IsEngine (sym is) (stays old place running new.versions kept at holds within few same commits)

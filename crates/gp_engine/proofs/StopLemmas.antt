@@ -1,5 +1,5 @@
 -- Why a commit is stopped.
-use Rattle.std.proofs.Common.{◌≡◌, ℕ, ◌≤◌, ◌<◌, ◌-◌, List, [], length, sym, subst, ap, ◌∙◌}
+use Rattle.std.proofs.Common.{ℕ, List, length, ◌∙◌}
 use Rattle.std.specs.Prelude.{Result, Ok, Err, IfErr, OnOk}
 use Rattle.gp_versions.specs.Commits.{AreBelow}
 use Rattle.gp_versions.specs.Spans.{Versions}
@@ -7,11 +7,13 @@ use Rattle.gp_txn.specs.declared.error.CommitStop.{CommitStop}
 use Rattle.gp_txn.specs.declared.error.CommitStop.TheVariants as variant
 use Rattle.gp_txn.specs.Committing.{HasCause, lates_of, spans_left}
 use Rattle.gp_txn.specs.Overlay.{table_at}
-use Rattle.std.specs.Prelude.{slice_index_or}
 use Rattle.gp_base.specs.declared.refusal.Refusal.TheVariants.{E11}
 use Rattle.gp_machine.specs.declared.reply.Reply.{Reply}
 use Rattle.gp_machine.specs.declared.reply.Reply.TheVariants as reply
+use Rattle.gp_machine.specs.Entries.{committer_of}
 use Rattle.gp_machine.specs.Event.{name_at}
+use Rattle.gp_log.specs.LogFacts.{tables_in}
+use Rattle.gp_log.specs.Logs.{log_view}
 use Rattle.gp_engine.specs.Engine.{Engine, IsUnchanged}
 use Rattle.gp_engine.specs.Methods.{Commits, IsConflictBelow, Stops, loses, overflows}
 use Rattle.gp_engine.specs.declared.running.Running.{Running}
@@ -25,24 +27,29 @@ pub err-map : {A E : Type 0} (P Q : E → Type 0) (result : Result A E) → ((e 
 err-map P Q (Ok a) f p = p
 err-map P Q (Err e) f p = f e p
 
--- an engine with these row versions
-abbrev with_versions : List Versions → Engine
-with_versions versions = record { tables = []; versions = versions; committers = []; transactions = 0; statements = 0; sessions = [] }
-
 pub cause-below : (running : Running) (versions : List Versions) (version : ℕ) → ((table : ℕ) → AreBelow version (table_at table versions).spans)
     → (stop : CommitStop) → HasCause stop (length versions) (lates_of running.active versions) (spans_left running.active versions) → IsConflictBelow version (length versions) stop
 cause-below running versions version above (variant.Conflict late table id) cause =
-    let bounds = late_bounds (with_versions versions) running (record { place = table; late = record { id = id; version = late } }) version above cause in
+    let bounds = late_bounds versions running (record { place = table; late = record { id = id; version = late } }) version above cause in
     (bounds.1.0, (bounds.1.1, bounds.0))
 cause-below running versions version above variant.Full cause = tt
 cause-below running versions version above variant.NoMemory cause = tt
 
+-- nothing has changed after two steps, neither of which has changed anything
+pub unchanged-twice : (old kept new : Engine) → IsUnchanged old kept → IsUnchanged kept new → IsUnchanged old new
+unchanged-twice old kept new first second = record {
+  entries = second.entries ∙ first.entries;
+  sessions = second.sessions ∙ first.sessions;
+  spans = λ place. second.spans place ∙ first.spans place;
+  tables = second.tables ∙ first.tables;
+}
+
 -- a commit that was stopped: what it was stopped by, given the engine before it, and the one that was left, which has the same rows
-pub stopped : (old kept new : Engine) (answer : Reply) (place : ℕ) (running : Running) (stop : CommitStop)
+pub stopped : (old kept new : Engine) (answer : Reply) (line place : ℕ) (running : Running) (stop : CommitStop)
     → IsUnchanged old kept → HasCause stop (length old.versions) (lates_of running.active old.versions) (spans_left running.active old.versions)
-    → Stops kept new answer place running.active.t stop → Commits old new answer place running
-stopped old kept new answer place running (variant.Conflict version table id) same cause stops =
+    → Stops kept new answer line place running.active.t stop → Commits old new answer line place running
+stopped old kept new answer line place running (variant.Conflict version table id) same cause stops =
     loses (record { place = table; late = record { id = id; version = version } }) kept cause same stops.0
-    (stops.1 ∙ ap (λ (e : Engine). reply.Refused (E11 running.active.t (slice_index_or e.committers (version - 1) 0) (name_at table e.tables) id)) same.is)
-stopped old kept new answer place running variant.Full same cause stops = overflows cause.0 cause.1 (subst (IsUnchanged old) (sym stops.0) same) stops.1
-stopped old kept new answer place running variant.NoMemory same cause stops = absurd stops
+    (stops.1 ∙ (λ i. reply.Refused (E11 running.active.t (committer_of version (log_view (same.entries i))) (name_at table (tables_in (log_view (same.entries i)))) id)))
+stopped old kept new answer line place running variant.Full same cause stops = overflows cause.0 cause.1 (unchanged-twice old kept new same stops.0) stops.1
+stopped old kept new answer line place running variant.NoMemory same cause stops = absurd stops

@@ -1,4 +1,3 @@
-pub mod Limits
 pub mod Engine
 pub mod EngineCode
 pub mod Methods

@@ -1,5 +1,5 @@
 -- Machinery: what each method of the engine does to what it keeps.
-use Rattle.std.specs.Prelude.{◌≡◌, ◌≢◌, ◌⊎◌, ℕ, suc, ◌<◌, ◌≤◌, ◌-◌, ◌+◌, Bool, true, false, ◌||◌, ◌^◌, if◌then◌else◌, List, [], ◌∷◌, ◌++◌, length, slice_set, slice_index_or, nat_le, Option, Some, None, Result, Ok, Err}
+use Rattle.std.specs.Prelude.{◌≡◌, ◌≢◌, ◌⊎◌, ℕ, suc, ◌<◌, ◌≤◌, ◌-◌, Bool, true, false, ◌||◌, ◌^◌, List, [], ◌∷◌, ◌++◌, length, slice_set, nat_le, Option, Some, None, Result, Ok, Err}
 use Rattle.gp_base.specs.declared.limit.Limit.TheVariants as limit
 use Rattle.gp_base.specs.declared.refusal.Refusal.{Refusal}
 use Rattle.gp_base.specs.declared.refusal.Refusal.TheVariants.{E09, E10, E11, E14}
@@ -17,18 +17,20 @@ use Rattle.gp_txn.specs.declared.counting.TheConstants.{MAX_SPANS}
 use Rattle.gp_txn.specs.Committing as txn
 use Rattle.gp_txn.specs.Committing.{lates_of, spans_left}
 use Rattle.gp_txn.specs.Conflicts.{IsFirstConflict}
-use Rattle.gp_txn.specs.Overlay.{Writes, table_at, HoldsOwn, view_of, writes_at, no_writes, database_at, names, has_written}
+use Rattle.gp_txn.specs.Overlay.{Writes, HoldsOwn, view_of, writes_at, no_writes, database_at, names, has_written}
 use Rattle.gp_machine.specs.declared.reply.Reply.{Reply}
 use Rattle.gp_machine.specs.declared.reply.Reply.TheVariants as reply
+use Rattle.gp_machine.specs.Actions.{Action, Create, Begin, Commit, Rollback, Run}
+use Rattle.gp_machine.specs.Entries.{Entry, RolledBack, Lost, Created, Began, Ran, Committed, Ended, committer_of}
+use Rattle.gp_machine.specs.Event.{count_refusal, creation_refusal, name_at, refusal_of, reply_of, target_of}
 use Rattle.gp_grammar.specs.Syntax.{Command}
 use Rattle.gp_check.specs.Checking.{checked}
-use Rattle.gp_machine.specs.Actions.{Action, Create, Begin, Commit, Rollback, Run}
-use Rattle.gp_machine.specs.Replies.{is_refusal}
-use Rattle.gp_machine.specs.Event.{count_refusal, creation_refusal, name_at, refusal_of, reply_of, target_of}
+use Rattle.gp_log.specs.declared.limit.TheConstants.{MAX_TRANSACTIONS}
+use Rattle.gp_log.specs.Limits.{limits}
+use Rattle.gp_log.specs.LogFacts.{open_in}
+use Rattle.gp_log.specs.Logs.{Logged, log_view}
 use Rattle.gp_engine.specs.declared.running.Running.{Running}
-use Rattle.gp_engine.specs.Engine.{Engine, IsUnchanged}
-use Rattle.gp_engine.specs.declared.limit.TheConstants.{MAX_TRANSACTIONS}
-use Rattle.gp_engine.specs.Limits.{limits}
+use Rattle.gp_engine.specs.Engine.{Engine, IsUnchanged, entries_of, newest_of, statements_of, tables_of, transactions_of}
 
 -- ---- a statement of a running transaction
 
@@ -65,21 +67,23 @@ module _ (tables : List Table) (versions : List Versions) (old new : Running) (a
   abbrev pub refusal_in : Statement → Option Refusal
   refusal_in statement = refusal_of plain limits tables old.active.t (suc old.statements) statement (view_of old.active versions)
 
-  -- a statement, by the first count that it passes, and by the check
-  abbrev pub Runs : Option Refusal → Result Statement Refusal → Type 0
-  Runs (Some refusal) checked = Declines refusal
-  Runs None (Err refusal) = Declines refusal
-  Runs None (Ok statement) = Applies statement (refusal_in statement)
-
 -- ---- the engine
 
--- 1, or 0 for a refusal
-abbrev pub counted : Reply → ℕ
-counted answer = if is_refusal answer then 0 else 1
+-- what a statement is: refused by the first count that it passes, or else what the check says
+abbrev pub meaning_of : Option Refusal → Result Statement Refusal → Result Statement Refusal
+meaning_of (Some refusal) checked = Err refusal
+meaning_of None checked = checked
 
--- the engine with another transaction of the session at a place, or none
-abbrev pub with_session : ℕ → Option Running → Engine → Engine
-with_session place running engine = record engine { sessions = slice_set engine.sessions place running }
+-- the log has these entries, and beside it are these row versions and these sessions
+pub record Keeps (engine : Engine) (entries : List Entry) (held : List Versions) (running : List (Option Running)) : Type 0 where
+  pub log_is : entries_of engine ≡ entries
+  pub versions_are : engine.versions ≡ held
+  pub sessions_are : engine.sessions ≡ running
+
+-- a transaction that runs can end: the log keeps memory for that
+pub record HasPlace (log : Logged) : Type 0 where
+  pub few : length log.entries < 2 ^ 32 - 1
+  pub unended : 0 < open_in (log_view log.entries)
 
 -- a conflict is with a version below this one, in one of so many tables
 abbrev pub IsConflictBelow : ℕ → ℕ → CommitStop → Type 0
@@ -87,91 +91,118 @@ IsConflictBelow above count (stop.Conflict version table id) = (1 ≤ version) �
 IsConflictBelow above count stop.Full = Unit {0}
 IsConflictBelow above count stop.NoMemory = Unit {0}
 
--- one more table, without row versions
-pub record Adds (old new : Engine) (table : Table) (place : ℕ) : Type 0 where
-  pub versions : Versions
-  pub empty : versions.spans ≡ []
-  pub is : new ≡ record old { tables = old.tables ++ table ∷ []; versions = old.versions ++ versions ∷ [] }
-  pub at : place ≡ length old.tables
+-- one more entry
+abbrev pub Appends : Engine → Engine → Entry → Type 0
+Appends old new entry = Keeps new (entry ∷ entries_of old) old.versions old.sessions
+
+-- the transaction of the session at a place ends
+abbrev pub Clears : Engine → Engine → ℕ → Entry → Type 0
+Clears old new place entry = Keeps new (entry ∷ entries_of old) old.versions (slice_set old.sessions place None)
 
 module _ (old new : Engine) (answer : Reply) where
   -- nothing changes
   abbrev pub Refuses : Refusal → Type 0
-  Refuses refusal = (new ≡ old) × (answer ≡ reply.Refused refusal)
+  Refuses refusal = IsUnchanged old new × (answer ≡ reply.Refused refusal)
+
+  -- one more table, without row versions
+  pub record Adds (line session : ℕ) (table : Table) : Type 0 where
+    pub added : Versions
+    pub empty : added.spans ≡ []
+    pub keeps : Keeps new (Created line session table ∷ entries_of old) (old.versions ++ added ∷ []) old.sessions
+    pub says : answer ≡ reply.Created (length (tables_of old))
 
   -- CREATE TABLE, by its refusal
-  abbrev pub Creates : Table → Option Refusal → Type 0
-  Creates table (Some refusal) = Refuses refusal
-  Creates table None = Adds old new table (length old.tables) × (answer ≡ reply.Created (length old.tables))
+  abbrev pub Creates : ℕ → ℕ → Table → Option Refusal → Type 0
+  Creates line session table (Some refusal) = Refuses refusal
+  Creates line session table None = Adds line session table
 
   -- BEGIN, by whether there are too many transactions
-  pub record Starts (place : ℕ) : Type 0 where
+  pub record Starts (line place : ℕ) : Type 0 where
     pub active : Writes
-    pub t : active.t ≡ suc old.transactions
-    pub begin : active.begin ≡ length old.committers
+    pub t : active.t ≡ suc (transactions_of old)
+    pub begin : active.begin ≡ newest_of old
     pub last : active.last ≡ 0
     pub tables : (table : ℕ) → writes_at table active.tables ≡ no_writes
-    pub is : new ≡ record (with_session place (Some (record { active = active; statements = 0 })) old) { transactions = suc old.transactions }
-    pub says : answer ≡ reply.Began (suc old.transactions) (length old.committers)
+    pub keeps : Keeps new (Began line (suc place) (suc (transactions_of old)) ∷ entries_of old) old.versions
+        (slice_set old.sessions place (Some (record { active = active; statements = 0 })))
+    pub says : answer ≡ reply.Began (suc (transactions_of old)) (newest_of old)
 
-  abbrev pub Begins : ℕ → Bool → Type 0
-  Begins place true = Refuses (E14 limit.Transactions)
-  Begins place false = Starts place
-
-  -- the transaction of a session ends
-  abbrev pub Ends : ℕ → Reply → Type 0
-  Ends place expected = (new ≡ with_session place None old) × (answer ≡ expected)
+  abbrev pub Begins : ℕ → ℕ → Bool → Type 0
+  Begins line place true = Refuses (E14 limit.Transactions)
+  Begins line place false = Starts line place
 
   -- a commit that was stopped
-  abbrev pub Stops : ℕ → ℕ → CommitStop → Type 0
-  Stops place t (stop.Conflict version table id) =
-      Ends place (reply.Refused (E11 t (slice_index_or old.committers (version - 1) 0) (name_at table old.tables) id))
-  Stops place t stop.Full = Refuses (E14 limit.Versions)
-  Stops place t stop.NoMemory = ⊥
+  abbrev pub Stops : ℕ → ℕ → ℕ → CommitStop → Type 0
+  Stops line place t (stop.Conflict version table id) =
+      Clears old new place (Ended line (suc place) Lost t)
+      × (answer ≡ reply.Refused (E11 t (committer_of version (entries_of old)) (name_at table (tables_of old)) id))
+  Stops line place t stop.Full = Refuses (E14 limit.Versions)
+  Stops line place t stop.NoMemory = ⊥
 
-  -- a statement of the transaction of a session
-  pub record RunsAt (place : ℕ) (running : Running) (command : Command) : Type 0 where
+  -- a statement that was checked, which is not in the log yet
+  pub record AppliesAt (place : ℕ) (running : Running) (statement : Statement) : Type 0 where
     pub after : Running
-    pub runs : Runs old.tables old.versions running after answer (count_refusal limits running.statements old.statements) (checked old.tables command)
-    pub is : new ≡ with_session place (Some after) old
+    pub applies : Applies (tables_of old) old.versions running after answer statement (refusal_in (tables_of old) old.versions running after answer statement)
+    pub entries : new.log.entries ≡ old.log.entries
+    pub versions : new.versions ≡ old.versions
+    pub sessions : new.sessions ≡ slice_set old.sessions place (Some after)
 
-  -- it is counted unless it is refused
-  pub record CountsAt (place : ℕ) (running : Running) (command : Command) : Type 0 where
+  -- a statement that passes no limit
+  pub record Records (line place : ℕ) (running : Running) (command : Command) (statement : Statement) : Type 0 where
     pub after : Running
-    pub runs : Runs old.tables old.versions running after answer (count_refusal limits running.statements old.statements) (checked old.tables command)
-    pub is : new ≡ record (with_session place (Some after) old) { statements = old.statements + counted answer }
+    pub accepts : Accepts (tables_of old) old.versions running after answer statement
+    pub keeps : Keeps new (Ran line (suc place) command running.active.t statement ∷ entries_of old) old.versions (slice_set old.sessions place (Some after))
+
+  module _ (line place : ℕ) (running : Running) (command : Command) where
+    -- a statement that was checked, by its refusal
+    abbrev pub RunsChecked : Statement → Option Refusal → Type 0
+    RunsChecked statement (Some refusal) = Refuses refusal
+    RunsChecked statement None = Records line place running command statement
+
+    -- what refuses it
+    abbrev pub refusal_at : Statement → Option Refusal
+    refusal_at statement = refusal_of plain limits (tables_of old) running.active.t (suc running.statements) statement (view_of running.active old.versions)
+
+    abbrev pub RunsAs : Result Statement Refusal → Type 0
+    RunsAs (Err refusal) = Refuses refusal
+    RunsAs (Ok statement) = RunsChecked statement (refusal_at statement)
+
+    -- a statement, by the counts and by the check
+    abbrev pub Runs : Type 0
+    Runs = RunsAs (meaning_of (count_refusal limits running.statements (statements_of old)) (checked (tables_of old) command))
 
   -- COMMIT: it is lost by a conflict, or refused as the row versions would be too many, or makes the next version
-  pub data Commits (place : ℕ) (running : Running) : Type 0 where
+  pub data Commits (line place : ℕ) (running : Running) : Type 0 where
     loses : (conflict : Conflict) (kept : Engine) → IsFirstConflict (length old.versions) (lates_of running.active old.versions) (Some conflict)
-        → IsUnchanged old kept → new ≡ with_session place None kept
-        → answer ≡ reply.Refused (E11 running.active.t (slice_index_or old.committers (conflict.late.version - 1) 0) (name_at conflict.place old.tables) conflict.late.id)
-        → Commits place running
+        → IsUnchanged old kept → Clears kept new place (Ended line (suc place) Lost running.active.t)
+        → answer ≡ reply.Refused (E11 running.active.t (committer_of conflict.late.version (entries_of old)) (name_at conflict.place (tables_of old)) conflict.late.id)
+        → Commits line place running
     overflows : IsFirstConflict (length old.versions) (lates_of running.active old.versions) None
-        → MAX_SPANS < spans_left running.active old.versions → IsUnchanged old new → answer ≡ reply.Refused (E14 limit.Versions) → Commits place running
-    publishes : HoldsOwn running.active → length new.versions ≡ length old.versions → suc (length old.committers) < 2 ^ 32
-        → txn.Commits (suc (length old.committers)) running.active old.versions new.versions
-        → new ≡ record (with_session place None old) { versions = new.versions; committers = old.committers ++ running.active.t ∷ [] }
-        → answer ≡ reply.Committed running.active.t (suc (length old.committers))
-        → Commits place running
+        → MAX_SPANS < spans_left running.active old.versions → IsUnchanged old new → answer ≡ reply.Refused (E14 limit.Versions) → Commits line place running
+    publishes : HoldsOwn running.active → length new.versions ≡ length old.versions
+        → txn.Commits (suc (newest_of old)) running.active old.versions new.versions
+        → Keeps new (Committed line (suc place) running.active.t ∷ entries_of old) new.versions (slice_set old.sessions place None)
+        → answer ≡ reply.Committed running.active.t (suc (newest_of old))
+        → Commits line place running
 
   -- an action in a session without a transaction
-  abbrev pub Outside : ℕ → Action → Type 0
-  Outside place (Create table) = Creates table (creation_refusal limits old.tables table)
-  Outside place Begin = Begins place (nat_le MAX_TRANSACTIONS old.transactions)
-  Outside place Commit = Refuses E10
-  Outside place Rollback = Refuses E10
-  Outside place (Run command) = Refuses E10
+  abbrev pub Outside : ℕ → ℕ → Action → Type 0
+  Outside line place (Create table) = Creates line (suc place) table (creation_refusal limits (tables_of old) table)
+  Outside line place Begin = Begins line place (nat_le MAX_TRANSACTIONS (transactions_of old))
+  Outside line place Commit = Refuses E10
+  Outside line place Rollback = Refuses E10
+  Outside line place (Run command) = Refuses E10
 
   -- an action in a session with this transaction
-  abbrev pub Inside : ℕ → Running → Action → Type 0
-  Inside place running (Create table) = Refuses E09
-  Inside place running Begin = Refuses E09
-  Inside place running Commit = Commits place running
-  Inside place running Rollback = Ends place (reply.RolledBack running.active.t)
-  Inside place running (Run command) = CountsAt place running command
+  abbrev pub Inside : ℕ → ℕ → Running → Action → Type 0
+  Inside line place running (Create table) = Refuses E09
+  Inside line place running Begin = Refuses E09
+  Inside line place running Commit = Commits line place running
+  Inside line place running Rollback =
+      Clears old new place (Ended line (suc place) RolledBack running.active.t) × (answer ≡ reply.RolledBack running.active.t)
+  Inside line place running (Run command) = Runs line place running command
 
   -- an action in a session with this transaction, or without one
-  abbrev pub DoesAt : ℕ → Option Running → Action → Type 0
-  DoesAt place None action = Outside place action
-  DoesAt place (Some running) action = Inside place running action
+  abbrev pub DoesAt : ℕ → ℕ → Option Running → Action → Type 0
+  DoesAt line place None action = Outside line place action
+  DoesAt line place (Some running) action = Inside line place running action

@@ -1,19 +1,23 @@
 //! The end of a transaction.
 
-ghost use Rattle.std.specs.Prelude.{◌≡◌, ℕ, ◌-◌, ◌<◌, ◌≤◌, ◌^◌, ◌++◌, ◌∷◌, [], suc, IfErr, IfOk, OnErr, OnOk, Some, length, slice_index_or, None};
+ghost use Rattle.std.specs.Prelude.{◌≡◌, ℕ, ◌<◌, ◌≤◌, suc, true, IfErr, IfOk, OnErr, OnOk, Some, length, slice_index_or, None};
 ghost use Rattle.gp_txn.specs.Committing as txn;
 ghost use Rattle.gp_txn.specs.Committing.{HasCause, lates_of, spans_left};
 ghost use Rattle.gp_base.specs.declared.catalog.TheConstants.{MAX_TABLES};
+ghost use Rattle.gp_log.specs.Kinds.{ends};
+ghost use Rattle.gp_log.specs.Logs.{what_view};
+ghost use Rattle.gp_machine.specs.Entries.{RolledBack, Lost, Ended, committer_of};
 ghost use Rattle.gp_machine.specs.Event.{name_at};
 ghost use Rattle.gp_txn.specs.Overlay.{HoldsOthers, HoldsOwn, table_at};
 ghost use Rattle.gp_versions.specs.Commits.{AreBelow};
-ghost use Rattle.gp_engine.specs.Engine.{IsEngine, IsUnchanged};
-ghost use Rattle.gp_engine.specs.Methods.{Commits, Ends, IsConflictBelow, Stops};
+ghost use Rattle.gp_engine.specs.Engine.{IsEngine, IsUnchanged, entries_of, newest_of, tables_of};
+ghost use Rattle.gp_engine.specs.Methods.{Clears, Commits, HasPlace, IsConflictBelow, Stops};
 ghost use Rattle.gp_engine.specs.declared.running.Running as spec;
 
 use crate::running::Running;
 use crate::state::State;
 use gp_base::{Limit, NoMemory, Refusal, RowId};
+use gp_log::What;
 use gp_machine::Reply;
 use gp_txn::CommitStop;
 use gp_versions::VersionTable;
@@ -37,65 +41,8 @@ fn commit(running: &Running, versions: &mut [VersionTable], version: u32) -> Res
 }
 
 impl State {
-    /// ROLLBACK: the writes of the transaction are gone.
-    pub fn roll_back(&mut self, place: usize) -> Reply
-        requires { place < 64 }
-        ensures { (running : spec.Running)
-            → slice_index_or self.old.sessions place None ≡ Some running
-            → Ends self.old self.new result place (Reply.RolledBack running.active.t) }
-    {
-        let t = match &self.sessions[place] {
-            Some(running) => running.active.t(),
-            None => 0,
-        };
-        self.sessions[place] = None;
-        Reply::RolledBack { t }
-    }
-
-    /// The refusal of a commit that is lost to a version.
-    fn lost(&self, t: u32, version: u32, table: u32, id: RowId) -> Result<Refusal, NoMemory>
-        requires version { 1 ≤ version }
-        requires made { version ≤ length self.now.committers }
-        requires table { table < length self.now.tables }
-        ensures { IfOk result (λ refusal. refusal ≡ Refusal.E11
-            t (slice_index_or self.now.committers (version - 1) 0)
-            (name_at table self.now.tables) id) }
-    {
-        let other = self.committers[version as usize - 1];
-        let table = self.catalog.table(table).name.clone()?;
-        Ok(Refusal::E11 {
-            t,
-            other,
-            table,
-            id,
-        })
-    }
-
-    /// A commit that is lost ends its transaction.
-    fn lose(
-        &mut self,
-        place: usize,
-        t: u32,
-        version: u32,
-        table: u32,
-        id: RowId,
-    ) -> Result<Reply, NoMemory>
-        requires place { place < 64 }
-        requires first { 1 ≤ version }
-        requires made { version ≤ length self.old.committers }
-        requires table { table < length self.old.tables }
-        ensures ok { IfOk result (λ reply. Ends self.old self.new reply place
-            (Reply.Refused (Refusal.E11 t (slice_index_or self.old.committers (version - 1) 0)
-            (name_at table self.old.tables) id))) }
-        ensures err { OnErr result (self.new ≡ self.old) }
-    {
-        let refusal = self.lost(t, version, table, id)?;
-        self.sessions[place] = None;
-        Ok(Reply::Refused(refusal))
-    }
-
     /// The number of the transaction at a place, or 0 if there is none.
-    fn number(&self, place: usize) -> u32
+    pub fn number(&self, place: usize) -> u32
         requires { place < 64 }
         ensures number { (running : spec.Running)
             → slice_index_or self.now.sessions place None ≡ Some running
@@ -108,6 +55,91 @@ impl State {
             Some(running) => running.active.t(),
             None => 0,
         }
+    }
+
+    /// Ends the transaction at a place. The log has a place for that, so memory does not run out.
+    fn end(&mut self, line: u32, place: usize, t: u32, what: What)
+        requires place { place < 64 }
+        requires room { HasPlace self.old.log }
+        requires end { ends what ≡ true }
+        ensures { Clears self.old self.new place (what_view line (suc place) t what) }
+    {
+        match self.append(line, place, t, what) {
+            Ok(()) => {}
+            Err(_) => unreachable!(),
+        }
+        self.sessions[place] = None;
+    }
+
+    /// ROLLBACK: the writes of the transaction are gone.
+    pub fn roll_back(&mut self, line: u32, place: usize) -> Reply
+        requires place { place < 64 }
+        requires room { HasPlace self.old.log }
+        ensures ended { (running : spec.Running)
+            → slice_index_or self.old.sessions place None ≡ Some running
+            → Clears self.old self.new place (Ended line (suc place) RolledBack running.active.t) }
+        ensures reply { (running : spec.Running)
+            → slice_index_or self.old.sessions place None ≡ Some running
+            → result ≡ Reply.RolledBack running.active.t }
+    {
+        let t = self.number(place);
+        self.end(line, place, t, What::Rollback);
+        Reply::RolledBack { t }
+    }
+
+    /// The transaction that made a version.
+    fn maker(&self, version: u32) -> u32
+        requires first { 1 ≤ version }
+        requires made { version ≤ newest_of self.now }
+        ensures { result ≡ committer_of version (entries_of self.now) }
+    {
+        match self.log.committer(version) {
+            Some(t) => t,
+            None => unreachable!(),
+        }
+    }
+
+    /// The refusal of a commit that is lost to a version.
+    fn lost(&self, t: u32, version: u32, table: u32, id: RowId) -> Result<Refusal, NoMemory>
+        requires version { 1 ≤ version }
+        requires made { version ≤ newest_of self.now }
+        requires table { table < length (tables_of self.now) }
+        ensures { IfOk result (λ refusal. refusal ≡ Refusal.E11
+            t (committer_of version (entries_of self.now)) (name_at table (tables_of self.now)) id) }
+    {
+        let other = self.maker(version);
+        let table = self.log.catalog().table(table).name.clone()?;
+        Ok(Refusal::E11 {
+            t,
+            other,
+            table,
+            id,
+        })
+    }
+
+    /// A commit that is lost ends its transaction.
+    fn lose(
+        &mut self,
+        line: u32,
+        place: usize,
+        t: u32,
+        version: u32,
+        table: u32,
+        id: RowId,
+    ) -> Result<Reply, NoMemory>
+        requires place { place < 64 }
+        requires room { HasPlace self.old.log }
+        requires first { 1 ≤ version }
+        requires made { version ≤ newest_of self.old }
+        requires table { table < length (tables_of self.old) }
+        ensures ended { OnOk result (Clears self.old self.new place (Ended line (suc place) Lost t)) }
+        ensures reply { IfOk result (λ reply. reply ≡ Reply.Refused (Refusal.E11 t
+            (committer_of version (entries_of self.old)) (name_at table (tables_of self.old)) id)) }
+        ensures err { OnErr result (self.new ≡ self.old) }
+    {
+        let refusal = self.lost(t, version, table, id)?;
+        self.end(line, place, t, What::Lost);
+        Ok(Reply::Refused(refusal))
     }
 
     /// Makes a version of the writes of the transaction at a place.
@@ -128,7 +160,8 @@ impl State {
             (spans_left running.active self.old.versions)) }
         ensures bounds { IfErr result (IsConflictBelow version (length self.old.versions)) }
         ensures unchanged { OnErr result (IsUnchanged self.old self.new) }
-        ensures others { self.new ≡ record self.old { versions = self.new.versions } }
+        ensures log { self.new.log ≡ self.old.log }
+        ensures sessions { self.new.sessions ≡ self.old.sessions }
         ensures count { length self.new.versions ≡ length self.old.versions }
     {
         // A session and the versions cannot be lent at once out of `self`.
@@ -142,15 +175,18 @@ impl State {
     }
 
     /// Refuses a commit that was stopped, or ends its transaction.
-    fn stop(&mut self, place: usize, t: u32, stop: CommitStop) -> Result<Reply, NoMemory>
+    fn stop(&mut self, line: u32, place: usize, t: u32, stop: CommitStop) -> Result<Reply, NoMemory>
         requires place { place < 64 }
+        requires room { HasPlace self.old.log }
         requires conflict { IsConflictBelow
-            (suc (length self.old.committers)) (length self.old.tables) stop }
-        ensures ok { IfOk result (λ reply. Stops self.old self.new reply place t stop) }
+            (suc (newest_of self.old)) (length (tables_of self.old)) stop }
+        ensures ok { IfOk result (λ reply. Stops self.old self.new reply line place t stop) }
         ensures err { OnErr result (self.new ≡ self.old) }
     {
         match stop {
-            CommitStop::Conflict { version, table, id } => self.lose(place, t, version, table, id),
+            CommitStop::Conflict { version, table, id } => {
+                self.lose(line, place, t, version, table, id)
+            }
             CommitStop::Full => Ok(Reply::Refused(Refusal::E14 {
                 limit: Limit::Versions,
             })),
@@ -158,72 +194,25 @@ impl State {
         }
     }
 
-    /// The number of the next version. Versions that 32 bits cannot number run out of memory.
-    fn next_version(&self) -> Result<u32, NoMemory>
-        ensures next { IfOk result (λ version. version ≡ suc (length self.now.committers)) }
-        ensures numbers { OnOk result (suc (length self.now.committers) < 2 ^ 32) }
-    {
-        match u32::try_from(self.committers.len()) {
-            Ok(versions) if versions < u32::MAX => Ok(versions + 1),
-            _ => Err(NoMemory),
-        }
-    }
-
-    /// Makes a version of the writes of the transaction at a place, and notes its number.
-    fn publish_by(&mut self, place: usize, t: u32, version: u32) -> Result<(), CommitStop>
-        requires place { place < 64 }
-        requires few { length self.old.versions ≤ MAX_TABLES }
-        requires first { 1 ≤ version }
-        requires above { (table : ℕ) → AreBelow version (table_at table self.old.versions).spans }
-        requires others { (running : spec.Running)
-            → slice_index_or self.old.sessions place None ≡ Some running
-            → HoldsOthers running.active.t self.old.versions }
-        ensures ok { OnOk result ((running : spec.Running)
-            → slice_index_or self.old.sessions place None ≡ Some running
-            → txn.Commits version running.active self.old.versions self.new.versions) }
-        ensures published { OnOk result (self.new ≡ record self.old {
-          versions = self.new.versions;
-          committers = self.old.committers ++ t ∷ [];
-        }) }
-        ensures cause { IfErr result (λ stop. (running : spec.Running)
-            → slice_index_or self.old.sessions place None ≡ Some running
-            → HasCause stop (length self.old.versions) (lates_of running.active self.old.versions)
-            (spans_left running.active self.old.versions)) }
-        ensures bounds { IfErr result (IsConflictBelow version (length self.old.versions)) }
-        ensures unchanged { OnErr result (IsUnchanged self.old self.new) }
-        ensures tables { length self.new.versions ≡ length self.old.versions }
-    {
-        match self.committers.push(t) {
-            Ok(()) => {}
-            Err(_) => return Err(CommitStop::NoMemory),
-        }
-        let result = self.publish(place, version);
-        if result.is_err() {
-            self.committers.pop();
-        }
-        result
-    }
-
     /// COMMIT: makes the next version, unless a later commit wrote a row of the transaction, or the row versions would be too
     /// many. A commit that is lost ends its transaction too.
-    pub fn commit(&mut self, place: usize) -> Result<Reply, NoMemory>
+    pub fn commit(&mut self, line: u32, place: usize) -> Result<Reply, NoMemory>
         requires place { place < 64 }
         requires engine { IsEngine self.old }
-        requires few { length self.old.tables ≤ MAX_TABLES }
+        requires room { HasPlace self.old.log }
         ensures ok { IfOk result (λ reply. (running : spec.Running)
             → slice_index_or self.old.sessions place None ≡ Some running
-            → Commits self.old self.new reply place running) }
-        ensures numbers { OnOk result (length self.new.committers < 2 ^ 32) }
+            → Commits self.old self.new reply line place running) }
         ensures err { OnErr result (IsUnchanged self.old self.new) }
     {
-        let version = self.next_version()?;
+        let version = self.log.commits() + 1;
         let t = self.number(place);
-        match self.publish_by(place, t, version) {
+        match self.publish(place, version) {
             Ok(()) => {
-                self.sessions[place] = None;
+                self.end(line, place, t, What::Commit);
                 Ok(Reply::Committed { t, version })
             }
-            Err(stop) => self.stop(place, t, stop),
+            Err(stop) => self.stop(line, place, t, stop),
         }
     }
 }

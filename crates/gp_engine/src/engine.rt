@@ -1,18 +1,20 @@
 //! The engine.
 
-ghost use Rattle.std.specs.Prelude.{◌≡◌, ◌≤◌, true, false, IfOk, OnErr};
+ghost use Rattle.std.specs.Prelude.{◌≡◌, ◌≤◌, true, false, length, IfOk, OnErr};
 ghost use Rattle.gp_machine.specs.Actions.{action_of};
 ghost use Rattle.gp_machine.specs.Recorded.{is_recorded};
 ghost use Rattle.gp_check.specs.Valid.{is_valid};
 ghost use Rattle.gp_grammar.specs.declared.limits.TheConstants.{MAX_SESSION};
 ghost use Rattle.gp_machine.specs.State.{start};
 ghost use Rattle.gp_syntax.specs.Views.{command_view};
-ghost use Rattle.gp_engine.specs.Engine.{Follows, IsEngineOf, IsUnchanged};
+ghost use Rattle.gp_engine.specs.Engine.{Follows, IsEngineOf, IsUnchanged, tables_of};
 
 use crate::state::State;
 use gp_base::{Catalog, NoMemory};
+use gp_log::Log;
 use gp_machine::Reply;
 use gp_syntax::Command;
+use gp_versions::VersionTable;
 use std::alloc::Global;
 use std::marker::Model;
 
@@ -45,27 +47,43 @@ impl Engine {
         }
     }
 
-    /// The tables, in order of creation.
-    pub fn catalog(&self) -> &Catalog
-        ensures { result.now ≡ self.now.tables }
+    /// The accepted lines.
+    pub fn log(&self) -> &Log
+        ensures { result.now ≡ self.now.log }
     {
-        &self.state.catalog
+        &self.state.log
     }
 
-    /// Runs the command of a line in a session, numbered from 1, and gives the reply. The command was read, so it is valid
-    /// ([`gp_check::read_lines_are_valid`]). A line that is refused leaves the rows of every version and all transactions
-    /// unchanged, unless it is a COMMIT that is lost, which ends its transaction; so does running out of memory, in any line
-    /// but a ROLLBACK.
-    pub fn line(&mut self, session: u32, command: &Command) -> Result<Reply, NoMemory>
+    /// The tables, in order of creation.
+    pub fn catalog(&self) -> &Catalog
+        ensures { result.now ≡ tables_of self.now }
+    {
+        self.state.log.catalog()
+    }
+
+    /// The row versions of each table, in order of creation.
+    pub fn versions(&self) -> &[VersionTable]
+        ensures versions { result.now ≡ self.now.versions }
+        ensures tables { length self.now.versions ≡ length (tables_of self.now) }
+    {
+        &self.state.versions
+    }
+
+    /// Runs the command of a line in a session, numbered from 1, and gives the reply. The log keeps the line's number and the
+    /// command, if the line is accepted. The command was read, so it is valid ([`gp_check::read_lines_are_valid`]). A line that
+    /// is refused leaves the log, the rows of every version and all transactions unchanged, unless it is a COMMIT that is lost,
+    /// which ends its transaction; so does running out of memory, in any line but a ROLLBACK.
+    pub fn line(&mut self, line: u32, session: u32, command: Command) -> Result<Reply, NoMemory>
         requires first { 1 ≤ session }
         requires last { session ≤ MAX_SESSION }
-        requires valid { is_valid (command_view command.now) ≡ true }
-        ensures follows { IfOk result (Follows self.old self.new session (command_view command.now)) }
+        requires valid { is_valid (command_view command) ≡ true }
+        ensures follows { IfOk result
+            (Follows self.old self.new line session (command_view command)) }
         ensures unrecorded { IfOk result (λ reply.
-            is_recorded (action_of (command_view command.now)) reply ≡ false
+            is_recorded (action_of (command_view command)) reply ≡ false
             → IsUnchanged self.old self.new) }
         ensures err { OnErr result (IsUnchanged self.old self.new) }
     {
-        self.state.line(session as usize - 1, command)
+        self.state.line(line, session as usize - 1, command)
     }
 }

@@ -1,11 +1,12 @@
 //! One line of a session.
 
-ghost use Rattle.std.specs.Prelude.{◌≡◌, ◌<◌, suc, true, None, Some, IfOk, OnErr, slice_index_or};
+ghost use Rattle.std.specs.Prelude.{◌≡◌, ◌<◌, true, false, None, Some, IfOk, OnErr, IsSome, slice_index_or};
+ghost use Rattle.gp_check.specs.Checking.{is_statement};
 ghost use Rattle.gp_check.specs.Valid.{is_valid};
 ghost use Rattle.gp_machine.specs.Actions.{action_of};
 ghost use Rattle.gp_syntax.specs.Views.{command_view};
 ghost use Rattle.gp_engine.specs.Engine.{IsEngine, IsUnchanged};
-ghost use Rattle.gp_engine.specs.Methods.{DoesAt, Inside, Outside};
+ghost use Rattle.gp_engine.specs.Methods.{DoesAt, HasPlace, Inside, Outside};
 ghost use Rattle.gp_engine.specs.declared.running.Running as spec;
 
 use crate::state::State;
@@ -13,55 +14,94 @@ use gp_base::{NoMemory, Refusal};
 use gp_machine::Reply;
 use gp_syntax::Command;
 
+/// Whether a command is a statement.
+fn is_statement(command: &Command) -> bool
+    ensures { result ≡ is_statement (command_view command.now) }
+{
+    match command {
+        Command::Create { .. } | Command::Begin | Command::Commit | Command::Rollback => false,
+        _ => true,
+    }
+}
+
 impl State {
     /// A command in a session without a transaction.
-    fn outside(&mut self, place: usize, command: &Command) -> Result<Reply, NoMemory>
+    fn outside(&mut self, line: u32, place: usize, command: &Command) -> Result<Reply, NoMemory>
         requires place { place < 64 }
         requires engine { IsEngine self.old }
         ensures ok { IfOk result (λ reply.
-            Outside self.old self.new reply place (action_of (command_view command.now))) }
-        ensures err { OnErr result (IsUnchanged self.old self.new) }
+            Outside self.old self.new reply line place (action_of (command_view command.now))) }
+        ensures err { OnErr result (self.new ≡ self.old) }
     {
         match command {
-            Command::Create { table } => self.create(table),
-            Command::Begin => Ok(self.begin(place)),
+            Command::Create { table } => self.create(line, place, table),
+            Command::Begin => self.begin(line, place),
             _ => Ok(Reply::Refused(Refusal::E10)),
         }
     }
 
-    /// A command in a session with a transaction.
-    fn inside(&mut self, place: usize, command: &Command) -> Result<Reply, NoMemory>
+    /// A command that is no statement, in a session with a transaction.
+    fn inside(&mut self, line: u32, place: usize, command: &Command) -> Result<Reply, NoMemory>
         requires place { place < 64 }
         requires engine { IsEngine self.old }
-        requires valid { is_valid (command_view command.now) ≡ true }
+        requires room { HasPlace self.old.log }
+        requires other { is_statement (command_view command.now) ≡ false }
         ensures ok { IfOk result (λ reply. (running : spec.Running)
             → slice_index_or self.old.sessions place None ≡ Some running
-            → Inside self.old self.new reply place running (action_of (command_view command.now))) }
+            → Inside self.old self.new reply line place running
+            (action_of (command_view command.now))) }
         ensures err { OnErr result (IsUnchanged self.old self.new) }
     {
         match command {
             Command::Create { .. } => Ok(Reply::Refused(Refusal::E09)),
             Command::Begin => Ok(Reply::Refused(Refusal::E09)),
-            Command::Commit => self.commit(place),
-            Command::Rollback => Ok(self.roll_back(place)),
-            _ => self.statement(place, command),
+            Command::Commit => self.commit(line, place),
+            Command::Rollback => Ok(self.roll_back(line, place)),
+            _ => unreachable!(),
         }
     }
 
-    /// A command in the session at a place.
-    pub fn line(&mut self, place: usize, command: &Command) -> Result<Reply, NoMemory>
+    /// A command in a session without a transaction, or one that is no statement.
+    fn control(&mut self, line: u32, place: usize, command: &Command) -> Result<Reply, NoMemory>
         requires place { place < 64 }
         requires engine { IsEngine self.old }
-        requires valid { is_valid (command_view command.now) ≡ true }
-        ensures ok { IfOk result (λ reply. DoesAt self.old self.new reply place
-            (slice_index_or self.old.sessions place None)
-            (action_of (command_view command.now))) }
+        requires other { IsSome (slice_index_or self.old.sessions place None)
+            → is_statement (command_view command.now) ≡ false }
+        ensures ok { IfOk result (λ reply. DoesAt self.old self.new reply line place
+            (slice_index_or self.old.sessions place None) (action_of (command_view command.now))) }
         ensures err { OnErr result (IsUnchanged self.old self.new) }
     {
         if self.sessions[place].is_some() {
-            self.inside(place, command)
+            self.inside(line, place, command)
         } else {
-            self.outside(place, command)
+            self.outside(line, place, command)
+        }
+    }
+
+    /// Whether a command is a statement in a session with a transaction.
+    fn runs(&self, place: usize, command: &Command) -> bool
+        requires place { place < 64 }
+        ensures there { result ≡ true → IsSome (slice_index_or self.now.sessions place None) }
+        ensures statement { result ≡ true → is_statement (command_view command.now) ≡ true }
+        ensures other { result ≡ false → IsSome (slice_index_or self.now.sessions place None)
+            → is_statement (command_view command.now) ≡ false }
+    {
+        self.sessions[place].is_some() && is_statement(command)
+    }
+
+    /// A command in the session at a place.
+    pub fn line(&mut self, line: u32, place: usize, command: Command) -> Result<Reply, NoMemory>
+        requires place { place < 64 }
+        requires engine { IsEngine self.old }
+        requires valid { is_valid (command_view command) ≡ true }
+        ensures ok { IfOk result (λ reply. DoesAt self.old self.new reply line place
+            (slice_index_or self.old.sessions place None) (action_of (command_view command))) }
+        ensures err { OnErr result (IsUnchanged self.old self.new) }
+    {
+        if self.runs(place, &command) {
+            self.statement(line, place, command)
+        } else {
+            self.control(line, place, &command)
         }
     }
 }

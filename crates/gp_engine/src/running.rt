@@ -8,19 +8,20 @@ ghost use Rattle.gp_algebra.specs.Fitting.{statement_fits};
 ghost use Rattle.gp_algebra.specs.Views.{select_view, statement_view};
 ghost use Rattle.gp_check.specs.Checking.{checked, is_statement};
 ghost use Rattle.gp_check.specs.Valid.{is_valid, tables_are_valid};
+ghost use Rattle.gp_check.specs.Views.{Checks};
 ghost use Rattle.gp_machine.specs.Event.{count_refusal, name_at, target_of};
 ghost use Rattle.gp_syntax.specs.Views.{command_view};
 ghost use Rattle.gp_txn.specs.Applying.{is_applicable, is_readable};
 ghost use Rattle.gp_txn.specs.Overlay.{HoldsOthers};
-ghost use Rattle.gp_engine.specs.Limits.{limits};
-ghost use Rattle.gp_engine.specs.Methods.{Applies, Runs, refusal_in};
-ghost use Rattle.gp_engine.specs.declared.limit.TheConstants.{MAX_STATEMENTS, MAX_STEPS};
+ghost use Rattle.gp_log.specs.Limits.{limits};
+ghost use Rattle.gp_engine.specs.Methods.{Applies, meaning_of, refusal_in};
+ghost use Rattle.gp_log.specs.declared.limit.TheConstants.{MAX_STATEMENTS, MAX_STEPS};
 
-use crate::limit::{MAX_STATEMENTS, MAX_STEPS};
 use gp_algebra::{Select, Stmt};
 use gp_base::{Catalog, Limit, NoMemory, Refusal};
 use gp_check::{CheckStop, check};
 use gp_exec::ChooseStop;
+use gp_log::{MAX_STATEMENTS, MAX_STEPS};
 use gp_machine::Reply;
 use gp_syntax::Command;
 use gp_txn::{Active, StmtStop};
@@ -132,7 +133,7 @@ impl Running {
     }
 
     /// A statement that was checked.
-    fn apply(
+    pub fn apply(
         &mut self,
         stmt: &Stmt,
         catalog: &Catalog,
@@ -156,34 +157,26 @@ impl Running {
         }
     }
 
-    /// A statement of the transaction, where the script has so many.
-    pub fn run(
-        &mut self,
+    /// Checks one more statement of the transaction, where the script has this many.
+    pub fn check(
+        &self,
         alloc: Global,
         command: &Command,
         all: u32,
         catalog: &Catalog,
-        versions: &[VersionTable],
-    ) -> Result<Reply, NoMemory>
-        requires few { length versions.now ≤ MAX_TABLES }
-        requires tables { length versions.now ≡ length catalog.now }
+    ) -> Result<Stmt, CheckStop>
         requires statement { is_statement (command_view command.now) ≡ true }
         requires valid { is_valid (command_view command.now) ≡ true }
         requires catalog { tables_are_valid catalog.now ≡ true }
-        requires last { self.old.active.last ≤ self.old.statements }
-        requires others { HoldsOthers self.old.active.t versions.now }
-        ensures ok { IfOk result (λ reply. Runs catalog.now versions.now self.old self.new reply
-            (count_refusal limits self.old.statements all)
+        ensures checked { Checks statement_view result (meaning_of
+            (count_refusal limits self.now.statements all)
             (checked catalog.now (command_view command.now))) }
-        ensures err { OnErr result (self.new ≡ self.old) }
+        ensures fits { IfOk result
+            (λ stmt. statement_fits catalog.now (statement_view stmt) ≡ true) }
     {
         if let Some(refusal) = count_refusal(self.statements, all) {
-            return Ok(Reply::Refused(refusal));
+            return Err(CheckStop::Refused(refusal));
         }
-        match check(alloc, catalog, command) {
-            Ok(stmt) => self.apply(&stmt, catalog, versions),
-            Err(CheckStop::Refused(refusal)) => Ok(Reply::Refused(refusal)),
-            Err(CheckStop::NoMemory) => Err(NoMemory),
-        }
+        check(alloc, catalog, command)
     }
 }

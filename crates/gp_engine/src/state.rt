@@ -1,9 +1,15 @@
 //! What the engine keeps.
 
-ghost use Rattle.std.specs.Prelude.{◌≡◌, ℕ, [], None, slice_index_or};
+ghost use Rattle.std.specs.Prelude.{◌≡◌, ℕ, ◌<◌, ◌-◌, ◌^◌, [], suc, true, length, None, OnErr, OnOk, IsOk, slice_index_or};
+ghost use Rattle.gp_log.specs.Kinds.{IsAddable, ends, is_statement};
+ghost use Rattle.gp_log.specs.LogFacts.{open_in};
+ghost use Rattle.gp_log.specs.Logs.{what_view};
+ghost use Rattle.gp_engine.specs.Engine.{entries_of, tables_of};
+ghost use Rattle.gp_engine.specs.Methods.{Appends};
 
 use crate::running::Running;
-use gp_base::Catalog;
+use gp_base::NoMemory;
+use gp_log::{Entry, Log, What};
 use gp_versions::VersionTable;
 use std::alloc::Global;
 use std::array;
@@ -13,11 +19,8 @@ use std::marker::Model;
 #[derive(Drop)]
 pub struct State {
     pub(crate) alloc: Global,
-    pub(crate) catalog: Catalog,
+    pub(crate) log: Log,
     pub(crate) versions: Vec<VersionTable>,
-    pub(crate) committers: Vec<u32>,
-    pub(crate) transactions: u32,
-    pub(crate) statements: u32,
     pub(crate) sessions: [Option<Running>; 64],
 }
 
@@ -29,14 +32,7 @@ impl Model for State {
 
     ghost coded = { engine_code };
 
-    ghost view = { λ a. record {
-      tables = a.catalog;
-      versions = a.versions.items;
-      committers = a.committers.items;
-      transactions = a.transactions;
-      statements = a.statements;
-      sessions = a.sessions;
-    } };
+    ghost view = { λ a. record { log = a.log; versions = a.versions.items; sessions = a.sessions } };
 }
 
 /// No transaction.
@@ -56,21 +52,34 @@ fn no_transactions() -> [Option<Running>; 64]
 impl State {
     /// The state before the first line.
     pub fn new(alloc: Global) -> State
-        ensures tables { result.tables ≡ [] }
+        ensures log { result.log.entries ≡ [] }
         ensures versions { result.versions ≡ [] }
-        ensures committers { result.committers ≡ [] }
-        ensures transactions { result.transactions ≡ 0 }
-        ensures statements { result.statements ≡ 0 }
         ensures sessions { (place : ℕ) → slice_index_or result.sessions place None ≡ None }
+        ensures places { length result.sessions ≡ 64 }
     {
         State {
             alloc,
-            catalog: Catalog::new(alloc),
+            log: Log::new(alloc),
             versions: Vec::new(alloc),
-            committers: Vec::new(alloc),
-            transactions: 0,
-            statements: 0,
             sessions: no_transactions(),
         }
+    }
+
+    /// Adds an accepted line of the session at a place to the log. If memory runs out, nothing changes.
+    pub fn append(&mut self, line: u32, place: usize, t: u32, what: What) -> Result<(), NoMemory>
+        requires place { place < 64 }
+        requires few { length self.old.log.entries < 2 ^ 32 - 1 }
+        requires new { IsAddable (tables_of self.old) what }
+        ensures ok { OnOk result (Appends self.old self.new (what_view line (suc place) t what)) }
+        ensures err { OnErr result (self.new ≡ self.old) }
+        ensures ends { ends what ≡ true → 0 < open_in (entries_of self.old) → IsOk result }
+        ensures ready { is_statement what ≡ true → self.old.log.ready ≡ true → IsOk result }
+    {
+        self.log.append(Entry {
+            line,
+            session: place as u32 + 1,
+            t,
+            what,
+        })
     }
 }

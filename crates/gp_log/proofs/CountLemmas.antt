@@ -3,7 +3,7 @@ use Rattle.std.proofs.Common.{◌≡◌, ◌≤◌, ◌∙◌, ℕ, suc, List, [
 use Rattle.std.specs.Prelude.{◌==◌, nat_le}
 use Rattle.std.proofs.lemmas.List.{length-reverse, length-map}
 use Rattle.gp_machine.specs.Entries as m
-use Rattle.gp_machine.specs.Entries.{transactions_in, statement_count, versions_in}
+use Rattle.gp_machine.specs.Entries.{statement_count, statements_in, transactions_in, versions_in}
 use Rattle.gp_log.specs.LogFacts.{ends_in, version_at}
 use Rattle.gp_log.specs.Logs.{entry_view, log_view}
 use Rattle.gp_log.specs.declared.entry.Entry.{Entry}
@@ -32,6 +32,14 @@ versions_in-most (m.Ran line session command t statement ∷ older) = omega (ari
 versions_in-most (m.Committed line session t ∷ older) = omega (arith, versions_in-most older)
 versions_in-most (m.Ended line session end t ∷ older) = omega (arith, versions_in-most older)
 
+statements_in-most : (log : List m.Entry) → statements_in log ≤ length log
+statements_in-most [] = omega arith
+statements_in-most (m.Created line session table ∷ older) = omega (arith, statements_in-most older)
+statements_in-most (m.Began line session t ∷ older) = omega (arith, statements_in-most older)
+statements_in-most (m.Ran line session command t statement ∷ older) = omega (arith, statements_in-most older)
+statements_in-most (m.Committed line session t ∷ older) = omega (arith, statements_in-most older)
+statements_in-most (m.Ended line session end t ∷ older) = omega (arith, statements_in-most older)
+
 statement_count-most : (t : ℕ) (log : List m.Entry) → statement_count t log ≤ length log
 statement_count-most t [] = omega arith
 statement_count-most t (m.Created line session table ∷ older) = omega (arith, statement_count-most t older)
@@ -54,7 +62,7 @@ version_at-most up_to (m.Committed line session t ∷ older) = elim (nat_le line
 ]
 version_at-most up_to (m.Ended line session end t ∷ older) = omega (arith, version_at-most up_to older)
 
-log_view-length : (entries : List Entry) → length (log_view entries) ≡ length entries
+pub log_view-length : (entries : List Entry) → length (log_view entries) ≡ length entries
 log_view-length entries = length-map (reverse entries) entry_view ∙ length-reverse entries
 
 pub begun-few : (entries : List Entry) → transactions_in (log_view entries) ≤ length entries
@@ -65,6 +73,9 @@ ended-few entries = omega (arith, ends_in-most (log_view entries), log_view-leng
 
 pub commits-few : (entries : List Entry) → versions_in (log_view entries) ≤ length entries
 commits-few entries = omega (arith, versions_in-most (log_view entries), log_view-length entries)
+
+pub ran-few : (entries : List Entry) → statements_in (log_view entries) ≤ length entries
+ran-few entries = omega (arith, statements_in-most (log_view entries), log_view-length entries)
 
 pub statements-few : (t : ℕ) (entries : List Entry) → statement_count t (log_view entries) ≤ length entries
 statements-few t entries = omega (arith, statement_count-most t (log_view entries), log_view-length entries)

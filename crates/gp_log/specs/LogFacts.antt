@@ -1,5 +1,5 @@
 -- Part of the statement: the tables of a log, its transactions that have ended and that have not, and its commits up to a line.
-use Rattle.std.specs.Prelude.{ℕ, zero, suc, ◌-◌, ◌&&◌, nat_le, nat_lt, Bool, List, [], ◌∷◌, ◌++◌, Option, Some, None, if◌then◌else◌}
+use Rattle.std.specs.Prelude.{ℕ, zero, suc, ◌-◌, ◌&&◌, nat_le, nat_lt, List, [], ◌∷◌, ◌++◌, Option, Some, None, if◌then◌else◌}
 use Rattle.gp_base.specs.declared.table.Table.{Table}
 use Rattle.gp_machine.specs.Entries.{Entry, Created, Began, Ran, Committed, Ended, transactions_in}
 

@@ -1,6 +1,5 @@
 -- Part of the statement: a log of the code as the log of the history machine.
 use Rattle.std.specs.Prelude.{ℕ, Bool, List, map, reverse}
-use Rattle.gp_base.specs.declared.table.Table.{Table}
 use Rattle.gp_syntax.specs.Views.{command_view}
 use Rattle.gp_algebra.specs.Views.{statement_view}
 use Rattle.gp_machine.specs.Entries as m

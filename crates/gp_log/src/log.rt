@@ -1,12 +1,12 @@
 //! The log.
 
-ghost use Rattle.std.specs.Prelude.{◌≡◌, ◌<◌, ◌-◌, ◌^◌, ◌++◌, ◌∷◌, [], OnOk, OnErr, IsOk, if◌then◌else◌, true, false, length, slice_get, Some};
+ghost use Rattle.std.specs.Prelude.{◌≡◌, ◌<◌, ◌≤◌, ◌+◌, ◌-◌, ◌^◌, ◌++◌, ◌∷◌, [], OnOk, OnErr, IsOk, if◌then◌else◌, true, false, length, slice_get, vec_capacity, vec_len, Some};
 ghost use Rattle.std.specs.Option.{option_map};
 ghost use Rattle.gp_algebra.specs.Views.{statement_view};
 ghost use Rattle.gp_log.specs.LogFacts.{numbered, open_in, tables_in, version_at};
 ghost use Rattle.gp_log.specs.Logs.{log_view};
 ghost use Rattle.gp_log.specs.Kinds.{begins, commits, created_by, creates, ends, is_statement, IsAddable};
-ghost use Rattle.gp_machine.specs.Entries.{begin_version, committer_of, fate_of, statement_at, statement_count, transactions_in, versions_in};
+ghost use Rattle.gp_machine.specs.Entries.{begin_version, committer_of, fate_of, statement_at, statement_count, statements_in, transactions_in, versions_in};
 
 use crate::entry::{Entry, What};
 use crate::facts;
@@ -24,6 +24,7 @@ pub struct Log {
     begun: u32,
     ended: u32,
     commits: u32,
+    statements: u32,
     ready: bool,
 }
 
@@ -32,7 +33,7 @@ impl Model for Log {
     ghost use Rattle.gp_log.specs.LogFacts.{ends_in, tables_in};
     ghost use Rattle.gp_log.specs.LogCode.{logged_code};
     ghost use Rattle.gp_log.specs.Logs.{Logged, log_view};
-    ghost use Rattle.gp_machine.specs.Entries.{transactions_in, versions_in};
+    ghost use Rattle.gp_machine.specs.Entries.{statements_in, transactions_in, versions_in};
 
     ghost Value = { Logged };
 
@@ -43,6 +44,7 @@ impl Model for Log {
     ghost invariant = { λ a. (a.begun ≡ transactions_in (log_view a.entries.items))
         × (a.ended ≡ ends_in (log_view a.entries.items))
         × (a.commits ≡ versions_in (log_view a.entries.items))
+        × (a.statements ≡ statements_in (log_view a.entries.items))
         × (a.catalog ≡ tables_in (log_view a.entries.items))
         × (vec_len a.entries < 2 ^ 32)
         × (vec_len a.entries + (a.begun - a.ended) + (if a.ready then 1 else 0) ≤ vec_capacity a.entries) };
@@ -78,6 +80,16 @@ fn committed_by(what: &What) -> u32
     }
 }
 
+/// 1 where the entry is a statement.
+fn ran_by(what: &What) -> u32
+    ensures { result ≡ if is_statement what.now then 1 else 0 }
+{
+    match what {
+        What::Statement { .. } => 1,
+        _ => 0,
+    }
+}
+
 /// Adds the table of an entry to the catalogue, if it creates one.
 fn add_created(catalog: &mut Catalog, what: &What) -> Result<(), NoMemory>
     requires { IsAddable catalog.old what.now }
@@ -95,6 +107,29 @@ fn add_created(catalog: &mut Catalog, what: &What) -> Result<(), NoMemory>
     }
 }
 
+/// Makes room for one more entry and for this many ends behind it, and adds the table of the entry to the catalogue, if it
+/// creates one. What fails here borrows the entry: an entry has many parts, and each way out that owns it lets them all go.
+fn prepare(
+    entries: &mut Vec<Entry>,
+    catalog: &mut Catalog,
+    left: usize,
+    what: &What,
+) -> Result<(), NoMemory>
+    requires few { left < 2 ^ 32 }
+    requires new { IsAddable catalog.old what.now }
+    ensures items { entries.new.items ≡ entries.old.items }
+    ensures len { vec_len entries.new ≡ vec_len entries.old }
+    ensures room { OnOk result (vec_len entries.new + (left + 1) ≤ vec_capacity entries.new) }
+    ensures capacity { vec_capacity entries.old ≤ vec_capacity entries.new }
+    ensures added { OnOk result (catalog.new ≡ catalog.old ++ created_by what.now) }
+    ensures err { OnErr result (catalog.new ≡ catalog.old) }
+    ensures succeeds { creates what.now ≡ false
+        → vec_len entries.old + (left + 1) ≤ vec_capacity entries.old → IsOk result }
+{
+    entries.reserve(left + 1)?;
+    add_created(catalog, what)
+}
+
 impl Log {
     /// An empty log, which takes no memory.
     pub fn new(alloc: Global) -> Log
@@ -107,6 +142,7 @@ impl Log {
             begun: 0,
             ended: 0,
             commits: 0,
+            statements: 0,
             ready: false,
         }
     }
@@ -135,7 +171,8 @@ impl Log {
 
     /// The transactions that have not ended.
     fn open(begun: u32, ended: u32) -> usize
-        ensures { result ≡ begun - ended }
+        ensures count { result ≡ begun - ended }
+        ensures few { result < 2 ^ 32 }
     {
         begun.saturating_sub(ended) as usize
     }
@@ -168,13 +205,14 @@ impl Log {
         let begun = self.begun + begun_by(&entry.what);
         let ended = self.ended + ended_by(&entry.what);
         let commits = self.commits + committed_by(&entry.what);
+        let statements = self.statements + ran_by(&entry.what);
         let open = Log::open(begun, ended);
-        self.entries.reserve(open + 1)?;
-        add_created(&mut self.catalog, &entry.what)?;
+        prepare(&mut self.entries, &mut self.catalog, open, &entry.what)?;
         self.entries.push_reserved(entry);
         self.begun = begun;
         self.ended = ended;
         self.commits = commits;
+        self.statements = statements;
         self.ready = false;
         Ok(())
     }
@@ -186,6 +224,20 @@ impl Log {
         ensures { result ≡ versions_in (log_view self.now.entries) }
     {
         self.commits
+    }
+
+    /// How many transactions began. They are numbered from 1.
+    pub fn transactions(&self) -> u32
+        ensures { result ≡ transactions_in (log_view self.now.entries) }
+    {
+        self.begun
+    }
+
+    /// The number of statements, of all transactions.
+    pub fn statements(&self) -> u32
+        ensures { result ≡ statements_in (log_view self.now.entries) }
+    {
+        self.statements
     }
 
     /// What has become of the transaction, or None if no transaction has this number.

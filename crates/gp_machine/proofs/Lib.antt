@@ -2,18 +2,18 @@ mod ActiveLemmas
 mod AnnotationLemmas
 mod CommitLemmas
 mod ConflictLemmas
-mod CountLemmas
-mod Distinct
+pub mod CountLemmas
+pub mod Distinct
 pub mod EngineLemmas
 pub mod FoundLemmas
 mod HeldPoints
 mod LeastLemmas
-mod LimitLemmas
+pub mod LimitLemmas
 mod LogLemmas
 mod Made
 mod PublishLemmas
 mod QuestionLemmas
-mod ReachedLemmas
+pub mod ReachedLemmas
 mod RecordedLemmas
 mod RepresentLemmas
 mod RunBags

@@ -13,7 +13,7 @@ use Rattle.gp_machine.specs.State.{State, start}
 use Rattle.gp_machine.specs.StateReannotation.{outcome_reannotated, state_reannotated}
 use Rattle.gp_machine.specs.declared.reply.Reply.{Reply}
 use Rattle.gp_machine.specs.declared.reply.Reply.TheVariants as reply
-use Rattle.gp_engine.specs.Limits.{limits}
+use Rattle.gp_log.specs.Limits.{limits}
 use Rattle.gp_script.specs.History.{NumberedReply, final_state, line_outcome, line_read, lines_read, outcome_of, replies_from, state_after}
 
 refused-unrecorded : (action : Action) (refusal : Refusal) → is_lost refusal ≡ false → is_recorded action (reply.Refused refusal) ≡ false

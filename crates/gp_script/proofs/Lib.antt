@@ -2,3 +2,4 @@ mod HistoryLemmas
 mod Progress
 mod ReadingLemmas
 mod ScriptLemmas
+mod ScriptLineLemmas

@@ -14,7 +14,7 @@ use Rattle.gp_machine.specs.Replies.{is_refusal}
 use Rattle.gp_machine.specs.State.{State, start}
 use Rattle.gp_machine.specs.declared.reply.Reply.{Reply}
 use Rattle.gp_machine.specs.declared.reply.Reply.TheVariants as reply
-use Rattle.gp_engine.specs.Engine.{Engine, Follows, IsEngineOf, IsUnchanged}
+use Rattle.gp_engine.specs.Engine.{Engine, Follows, IsEngineOf, IsUnchanged, tables_of}
 use Rattle.gp_script.specs.Answering.{FollowsLine, FollowsRead}
 use Rattle.gp_script.specs.History.{final_state, has_refusal, line_outcome, replies_from, replies_of, replies_text, state_after}
 use Rattle.gp_script.specs.Replies.{line_text}
@@ -29,20 +29,20 @@ on-err (Err e) p = p
 -- ---- one line
 
 -- a line that is refused for a fault in its text is refused by the history
-pub refused-read : (read : Result ScriptLine Fault) (refusal : Refusal) (engine : Engine) → refusal_in read ≡ Some refusal
-    → FollowsRead engine engine read (reply.Refused refusal)
-refused-read (Ok line) refusal engine fault = absurd cc
-refused-read (Err fault) refusal engine is =
+pub refused-read : (read : Result ScriptLine Fault) (refusal : Refusal) (engine : Engine) (number : ℕ) → refusal_in read ≡ Some refusal
+    → FollowsRead engine engine number read (reply.Refused refusal)
+refused-read (Ok line) refusal engine number fault = absurd cc
+refused-read (Err fault) refusal engine number is =
     let same : refusal_of fault ≡ refusal = cc in
-    record { reply = λ state number represented. ap reply.Refused (sym same); state = λ state number represented. represented }
+    record { reply = λ state represented. ap reply.Refused (sym same); state = λ state represented. represented }
 
 -- a line that is read is answered by the engine
-pub answered-read : (old new : Engine) (read : Result ScriptLine Fault) (line : ScriptLine) (answer : Reply) → read ≡ Ok line
-    → Follows old new line.session line.command answer → FollowsRead old new read answer
-answered-read old new (Err fault) line answer is follows = absurd cc
-answered-read old new (Ok other) line answer is follows =
+pub answered-read : (old new : Engine) (number : ℕ) (read : Result ScriptLine Fault) (line : ScriptLine) (answer : Reply) → read ≡ Ok line
+    → Follows old new number line.session line.command answer → FollowsRead old new number read answer
+answered-read old new number (Err fault) line answer is follows = absurd cc
+answered-read old new number (Ok other) line answer is follows =
     let same : other ≡ line = cc in
-    subst (λ (l : ScriptLine). FollowsRead old new (Ok l) answer) (sym same) (record { reply = follows.reply; state = follows.state })
+    subst (λ (l : ScriptLine). FollowsRead old new number (Ok l) answer) (sym same) (record { reply = follows.reply; state = follows.state })
 
 -- ---- a script
 
@@ -86,23 +86,23 @@ stops_before script engine new lines text refused way same =
 
 -- memory ran out after a line was answered
 pub stops_after : (script : List ℕ) (engine new : Engine) (line : ℕ × List ℕ) (lines : List (ℕ × List ℕ)) (text : List ℕ) (refused : Bool) (reply : Reply)
-    → IsProgress script engine (line ∷ lines) text refused → FollowsLine engine new line.1 reply → HasRun script new
+    → IsProgress script engine (line ∷ lines) text refused → FollowsLine engine new line.0 line.1 reply → HasRun script new
 stops_after script engine new line lines text refused reply way follows =
     let next : state_after plain start (way.before ++ line ∷ []) ≡ (line_outcome plain way.state line).0 =
     state-next start way.before line ∙ ap (λ (state : State (Unit {0})). (line_outcome plain state line).0) way.reached in
     run-part script new (way.before ++ line ∷ []) lines (append_assoc way.before (line ∷ []) lines ∙ way.all)
-    (subst (λ (state : State (Unit {0})). IsEngineOf new state) (sym next) (follows.state way.state line.0 way.represented))
+    (subst (λ (state : State (Unit {0})). IsEngineOf new state) (sym next) (follows.state way.state way.represented))
 
 -- one more line was answered
 pub goes_on : (script : List ℕ) (engine new : Engine) (line : ℕ × List ℕ) (lines : List (ℕ × List ℕ)) (text : List ℕ) (refused : Bool) (reply : Reply)
-    → IsProgress script engine (line ∷ lines) text refused → FollowsLine engine new line.1 reply
-    → IsProgress script new lines (text ++ line_text line.0 new.tables reply) (refused || is_refusal reply)
+    → IsProgress script engine (line ∷ lines) text refused → FollowsLine engine new line.0 line.1 reply
+    → IsProgress script new lines (text ++ line_text line.0 (tables_of new) reply) (refused || is_refusal reply)
 goes_on script engine new line lines text refused reply way follows =
     let outcome = line_outcome plain way.state line in
-    let reply_is : reply ≡ outcome.1 = follows.reply way.state line.0 way.represented in
-    let next : IsEngineOf new outcome.0 = follows.state way.state line.0 way.represented in
+    let reply_is : reply ≡ outcome.1 = follows.reply way.state way.represented in
+    let next : IsEngineOf new outcome.0 = follows.state way.state way.represented in
     let rest = replies_from plain outcome.0 lines in
-    let line-is : line_text line.0 new.tables reply ≡ line_text line.0 outcome.0.catalogue outcome.1 =
+    let line-is : line_text line.0 (tables_of new) reply ≡ line_text line.0 outcome.0.catalogue outcome.1 =
     ap (λ (t : List Table). line_text line.0 t reply) next.kept.catalogue ∙ ap (λ (r : Reply). line_text line.0 outcome.0.catalogue r) reply_is in
     record {
       state = outcome.0;
@@ -110,7 +110,7 @@ goes_on script engine new line lines text refused reply way follows =
       all = append_assoc way.before (line ∷ []) lines ∙ way.all;
       reached = state-next start way.before line ∙ ap (λ (state : State (Unit {0})). (line_outcome plain state line).0) way.reached;
       represented = next;
-      text_so_far = append_assoc text (line_text line.0 new.tables reply) (replies_text rest) ∙ ap (λ (l : List ℕ). text ++ (l ++ replies_text rest)) line-is ∙ way.text_so_far;
+      text_so_far = append_assoc text (line_text line.0 (tables_of new) reply) (replies_text rest) ∙ ap (λ (l : List ℕ). text ++ (l ++ replies_text rest)) line-is ∙ way.text_so_far;
       refused_so_far = or-again refused (is_refusal reply) (has_refusal rest) ∙ ap (λ (r : Reply). refused || (is_refusal r || has_refusal rest)) reply_is ∙ way.refused_so_far;
     }
 

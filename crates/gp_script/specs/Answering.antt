@@ -8,12 +8,12 @@ use Rattle.gp_machine.specs.declared.reply.Reply.{Reply}
 use Rattle.gp_engine.specs.Engine.{Engine, IsEngineOf}
 use Rattle.gp_script.specs.History.{outcome_of}
 
--- For every state that the engine represents, the reply to a line that is read as this is that of the history, and the engine represents the
--- next state of the history.
-pub record FollowsRead (old new : Engine) (read : Result ScriptLine Fault) (answer : Reply) : Type 0 where
-  pub reply : (state : State (Unit {0})) (number : ℕ) → IsEngineOf old state → answer ≡ (outcome_of plain state number read).1
-  pub state : (state : State (Unit {0})) (number : ℕ) → IsEngineOf old state → IsEngineOf new (outcome_of plain state number read).0
+-- For every state that the engine represents, the reply to a line of this number that is read as this is that of the history, and the engine
+-- represents the next state of the history.
+pub record FollowsRead (old new : Engine) (number : ℕ) (read : Result ScriptLine Fault) (answer : Reply) : Type 0 where
+  pub reply : (state : State (Unit {0})) → IsEngineOf old state → answer ≡ (outcome_of plain state number read).1
+  pub state : (state : State (Unit {0})) → IsEngineOf old state → IsEngineOf new (outcome_of plain state number read).0
 
 -- the same of the bytes of the line
-abbrev pub FollowsLine : Engine → Engine → List ℕ → Reply → Type 0
-FollowsLine old new bytes answer = FollowsRead old new (script_line_of bytes) answer
+abbrev pub FollowsLine : Engine → Engine → ℕ → List ℕ → Reply → Type 0
+FollowsLine old new number bytes answer = FollowsRead old new number (script_line_of bytes) answer

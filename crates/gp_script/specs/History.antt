@@ -14,7 +14,7 @@ use Rattle.gp_machine.specs.declared.reply.Reply.TheVariants as reply
 use Rattle.gp_machine.specs.Event.{Line, event}
 use Rattle.gp_machine.specs.Replies.{is_refusal}
 use Rattle.gp_machine.specs.State.{State, start}
-use Rattle.gp_engine.specs.Limits.{limits}
+use Rattle.gp_log.specs.Limits.{limits}
 use Rattle.gp_script.specs.Replies.{line_text}
 
 -- a reply, with the number of its line and the tables after that line

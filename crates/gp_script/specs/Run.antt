@@ -1,4 +1,4 @@
--- Part of the statement: the engine where a script stopped, since memory ran out.
+-- Machinery: the engine where a script stopped, since memory ran out.
 use Rattle.std.specs.Prelude.{ℕ, List, take}
 use Rattle.gp_base.specs.Annotated.{plain}
 use Rattle.gp_syntax.specs.Lines.{script_lines}

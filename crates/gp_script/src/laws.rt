@@ -1,6 +1,6 @@
 //! Laws of the histories of scripts. The functions do nothing: their postconditions are the laws, and they cite laws of the history machine.
 
-ghost use Rattle.std.specs.Prelude.{◌≡◌, ℕ, false, List, map};
+ghost use Rattle.std.specs.Prelude.{◌≡◌, ℕ, ◌≤◌, false, List, length, map};
 ghost use Rattle.gp_base.specs.Annotated.{Annotations, plain};
 ghost use Rattle.gp_base.specs.declared.refusal.Refusal.{Refusal};
 ghost use Rattle.gp_syntax.specs.Lines.{numbers_of, script_lines};
@@ -10,9 +10,11 @@ ghost use Rattle.gp_machine.specs.Recorded.{is_lost};
 ghost use Rattle.gp_machine.specs.State.{State, start};
 ghost use Rattle.gp_machine.specs.StateReannotation.{state_reannotated};
 ghost use Rattle.gp_machine.specs.declared.reply.Reply.TheVariants as reply;
-ghost use Rattle.gp_engine.specs.Limits.{limits};
+ghost use Rattle.gp_log.specs.Limits.{limits};
+ghost use Rattle.gp_log.specs.ScriptLines.{AreScriptLines};
 ghost use Rattle.gp_script.specs.History.{NumberedReply, final_state, line_outcome, lines_read, replies_from, replies_of};
 
+use crate::script::MAX_SCRIPT_LENGTH;
 use gp_machine::{accepted_lines_are_recorded, annotations_change_no_reply};
 
 /// Every line of a script that is neither blank nor a comment gets one reply, in order and with its number.
@@ -36,6 +38,13 @@ pub fn refused_lines_change_nothing<M>()
 pub fn scripts_lead_to_histories<M>()
     ensures reached { (kind : Annotations M) (script : List ℕ)
         → final_state kind script ≡ after kind limits start (lines_read (script_lines script)) }
+{}
+
+/// The lines of a script that were read are lines of a script for the history machine: their numbers rise from 1 at the least,
+/// and their commands are read again from their canonical texts. So the laws of logs and dumps hold of the state that it leaves.
+pub fn lines_of_scripts_are_script_lines()
+    ensures lines { (script : List ℕ) → length script ≤ MAX_SCRIPT_LENGTH
+        → AreScriptLines (lines_read (script_lines script)) }
 {}
 
 /// The replies do not depend on annotations, and the state without annotations is the one with them, when they are forgotten.

@@ -21,7 +21,7 @@ mod script;
 
 pub use display::write_reply;
 pub use laws::{
-    every_line_has_one_reply, refused_lines_change_nothing, replies_have_no_annotations,
-    scripts_lead_to_histories,
+    every_line_has_one_reply, lines_of_scripts_are_script_lines, refused_lines_change_nothing,
+    replies_have_no_annotations, scripts_lead_to_histories,
 };
 pub use script::{MAX_SCRIPT_LENGTH, Output, run_script};

@@ -27,13 +27,18 @@ pub struct Output {
     pub refused: bool,
 }
 
-/// Answers one line.
-fn answer_line(alloc: Global, engine: &mut Engine, bytes: &[u8]) -> Result<Reply, NoMemory>
-    ensures follows { IfOk result (FollowsLine engine.old engine.new bytes.now) }
+/// Answers the line of this number.
+fn answer_line(
+    alloc: Global,
+    engine: &mut Engine,
+    number: u32,
+    bytes: &[u8],
+) -> Result<Reply, NoMemory>
+    ensures follows { IfOk result (FollowsLine engine.old engine.new number bytes.now) }
     ensures err { OnErr result (IsUnchanged engine.old engine.new) }
 {
     match read_line(alloc, bytes) {
-        Ok(read) => engine.line(read.session, &read.command),
+        Ok(read) => engine.line(number, read.session, read.command),
         Err(ReadStop::Refused(refusal)) => Ok(Reply::Refused(refusal)),
         Err(ReadStop::NoMemory) => Err(NoMemory),
     }
@@ -56,7 +61,7 @@ pub fn run_script(alloc: Global, script: &[u8], engine: &mut Engine) -> Result<O
     let mut refused = false;
     let mut rest = lines(script);
     while let Some(line) = rest.next() {
-        let reply = answer_line(alloc, engine, line.bytes)?;
+        let reply = answer_line(alloc, engine, line.number, line.bytes)?;
         refused = refused | reply.is_refusal();
         write_reply(alloc, line.number, engine.catalog(), reply, &mut text)?;
     }

@@ -18,8 +18,9 @@ use gp_base::{NoMemory, RowId};
 use std::alloc::Global;
 use std::marker::Model;
 
-/// The row versions of a table, since its creation: its spans, in the order in which they began. Spans of one identity
-/// never overlap, so each version has at most one row of an identity, and each span holds at least one version.
+/// The row versions of a table, since its creation: its spans, in the order in which they began, or the order that
+/// [`VersionTable::from_spans`] was given. Spans of one identity never overlap, so each version has at most one row of an
+/// identity, and each span holds at least one version.
 #[derive(Drop)]
 pub struct VersionTable {
     spans: Vec<Span>,
@@ -50,6 +51,16 @@ impl VersionTable {
         VersionTable {
             spans: Vec::new(alloc),
         }
+    }
+
+    /// A table with these spans. Spans of one identity are in the order in which they began, and the spans of different
+    /// identities in any order.
+    pub fn from_spans(spans: Vec<Span>) -> VersionTable
+        requires apart { NoOverlap spans.items }
+        requires whole { AreWhole spans.items }
+        ensures spans { result.spans ≡ spans.items }
+    {
+        VersionTable { spans }
     }
 
     /// The number of spans.

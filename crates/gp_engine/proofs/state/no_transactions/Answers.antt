@@ -1,4 +1,4 @@
-use Rattle.std.proofs.Common.{ℕ, ◌≤◌, ◌<◌, inl, inr, None, rules}
+use Rattle.std.proofs.Common.{inl, inr, None, rules}
 use Rattle.std.proofs.lemmas.Bool.{cases_lt}
 use Rattle.std.proofs.lemmas.List.{get_or_past}
 use Rattle.gp_engine.proofs.state.no_transactions.Goals as goal

@@ -1,5 +1,5 @@
 use Rattle.gp_grammar.specs.LineReading.{script_line_of}
-use Rattle.gp_engine.specs.Limits.{limits}
+use Rattle.gp_log.specs.Limits.{limits}
 use Rattle.gp_script.proofs.HistoryLemmas.{refused-unchanged}
 use Rattle.gp_script.proofs.laws.refused_lines_change_nothing.Goals as goal
 

@@ -2,7 +2,7 @@ use Rattle.gp_base.specs.Annotated.{plain}
 use Rattle.gp_syntax.specs.Lines.{script_lines}
 use Rattle.gp_algebra.specs.Reannotation.{forgotten}
 use Rattle.gp_machine.specs.State.{start}
-use Rattle.gp_engine.specs.Limits.{limits}
+use Rattle.gp_log.specs.Limits.{limits}
 use Rattle.gp_script.specs.History.{lines_read}
 use Rattle.gp_script.proofs.HistoryLemmas.{forgetting, replies-same, states-same}
 use Rattle.gp_script.proofs.laws.replies_have_no_annotations.Goals as goal

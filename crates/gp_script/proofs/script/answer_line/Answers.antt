@@ -16,4 +16,4 @@ line-requires-clause-valid c = line-read c.args.bytes.now (line_view c.in-Ok.rea
 
 pub returns-in-Err-Refused-clause-follows : goal.returns-in-Err-Refused-clause-follows
 returns-in-Err-Refused-clause-follows c =
-    refused-read (script_line_of c.args.bytes.now) c.in-Err-Refused.refusal c.args.engine.now (rw c.in-Err-Refused.field-0-is at c.in-Err-Refused.ensures.exact)
+    refused-read (script_line_of c.args.bytes.now) c.in-Err-Refused.refusal c.args.engine.now c.args.number (rw c.in-Err-Refused.field-0-is at c.in-Err-Refused.ensures.exact)

@@ -1,9 +1,4 @@
-use Rattle.std.proofs.Common.{List, IfOk}
-use Rattle.gp_base.specs.declared.table.Table.{Table}
-use Rattle.gp_algebra.specs.Statements as s
 use Rattle.gp_algebra.specs.Views.{select_view, statement_view}
-use Rattle.gp_machine.specs.declared.reply.Reply.{Reply}
-use Rattle.gp_engine.specs.Methods.{Applies, refusal_in}
 use Rattle.gp_txn.proofs.FitLemmas.{select-readable, statement-applicable}
 use Rattle.gp_engine.proofs.FitLemmas.{not-read, ok-map}
 use Rattle.gp_engine.proofs.running.Running.apply.Goals as goal

@@ -1,13 +1,11 @@
-use Rattle.std.proofs.Common.{ap, ◌+◌, ◌∙◌}
-use Rattle.gp_engine.specs.Engine.{Engine}
-use Rattle.gp_engine.specs.Methods.{CountsAt, counted}
+use Rattle.gp_algebra.specs.Views.{statement_view}
+use Rattle.gp_check.specs.Checking.{checked}
+use Rattle.gp_syntax.specs.Views.{command_view}
+use Rattle.gp_engine.specs.Engine.{statements_of, tables_of}
+use Rattle.gp_engine.proofs.StatementLemmas.{few-steps}
 use Rattle.gp_engine.proofs.state.State.statement.Goals as goal
 
-pub returns-clause-ok : goal.returns-clause-ok
-returns-clause-ok c running is =
-    let runs = c.in_ok-reply.ensures.ok running is in
-    rw c.counted.ensures (record {
-      after = runs.after;
-      runs = runs.runs;
-      is = ap (λ (e : Engine). record e { statements = e.statements + counted c.in_ok-reply.reply }) (c.self.view_is ∙ runs.is);
-    })
+pub run-requires-clause-count : goal.run-requires-clause-count
+run-requires-clause-count c running at =
+    few-steps running.statements (statements_of c.args.self.now) (checked (tables_of c.args.self.now) (command_view c.args.command)) (statement_view c.in-Ok.stmt)
+    (c.in-Ok.ensures.checked running at)

@@ -1,0 +1,17 @@
+use Rattle.gp_algebra.specs.Views.{statement_view}
+use Rattle.gp_syntax.specs.Views.{command_view}
+use Rattle.gp_engine.proofs.FitLemmas.{ok-map}
+use Rattle.gp_engine.proofs.InvariantLemmas.{few-entries, within-sessions}
+use Rattle.gp_engine.proofs.StatementLemmas.{applied-recorded}
+use Rattle.gp_engine.proofs.state.State.run.Goals as goal
+
+pub keep-requires-clause-few : goal.keep-requires-clause-few
+keep-requires-clause-few c = rw c.in-Ok.ensures.log (few-entries c.args.self.now c.requires.engine)
+
+pub returns-in-Ok-clause-ok : goal.returns-in-Ok-clause-ok
+returns-in-Ok-clause-ok c running at =
+    applied-recorded c.args.self.now c.accept.new.self c.keep.new.self c.in-Ok.reply c.args.line c.args.place running (command_view c.args.command) (statement_view c.args.stmt)
+    (within-sessions c.args.self.now c.args.place c.requires.engine c.requires.place) (c.in-Ok.ensures.applied running at) c.in-Ok.ensures.accepted c.keep.ensures
+
+pub returns-in-Err-clause-ok : goal.returns-in-Err-clause-ok
+returns-in-Err-clause-ok c = ok-map _ _ c.in-Err.answer (λ reply refused running at. refused c.args.line (command_view c.args.command) running at) c.in-Err.ensures.refused
