@@ -1,0 +1,154 @@
+-- What the next entry of a log is, by what a line says.
+use Rattle.std.proofs.Common.{◌≡◌, ℕ, zero, suc, ◌+◌, true, List, [], ◌∷◌, ◌++◌, length, take, Option, Some, None, refl, sym, ap, ◌∙◌, arith, true≢false}
+use Rattle.std.specs.Prelude.{slice_get}
+use Rattle.std.proofs.lemmas.Bool.{ne_eqb, eq-eqb}
+use Rattle.std.proofs.lemmas.List.{take_all}
+use Rattle.gp_base.specs.declared.table.Table.{Table}
+use Rattle.gp_base.specs.Catalogs.{place_of}
+use Rattle.gp_check.specs.Checking.{is_statement}
+use Rattle.gp_check.specs.Faults.{table_refusal}
+use Rattle.gp_grammar.specs.Syntax as y
+use Rattle.gp_machine.specs.Actions as a
+use Rattle.gp_machine.specs.Actions.{action_of}
+use Rattle.gp_machine.specs.Entries as m
+use Rattle.gp_log.specs.declared.entry.Entry.{Entry}
+use Rattle.gp_log.specs.declared.entry.What.{What}
+use Rattle.gp_log.specs.Discipline.{doing, last_line, line_of, losing, transaction_in}
+use Rattle.gp_log.specs.Limits.{limits}
+use Rattle.gp_log.specs.Logs.{entry_view, log_view, what_view}
+use Rattle.gp_log.specs.declared.entry.What.TheVariants as what
+use Rattle.gp_log.proofs.EntryLemmas.{log-pushed}
+use Rattle.gp_dump.specs.Reading.{ended}
+
+-- ---- the transaction of a session
+
+take-one : {A : Type 0} (xs : List A) (n : ℕ) (x : A) → slice_get xs n ≡ Some x → take (suc n) xs ≡ take n xs ++ x ∷ []
+take-one [] n x found = absurd cc
+take-one (y ∷ ys) zero x found = let same : y ≡ x = cc in ap (λ z. z ∷ []) same
+take-one (y ∷ ys) (suc n) x found = ap (λ zs. y ∷ zs) (take-one ys n x found)
+
+-- the log up to a place, and the one without its newest entry
+taken-back : (entries : List Entry) (place next : ℕ) (e : Entry) → place ≡ next + 1 → slice_get entries next ≡ Some e → log_view (take place entries) ≡ entry_view e ∷ log_view (take next entries)
+taken-back entries place next e is found =
+    let more : place ≡ suc next = omega (arith, is) in
+    ap (λ n. log_view (take n entries)) more ∙ ap log_view (take-one entries next e found) ∙ log-pushed (take next entries) e
+
+skipped : (session line s t : ℕ) (w : What) (older : List m.Entry) → ¬ (s ≡ session) → transaction_in session (what_view line s t w ∷ older) ≡ transaction_in session older
+skipped session line s t (what.Create table) older other = refl
+skipped session line s t what.Begin older other = let no = ne_eqb session s (λ same. other (sym same)) in rw no refl
+skipped session line s t (what.Statement k command stmt) older other = refl
+skipped session line s t what.Commit older other = let no = ne_eqb session s (λ same. other (sym same)) in rw no refl
+skipped session line s t what.Lost older other = let no = ne_eqb session s (λ same. other (sym same)) in rw no refl
+skipped session line s t what.Rollback older other = let no = ne_eqb session s (λ same. other (sym same)) in rw no refl
+
+begun : (session line s t : ℕ) (older : List m.Entry) → s ≡ session → transaction_in session (what_view line s t what.Begin ∷ older) ≡ Some t
+begun session line s t older same = let is = eq-eqb session s (sym same) in rw is refl
+
+-- what an entry that ends a transaction leaves its session
+abbrev pub Ends : What → Type 0
+Ends (what.Create table) = ⊥
+Ends what.Begin = ⊥
+Ends (what.Statement k command stmt) = ⊥
+Ends what.Commit = Unit {0}
+Ends what.Lost = Unit {0}
+Ends what.Rollback = Unit {0}
+
+over : (session line s t : ℕ) (w : What) (older : List m.Entry) → Ends w → s ≡ session → transaction_in session (what_view line s t w ∷ older) ≡ None
+over session line s t (what.Create table) older ends same = absurd ends
+over session line s t what.Begin older ends same = absurd ends
+over session line s t (what.Statement k command stmt) older ends same = absurd ends
+over session line s t what.Commit older ends same = let is = eq-eqb session s (sym same) in rw is refl
+over session line s t what.Lost older ends same = let is = eq-eqb session s (sym same) in rw is refl
+over session line s t what.Rollback older ends same = let is = eq-eqb session s (sym same) in rw is refl
+
+-- an entry that neither begins nor ends a transaction
+abbrev pub Passes : What → Type 0
+Passes (what.Create table) = Unit {0}
+Passes what.Begin = ⊥
+Passes (what.Statement k command stmt) = Unit {0}
+Passes what.Commit = ⊥
+Passes what.Lost = ⊥
+Passes what.Rollback = ⊥
+
+passed : (session line s t : ℕ) (w : What) (older : List m.Entry) → Passes w → transaction_in session (what_view line s t w ∷ older) ≡ transaction_in session older
+passed session line s t (what.Create table) older passes = refl
+passed session line s t what.Begin older passes = absurd passes
+passed session line s t (what.Statement k command stmt) older passes = refl
+passed session line s t what.Commit older passes = absurd passes
+passed session line s t what.Lost older passes = absurd passes
+passed session line s t what.Rollback older passes = absurd passes
+
+pub of-another : (session : ℕ) (entries : List Entry) (place next : ℕ) (e : Entry) → place ≡ next + 1 → slice_get entries next ≡ Some e → ¬ (e.session ≡ session)
+    → transaction_in session (log_view (take place entries)) ≡ transaction_in session (log_view (take next entries))
+of-another session entries place next e is found other =
+    ap (transaction_in session) (taken-back entries place next e is found) ∙ skipped session e.line e.session e.t e.what (log_view (take next entries)) other
+
+pub of-itself : (session : ℕ) (entries : List Entry) (place next : ℕ) (e : Entry) → place ≡ next + 1 → slice_get entries next ≡ Some e → Passes e.what
+    → transaction_in session (log_view (take place entries)) ≡ transaction_in session (log_view (take next entries))
+of-itself session entries place next e is found passes =
+    ap (transaction_in session) (taken-back entries place next e is found) ∙ passed session e.line e.session e.t e.what (log_view (take next entries)) passes
+
+pub at-begin : (session : ℕ) (entries : List Entry) (place next : ℕ) (e : Entry) → place ≡ next + 1 → slice_get entries next ≡ Some e → e.session ≡ session → e.what ≡ what.Begin
+    → transaction_in session (log_view (take place entries)) ≡ Some e.t
+at-begin session entries place next e is found same begins =
+    ap (transaction_in session) (taken-back entries place next e is found)
+    ∙ ap (λ w. transaction_in session (what_view e.line e.session e.t w ∷ log_view (take next entries))) begins
+    ∙ begun session e.line e.session e.t (log_view (take next entries)) same
+
+pub at-end : (session : ℕ) (entries : List Entry) (place next : ℕ) (e : Entry) → place ≡ next + 1 → slice_get entries next ≡ Some e → e.session ≡ session → Ends e.what
+    → transaction_in session (log_view (take place entries)) ≡ None
+at-end session entries place next e is found same ends =
+    ap (transaction_in session) (taken-back entries place next e is found) ∙ over session e.line e.session e.t e.what (log_view (take next entries)) ends same
+
+-- the line of the newest entry
+line-seen : (line s t : ℕ) (w : What) → line_of (what_view line s t w) ≡ line
+line-seen line s t (what.Create table) = refl
+line-seen line s t what.Begin = refl
+line-seen line s t (what.Statement k command stmt) = refl
+line-seen line s t what.Commit = refl
+line-seen line s t what.Lost = refl
+line-seen line s t what.Rollback = refl
+
+pub newest-line : (entries : List Entry) (count next : ℕ) (e : Entry) → count ≡ length entries → count ≡ next + 1 → slice_get entries next ≡ Some e → last_line (log_view entries) ≡ e.line
+newest-line entries count next e all is found =
+    ap (λ (es : List Entry). last_line (log_view es)) (sym (take_all count entries (omega (arith, all))))
+    ∙ ap last_line (taken-back entries count next e is found) ∙ line-seen e.line e.session e.t e.what
+
+pub ruleset session_steps = (of-another, of-itself, at-begin, at-end)
+
+-- ---- entries
+
+-- the name of a new table that is not refused is new
+pub unrefused-new : (tables : List Table) (table : Table) → table_refusal tables table ≡ None → place_of table.name tables ≡ None
+unrefused-new tables table none = by (place_of table.name tables) refl none
+  where
+    by : (place : Option ℕ) → place_of table.name tables ≡ place → table_refusal tables table ≡ None → place ≡ None
+    by None is none = refl
+    by (Some n) is none = absurd (let some = rw is at none in cc)
+
+-- a statement is run
+pub statement-runs : (command : y.Command) → is_statement command ≡ true → action_of command ≡ a.Run command
+statement-runs (y.create table) is = absurd (true≢false (sym is))
+statement-runs y.begin is = absurd (true≢false (sym is))
+statement-runs y.Command.commit is = absurd (true≢false (sym is))
+statement-runs y.rollback is = absurd (true≢false (sym is))
+statement-runs (y.insert table rows) is = refl
+statement-runs (y.insert_select table query) is = refl
+statement-runs (y.update table sets cond) is = refl
+statement-runs (y.delete table cond) is = refl
+statement-runs (y.select query) is = refl
+
+-- the ends of a transaction
+pub commit-ends : (older : List m.Entry) (line session : ℕ) (active : Option ℕ) → doing limits older line session active a.Commit ≡ ended line session active what.Commit
+commit-ends older line session None = refl
+commit-ends older line session (Some t) = refl
+
+pub rollback-ends : (older : List m.Entry) (line session : ℕ) (active : Option ℕ) → doing limits older line session active a.Rollback ≡ ended line session active what.Rollback
+rollback-ends older line session None = refl
+rollback-ends older line session (Some t) = refl
+
+pub lost-ends : (older : List m.Entry) (line session : ℕ) (active : Option ℕ) → losing limits older line session active ≡ ended line session active what.Lost
+lost-ends older line session None = refl
+lost-ends older line session (Some t) = refl
+
+pub ruleset next_entries = (statement-runs, commit-ends, rollback-ends, lost-ends)

@@ -1,0 +1,140 @@
+-- The dump of every history is well formed.
+use Rattle.std.proofs.Common.{◌≡◌, ◌<◌, ◌≤◌, ℕ, zero, suc, ◌+◌, nat_lt, true, List, [], ◌∷◌, ◌++◌, length, map, take, Some, None, slice_get, get_or, refl, sym, ap, subst, ◌∙◌, arith, ◌⊎◌, inl, inr}
+use Rattle.std.specs.Prelude.{sum}
+use Rattle.std.specs.List.{AllByRecursion, fold}
+use Rattle.std.proofs.lemmas.Bool.Decides.{nat_tests}
+use Rattle.std.proofs.lemmas.List.{map-append, take_all}
+use Rattle.std.proofs.lemmas.Option.{slice_get_cases}
+use Rattle.gp_base.specs.Annotated.{Annotations, plain}
+use Rattle.gp_base.specs.Order.{sorted_by}
+use Rattle.gp_base.specs.declared.table.Table.{Table}
+use Rattle.gp_grammar.specs.Syntax as y
+use Rattle.gp_grammar.specs.Syntax.{Bytes, Command}
+use Rattle.gp_check.specs.Faults.{first_refusal, or_else, query_tables_fault, table_fault}
+use Rattle.gp_check.specs.Meaning.{number_of_table, statement_of}
+use Rattle.gp_check.proofs.FittingLemmas.{known, none_of}
+use Rattle.gp_versions.specs.declared.span.Span.{Span}
+use Rattle.gp_versions.specs.Spans.{span_cmp}
+use Rattle.gp_machine.proofs.CountLemmas.{all_counted}
+use Rattle.gp_machine.proofs.LimitLemmas.{counts_are_within}
+use Rattle.gp_machine.proofs.ReachedLemmas.{all_reached}
+use Rattle.gp_machine.proofs.SpanLaws.{each_span, spans_apart, spans_below, spans_whole}
+use Rattle.gp_machine.specs.Entries.{log_of, versions_in}
+use Rattle.gp_machine.specs.Event.{Line, after}
+use Rattle.gp_machine.specs.HistorySpans.{span_count, state_spans}
+use Rattle.gp_machine.specs.Limits.{ChecksTargets, HasTarget}
+use Rattle.gp_machine.specs.Reached.{IsReached}
+use Rattle.gp_machine.specs.State.{State, start}
+use Rattle.gp_log.specs.Limits.{limits}
+use Rattle.gp_dump.specs.Dumps.{AreInPlace, AreOfTables, IsDump, dump_of, spans_in, spans_in_order}
+use Rattle.gp_log.specs.ScriptLines.{AreScriptLines}
+use Rattle.gp_dump.proofs.FittingRows.{Fitting, all_fitting, checked_is}
+use Rattle.gp_dump.proofs.LoggedLines.{all_logged}
+use Rattle.gp_dump.proofs.RowPlaces.{all_in_place, sorted_length, spans_begin}
+use Rattle.gp_dump.proofs.StepKinds.{Fits, FitsRow}
+
+-- ---- the check passes only statements whose table is there
+
+target : (tables : List Table) (name : Bytes) → table_fault tables name ≡ None → number_of_table tables name < length tables
+target tables name none = below (number_of_table tables name) (length tables) (known tables name none)
+  where
+    below : (a b : ℕ) → nat_lt a b ≡ true → a < b
+    below a b e = grind (arith, nat_tests)
+
+has_target : (tables : List Table) (command : Command) → first_refusal tables command ≡ None → HasTarget (length tables) (statement_of tables command)
+has_target tables (y.insert name rows) none = target tables name (none_of (table_fault tables name) _ none).0
+has_target tables (y.insert_select name query) none = target tables name (none_of (table_fault tables name) _ (none_of (or_else (table_fault tables name) (query_tables_fault tables query)) _ none).0).0
+has_target tables (y.update name sets cond) none = target tables name (none_of (table_fault tables name) _ none).0
+has_target tables (y.delete name cond) none = target tables name (none_of (table_fault tables name) _ none).0
+has_target tables (y.select query) none = tt
+has_target tables (y.create table) none = tt
+has_target tables y.begin none = tt
+has_target tables y.Command.commit none = tt
+has_target tables y.rollback none = tt
+
+pub checks_targets : ChecksTargets limits
+checks_targets tables command statement e =
+    let c = checked_is (first_refusal tables command) (statement_of tables command) statement e in
+    subst (HasTarget (length tables)) c.1 (has_target tables command c.0)
+
+-- ---- the spans of all tables
+
+sum_more : (numbers : List ℕ) (n before : ℕ) → fold ◌+◌ before (numbers ++ n ∷ []) ≡ fold ◌+◌ before numbers + n
+sum_more [] n before = refl
+sum_more (m ∷ numbers) n before = sum_more numbers n (before + m)
+
+spans_more : (tables : List (List Span)) (spans : List Span) → spans_in (tables ++ spans ∷ []) ≡ spans_in tables + length spans
+spans_more tables spans = ap sum (map-append (λ (spans : List Span). length spans) tables (spans ∷ [])) ∙ sum_more (map (λ (spans : List Span). length spans) tables) (length spans) 0
+
+counted : {M : Type 0} (state : State M) (tables : ℕ) → spans_in (map (sorted_by span_cmp) (spans_in_order state tables)) ≡ span_count state tables
+counted state zero = refl
+counted state (suc table) =
+    ap spans_in (map-append (sorted_by span_cmp) (spans_in_order state table) (state_spans state table ∷ []))
+    ∙ spans_more (map (sorted_by span_cmp) (spans_in_order state table)) (sorted_by span_cmp (state_spans state table))
+    ∙ (λ i. counted state table i + sorted_length span_cmp (state_spans state table) i)
+
+tables_more : (versions : ℕ) (tables : List Table) (lists : List (List Span)) (table : Table) (spans : List Span) → AreOfTables tables versions lists → AreInPlace table.cols versions [] spans
+    → AreOfTables (tables ++ table ∷ []) versions (lists ++ spans ∷ [])
+tables_more versions [] [] table spans all one = (one, tt)
+tables_more versions [] (other ∷ lists) table spans all one = absurd all
+tables_more versions (other ∷ tables) [] table spans all one = absurd all
+tables_more versions (other ∷ tables) (first ∷ lists) table spans all one = (all.0, tables_more versions tables lists table spans all.1 one)
+
+take_one_more : {X : Type 0} (xs : List X) (n : ℕ) (x : X) → slice_get xs n ≡ Some x → take (suc n) xs ≡ take n xs ++ x ∷ []
+take_one_more [] n x e = cc
+take_one_more (y ∷ xs) zero x e = ap (λ z. z ∷ []) (same e)
+  where
+    same : Some y ≡ Some x → y ≡ x
+    same e = cc
+take_one_more (y ∷ xs) (suc n) x e = ap (λ zs. y ∷ zs) (take_one_more xs n x e)
+
+module _ {M : Type 0} (kind : Annotations M) (state : State M) (reached : IsReached kind limits state) (fitting : Fitting state) where
+  spans_fit : (table : ℕ) → AllByRecursion (λ (span : Span). Fits state.catalogue table span.id span.row) (state_spans state table)
+  spans_fit table =
+      each_span (versions_in state.entries) state.committed state.written table (λ (span : Span). Fits state.catalogue table span.id span.row) (FitsRow state.catalogue table) (λ from row l f. f)
+      (λ version l. fitting.committed version table) (versions_in state.entries) (omega arith)
+
+  one_table : (place : ℕ) (table : Table) → slice_get state.catalogue place ≡ Some table → AreInPlace table.cols (versions_in state.entries) [] (sorted_by span_cmp (state_spans state place))
+  one_table place table there =
+      all_in_place state.catalogue place table there (versions_in state.entries) (state_spans state place)
+      (spans_apart kind (log_of state.entries) state.committed state.written reached.history place) (spans_whole (versions_in state.entries) state.committed state.written place)
+      (spans_below (versions_in state.entries) state.committed state.written place) (spans_begin (versions_in state.entries) state.committed state.written place (versions_in state.entries)) (spans_fit place)
+
+  first_tables : (tables : ℕ) → tables ≤ length state.catalogue → AreOfTables (take tables state.catalogue) (versions_in state.entries) (map (sorted_by span_cmp) (spans_in_order state tables))
+  first_tables zero l = tt
+  first_tables (suc place) l = go (slice_get_cases state.catalogue place).1 (first_tables place (omega arith))
+    where
+      go : ((table : Table) × (place < length state.catalogue) × (slice_get state.catalogue place ≡ Some table) × (get_or state.catalogue place table ≡ table)) ⊎ ((length state.catalogue ≤ place) × (slice_get state.catalogue place ≡ None))
+          → AreOfTables (take place state.catalogue) (versions_in state.entries) (map (sorted_by span_cmp) (spans_in_order state place))
+          → AreOfTables (take (suc place) state.catalogue) (versions_in state.entries) (map (sorted_by span_cmp) (spans_in_order state (suc place)))
+      go (inl there) before =
+          subst (λ tables. AreOfTables tables (versions_in state.entries) (map (sorted_by span_cmp) (spans_in_order state (suc place)))) (sym (take_one_more state.catalogue place there.0 there.2))
+          (subst (AreOfTables (take place state.catalogue ++ there.0 ∷ []) (versions_in state.entries)) (sym (map-append (sorted_by span_cmp) (spans_in_order state place) (state_spans state place ∷ [])))
+          (tables_more (versions_in state.entries) (take place state.catalogue) (map (sorted_by span_cmp) (spans_in_order state place)) there.0 (sorted_by span_cmp (state_spans state place)) before (one_table place there.0 there.2)))
+      go (inr past) before = let p = past.0 in absurd (omega arith)
+
+  all_tables : AreOfTables state.catalogue (versions_in state.entries) (map (sorted_by span_cmp) (spans_in_order state (length state.catalogue)))
+  all_tables =
+      subst (λ tables. AreOfTables tables (versions_in state.entries) (map (sorted_by span_cmp) (spans_in_order state (length state.catalogue)))) (take_all (length state.catalogue) state.catalogue (omega arith))
+      (first_tables (length state.catalogue) (omega arith))
+
+pub dumps_are_well_formed : (lines : List Line) → AreScriptLines lines → IsDump (dump_of (after plain limits start lines))
+dumps_are_well_formed lines are =
+    let state : State (Unit {0}) = after plain limits start lines in
+    let logged = (all_logged plain limits lines are).1 in
+    let within = counts_are_within plain limits lines in
+    let few = within.lines in
+    let tables = within.tables in
+    let transactions = within.transactions in
+    let statements = within.statements in
+    let rows = within.rows in
+    let count = counted state (length state.catalogue) in
+    let published = (all_counted plain limits checks_targets lines).count in
+    record {
+      few_entries = omega (arith, few, tables, transactions, statements);
+      log = logged.log;
+      commands = logged.readable;
+      few_spans = omega (arith, rows, count, published);
+      spans = subst (λ tables. AreOfTables tables (versions_in state.entries) (map (sorted_by span_cmp) (spans_in_order state (length state.catalogue)))) (sym logged.tables)
+          (all_tables plain state (all_reached plain limits lines) (all_fitting plain lines are));
+    }

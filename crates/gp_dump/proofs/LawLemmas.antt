@@ -1,0 +1,114 @@
+-- The laws of dumps: the round trip, one dump for one text, and the order of its row lines.
+use Rattle.std.proofs.Common.{◌≡◌, inl, inr, ℕ, ◌<◌, true, List, [], ◌∷◌, map, Some, None, refl, sym, ap, subst, ◌∙◌}
+use Rattle.std.specs.List.{AllByRecursion}
+use Rattle.std.specs.Ordering.{is_le, nat_cmp}
+use Rattle.std.specs.declared.cmp.Ordering.TheVariants.{Less, Equal}
+use Rattle.std.specs.Cmp.{nat_cmp_is}
+use Rattle.std.proofs.lemmas.Cmp.{tied_itself}
+use Rattle.gp_base.specs.declared.table.Column.{Column}
+use Rattle.gp_base.specs.declared.table.Table.{Table}
+use Rattle.gp_base.specs.Identities.{identity_cmp}
+use Rattle.gp_base.specs.IdentityOrder.{identity_cmp_total}
+use Rattle.gp_base.specs.Order.{insert_sorted, sorted_by}
+use Rattle.gp_versions.specs.declared.span.Span.{Span}
+use Rattle.gp_versions.specs.Spans.{AreWhole, NoOverlap, span_cmp}
+use Rattle.gp_dump.specs.Dumps.{AreInPlace, AreOfTables, Dump, WellFormed, dump_text, dump_with}
+use Rattle.gp_dump.specs.Rules.{Fails, Holds, Verdict, fault_in, first_fault, verdict_on}
+use Rattle.gp_dump.proofs.PlaceLemmas.{Follows, in-place-apart, rows-follow}
+use Rattle.gp_dump.proofs.LineLemmas.{line-laws, log-lawful}
+use Rattle.gp_dump.proofs.RoundTrip.{read-well-formed, well-formed-read}
+use Rattle.gp_dump.proofs.SortLemmas.{IsAscending, IsLowerBound, span_cmp_total}
+
+-- ---- the round trip
+
+pub read : (bytes : List ℕ) (dump : Dump) → WellFormed bytes dump → verdict_on bytes ≡ Holds dump
+read = well-formed-read line-laws log-lawful
+
+pub only : (bytes : List ℕ) (dump : Dump) → verdict_on bytes ≡ Holds dump → WellFormed bytes dump
+only = read-well-formed line-laws log-lawful
+
+-- ---- the order of row lines
+
+less-is : (a b : ℕ) → a < b → is_le (nat_cmp a b) ≡ true
+less-is a b less = ap is_le (sym (nat_cmp_is a b Less less))
+
+follows-le : (last span : Span) → Follows last span → is_le (span_cmp last span) ≡ true
+follows-le last span (inl less) = rw less refl
+follows-le last span (inr later) =
+    let tie : identity_cmp last.id span.id ≡ Equal = subst (λ id. identity_cmp last.id id ≡ Equal) later.0 (tied_itself identity_cmp_total last.id) in
+    rw tie (less-is last.from span.from later.1.0)
+
+all-lower : (last : Span) (spans : List Span) → AllByRecursion (Follows last) spans → IsLowerBound span_cmp span_cmp_total last spans
+all-lower last [] all = tt
+all-lower last (span ∷ spans) all = (follows-le last span all.0, all-lower last spans all.1)
+
+rows-ascending : (cols : List Column) (versions : ℕ) (before spans : List Span) → AreInPlace cols versions before spans → IsAscending span_cmp span_cmp_total spans
+rows-ascending cols versions before [] all = tt
+rows-ascending cols versions before (span ∷ spans) all =
+    (all-lower span spans (rows-follow cols versions before span spans all.1), rows-ascending cols versions (span ∷ before) spans all.1)
+
+insert-first : (span : Span) (spans : List Span) → IsLowerBound span_cmp span_cmp_total span spans → insert_sorted span_cmp span spans ≡ span ∷ spans
+insert-first span [] lower = refl
+insert-first span (next ∷ spans) lower = rw lower.0 refl
+
+sorted-itself : (spans : List Span) → IsAscending span_cmp span_cmp_total spans → sorted_by span_cmp spans ≡ spans
+sorted-itself [] up = refl
+sorted-itself (span ∷ spans) up = ap (insert_sorted span_cmp span) (sorted-itself spans up.1) ∙ insert-first span spans up.0
+
+tables-ordered : (others : List Table) (versions : ℕ) (tables : List (List Span)) → AreOfTables others versions tables → map (sorted_by span_cmp) tables ≡ tables
+tables-ordered [] versions [] all = refl
+tables-ordered [] versions (spans ∷ tables) all = absurd all
+tables-ordered (table ∷ others) versions [] all = absurd all
+tables-ordered (table ∷ others) versions (spans ∷ tables) all =
+    let first : sorted_by span_cmp spans ≡ spans = sorted-itself spans (rows-ascending table.cols versions [] spans all.0) in
+    let rest : map (sorted_by span_cmp) tables ≡ tables = tables-ordered others versions tables all.1 in
+    cc
+
+-- ---- the spans of the tables
+
+tables-apart : (others : List Table) (versions : ℕ) (tables : List (List Span)) → AreOfTables others versions tables → AllByRecursion NoOverlap tables
+tables-apart [] versions [] all = tt
+tables-apart [] versions (spans ∷ tables) all = absurd all
+tables-apart (table ∷ others) versions [] all = absurd all
+tables-apart (table ∷ others) versions (spans ∷ tables) all = ((in-place-apart table.cols versions [] spans all.0).0, tables-apart others versions tables all.1)
+
+tables-whole : (others : List Table) (versions : ℕ) (tables : List (List Span)) → AreOfTables others versions tables → AllByRecursion AreWhole tables
+tables-whole [] versions [] all = tt
+tables-whole [] versions (spans ∷ tables) all = absurd all
+tables-whole (table ∷ others) versions [] all = absurd all
+tables-whole (table ∷ others) versions (spans ∷ tables) all = ((in-place-apart table.cols versions [] spans all.0).1, tables-whole others versions tables all.1)
+
+-- ---- one dump for one text
+
+holds-same : (dump other : Dump) → Holds dump ≡ Holds other → dump ≡ other
+holds-same dump other e = cc
+
+some-none : (fault : ℕ × ℕ) → None ≡ Some fault → ⊥
+some-none fault e = cc
+
+-- a verdict without a fault holds a dump
+held-by : (bytes : List ℕ) (verdict : Verdict) → verdict_on bytes ≡ verdict → fault_in verdict ≡ None → (dump : Dump) × (verdict_on bytes ≡ Holds dump)
+held-by bytes (Holds dump) is none = (dump, is)
+held-by bytes (Fails fault line) is none = absurd (some-none (fault, line) (sym none))
+
+pub one-dump : (bytes : List ℕ) (dump other : Dump) → WellFormed bytes dump → WellFormed bytes other → dump ≡ other
+one-dump bytes dump other first second = holds-same dump other (sym (read bytes dump first) ∙ read bytes other second)
+
+pub no-fault : (bytes : List ℕ) (dump : Dump) → WellFormed bytes dump → first_fault bytes ≡ None
+no-fault bytes dump is = ap fault_in (read bytes dump is)
+
+pub fault-excludes : (bytes : List ℕ) (fault : ℕ × ℕ) (dump : Dump) → first_fault bytes ≡ Some fault → WellFormed bytes dump → ⊥
+fault-excludes bytes fault dump found is = some-none fault (sym (no-fault bytes dump is) ∙ found)
+
+pub dump-found : (bytes : List ℕ) → first_fault bytes ≡ None → (dump : Dump) × WellFormed bytes dump
+dump-found bytes none = let found = held-by bytes (verdict_on bytes) refl none in (found.0, only bytes found.0 found.1)
+
+pub written-again : (bytes : List ℕ) (dump : Dump) → WellFormed bytes dump → dump_text (dump_with dump.entries dump.tables) ≡ bytes
+written-again bytes dump is =
+    ap (λ (tables : List (List Span)). dump_text (record { entries = dump.entries; tables = tables })) (tables-ordered _ _ dump.tables is.rules.spans) ∙ sym is.text
+
+pub rows-apart : (bytes : List ℕ) (dump : Dump) → WellFormed bytes dump → AllByRecursion NoOverlap dump.tables
+rows-apart bytes dump is = tables-apart _ _ dump.tables is.rules.spans
+
+pub rows-whole : (bytes : List ℕ) (dump : Dump) → WellFormed bytes dump → AllByRecursion AreWhole dump.tables
+rows-whole bytes dump is = tables-whole _ _ dump.tables is.rules.spans

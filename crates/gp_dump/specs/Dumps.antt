@@ -1,0 +1,150 @@
+-- Part of the statement: what a dump holds, its text, and when it is well formed.
+use Rattle.std.specs.Prelude.{◌≡◌, ℕ, zero, suc, ◌≤◌, nat_le, nat_lt, Bool, true, false, ◌&&◌, ◌||◌, List, [], ◌∷◌, ◌++◌, length, map, sum, reverse, Option, Some, None}
+use Rattle.std.specs.List.{flat_map}
+use Rattle.std.specs.Ordering.{is_lt}
+use Rattle.gp_base.specs.declared.cell.Cell.{Cell}
+use Rattle.gp_base.specs.declared.cell.Cell.TheVariants as cell
+use Rattle.gp_base.specs.declared.table.Column.{Column}
+use Rattle.gp_base.specs.declared.table.Kind.{Kind}
+use Rattle.gp_base.specs.declared.table.Kind.TheVariants as kind
+use Rattle.gp_base.specs.declared.table.Table.{Table}
+use Rattle.gp_base.specs.Cells.{is_user_text, fits_number}
+use Rattle.gp_base.specs.Identities.{identity_cmp, same_identity}
+use Rattle.gp_base.specs.Order.{sorted_by}
+use Rattle.gp_versions.specs.declared.span.Span.{Span}
+use Rattle.gp_versions.specs.Spans.{span_cmp}
+use Rattle.gp_txn.specs.declared.counting.TheConstants.{MAX_SPANS}
+use Rattle.gp_machine.specs.Entries.{Entry, versions_in}
+use Rattle.gp_machine.specs.HistorySpans.{state_spans}
+use Rattle.gp_machine.specs.State.{State}
+use Rattle.gp_log.specs.declared.limit.TheConstants.{MAX_ENTRIES}
+use Rattle.gp_log.specs.Discipline.{IsLog, said_by}
+use Rattle.gp_log.specs.LogFacts.{tables_in}
+use Rattle.gp_log.specs.Limits.{limits}
+use Rattle.gp_dumpline.specs.Forms.{said_of, IsReadable}
+use Rattle.gp_dumpline.specs.Texts.{header, count_text, entry_text, said_text, section_text, span_text, end_text}
+
+pub record Dump : Type 0 where
+  -- the log, the newest entry first
+  pub entries : List Entry
+  -- the spans of each table, in the order of their lines
+  pub tables : List (List Span)
+
+-- ---- its text
+
+-- a line, with the line feed that ends it
+abbrev pub line_text : List ℕ → List ℕ
+line_text text = text ++ 10 ∷ []
+
+-- the section of a table: its name, then its row lines
+abbrev pub section_texts : Table → List Span → List (List ℕ)
+section_texts table spans = section_text table.name (length spans) ∷ map span_text spans
+
+abbrev pub sections_texts : List Table → List (List Span) → List (List ℕ)
+sections_texts [] tables = []
+sections_texts (table ∷ others) [] = []
+sections_texts (table ∷ others) (spans ∷ tables) = section_texts table spans ++ sections_texts others tables
+
+-- the lines: the log, oldest entry first, then each table in order of creation
+abbrev pub texts_of : Dump → List (List ℕ)
+texts_of dump =
+    header ∷ count_text (length dump.entries) ∷ (map entry_text (reverse dump.entries) ++ (sections_texts (tables_in dump.entries) dump.tables ++ end_text ∷ []))
+
+abbrev pub dump_text : Dump → List ℕ
+dump_text dump = flat_map line_text (texts_of dump)
+
+-- ---- the dump of a history
+
+-- a log, and the spans of each table in the order of a dump: by identity, then by the version that they begin with
+abbrev pub dump_with : List Entry → List (List Span) → Dump
+dump_with entries tables = record { entries = entries; tables = map (sorted_by span_cmp) tables }
+
+-- the spans of the first tables, this many
+abbrev pub spans_in_order : {M : Type 0} → State M → ℕ → List (List Span)
+spans_in_order state zero = []
+spans_in_order state (suc table) = spans_in_order state table ++ state_spans state table ∷ []
+
+abbrev pub dump_of : {M : Type 0} → State M → Dump
+dump_of state = dump_with state.entries (spans_in_order state (length state.catalogue))
+
+-- ---- well-formed dumps
+
+-- a cell that a column can hold
+abbrev pub is_of_kind : Kind → Cell → Bool
+is_of_kind kind cell.Null = true
+is_of_kind kind.Int (cell.Int number) = fits_number number
+is_of_kind kind.Text (cell.Text text) = is_user_text text
+is_of_kind kind cell = false
+
+-- a row that the columns of a table can hold
+abbrev pub fits_columns : List Column → List Cell → Bool
+fits_columns [] [] = true
+fits_columns [] (cell ∷ cells) = false
+fits_columns (col ∷ cols) [] = false
+fits_columns (col ∷ cols) (cell ∷ cells) = is_of_kind col.kind cell && fits_columns cols cells
+
+-- a span that has ended, at this version or before
+abbrev pub has_ended_by : Option ℕ → ℕ → Bool
+has_ended_by None version = false
+has_ended_by (Some to) version = nat_le to version
+
+-- a span is empty nowhere, and ends at a version that there is
+abbrev pub ends_within : ℕ → ℕ → Option ℕ → Bool
+ends_within versions from None = true
+ends_within versions from (Some to) = nat_lt from to && nat_le to versions
+
+-- the span after another one: of a greater identity, or a later span of the same row
+abbrev pub is_after : Span → Span → Bool
+is_after last span =
+    is_lt (identity_cmp last.id span.id)
+    || (same_identity last.id span.id && (nat_lt last.from span.from && has_ended_by last.to span.from))
+
+-- the same, given the spans before, the last one first
+abbrev pub is_next : List Span → Span → Bool
+is_next [] span = true
+is_next (last ∷ earlier) span = is_after last span
+
+-- a span in its place, given the number of versions and the spans before, the last one first
+abbrev pub is_in_place : ℕ → List Span → Span → Bool
+is_in_place versions before span =
+    nat_le 1 span.from && (nat_le span.from versions && (ends_within versions span.from span.to && is_next before span))
+
+-- a row line that keeps the rules
+pub record IsRow (cols : List Column) (versions : ℕ) (before : List Span) (span : Span) : Type 0 where
+  pub identity : IsReadable span.id
+  pub cells : fits_columns cols span.row ≡ true
+  pub place : is_in_place versions before span ≡ true
+
+-- the spans of a table, in order, after the ones before
+abbrev pub AreInPlace : List Column → ℕ → List Span → List Span → Type 0
+AreInPlace cols versions before [] = Unit {0}
+AreInPlace cols versions before (span ∷ spans) = IsRow cols versions before span × AreInPlace cols versions (span ∷ before) spans
+
+-- one list of spans for each table
+abbrev pub AreOfTables : List Table → ℕ → List (List Span) → Type 0
+AreOfTables [] versions [] = Unit {0}
+AreOfTables [] versions (spans ∷ tables) = ⊥
+AreOfTables (table ∷ others) versions [] = ⊥
+AreOfTables (table ∷ others) versions (spans ∷ tables) =
+    AreInPlace table.cols versions [] spans × AreOfTables others versions tables
+
+-- every command of the log can be read from its text
+abbrev pub AreReadable : List Entry → Type 0
+AreReadable [] = Unit {0}
+AreReadable (entry ∷ older) = (said_of (said_text (said_by entry)) ≡ Some (said_by entry)) × AreReadable older
+
+abbrev pub spans_in : List (List Span) → ℕ
+spans_in tables = sum (map (λ (spans : List Span). length spans) tables)
+
+-- a dump that keeps the rules
+pub record IsDump (dump : Dump) : Type 0 where
+  pub few_entries : length dump.entries ≤ MAX_ENTRIES
+  pub log : IsLog limits dump.entries
+  pub commands : AreReadable dump.entries
+  pub few_spans : spans_in dump.tables ≤ MAX_SPANS
+  pub spans : AreOfTables (tables_in dump.entries) (versions_in dump.entries) dump.tables
+
+-- the bytes are the text of a dump that keeps the rules
+pub record WellFormed (bytes : List ℕ) (dump : Dump) : Type 0 where
+  pub text : bytes ≡ dump_text dump
+  pub rules : IsDump dump

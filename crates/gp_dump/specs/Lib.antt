@@ -1,0 +1,6 @@
+pub mod Lines
+pub mod Dumps
+pub mod Rules
+pub mod Views
+pub mod Writing
+pub mod Reading

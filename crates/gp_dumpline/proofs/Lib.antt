@@ -1,0 +1,15 @@
+pub mod PartLemmas
+pub mod CellLemmas
+pub mod IdentitySteps
+pub mod NumberLaws
+pub mod PartLaws
+pub mod IdentityNumbers
+pub mod IdentityTexts
+pub mod QuotedUtf8
+pub mod CellTexts
+pub mod SpanLaws
+pub mod LineBytes
+pub mod LogLineLaws
+pub mod SaidLaws
+pub mod OneLine
+pub mod SaidLemmas

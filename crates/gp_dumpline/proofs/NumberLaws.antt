@@ -1,0 +1,123 @@
+-- The decimal text of a number is read as this number, and only this text is.
+use Rattle.std.proofs.Common.{◌≡◌, ℕ, zero, suc, ◌+◌, ◌*◌, ◌-◌, ◌^◌, ◌<◌, ◌≤◌, Bool, true, false, cond, leb, eqb, ◌&&◌, List, [], ◌∷◌, get_or, Option, Some, None, option_and_then, refl, sym, ap, subst, ◌∙◌, arith, inl, inr}
+use Rattle.std.specs.Prelude.{min}
+use Rattle.std.specs.Option.{option_map}
+use Rattle.std.specs.Fmt.{decimal}
+use Rattle.std.specs.Int.{IsInRange}
+use Rattle.std.proofs.lemmas.Bool.{cases_Bool, and_parts, and_from, leb-true, le-leb, cond-true, eqb-false, ne_eqb}
+use Rattle.std.proofs.lemmas.Str.Parse.{IsNumeralModel, IsDigitsTest, FoldsDigits, numerals_by_fold}
+use Rattle.std.proofs.lemmas.Fmt.{digits_decimal, digits_value-decimal, decimal-digits_value, first_decimal, decimal_digit}
+use Rattle.gp_dumpline.specs.Numbers.{is_digit, read_on, number_of, number_up_to, beyond_versions, version_of}
+
+abbrev pub all_digits : List ℕ → Bool
+all_digits [] = true
+all_digits (c ∷ cs) = is_digit c && all_digits cs
+
+abbrev pub fold : ℕ → List ℕ → ℕ
+fold n [] = n
+fold n (c ∷ cs) = fold (10 * n + (c - 48)) cs
+
+in_range : (c : ℕ) → is_digit c ≡ true → IsInRange 48 57 c
+in_range c h = let p = and_parts (leb 48 c) (leb c 57) h in (leb-true 48 c p.0, leb-true c 57 p.1)
+
+test : IsDigitsTest (λ ds. all_digits ds ≡ true)
+test = record {
+  empty = refl;
+  parts = λ c cs h. let p = and_parts (is_digit c) (all_digits cs) h in (in_range c p.0, p.1);
+  more = λ c cs h k. and_from (is_digit c) (all_digits cs) (and_from (leb 48 c) (leb c 57) (le-leb 48 c h.0) (le-leb c 57 h.1)) k;
+}
+
+folds : FoldsDigits fold
+folds = record { empty = λ n. refl; more = λ n c cs h. ap (λ (k : ℕ). fold k cs) (omega arith) }
+
+pub own : IsNumeralModel (λ ds. all_digits ds ≡ true) (fold 0)
+own = numerals_by_fold (λ ds. all_digits ds ≡ true) test fold folds
+
+read-digits : (n : ℕ) (ds : List ℕ) → all_digits ds ≡ true → read_on n ds ≡ Some (fold n ds)
+read-digits n [] all = refl
+read-digits n (d ∷ ds) all = let p = and_parts (is_digit d) (all_digits ds) all in rw p.0 (read-digits (10 * n + (d - 48)) ds p.1)
+
+abbrev nothing : Option ℕ
+nothing = None
+
+none_some : (m : ℕ) → nothing ≡ Some m → ⊥
+none_some m e = cc
+
+digits-read : (n : ℕ) (ds : List ℕ) (m : ℕ) → read_on n ds ≡ Some m → (all_digits ds ≡ true) × (fold n ds ≡ m)
+digits-read n [] m e = (refl, cc)
+digits-read n (d ∷ ds) m e = elim (cases_Bool (is_digit d)) [
+  | inl digit ↦
+      let f = rw digit at e in
+      let more = digits-read (10 * n + (d - 48)) ds m f in
+      (and_from (is_digit d) (all_digits ds) digit more.0, more.1)
+  | inr other ↦ let f = rw other at e in absurd (none_some m f)
+]
+
+zero-text : decimal 0 ≡ 48 ∷ []
+zero-text = decimal_digit 0 (omega arith)
+
+positive : (n : ℕ) (ds : List ℕ) → all_digits ds ≡ true → fold 0 ds ≡ n → 48 < get_or ds 0 0 → number_of ds ≡ Some n
+positive n [] all value high = absurd (omega (arith, high))
+positive n (d ∷ []) all value high = read-digits 0 (d ∷ []) all ∙ ap (λ (k : ℕ). Some k) value
+positive n (d ∷ e ∷ ds) all value high =
+    let other : eqb d 48 ≡ false = ne_eqb d 48 (λ h. absurd (omega (arith, high, h))) in
+    rw other (read-digits 0 (d ∷ e ∷ ds) all ∙ ap (λ (k : ℕ). Some k) value)
+
+pub number-again : (n : ℕ) → n < 2 ^ 64 → number_of (decimal n) ≡ Some n
+number-again zero small = ap number_of zero-text
+number-again (suc n) small = positive (suc n) (decimal (suc n)) (digits_decimal own (suc n) small) (digits_value-decimal own (suc n) small) (first_decimal (suc n) (omega arith) small)
+
+pub number-takes : (text : List ℕ) (n : ℕ) → number_of text ≡ Some n → n < 2 ^ 64 → text ≡ decimal n
+number-takes [] n e small = absurd cc
+number-takes (d ∷ []) n e small =
+    let r = digits-read 0 (d ∷ []) n e in
+    sym (decimal-digits_value own (d ∷ []) r.0 (omega arith) (λ h. refl) (subst (λ (k : ℕ). k < 2 ^ 64) (sym r.1) small)) ∙ ap decimal r.1
+number-takes (d ∷ c ∷ ds) n e small = elim (cases_Bool (eqb d 48)) [
+  | inl lead ↦ let f = rw lead at e in absurd (none_some n f)
+  | inr other ↦
+      let f = rw other at e in
+      let r = digits-read 0 (d ∷ c ∷ ds) n f in
+      sym (decimal-digits_value own (d ∷ c ∷ ds) r.0 (omega arith) (λ h. absurd (eqb-false d 48 other h)) (subst (λ (k : ℕ). k < 2 ^ 64) (sym r.1) small)) ∙ ap decimal r.1
+]
+
+pub digits_own : (n : ℕ) → n < 2 ^ 64 → all_digits (decimal n) ≡ true
+digits_own n small = digits_decimal own n small
+
+-- ---- numbers up to a greatest one
+
+pub up_to-again : (most n : ℕ) → n ≤ most → n < 2 ^ 64 → number_up_to most (decimal n) ≡ Some n
+up_to-again most n few small = ap (option_and_then (λ k. cond (leb k most) (Some k) None)) (number-again n small) ∙ cond-true (leb n most) (Some n) None (le-leb n most few)
+
+kept : (b : Bool) (m n : ℕ) → cond b (Some m) None ≡ Some n → (b ≡ true) × (m ≡ n)
+kept true m n e = (refl, cc)
+kept false m n e = absurd cc
+
+pub up_to-takes : (most : ℕ) (text : List ℕ) (n : ℕ) → most < 2 ^ 64 → number_up_to most text ≡ Some n → (text ≡ decimal n) × (n ≤ most)
+up_to-takes most text n small e = go (number_of text) refl e
+  where
+    go : (o : Option ℕ) → number_of text ≡ o → option_and_then (λ k. cond (leb k most) (Some k) None) o ≡ Some n → (text ≡ decimal n) × (n ≤ most)
+    go None f g = absurd (none_some n g)
+    go (Some m) f g =
+        let k = kept (leb m most) m n g in
+        let few : m ≤ most = leb-true m most k.0 in
+        (number-takes text m f (omega (arith, few, small)) ∙ ap decimal k.1, subst (λ (x : ℕ). x ≤ most) k.1 few)
+
+-- ---- versions
+
+some_number : (m n : ℕ) → Some m ≡ Some n → m ≡ n
+some_number m n e = cc
+
+pub version-again : (n : ℕ) → n < 2 ^ 32 → version_of (decimal n) ≡ Some n
+version-again n small =
+    let e : min n beyond_versions ≡ n = omega arith in
+    ap (option_map (λ (k : ℕ). min k beyond_versions)) (number-again n (omega arith)) ∙ ap (λ (k : ℕ). Some k) e
+
+pub version-takes : (text : List ℕ) (n : ℕ) → version_of text ≡ Some n → n < beyond_versions → text ≡ decimal n
+version-takes text n e small = go (number_of text) refl e
+  where
+    go : (o : Option ℕ) → number_of text ≡ o → option_map (λ (k : ℕ). min k beyond_versions) o ≡ Some n → text ≡ decimal n
+    go None f g = absurd (none_some n g)
+    go (Some m) f g =
+        let e : min m beyond_versions ≡ n = some_number (min m beyond_versions) n g in
+        let same : m ≡ n = omega arith in
+        number-takes text m f (omega arith) ∙ ap decimal same

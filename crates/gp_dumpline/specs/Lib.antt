@@ -1,0 +1,9 @@
+pub mod Numbers
+pub mod RowForms
+pub mod Forms
+pub mod Texts
+pub mod Views
+pub mod Laws
+pub mod Digits
+pub mod Sources
+pub mod CellParts
