@@ -1,0 +1,80 @@
+//! Answering questions.
+
+ghost use Rattle.std.specs.Prelude.{◌≡◌, true, length, IfOk};
+ghost use Rattle.gp_grammar.specs.LineReading.{question_of};
+ghost use Rattle.gp_grammar.specs.Syntax as y;
+ghost use Rattle.gp_syntax.specs.Views.{how_view, query_view, question_view, state_view};
+ghost use Rattle.gp_check.specs.Valid.{query_is_valid, tables_are_valid};
+ghost use Rattle.gp_log.specs.LogFacts.{tables_in};
+ghost use Rattle.gp_dump.specs.Views.{dump_view};
+ghost use Rattle.gp_ask.specs.Answerable.{question_is_valid};
+ghost use Rattle.gp_ask.specs.Answers.{answer_to};
+ghost use Rattle.gp_ask.specs.Questions.{answered};
+
+use crate::answered::Answered;
+use crate::logs::log_answer;
+use crate::queries::query_answer;
+use crate::row_versions::versions_answer;
+use gp_base::{NoMemory, Refusal};
+use gp_dump::Dump;
+use gp_syntax::{How, Query, Question, ReadStop, State, read_question};
+use std::alloc::Global;
+
+/// Answers a query: only for its rows, and only over a version.
+fn ask_answer(
+    alloc: Global,
+    dump: &Dump,
+    how: &How,
+    state: State,
+    query: &Query,
+) -> Result<Answered, NoMemory>
+    requires tables { length dump.now.versions
+        ≡ length (tables_in (dump_view dump.now).entries) }
+    requires valid { tables_are_valid (tables_in (dump_view dump.now).entries) ≡ true }
+    requires query { query_is_valid (query_view query.now) ≡ true }
+    ensures { IfOk result (λ answered. answered ≡ answer_to (dump_view dump.now)
+        (y.ask (how_view how.now) (state_view state) (query_view query.now))) }
+{
+    match (how, state) {
+        (How::Rows, State::AsOf { v }) => query_answer(alloc, dump, v, query),
+        _ => Ok(Answered::Refused(Refusal::NotBuilt)),
+    }
+}
+
+/// Answers a question that was read ([`gp_check::read_questions_are_valid`]) from a dump that was read: its tables have columns,
+/// and each has its row versions.
+///
+/// LOG is refused if no transaction has the number (E20), VERSIONS if no table has the name (E04). AS OF is refused if there is no
+/// such version (E23), by the check of its query (E04 to E07, E15), or if the answer has more than
+/// [`MAX_ANSWER_ROWS`](gp_exec::MAX_ANSWER_ROWS) rows (E27), in this order. All other questions are refused as not supported.
+/// Running out of memory is the only error.
+pub fn answer(alloc: Global, dump: &Dump, question: &Question) -> Result<Answered, NoMemory>
+    requires tables { length dump.now.versions
+        ≡ length (tables_in (dump_view dump.now).entries) }
+    requires valid { tables_are_valid (tables_in (dump_view dump.now).entries) ≡ true }
+    requires question { question_is_valid (question_view question.now) ≡ true }
+    ensures { IfOk result (λ answered. answered
+        ≡ answer_to (dump_view dump.now) (question_view question.now)) }
+{
+    match question {
+        Question::Log { t } => log_answer(alloc, &dump.log, *t),
+        Question::Versions { table } => versions_answer(alloc, dump, table),
+        Question::Ask { how, state, query } => ask_answer(alloc, dump, how, *state, query),
+    }
+}
+
+/// Answers a line of a file of questions from a dump. A line that is no question is refused as
+/// [`read_question`](gp_syntax::read_question) refuses it, any other as [`answer`] does. Running out of memory is the only error.
+pub fn answer_line(alloc: Global, dump: &Dump, line: &[u8]) -> Result<Answered, NoMemory>
+    requires tables { length dump.now.versions
+        ≡ length (tables_in (dump_view dump.now).entries) }
+    requires valid { tables_are_valid (tables_in (dump_view dump.now).entries) ≡ true }
+    ensures { IfOk result (λ found. found
+        ≡ answered (answer_to (dump_view dump.now)) (question_of line.now)) }
+{
+    match read_question(alloc, line) {
+        Ok(question) => answer(alloc, dump, &question),
+        Err(ReadStop::Refused(refusal)) => Ok(Answered::Refused(refusal)),
+        Err(ReadStop::NoMemory) => Err(NoMemory),
+    }
+}

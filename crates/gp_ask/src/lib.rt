@@ -1,0 +1,31 @@
+//! Questions to a dump, and their answers.
+//!
+//! [`answer_line`] reads a question and answers it from a [`Dump`](gp_dump::Dump) alone: neither the script nor the engine
+//! that made the dump is needed. LOG and VERSIONS print lines of the dump, and AS OF answers a query over the rows of a past
+//! version. All other questions are refused as not supported. The answers are those that the history itself would have
+//! given: so says the law [`histories_answer_as_their_dumps`].
+//!
+//! In reading order: [`Answered`] is the answer to a question, [`answer`] answers a question that was read, [`answer_line`]
+//! a line, and [`write_answer`] writes the answer. In `specs/`, `Answers` says what the answer is, `Questions` which answers
+//! the lines of a file get, and `Texts` how they are written. Inside, `logs` answers LOG, `row_versions` VERSIONS, and
+//! `queries` AS OF.
+//!
+//! ```text
+//! let answered = answer_line(alloc, &dump, b"as of 2 select * from acct")?;
+//! let refused = answered.is_refused();
+//! write_answer(alloc, 1, answered, &mut out)?; // appends "1 rows 3" and the rows
+//! ```
+#![tactic(auto)]
+
+mod answered;
+mod answering;
+mod display;
+mod laws;
+mod logs;
+mod queries;
+mod row_versions;
+
+pub use answered::Answered;
+pub use answering::{answer, answer_line};
+pub use display::write_answer;
+pub use laws::histories_answer_as_their_dumps;
