@@ -1,5 +1,6 @@
-//! The program gprom: it keeps the history of a small database under snapshot isolation. All that it does is
-//! [`gprom_cli::gprom`], called here on the files and the standard output of the system.
+//! The program gprom: it runs a script of transactions under snapshot isolation, writes the dump of their history, and answers
+//! questions from such a dump. All that it does is [`gprom_cli::gprom`], called here on the files and the standard output of the
+//! system.
 #![tactic(auto)]
 
 use gp_base::NoMemory;

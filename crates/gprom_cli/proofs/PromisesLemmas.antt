@@ -1,18 +1,24 @@
 -- Each promise follows from the outcome of a call.
-use Rattle.std.proofs.Common.{◌≡◌, ℕ, ◌≤◌, ◌<◌, [], take, suc, zero, Bool, true, false, cond, List, length, Option, Some, None, refl, sym, ap, ◌∙◌, subst, arith, inr, ⊎_elim}
-use Rattle.std.specs.Prelude.{IfSome, IsSomeAnd, option_and_then}
-use Rattle.std.specs.Option.{option_map}
-use Rattle.gp_io.specs.Shelf.{ShelfState, Files, content, Reports}
-use Rattle.gp_io.specs.Sink.{SinkState, appended, WritesPrefix}
-use Rattle.gp_io.proofs.ShelfLemmas.{Reports-differs}
-use Rattle.gp_script.specs.History.{replies_of, replies_text, has_refusal}
+use Rattle.std.proofs.Common.{◌≡◌, ℕ, ◌≤◌, ◌⊎◌, inl, inr, Bool, List, length, Option, Some, None, refl, sym, ap, ◌∙◌, subst, ⊎_elim}
+use Rattle.std.specs.Prelude.{IsSomeAnd}
+use Rattle.gp_base.specs.Annotated.{plain}
+use Rattle.gp_io.specs.Shelf.{ShelfState, Files, FilesRelate, OthersStay, Replaced, Reports, content}
+use Rattle.gp_io.specs.Sink.{SinkState, Increased}
+use Rattle.gp_script.specs.History.{final_state, replies_of, replies_text, has_refusal}
 use Rattle.gp_script.specs.declared.script.TheConstants.{MAX_SCRIPT_LENGTH}
+use Rattle.gp_dump.specs.declared.dump.TheConstants.{MAX_DUMP_LENGTH}
+use Rattle.gp_dump.specs.Dumps.{IsDump, dump_of}
+use Rattle.gp_dump.specs.Rules.{Holds, verdict_on}
+use Rattle.gp_ask.specs.Answers.{answer_to, held_to}
+use Rattle.gp_ask.specs.Questions.{answers_text, has_refused}
 use Rattle.gprom_cli.specs.declared.status.Status.{Status}
 use Rattle.gprom_cli.specs.declared.status.Status.TheVariants as exit
-use Rattle.gprom_cli.specs.Args.{Run}
+use Rattle.gprom_cli.specs.Args.{Command, Run, Ask}
 use Rattle.gprom_cli.specs.Status.{number_of, status_of}
-use Rattle.gprom_cli.specs.Call.{Call, Outcome, Usage, Absent, Unreadable, TooLong, Answered, OutOfMemory, HasOutcome, WritesOutput, IsOrFails, IsOutcomeOf, FindsScript, expected_output, exit_status, answered_status}
-use Rattle.gprom_cli.specs.Promises.{Promises, IsClean}
+use Rattle.gprom_cli.specs.Call.{Call, Outcome, Usage, Absent, Unreadable, TooLong, NotReplaced, Replied, Damaged, Answered, OutOfMemory, HasOutcome, Writes, WritesOutcome, WritesOutput, IsOrFails, IsOutcomeOf, RunEnds, AskEnds, exit_status, answered_status, outcome_by, script_dump}
+use Rattle.gprom_cli.specs.Promises.{Promises, IsClean, LeavesOthers, NoFault, ReportsNothing, ReportsNotReplaced, ReportsOne, files_read, files_replaced}
+use Rattle.gprom_cli.proofs.WritesLemmas.{IsWritten, absent-is, expected-is, no-fault, nothing-of, status-of, unreadable-is, unwritten-is, usage-is}
+use Rattle.gprom_cli.proofs.FilesLemmas.{Determines, ReadsWellFormed, ask-outcome, outcome-determined, replaced-others, run-outcome, same-others}
 
 -- a status has one number
 pub status_of-number_of : (s : Status) → status_of (number_of s) ≡ s
@@ -23,213 +29,238 @@ status_of-number_of exit.Absent = refl
 status_of-number_of exit.Unreadable = refl
 status_of-number_of exit.Unwritten = refl
 status_of-number_of exit.TooLong = refl
+status_of-number_of exit.Damaged = refl
 status_of-number_of exit.OutOfMemory = refl
 
--- a status that is no failure to write is the expected one
-expected_is : (expected actual wanted : Status) → IsOrFails expected actual → actual ≡ wanted → (exit.Unwritten ≡ wanted → ⊥) → (exit.OutOfMemory ≡ wanted → ⊥) → expected ≡ wanted
-expected_is expected actual wanted which at written memory =
-    ⊎_elim (λ e. sym e ∙ at) (λ f. absurd (⊎_elim (λ e. written (sym e ∙ at)) (λ e. memory (sym e ∙ at)) f)) which
+-- ---- what the dumps of scripts are
 
--- a script that is answered ends in Done or Refused
-answered_is_not : (refused : Bool) (wanted : Status) → cond refused exit.Refused exit.Done ≡ wanted → (exit.Refused ≡ wanted → ⊥) → (exit.Done ≡ wanted → ⊥) → ⊥
-answered_is_not true wanted at one other = one at
-answered_is_not false wanted at one other = other at
+pub record DumpLaws : Type 0 where
+  pub reads : ReadsWellFormed
+  pub formed : (script : List ℕ) → length script ≤ MAX_SCRIPT_LENGTH → IsDump (dump_of (final_state plain script))
+  pub texts : (script questions : List ℕ) → answers_text (answer_to (dump_of (final_state plain script))) questions ≡ answers_text (held_to (final_state plain script)) questions
+  pub refusals : (script questions : List ℕ) → has_refused (answer_to (dump_of (final_state plain script))) questions ≡ has_refused (held_to (final_state plain script)) questions
 
-usage-is : (o : Outcome) → exit_status o ≡ exit.Usage → o ≡ Usage
-usage-is Usage at = refl
-usage-is (Absent name) at = cc
-usage-is (Unreadable name) at = cc
-usage-is (TooLong name) at = cc
-usage-is (Answered bytes) at = absurd (answered_is_not (has_refusal (replies_of bytes)) exit.Usage at (λ e. cc) (λ e. cc))
-usage-is OutOfMemory at = cc
+-- ---- a status and its outcome
 
-known-content : (holds : Option Files) (name : List ℕ) (c : Option (List ℕ)) (P : Option (List ℕ) → Type 0) → option_map (content name) holds ≡ Some c → IfSome holds (λ files. P (content name files)) → P c
-known-content None name c P e h = absurd cc
-known-content (Some files) name c P e h = let same : content name files ≡ c = cc in subst P same h
+usage-written : IsWritten exit.Usage
+usage-written = (λ e. cc, λ e. cc)
 
-module _ (before after : ShelfState) (sink sink' : SinkState) (s : Status) where
-  abbrev Writes : Outcome → Type 0
-  Writes o = WritesOutput (expected_output o) (exit_status o) sink sink' s
+absent-written : IsWritten exit.Absent
+absent-written = (λ e. cc, λ e. cc)
 
-  usage : (command : Option Run) (o : Outcome) → IsOutcomeOf command before after o → Writes o → s ≡ exit.Usage → command ≡ None
-  usage None o is writes at = refl
-  usage (Some run) o is writes at =
-      absurd (subst (λ (u : Outcome). FindsScript run.script before after u) (usage-is o (expected_is (exit_status o) s exit.Usage writes.status at (λ e. cc) (λ e. cc))) is)
+unreadable-written : IsWritten exit.Unreadable
+unreadable-written = (λ e. cc, λ e. cc)
 
-  invalid : (command : Option Run) (o : Outcome) → IsOutcomeOf command before after o → Writes o → command ≡ None → IsOrFails exit.Usage s
-  invalid None o is writes none = subst (λ (u : Outcome). IsOrFails (exit_status u) s) is.1 writes.status
-  invalid (Some run) o is writes none = absurd cc
+clean-written : (s : Status) → IsClean s → IsWritten s
+clean-written s clean = (λ e. subst IsClean e clean, λ e. subst IsClean e clean)
 
-  absent-at : (script : List ℕ) (o : Outcome) → FindsScript script before after o → exit_status o ≡ exit.Absent → Reports script before.misses after.misses
-  absent-at script Usage is at = absurd is
-  absent-at script (Absent name) is at = rw (sym is.0) is.1.reported
-  absent-at script (Unreadable name) is at = absurd cc
-  absent-at script (TooLong name) is at = absurd cc
-  absent-at script (Answered bytes) is at = absurd (answered_is_not (has_refusal (replies_of bytes)) exit.Absent at (λ e. cc) (λ e. cc))
-  absent-at script OutOfMemory is at = absurd cc
+module _ (before after : ShelfState) where
+  usage-at : (command : Option Command) (o : Outcome) → IsOutcomeOf command before after o → exit_status o ≡ exit.Usage → command ≡ None
+  usage-at None o ends at = refl
+  usage-at (Some (Run script dump)) o ends at = absurd (subst (λ (u : Outcome). RunEnds script dump before after u) (usage-is o at) ends)
+  usage-at (Some (Ask dump questions)) o ends at = absurd (subst (λ (u : Outcome). AskEnds dump questions before after u) (usage-is o at) ends)
 
-  absent : (command : Option Run) (o : Outcome) → IsOutcomeOf command before after o → Writes o → s ≡ exit.Absent → IsSomeAnd command (λ (run : Run). Reports run.script before.misses after.misses)
-  absent None o is writes at =
-      let e : exit_status o ≡ exit.Absent = expected_is (exit_status o) s exit.Absent writes.status at (λ e. cc) (λ e. cc) in
-      absurd (let f : exit_status Usage ≡ exit.Absent = sym (ap exit_status is.1) ∙ e in cc)
-  absent (Some run) o is writes at = absent-at run.script o is (expected_is (exit_status o) s exit.Absent writes.status at (λ e. cc) (λ e. cc))
+  absent-at : (command : Option Command) (o : Outcome) → IsOutcomeOf command before after o → exit_status o ≡ exit.Absent
+      → IsSomeAnd command (λ (c : Command). ReportsOne (files_read c) before.misses after.misses)
+  absent-at None o ends at = absurd (let impossible : exit.Usage ≡ exit.Absent = sym (ap exit_status ends.1) ∙ at in cc)
+  absent-at (Some (Run script dump)) o ends at =
+      let which = absent-is o at in
+      let there : RunEnds script dump before after (Absent which.0) = subst (λ (u : Outcome). RunEnds script dump before after u) which.1 ends in
+      inl there.1.reported
+  absent-at (Some (Ask dump questions)) o ends at =
+      let which = absent-is o at in
+      let there : AskEnds dump questions before after (Absent which.0) = subst (λ (u : Outcome). AskEnds dump questions before after u) which.1 ends in
+      ⊎_elim
+      (λ e. inl (subst (λ (name : List ℕ). Reports name before.misses after.misses) e there.1.reported))
+      (λ e. inr (inl (subst (λ (name : List ℕ). Reports name before.misses after.misses) e.0 there.1.reported)))
+      there.0
 
-  unreadable-at : (script : List ℕ) (o : Outcome) → FindsScript script before after o → exit_status o ≡ exit.Unreadable → Reports script before.read_faults after.read_faults
-  unreadable-at script Usage is at = absurd is
-  unreadable-at script (Absent name) is at = absurd cc
-  unreadable-at script (Unreadable name) is at = rw (sym is.0) is.1.reported
-  unreadable-at script (TooLong name) is at = absurd cc
-  unreadable-at script (Answered bytes) is at = absurd (answered_is_not (has_refusal (replies_of bytes)) exit.Unreadable at (λ e. cc) (λ e. cc))
-  unreadable-at script OutOfMemory is at = absurd cc
+  unreadable-at : (command : Option Command) (o : Outcome) → IsOutcomeOf command before after o → exit_status o ≡ exit.Unreadable
+      → IsSomeAnd command (λ (c : Command). ReportsOne (files_read c) before.read_faults after.read_faults)
+  unreadable-at None o ends at = absurd (let impossible : exit.Usage ≡ exit.Unreadable = sym (ap exit_status ends.1) ∙ at in cc)
+  unreadable-at (Some (Run script dump)) o ends at =
+      let which = unreadable-is o at in
+      let there : RunEnds script dump before after (Unreadable which.0) = subst (λ (u : Outcome). RunEnds script dump before after u) which.1 ends in
+      inl there.1.reported
+  unreadable-at (Some (Ask dump questions)) o ends at =
+      let which = unreadable-is o at in
+      let there : AskEnds dump questions before after (Unreadable which.0) = subst (λ (u : Outcome). AskEnds dump questions before after u) which.1 ends in
+      ⊎_elim
+      (λ e. inl (subst (λ (name : List ℕ). Reports name before.read_faults after.read_faults) e there.1.reported))
+      (λ e. inr (inl (subst (λ (name : List ℕ). Reports name before.read_faults after.read_faults) e.0 there.1.reported)))
+      there.0
 
-  unreadable : (command : Option Run) (o : Outcome) → IsOutcomeOf command before after o → Writes o → s ≡ exit.Unreadable → IsSomeAnd command (λ (run : Run). Reports run.script before.read_faults after.read_faults)
-  unreadable None o is writes at =
-      let e : exit_status o ≡ exit.Unreadable = expected_is (exit_status o) s exit.Unreadable writes.status at (λ e. cc) (λ e. cc) in
-      absurd (let f : exit_status Usage ≡ exit.Unreadable = sym (ap exit_status is.1) ∙ e in cc)
-  unreadable (Some run) o is writes at = unreadable-at run.script o is (expected_is (exit_status o) s exit.Unreadable writes.status at (λ e. cc) (λ e. cc))
+  not-replaced-at : (command : Option Command) (name : List ℕ) → IsOutcomeOf command before after (NotReplaced name)
+      → IsSomeAnd command (λ (c : Command). ReportsOne (files_replaced c) before.replace_faults after.replace_faults)
+  not-replaced-at None name ends = absurd (let impossible : NotReplaced name ≡ Usage = ends.1 in cc)
+  not-replaced-at (Some (Run script dump)) name ends = inl ends.1.reported
+  not-replaced-at (Some (Ask dump questions)) name ends = absurd ends
 
-  nothing-at : (script : List ℕ) (o : Outcome) → FindsScript script before after o → IsClean (exit_status o) → after ≡ before
-  nothing-at script Usage is tidy = absurd is
-  nothing-at script (Absent name) is tidy = absurd tidy
-  nothing-at script (Unreadable name) is tidy = absurd tidy
-  nothing-at script (TooLong name) is tidy = is.1
-  nothing-at script (Answered bytes) is tidy = is.0
-  nothing-at script OutOfMemory is tidy = absurd tidy
+  -- the shelf reported nothing
+  abbrev IsQuiet : Type 0
+  IsQuiet = (after.misses ≡ before.misses) × (after.read_faults ≡ before.read_faults) × (after.replace_faults ≡ before.replace_faults)
 
-  clean-is : (o : Outcome) → Writes o → IsClean s → s ≡ exit_status o
-  clean-is o writes tidy = ⊎_elim (λ e. e) (λ f. absurd (⊎_elim (λ e. subst IsClean e tidy) (λ e. subst IsClean e tidy) f)) writes.status
+  quiet-unchanged : after ≡ before → IsQuiet
+  quiet-unchanged same = (ap (λ (h : ShelfState). h.misses) same, ap (λ (h : ShelfState). h.read_faults) same, ap (λ (h : ShelfState). h.replace_faults) same)
 
-  clean : (command : Option Run) (o : Outcome) → IsOutcomeOf command before after o → Writes o → IsClean s → (after ≡ before) × (sink'.faults ≡ sink.faults)
-  clean None o is writes tidy = (is.0, ap (λ (k : SinkState). k.faults) (writes.complete (clean-is o writes tidy)))
-  clean (Some run) o is writes tidy =
-      let e = clean-is o writes tidy in
-      (nothing-at run.script o is (subst IsClean e tidy), ap (λ (k : SinkState). k.faults) (writes.complete e))
+  run-quiet : (script dump : List ℕ) (o : Outcome) → RunEnds script dump before after o → IsClean (exit_status o) → IsQuiet
+  run-quiet script dump (Absent name) ends clean = absurd clean
+  run-quiet script dump (Unreadable name) ends clean = absurd clean
+  run-quiet script dump (TooLong name) ends clean = quiet-unchanged ends.0
+  run-quiet script dump (NotReplaced name) ends clean = absurd clean
+  run-quiet script dump (Replied bytes) ends clean =
+      (ap (λ (h : ShelfState). h.misses) ends.0.others, ap (λ (h : ShelfState). h.read_faults) ends.0.others, ap (λ (h : ShelfState). h.replace_faults) ends.0.others)
+  run-quiet script dump OutOfMemory ends clean = absurd clean
+  run-quiet script dump Usage ends clean = absurd ends
+  run-quiet script dump (Damaged f line) ends clean = absurd ends
+  run-quiet script dump (Answered contents questions) ends clean = absurd ends
 
-  holds-at : (script : List ℕ) (o : Outcome) → FindsScript script before after o → after.holds ≡ before.holds
-  holds-at script Usage is = absurd is
-  holds-at script (Absent name) is = ap (λ (h : ShelfState). h.holds) is.1.others
-  holds-at script (Unreadable name) is = ap (λ (h : ShelfState). h.holds) is.1.others
-  holds-at script (TooLong name) is = ap (λ (h : ShelfState). h.holds) is.1
-  holds-at script (Answered bytes) is = ap (λ (h : ShelfState). h.holds) is.0
-  holds-at script OutOfMemory is = ap (λ (h : ShelfState). h.holds) is
+  ask-quiet : (dump questions : List ℕ) (o : Outcome) → AskEnds dump questions before after o → IsClean (exit_status o) → IsQuiet
+  ask-quiet dump questions (Absent name) ends clean = absurd clean
+  ask-quiet dump questions (Unreadable name) ends clean = absurd clean
+  ask-quiet dump questions (TooLong name) ends clean = quiet-unchanged ends.0
+  ask-quiet dump questions (Damaged f line) ends clean = quiet-unchanged ends.0
+  ask-quiet dump questions (Answered contents asked) ends clean = quiet-unchanged ends.0
+  ask-quiet dump questions OutOfMemory ends clean = absurd clean
+  ask-quiet dump questions Usage ends clean = absurd ends
+  ask-quiet dump questions (NotReplaced name) ends clean = absurd ends
+  ask-quiet dump questions (Replied script) ends clean = absurd ends
 
-  files : (command : Option Run) (o : Outcome) → IsOutcomeOf command before after o → after.holds ≡ before.holds
-  files None o is = ap (λ (h : ShelfState). h.holds) is.0
-  files (Some run) o is = holds-at run.script o is
+  quiet-at : (command : Option Command) (o : Outcome) → IsOutcomeOf command before after o → IsClean (exit_status o) → IsQuiet
+  quiet-at None o ends clean = quiet-unchanged ends.0
+  quiet-at (Some (Run script dump)) o ends clean = run-quiet script dump o ends clean
+  quiet-at (Some (Ask dump questions)) o ends clean = ask-quiet dump questions o ends clean
 
-  replaces-at : (script : List ℕ) (o : Outcome) → FindsScript script before after o → after.replace_faults ≡ before.replace_faults
-  replaces-at script Usage is = absurd is
-  replaces-at script (Absent name) is = ap (λ (h : ShelfState). h.replace_faults) is.1.others
-  replaces-at script (Unreadable name) is = ap (λ (h : ShelfState). h.replace_faults) is.1.others
-  replaces-at script (TooLong name) is = ap (λ (h : ShelfState). h.replace_faults) is.1
-  replaces-at script (Answered bytes) is = ap (λ (h : ShelfState). h.replace_faults) is.0
-  replaces-at script OutOfMemory is = ap (λ (h : ShelfState). h.replace_faults) is
+  -- ---- files
 
-  replaces : (command : Option Run) (o : Outcome) → IsOutcomeOf command before after o → after.replace_faults ≡ before.replace_faults
-  replaces None o is = ap (λ (h : ShelfState). h.replace_faults) is.0
-  replaces (Some run) o is = replaces-at run.script o is
+  unchanged-others : (dump : List ℕ) → after ≡ before → FilesRelate (OthersStay dump) before.holds after.holds
+  unchanged-others dump same = same-others dump before.holds after.holds (ap (λ (h : ShelfState). h.holds) same)
 
-  -- out of memory before the script was read
-  stopped : (expected : Status) → WritesOutput [] exit.OutOfMemory sink sink' s → IsOrFails expected s
-  stopped expected writes = inr (⊎_elim (λ e. inr e) (λ f. f) writes.status)
+  run-files : (script dump : List ℕ) (o : Outcome) → RunEnds script dump before after o → FilesRelate (OthersStay dump) before.holds after.holds
+  run-files script dump (Absent name) ends = same-others dump before.holds after.holds (ap (λ (h : ShelfState). h.holds) ends.1.others)
+  run-files script dump (Unreadable name) ends = same-others dump before.holds after.holds (ap (λ (h : ShelfState). h.holds) ends.1.others)
+  run-files script dump (TooLong name) ends = unchanged-others dump ends.0
+  run-files script dump (NotReplaced name) ends = ends.1.files
+  run-files script dump (Replied bytes) ends = replaced-others dump (script_dump bytes) before.holds after.holds ends.0.files
+  run-files script dump OutOfMemory ends = unchanged-others dump ends
+  run-files script dump Usage ends = absurd ends
+  run-files script dump (Damaged f line) ends = absurd ends
+  run-files script dump (Answered contents questions) ends = absurd ends
 
-  missing-at : (script : List ℕ) (o : Outcome) → FindsScript script before after o → Writes o
-      → option_map (content script) before.holds ≡ Some None → after.read_faults ≡ before.read_faults → IsOrFails exit.Absent s
-  missing-at script Usage is writes none read = absurd is
-  missing-at script (Absent name) is writes none read = writes.status
-  missing-at script (Unreadable name) is writes none read = absurd (Reports-differs name before.read_faults after.read_faults is.1.reported (sym read))
-  missing-at script (TooLong name) is writes none read =
-      absurd (known-content before.holds script None (λ c. IsSomeAnd c (λ bytes. MAX_SCRIPT_LENGTH < length bytes)) none (rw (sym is.0) is.2))
-  missing-at script (Answered bytes) is writes none read =
-      absurd (let e : None ≡ Some bytes = known-content before.holds script None (λ c. c ≡ Some bytes) none is.2 in cc)
-  missing-at script OutOfMemory is writes none read = stopped exit.Absent writes
+  ask-files : (dump questions : List ℕ) (o : Outcome) → AskEnds dump questions before after o → after.holds ≡ before.holds
+  ask-files dump questions (Absent name) ends = ap (λ (h : ShelfState). h.holds) ends.1.others
+  ask-files dump questions (Unreadable name) ends = ap (λ (h : ShelfState). h.holds) ends.1.others
+  ask-files dump questions (TooLong name) ends = ap (λ (h : ShelfState). h.holds) ends.0
+  ask-files dump questions (Damaged f line) ends = ap (λ (h : ShelfState). h.holds) ends.0
+  ask-files dump questions (Answered contents asked) ends = ap (λ (h : ShelfState). h.holds) ends.0
+  ask-files dump questions OutOfMemory ends = ap (λ (h : ShelfState). h.holds) ends
+  ask-files dump questions Usage ends = absurd ends
+  ask-files dump questions (NotReplaced name) ends = absurd ends
+  ask-files dump questions (Replied script) ends = absurd ends
 
-  too_long-at : (script bytes : List ℕ) (o : Outcome) → FindsScript script before after o → Writes o
-      → option_map (content script) before.holds ≡ Some (Some bytes) → MAX_SCRIPT_LENGTH < length bytes → after.read_faults ≡ before.read_faults → IsOrFails exit.TooLong s
-  too_long-at script bytes Usage is writes known long read = absurd is
-  too_long-at script bytes (Absent name) is writes known long read =
-      absurd (let e : Some bytes ≡ None = known-content before.holds script (Some bytes) (λ c. c ≡ None) known (rw (sym is.0) is.1.absent) in cc)
-  too_long-at script bytes (Unreadable name) is writes known long read = absurd (Reports-differs name before.read_faults after.read_faults is.1.reported (sym read))
-  too_long-at script bytes (TooLong name) is writes known long read = writes.status
-  too_long-at script bytes (Answered other) is writes known long read =
-      let e : Some bytes ≡ Some other = known-content before.holds script (Some bytes) (λ c. c ≡ Some other) known is.2 in
-      let same : bytes ≡ other = cc in
-      absurd (omega (arith, long, is.1, ap length same))
-  too_long-at script bytes OutOfMemory is writes known long read = stopped exit.TooLong writes
+  -- ---- one outcome
 
-  take-nil : (n : ℕ) → take {A = ℕ} n [] ≡ []
-  take-nil zero = refl
-  take-nil (suc n) = refl
+  module _ (sink sink' : SinkState) (s : Status) where
+    -- what an outcome that is known writes
+    pub written-as : (o expected : Outcome) → Writes o sink sink' s → (o ≡ expected) ⊎ (o ≡ OutOfMemory) → Writes expected sink sink' s
+    written-as o expected w which =
+        ⊎_elim
+        (λ e. subst (λ (u : Outcome). Writes u sink sink' s) e w)
+        (λ e. let none : Writes OutOfMemory sink sink' s = subst (λ (u : Outcome). Writes u sink sink' s) e w in nothing-of expected sink sink' s none.0 none.1)
+        which
 
-  unwritten-prefix : (text : List ℕ) → WritesPrefix [] sink.taken sink'.taken → WritesPrefix text sink.taken sink'.taken
-  unwritten-prefix text prefix = record { count = 0; is = prefix.is ∙ ap (appended sink.taken) (take-nil prefix.count) }
+    -- the dump is replaced, unless memory ran out before
+    pub replaced-as : (script dump bytes : List ℕ) (o : Outcome) → RunEnds script dump before after o → Writes o sink sink' s → (o ≡ Replied bytes) ⊎ (o ≡ OutOfMemory)
+        → FilesRelate (Replaced dump (script_dump bytes)) before.holds after.holds ⊎ ((s ≡ exit.OutOfMemory) × (after.holds ≡ before.holds))
+    replaced-as script dump bytes o ends w which =
+        ⊎_elim
+        (λ e. let there : RunEnds script dump before after (Replied bytes) = subst (λ (u : Outcome). RunEnds script dump before after u) e ends in inl there.0.files)
+        (λ e.
+        let none : Writes OutOfMemory sink sink' s = subst (λ (u : Outcome). Writes u sink sink' s) e w in
+        let there : RunEnds script dump before after OutOfMemory = subst (λ (u : Outcome). RunEnds script dump before after u) e ends in
+        inr (none.1, ap (λ (h : ShelfState). h.holds) there))
+        which
 
-  -- nothing was written, so nothing of any text
-  unanswered : (text : List ℕ) (expected : Status) → (s ≡ expected → ⊥) → WritesOutput [] exit.OutOfMemory sink sink' s → WritesOutput text expected sink sink' s
-  unanswered text expected other writes = record {
-    status = stopped expected writes;
-    prefix = unwritten-prefix text writes.prefix;
-    complete = λ e. absurd (other e);
-    unwritten = writes.unwritten;
-    out_of_memory = writes.out_of_memory;
+-- ---- every promise
+
+module _ (laws : DumpLaws) (call : Call) (has : HasOutcome call) where
+  expected-at : (wanted : Status) → call.status ≡ wanted → IsWritten wanted → exit_status has.outcome ≡ wanted
+  expected-at wanted at is = expected-is (exit_status has.outcome) call.status wanted (status-of has.outcome call.sink call.sink_after call.status has.writes) at is
+
+  determined-at : (files : Files) → call.shelf.holds ≡ Some files → NoFault call → Determines has.outcome (outcome_by call.command files)
+  determined-at files is quiet = outcome-determined call.shelf call.shelf_after files is quiet.0 quiet.1 laws.reads call.command has.outcome has.is
+
+  writes-as : (expected : Outcome) → Determines has.outcome expected → WritesOutcome call expected
+  writes-as expected which = written-as call.shelf call.shelf_after call.sink call.sink_after call.status has.outcome expected has.writes which
+
+  replied : (files : Files) (name dump script : List ℕ) → call.command ≡ Some (Run name dump) → call.shelf.holds ≡ Some files → NoFault call
+      → content name files ≡ Some script → length script ≤ MAX_SCRIPT_LENGTH → length (script_dump script) ≤ MAX_DUMP_LENGTH
+      → WritesOutput (replies_text (replies_of script)) (answered_status (has_refusal (replies_of script))) call.sink call.sink_after call.status
+      × (FilesRelate (Replaced dump (script_dump script)) call.shelf.holds call.shelf_after.holds
+      ⊎ ((call.status ≡ exit.OutOfMemory) × (call.shelf_after.holds ≡ call.shelf.holds)))
+  replied files name dump script run is quiet found short small =
+      let ends : RunEnds name dump call.shelf call.shelf_after has.outcome = subst (λ (c : Option Command). IsOutcomeOf c call.shelf call.shelf_after has.outcome) run has.is in
+      let expected : outcome_by call.command files ≡ Replied script =
+      ap (λ (c : Option Command). outcome_by c files) run ∙ run-outcome files name dump script found short small in
+      let which : Determines has.outcome (Replied script) = subst (λ (o : Outcome). Determines has.outcome o) expected (determined-at files is quiet) in
+      (writes-as (Replied script) which, replaced-as call.shelf call.shelf_after call.sink call.sink_after call.status name dump script has.outcome ends has.writes which)
+
+  held : (files : Files) (dump name script questions : List ℕ) → call.command ≡ Some (Ask dump name) → call.shelf.holds ≡ Some files → NoFault call
+      → length script ≤ MAX_SCRIPT_LENGTH → content dump files ≡ Some (script_dump script) → length (script_dump script) ≤ MAX_DUMP_LENGTH
+      → content name files ≡ Some questions → length questions ≤ MAX_SCRIPT_LENGTH
+      → WritesOutput (answers_text (held_to (final_state plain script)) questions)
+      (answered_status (has_refused (held_to (final_state plain script)) questions)) call.sink call.sink_after call.status
+  held files dump name script questions ask is quiet brief found small asked short =
+      let contents = dump_of (final_state plain script) in
+      let holds : verdict_on (script_dump script) ≡ Holds contents = laws.reads (script_dump script) contents (record { text = refl; rules = laws.formed script brief }) in
+      let expected : outcome_by call.command files ≡ Answered contents questions =
+      ap (λ (c : Option Command). outcome_by c files) ask ∙ ask-outcome files dump name (script_dump script) questions contents found small asked short holds in
+      let answered : WritesOutput (answers_text (answer_to contents) questions) (answered_status (has_refused (answer_to contents) questions)) call.sink call.sink_after call.status =
+      writes-as (Answered contents questions) (subst (λ (o : Outcome). Determines has.outcome o) expected (determined-at files is quiet)) in
+      subst (λ (text : List ℕ). WritesOutput text (answered_status (has_refused (held_to (final_state plain script)) questions)) call.sink call.sink_after call.status) (laws.texts script questions)
+      (subst (λ (refused : Bool). WritesOutput (answers_text (answer_to contents) questions) (answered_status refused) call.sink call.sink_after call.status) (laws.refusals script questions) answered)
+
+  invalid : call.command ≡ None → IsOrFails exit.Usage call.status
+  invalid none =
+      let ends : IsOutcomeOf None call.shelf call.shelf_after has.outcome = subst (λ (c : Option Command). IsOutcomeOf c call.shelf call.shelf_after has.outcome) none has.is in
+      subst (λ (o : Outcome). IsOrFails (exit_status o) call.status) ends.1 (status-of has.outcome call.sink call.sink_after call.status has.writes)
+
+  unwritten : call.status ≡ exit.Unwritten → ReportsNotReplaced call ⊎ Increased call.sink.faults call.sink_after.faults
+  unwritten at =
+      ⊎_elim
+      (λ (which : (name : List ℕ) × (has.outcome ≡ NotReplaced name)). inl (not-replaced-at call.shelf call.shelf_after call.command which.0
+      (subst (λ (o : Outcome). IsOutcomeOf call.command call.shelf call.shelf_after o) which.1 has.is)))
+      (λ more. inr more)
+      (unwritten-is has.outcome call.sink call.sink_after call.status has.writes at)
+
+  clean : IsClean call.status → ReportsNothing call
+  clean is =
+      let written = clean-written call.status is in
+      let same : exit_status has.outcome ≡ call.status = expected-at call.status refl written in
+      let quiet = quiet-at call.shelf call.shelf_after call.command has.outcome has.is (subst IsClean (sym same) is) in
+      record {
+        misses = quiet.0;
+        reads = quiet.1;
+        replaces = quiet.2;
+        writes = no-fault has.outcome call.sink call.sink_after call.status has.writes written;
+      }
+
+  files-at : (command : Option Command) → IsOutcomeOf command call.shelf call.shelf_after has.outcome → LeavesOthers command call
+  files-at None ends = ap (λ (h : ShelfState). h.holds) ends.0
+  files-at (Some (Run script dump)) ends = run-files call.shelf call.shelf_after script dump has.outcome ends
+  files-at (Some (Ask dump questions)) ends = ask-files call.shelf call.shelf_after dump questions has.outcome ends
+
+  pub promised : Promises call
+  promised = record {
+    outcome = has;
+    determined = λ files is quiet. writes-as (outcome_by call.command files) (determined-at files is quiet);
+    replied = replied;
+    held = held;
+    usage = λ at. usage-at call.shelf call.shelf_after call.command has.outcome has.is (expected-at exit.Usage at usage-written);
+    invalid = invalid;
+    absent = λ at. absent-at call.shelf call.shelf_after call.command has.outcome has.is (expected-at exit.Absent at absent-written);
+    unreadable = λ at. unreadable-at call.shelf call.shelf_after call.command has.outcome has.is (expected-at exit.Unreadable at unreadable-written);
+    unwritten = unwritten;
+    clean = clean;
+    files = files-at call.command has.is;
   }
-
-  not_answered : (bytes : List ℕ) → WritesOutput [] exit.OutOfMemory sink sink' s → s ≡ answered_status bytes → ⊥
-  not_answered bytes writes e =
-      ⊎_elim (λ m. answered_is_not (has_refusal (replies_of bytes)) exit.OutOfMemory (sym e ∙ m) (λ c. cc) (λ c. cc))
-      (λ f. ⊎_elim (λ w. answered_is_not (has_refusal (replies_of bytes)) exit.Unwritten (sym e ∙ w) (λ c. cc) (λ c. cc))
-      (λ m. answered_is_not (has_refusal (replies_of bytes)) exit.OutOfMemory (sym e ∙ m) (λ c. cc) (λ c. cc)) f) writes.status
-
-  answered-at : (script bytes : List ℕ) (o : Outcome) → FindsScript script before after o → Writes o
-      → option_map (content script) before.holds ≡ Some (Some bytes) → length bytes ≤ MAX_SCRIPT_LENGTH → after.read_faults ≡ before.read_faults
-      → WritesOutput (replies_text (replies_of bytes)) (answered_status bytes) sink sink' s
-  answered-at script bytes Usage is writes known short read = absurd is
-  answered-at script bytes (Absent name) is writes known short read =
-      absurd (let e : Some bytes ≡ None = known-content before.holds script (Some bytes) (λ c. c ≡ None) known (rw (sym is.0) is.1.absent) in cc)
-  answered-at script bytes (Unreadable name) is writes known short read = absurd (Reports-differs name before.read_faults after.read_faults is.1.reported (sym read))
-  answered-at script bytes (TooLong name) is writes known short read =
-      let long : MAX_SCRIPT_LENGTH < length bytes = known-content before.holds script (Some bytes) (λ c. IsSomeAnd c (λ b. MAX_SCRIPT_LENGTH < length b)) known (rw (sym is.0) is.2) in
-      absurd (omega (arith, long, short))
-  answered-at script bytes (Answered other) is writes known short read =
-      let e : Some bytes ≡ Some other = known-content before.holds script (Some bytes) (λ c. c ≡ Some other) known is.2 in
-      let same : other ≡ bytes = cc in
-      subst (λ (b : List ℕ). WritesOutput (replies_text (replies_of b)) (answered_status b) sink sink' s) same writes
-  answered-at script bytes OutOfMemory is writes known short read =
-      unanswered (replies_text (replies_of bytes)) (answered_status bytes) (not_answered bytes writes) writes
-
-  -- the three promises on a script whose content is known
-  missing : (command : Option Run) (o : Outcome) → IsOutcomeOf command before after o → Writes o
-      → option_and_then (λ (run : Run). option_map (content run.script) before.holds) command ≡ Some None
-      → after.read_faults ≡ before.read_faults → IsOrFails exit.Absent s
-  missing None o is writes none read = absurd cc
-  missing (Some run) o is writes none read = missing-at run.script o is writes none read
-
-  too_long : (command : Option Run) (o : Outcome) → IsOutcomeOf command before after o → Writes o → (bytes : List ℕ)
-      → option_and_then (λ (run : Run). option_map (content run.script) before.holds) command ≡ Some (Some bytes)
-      → MAX_SCRIPT_LENGTH < length bytes → after.read_faults ≡ before.read_faults → IsOrFails exit.TooLong s
-  too_long None o is writes bytes known long read = absurd cc
-  too_long (Some run) o is writes bytes known long read = too_long-at run.script bytes o is writes known long read
-
-  answered : (command : Option Run) (o : Outcome) → IsOutcomeOf command before after o → Writes o → (bytes : List ℕ)
-      → option_and_then (λ (run : Run). option_map (content run.script) before.holds) command ≡ Some (Some bytes)
-      → length bytes ≤ MAX_SCRIPT_LENGTH → after.read_faults ≡ before.read_faults
-      → WritesOutput (replies_text (replies_of bytes)) (answered_status bytes) sink sink' s
-  answered None o is writes bytes known short read = absurd cc
-  answered (Some run) o is writes bytes known short read = answered-at run.script bytes o is writes known short read
-
--- every promise
-pub promised : (call : Call) → HasOutcome call → Promises call
-promised call has = record {
-  outcome = has;
-  answered = λ script known short read. answered call.shelf call.shelf_after call.sink call.sink_after call.status call.command has.outcome has.is has.writes script known short read;
-  missing = λ none read. missing call.shelf call.shelf_after call.sink call.sink_after call.status call.command has.outcome has.is has.writes none read;
-  too_long = λ script known long read. too_long call.shelf call.shelf_after call.sink call.sink_after call.status call.command has.outcome has.is has.writes script known long read;
-  usage = λ at. usage call.shelf call.shelf_after call.sink call.sink_after call.status call.command has.outcome has.is has.writes at;
-  invalid = λ none. invalid call.shelf call.shelf_after call.sink call.sink_after call.status call.command has.outcome has.is has.writes none;
-  absent = λ at. absent call.shelf call.shelf_after call.sink call.sink_after call.status call.command has.outcome has.is has.writes at;
-  unreadable = λ at. unreadable call.shelf call.shelf_after call.sink call.sink_after call.status call.command has.outcome has.is has.writes at;
-  unwritten = λ at. has.writes.unwritten at;
-  clean = λ c. clean call.shelf call.shelf_after call.sink call.sink_after call.status call.command has.outcome has.is has.writes c;
-  files = files call.shelf call.shelf_after call.sink call.sink_after call.status call.command has.outcome has.is;
-  replaces = replaces call.shelf call.shelf_after call.sink call.sink_after call.status call.command has.outcome has.is;
-}

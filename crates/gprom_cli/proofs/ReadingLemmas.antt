@@ -1,4 +1,4 @@
--- What a script is that was read up to one byte more than the longest.
+-- What a file is that was read up to one byte more than the longest.
 use Rattle.std.proofs.Common.{◌≡◌, ℕ, ◌+◌, ◌<◌, ◌≤◌, List, length, take, Option, Some, None, sym, ap, ◌∙◌, arith}
 use Rattle.std.specs.Prelude.{IfSome, IsSomeAnd, option_map}
 use Rattle.std.proofs.lemmas.List.{length-take, take_all}
@@ -27,3 +27,9 @@ pub whole-file : (holds : Option Files) (name : List ℕ) (limit : ℕ) (bytes :
     → IfSome holds (λ files. content name files ≡ Some bytes)
 whole-file None name limit bytes read short = tt
 whole-file (Some files) name limit bytes read short = short-part (content name files) limit bytes read short
+
+-- the file has the length of what was read of it
+pub read-length : (holds : Option Files) (name : List ℕ) (most : ℕ) (bytes : List ℕ) → IfSome holds (λ files. content name files ≡ Some bytes) → length bytes ≤ most
+    → IfSome holds (λ files. IsSomeAnd (content name files) (λ whole. length whole ≤ most))
+read-length None name most bytes is short = tt
+read-length (Some files) name most bytes is short = rw is short

@@ -3,21 +3,29 @@
 use Rattle.std.specs.Prelude.{ℕ, Bool, false, ◌&&◌, not, List, [], ◌∷◌, Option, Some, None, if◌then◌else◌, ◌==◌, codes}
 use Rattle.std.specs.Str.{bytes_eq}
 
--- `run SCRIPT DUMP`: the names of the two files
-pub record Run : Type 0 where
-  pub script : List ℕ
-  pub dump : List ℕ
+pub data Command : Type 0 where
+  -- `run SCRIPT DUMP`: the names of the script, which is read, and of the dump, which is replaced
+  Run : List ℕ → List ℕ → Command
+  -- `ask DUMP QUESTIONS`: the names of the dump and of the questions, which are read
+  Ask : List ℕ → List ℕ → Command
 
 -- an argument that can name a file: not empty, and no option
 abbrev pub is_file_name : List ℕ → Bool
 is_file_name [] = false
 is_file_name (byte ∷ bytes) = not (byte == 45)
 
+-- the command of a word, if it is one, and two names
+abbrev pub command_of_words : List ℕ → List ℕ → List ℕ → Option Command
+command_of_words word first second =
+    if bytes_eq word (codes "run") then Some (Run first second)
+    else if bytes_eq word (codes "ask") then Some (Ask first second)
+    else None
+
 -- the command that the arguments ask for, if they ask for one
-abbrev pub command_of : List (List ℕ) → Option Run
+abbrev pub command_of : List (List ℕ) → Option Command
 command_of [] = None
-command_of (command ∷ []) = None
-command_of (command ∷ script ∷ []) = None
-command_of (command ∷ script ∷ dump ∷ []) =
-    if bytes_eq command (codes "run") && is_file_name script && is_file_name dump then Some (record { script = script; dump = dump }) else None
-command_of (command ∷ script ∷ dump ∷ other ∷ others) = None
+command_of (word ∷ []) = None
+command_of (word ∷ first ∷ []) = None
+command_of (word ∷ first ∷ second ∷ []) =
+    if is_file_name first && is_file_name second then command_of_words word first second else None
+command_of (word ∷ first ∷ second ∷ other ∷ others) = None

@@ -1,19 +1,25 @@
 -- Part of the statement: one call of the program, its possible outcomes, and what each outcome writes.
-use Rattle.std.specs.Prelude.{◌≡◌, ℕ, ◌≤◌, ◌<◌, ◌⊎◌, List, [], ◌∷◌, length, Option, Some, None, IfSome, IsSomeAnd, option_and_then, if◌then◌else◌, codes}
-use Rattle.std.specs.Option.{option_map}
+use Rattle.std.specs.Prelude.{◌≡◌, ◌≢◌, ℕ, ◌≤◌, ◌<◌, ◌⊎◌, Bool, List, [], ◌∷◌, length, Option, Some, None, IfSome, IsSomeAnd, if◌then◌else◌, nat_lt, codes}
+use Rattle.std.specs.Fmt.{decimal}
 use Rattle.std.specs.List.{concat}
-use Rattle.gp_io.specs.Shelf.{ShelfState, content, Reports, ReportsMiss, ReportsReadFault}
+use Rattle.gp_base.specs.Annotated.{plain}
+use Rattle.gp_io.specs.Shelf.{ShelfState, Files, content, ReportsMiss, ReportsReadFault, ReplacesFile, ReportsReplaceFault}
 use Rattle.gp_io.specs.Sink.{SinkState, appended, WritesPrefix, Increased}
-use Rattle.gp_script.specs.History.{replies_of, replies_text, has_refusal}
+use Rattle.gp_script.specs.History.{final_state, replies_of, replies_text, has_refusal}
 use Rattle.gp_script.specs.declared.script.TheConstants.{MAX_SCRIPT_LENGTH}
+use Rattle.gp_dump.specs.declared.dump.TheConstants.{MAX_DUMP_LENGTH}
+use Rattle.gp_dump.specs.Dumps.{Dump, WellFormed, dump_of, dump_text}
+use Rattle.gp_dump.specs.Rules.{Verdict, Holds, Fails, verdict_on, first_fault}
+use Rattle.gp_ask.specs.Answers.{answer_to}
+use Rattle.gp_ask.specs.Questions.{answers_text, has_refused}
 use Rattle.gprom_cli.specs.declared.status.Status.{Status}
 use Rattle.gprom_cli.specs.declared.status.Status.TheVariants as exit
-use Rattle.gprom_cli.specs.Args.{Run}
+use Rattle.gprom_cli.specs.Args.{Command, Run, Ask}
 
 -- One call: what it was asked to do, and what it found and left. The shelf and the sink are as contracts see them.
 pub record Call : Type 0 where
   -- the command of the arguments, if they are valid
-  pub command : Option Run
+  pub command : Option Command
   -- the shelf of files before and after the call
   pub shelf : ShelfState
   pub shelf_after : ShelfState
@@ -23,60 +29,50 @@ pub record Call : Type 0 where
   -- how the call ended
   pub status : Status
 
--- The content of the script: `Some (Some bytes)` where the file exists, `Some None` where it does not, and `None` where there is no
--- command or the shelf does not know its files.
-abbrev pub script_content : Call → Option (Option (List ℕ))
-script_content call = option_and_then (λ (run : Run). option_map (content run.script) call.shelf.holds) call.command
-
--- no file was reported unreadable during the call
-abbrev pub NoReadFault : Call → Type 0
-NoReadFault call = call.shelf_after.read_faults ≡ call.shelf.read_faults
-
--- the script was reported missing during the call
-abbrev pub ReportsMissing : Call → Type 0
-ReportsMissing call = IsSomeAnd call.command (λ (run : Run). Reports run.script call.shelf.misses call.shelf_after.misses)
-
--- the script was reported unreadable during the call
-abbrev pub ReportsUnreadable : Call → Type 0
-ReportsUnreadable call = IsSomeAnd call.command (λ (run : Run). Reports run.script call.shelf.read_faults call.shelf_after.read_faults)
+-- ---- writing
 
 -- the status is the expected one, or the write failed, or memory ran out
 abbrev pub IsOrFails : Status → Status → Type 0
 IsOrFails expected actual = (actual ≡ expected) ⊎ ((actual ≡ exit.Unwritten) ⊎ (actual ≡ exit.OutOfMemory))
 
--- the statuses with which a call ends that wrote all of its output
-abbrev pub IsExpected : Status → Type 0
-IsExpected exit.Done = Unit {0}
-IsExpected exit.Refused = Unit {0}
-IsExpected exit.Usage = Unit {0}
-IsExpected exit.Absent = Unit {0}
-IsExpected exit.Unreadable = Unit {0}
-IsExpected exit.Unwritten = ⊥
-IsExpected exit.TooLong = Unit {0}
-IsExpected exit.OutOfMemory = ⊥
+-- the output has all of the text, and no new write error
+abbrev pub WritesAll : List ℕ → SinkState → SinkState → Type 0
+WritesAll text before after = after ≡ record { taken = appended before.taken text; faults = before.faults }
 
--- How a text is written under a status. Under that status the output has all of it. Where the output reported a write error the status is
--- `Unwritten`, where memory ran out `OutOfMemory`; under both the output has a prefix.
+-- How a text is written under a status. If the output has no new write error and memory did not run out, it has all of the text, and the status is
+-- the expected one. Otherwise it has a prefix, and the status is `Unwritten` or `OutOfMemory`.
 pub record WritesOutput (text : List ℕ) (expected : Status) (before after : SinkState) (actual : Status) : Type 0 where
   pub status : IsOrFails expected actual
   pub prefix : WritesPrefix text before.taken after.taken
-  pub complete : actual ≡ expected → after ≡ record { taken = appended before.taken text; faults = before.faults }
-  pub unwritten : actual ≡ exit.Unwritten → Increased before.faults after.faults
+  pub complete : WritesAll text before after
+      ⊎ ((actual ≡ exit.OutOfMemory) ⊎ ((actual ≡ exit.Unwritten) × Increased before.faults after.faults))
+  -- `Unwritten` means a write error, unless it is expected
+  pub unwritten : actual ≡ exit.Unwritten → expected ≢ exit.Unwritten → Increased before.faults after.faults
   pub out_of_memory : actual ≡ exit.OutOfMemory → after.faults ≡ before.faults
+
+-- ---- outcomes
+
+-- the text of the dump of a script
+abbrev pub script_dump : List ℕ → List ℕ
+script_dump script = dump_text (dump_of (final_state plain script))
 
 -- what becomes of a call, before its output is written
 pub data Outcome : Type 0 where
   -- the arguments are invalid
   Usage : Outcome
-  -- the script of this name does not exist
+  -- a file of this name does not exist, cannot be read, or is too long to be read or written
   Absent : List ℕ → Outcome
-  -- the script of this name cannot be read
   Unreadable : List ℕ → Outcome
-  -- the script of this name is too long
   TooLong : List ℕ → Outcome
-  -- the script, of which these are the bytes, is answered
-  Answered : List ℕ → Outcome
-  -- memory ran out before the script was read
+  -- the dump, of this name, cannot be written
+  NotReplaced : List ℕ → Outcome
+  -- the script, of which these are the bytes, is answered, and its dump is written
+  Replied : List ℕ → Outcome
+  -- the dump is not well formed: the number of the rule that fails first, and the number of its line
+  Damaged : ℕ → ℕ → Outcome
+  -- the questions, of which these are the bytes, are answered from this dump
+  Answered : Dump → List ℕ → Outcome
+  -- memory ran out before anything was written
   OutOfMemory : Outcome
 
 -- the byte that ends a line
@@ -87,18 +83,28 @@ newline = 10 ∷ []
 abbrev pub message : List ℕ → List ℕ → List ℕ
 message words name = concat (words ∷ codes " " ∷ name ∷ newline ∷ [])
 
+-- what is before the number of a rule of dumps, which has two digits
+abbrev pub rule_prefix : ℕ → List ℕ
+rule_prefix f = if nat_lt f 10 then codes "F0" else codes "F"
+
+abbrev pub damage_message : ℕ → ℕ → List ℕ
+damage_message f line = concat (codes "dump refused: " ∷ rule_prefix f ∷ decimal f ∷ codes " at line " ∷ decimal line ∷ newline ∷ [])
+
 -- the text that an outcome writes
 abbrev pub expected_output : Outcome → List ℕ
 expected_output Usage = concat (codes "usage: gprom run SCRIPT DUMP, gprom ask DUMP QUESTIONS, gprom gen N" ∷ newline ∷ [])
 expected_output (Absent name) = message (codes "absent") name
 expected_output (Unreadable name) = message (codes "cannot read") name
 expected_output (TooLong name) = message (codes "too long") name
-expected_output (Answered script) = replies_text (replies_of script)
+expected_output (NotReplaced name) = message (codes "cannot write") name
+expected_output (Replied script) = replies_text (replies_of script)
+expected_output (Damaged f line) = damage_message f line
+expected_output (Answered dump questions) = answers_text (answer_to dump) questions
 expected_output OutOfMemory = []
 
--- the status of a script that was answered: whether a line was refused
-abbrev pub answered_status : List ℕ → Status
-answered_status script = if has_refusal (replies_of script) then exit.Refused else exit.Done
+-- the status of lines that were all answered: whether one was refused
+abbrev pub answered_status : Bool → Status
+answered_status refused = if refused then exit.Refused else exit.Done
 
 -- the status of an outcome
 abbrev pub exit_status : Outcome → Status
@@ -106,28 +112,92 @@ exit_status Usage = exit.Usage
 exit_status (Absent name) = exit.Absent
 exit_status (Unreadable name) = exit.Unreadable
 exit_status (TooLong name) = exit.TooLong
-exit_status (Answered script) = answered_status script
+exit_status (NotReplaced name) = exit.Unwritten
+exit_status (Replied script) = answered_status (has_refusal (replies_of script))
+exit_status (Damaged f line) = exit.Damaged
+exit_status (Answered dump questions) = answered_status (has_refused (answer_to dump) questions)
 exit_status OutOfMemory = exit.OutOfMemory
 
--- What reading the script of this name finds, which decides the outcome. A script that is missing or unreadable is reported; the shelf is
--- unchanged otherwise. Where the shelf knows its files, the outcome agrees with them.
-abbrev pub FindsScript : List ℕ → ShelfState → ShelfState → Outcome → Type 0
-FindsScript script before after Usage = ⊥
-FindsScript script before after (Absent name) = (name ≡ script) × ReportsMiss name before after
-FindsScript script before after (Unreadable name) = (name ≡ script) × ReportsReadFault name before after
-FindsScript script before after (TooLong name) = (name ≡ script) × (after ≡ before)
-    × IfSome before.holds (λ files. IsSomeAnd (content name files) (λ bytes. MAX_SCRIPT_LENGTH < length bytes))
-FindsScript script before after (Answered bytes) = (after ≡ before)
-    × (length bytes ≤ MAX_SCRIPT_LENGTH) × IfSome before.holds (λ files. content script files ≡ Some bytes)
-FindsScript script before after OutOfMemory = after ≡ before
+-- ---- when an outcome is that of a call
 
--- when an outcome is that of a call: the arguments decide whether there is a script to read
-abbrev pub IsOutcomeOf : Option Run → ShelfState → ShelfState → Outcome → Type 0
+-- where the shelf knows its files, the file of this name has these bytes
+abbrev pub HasContent : List ℕ → ShelfState → List ℕ → Type 0
+HasContent name shelf bytes = IfSome shelf.holds (λ files. content name files ≡ Some bytes)
+
+-- a file of this name was read: where the shelf knows its files, it exists, and is not longer than this
+abbrev pub IsRead : List ℕ → ℕ → ShelfState → Type 0
+IsRead name most shelf = IfSome shelf.holds (λ files. IsSomeAnd (content name files) (λ bytes. length bytes ≤ most))
+
+-- and it is longer
+abbrev pub IsLonger : List ℕ → ℕ → ShelfState → Type 0
+IsLonger name most shelf = IfSome shelf.holds (λ files. IsSomeAnd (content name files) (λ bytes. most < length bytes))
+
+-- `run`: the script is read, run, and its dump is written; then its replies are due. The first step that fails decides the outcome.
+abbrev pub RunEnds : List ℕ → List ℕ → ShelfState → ShelfState → Outcome → Type 0
+RunEnds script dump before after (Absent name) = (name ≡ script) × ReportsMiss script before after
+RunEnds script dump before after (Unreadable name) = (name ≡ script) × ReportsReadFault script before after
+RunEnds script dump before after (TooLong name) = (after ≡ before) × (((name ≡ script) × IsLonger script MAX_SCRIPT_LENGTH before)
+    ⊎ ((name ≡ dump) × ((bytes : List ℕ) × (length bytes ≤ MAX_SCRIPT_LENGTH) × (MAX_DUMP_LENGTH < length (script_dump bytes)) × HasContent script before bytes)))
+RunEnds script dump before after (NotReplaced name) = (name ≡ dump) × ReportsReplaceFault dump before after
+    × ((bytes : List ℕ) × (length bytes ≤ MAX_SCRIPT_LENGTH) × (length (script_dump bytes) ≤ MAX_DUMP_LENGTH) × HasContent script before bytes)
+RunEnds script dump before after (Replied bytes) = ReplacesFile dump (script_dump bytes) before after
+    × (length bytes ≤ MAX_SCRIPT_LENGTH) × (length (script_dump bytes) ≤ MAX_DUMP_LENGTH) × HasContent script before bytes
+RunEnds script dump before after OutOfMemory = after ≡ before
+RunEnds script dump before after Usage = ⊥
+RunEnds script dump before after (Damaged f line) = ⊥
+RunEnds script dump before after (Answered contents questions) = ⊥
+
+-- `ask`: the dump is read, then the questions; then the dump is tested against its rules, and the questions are answered
+abbrev pub AskEnds : List ℕ → List ℕ → ShelfState → ShelfState → Outcome → Type 0
+AskEnds dump questions before after (Absent name) =
+    ((name ≡ dump) ⊎ ((name ≡ questions) × IsRead dump MAX_DUMP_LENGTH before)) × ReportsMiss name before after
+AskEnds dump questions before after (Unreadable name) =
+    ((name ≡ dump) ⊎ ((name ≡ questions) × IsRead dump MAX_DUMP_LENGTH before)) × ReportsReadFault name before after
+AskEnds dump questions before after (TooLong name) = (after ≡ before) × (((name ≡ dump) × IsLonger dump MAX_DUMP_LENGTH before)
+    ⊎ ((name ≡ questions) × IsRead dump MAX_DUMP_LENGTH before × IsLonger questions MAX_SCRIPT_LENGTH before))
+AskEnds dump questions before after (Damaged f line) = (after ≡ before) × IsRead questions MAX_SCRIPT_LENGTH before
+    × ((bytes : List ℕ) × (length bytes ≤ MAX_DUMP_LENGTH) × (first_fault bytes ≡ Some (f, line)) × HasContent dump before bytes)
+AskEnds dump questions before after (Answered contents asked) = (after ≡ before) × (length asked ≤ MAX_SCRIPT_LENGTH) × HasContent questions before asked
+    × ((bytes : List ℕ) × (length bytes ≤ MAX_DUMP_LENGTH) × WellFormed bytes contents × HasContent dump before bytes)
+AskEnds dump questions before after OutOfMemory = after ≡ before
+AskEnds dump questions before after Usage = ⊥
+AskEnds dump questions before after (NotReplaced name) = ⊥
+AskEnds dump questions before after (Replied script) = ⊥
+
+abbrev pub IsOutcomeOf : Option Command → ShelfState → ShelfState → Outcome → Type 0
 IsOutcomeOf None before after outcome = (after ≡ before) × (outcome ≡ Usage)
-IsOutcomeOf (Some run) before after outcome = FindsScript run.script before after outcome
+IsOutcomeOf (Some (Run script dump)) before after outcome = RunEnds script dump before after outcome
+IsOutcomeOf (Some (Ask dump questions)) before after outcome = AskEnds dump questions before after outcome
+
+-- how an outcome is written; where memory ran out before, nothing is
+abbrev pub Writes : Outcome → SinkState → SinkState → Status → Type 0
+Writes OutOfMemory before after status = (after ≡ before) × (status ≡ exit.OutOfMemory)
+Writes outcome before after status = WritesOutput (expected_output outcome) (exit_status outcome) before after status
+
+abbrev pub WritesOutcome : Call → Outcome → Type 0
+WritesOutcome call outcome = Writes outcome call.sink call.sink_after call.status
 
 -- the arguments, the files and what the shelf reported determine the outcome, and the outcome what is written
 pub record HasOutcome (call : Call) : Type 0 where
   pub outcome : Outcome
   pub is : IsOutcomeOf call.command call.shelf call.shelf_after outcome
-  pub writes : WritesOutput (expected_output outcome) (exit_status outcome) call.sink call.sink_after call.status
+  pub writes : WritesOutcome call outcome
+
+-- ---- the outcome by the files
+
+-- a file that is read, by its content, if it exists and is not longer than this
+abbrev pub reading : List ℕ → ℕ → Option (List ℕ) → (List ℕ → Outcome) → Outcome
+reading name most None next = Absent name
+reading name most (Some bytes) next = if nat_lt most (length bytes) then TooLong name else next bytes
+
+abbrev pub asking : List ℕ → Verdict → Outcome
+asking questions (Holds dump) = Answered dump questions
+asking questions (Fails f line) = Damaged f line
+
+abbrev pub outcome_by : Option Command → Files → Outcome
+outcome_by None files = Usage
+outcome_by (Some (Run script dump)) files =
+    reading script MAX_SCRIPT_LENGTH (content script files) (λ bytes. if nat_lt MAX_DUMP_LENGTH (length (script_dump bytes)) then TooLong dump else Replied bytes)
+outcome_by (Some (Ask dump questions)) files =
+    reading dump MAX_DUMP_LENGTH (content dump files) (λ bytes.
+    reading questions MAX_SCRIPT_LENGTH (content questions files) (λ asked. asking asked (verdict_on bytes)))

@@ -1,17 +1,53 @@
 -- Part of the statement: what every call of the program promises. This is the contract of `gprom`, for every shelf and every sink that keep
 -- their own contracts. A promise about the content of a file holds where the shelf knows its files, one about the bytes of the output where the
 -- sink knows them; the real files and the real output know neither.
-use Rattle.std.specs.Prelude.{◌≡◌, ℕ, ◌≤◌, ◌<◌, List, length, Some, None}
+use Rattle.std.specs.Prelude.{◌≡◌, ◌⊎◌, ℕ, ◌≤◌, List, [], ◌∷◌, length, Option, Some, None, IsSomeAnd}
+use Rattle.gp_base.specs.Annotated.{plain}
+use Rattle.gp_io.specs.Shelf.{Files, FilesRelate, OthersStay, Replaced, Reports, content}
 use Rattle.gp_io.specs.Sink.{Increased}
-use Rattle.gp_script.specs.History.{replies_of, replies_text}
+use Rattle.gp_script.specs.History.{final_state, replies_of, replies_text, has_refusal}
 use Rattle.gp_script.specs.declared.script.TheConstants.{MAX_SCRIPT_LENGTH}
+use Rattle.gp_dump.specs.declared.dump.TheConstants.{MAX_DUMP_LENGTH}
+use Rattle.gp_ask.specs.Answers.{held_to}
+use Rattle.gp_ask.specs.Questions.{answers_text, has_refused}
 use Rattle.gprom_cli.specs.declared.status.Status.{Status}
-use Rattle.gprom_cli.specs.declared.status.Status.TheVariants.{Done, Refused, Usage, Absent, Unreadable, Unwritten, TooLong, OutOfMemory}
-use Rattle.gprom_cli.specs.Call.{Call, HasOutcome, WritesOutput, IsOrFails, script_content, answered_status, NoReadFault, ReportsMissing, ReportsUnreadable}
+use Rattle.gprom_cli.specs.declared.status.Status.TheVariants.{Done, Refused, Usage, Absent, Unreadable, Unwritten, TooLong, Damaged, OutOfMemory}
+use Rattle.gprom_cli.specs.Args.{Command, Run, Ask}
+use Rattle.gprom_cli.specs.Call.{Call, HasOutcome, WritesOutput, WritesOutcome, IsOrFails, answered_status, outcome_by, script_dump}
 
--- the call reported nothing: the shelf is unchanged, and the output has no new write error
-abbrev pub ReportsNothing : Call → Type 0
-ReportsNothing call = (call.shelf_after ≡ call.shelf) × (call.sink_after.faults ≡ call.sink.faults)
+-- no file was reported unreadable or not replaced during the call
+abbrev pub NoFault : Call → Type 0
+NoFault call = (call.shelf_after.read_faults ≡ call.shelf.read_faults) × (call.shelf_after.replace_faults ≡ call.shelf.replace_faults)
+
+-- the names of the files that a command reads, and of the one that it replaces
+abbrev pub files_read : Command → List (List ℕ)
+files_read (Run script dump) = script ∷ []
+files_read (Ask dump questions) = dump ∷ questions ∷ []
+
+abbrev pub files_replaced : Command → List (List ℕ)
+files_replaced (Run script dump) = dump ∷ []
+files_replaced (Ask dump questions) = []
+
+-- one of these names was reported
+abbrev pub ReportsOne : List (List ℕ) → List (List ℕ) → List (List ℕ) → Type 0
+ReportsOne [] old new = ⊥
+ReportsOne (name ∷ names) old new = Reports name old new ⊎ ReportsOne names old new
+
+abbrev pub ReportsMissing : Call → Type 0
+ReportsMissing call = IsSomeAnd call.command (λ command. ReportsOne (files_read command) call.shelf.misses call.shelf_after.misses)
+
+abbrev pub ReportsUnreadable : Call → Type 0
+ReportsUnreadable call = IsSomeAnd call.command (λ command. ReportsOne (files_read command) call.shelf.read_faults call.shelf_after.read_faults)
+
+abbrev pub ReportsNotReplaced : Call → Type 0
+ReportsNotReplaced call = IsSomeAnd call.command (λ command. ReportsOne (files_replaced command) call.shelf.replace_faults call.shelf_after.replace_faults)
+
+-- the call reported nothing: no name, and no new write error
+pub record ReportsNothing (call : Call) : Type 0 where
+  pub misses : call.shelf_after.misses ≡ call.shelf.misses
+  pub reads : call.shelf_after.read_faults ≡ call.shelf.read_faults
+  pub replaces : call.shelf_after.replace_faults ≡ call.shelf.replace_faults
+  pub writes : call.sink_after.faults ≡ call.sink.faults
 
 -- the statuses under which nothing is reported
 abbrev pub IsClean : Status → Type 0
@@ -22,30 +58,44 @@ IsClean Absent = ⊥
 IsClean Unreadable = ⊥
 IsClean Unwritten = ⊥
 IsClean TooLong = Unit {0}
+IsClean Damaged = Unit {0}
 IsClean OutOfMemory = ⊥
 
+-- the file that a command may change: all others have the content that they had
+abbrev pub LeavesOthers : Option Command → Call → Type 0
+LeavesOthers None call = call.shelf_after.holds ≡ call.shelf.holds
+LeavesOthers (Some (Run script dump)) call = FilesRelate (OthersStay dump) call.shelf.holds call.shelf_after.holds
+LeavesOthers (Some (Ask dump questions)) call = call.shelf_after.holds ≡ call.shelf.holds
+
 pub record Promises (call : Call) : Type 0 where
-  -- The arguments, the script and the reported I/O errors determine the output and the exit status. The output is complete, but for a prefix
-  -- after a write error or where memory ran out.
+  -- The arguments, the files and the reported I/O errors determine the output, the exit status and what becomes of the dump. The output is complete,
+  -- but for a prefix after a write error or where memory ran out.
   pub outcome : HasOutcome call
-  -- A script of at most 16 MiB, whatever its bytes, that is read without a reported error gets exactly the replies of its history.
-  pub answered : (script : List ℕ) → script_content call ≡ Some (Some script) → length script ≤ MAX_SCRIPT_LENGTH → NoReadFault call
-      → WritesOutput (replies_text (replies_of script)) (answered_status script) call.sink call.sink_after call.status
-  -- A script that does not exist is reported as absent, unless a read error is reported.
-  pub missing : script_content call ≡ Some None → NoReadFault call → IsOrFails Absent call.status
-  -- A longer script is refused as a whole.
-  pub too_long : (script : List ℕ) → script_content call ≡ Some (Some script) → MAX_SCRIPT_LENGTH < length script → NoReadFault call
-      → IsOrFails TooLong call.status
+  -- Where the shelf knows its files and reports no fault, the arguments and the files alone determine the output and the exit status.
+  pub determined : (files : Files) → call.shelf.holds ≡ Some files → NoFault call → WritesOutcome call (outcome_by call.command files)
+  -- `run` writes exactly the replies of the history of the script, whatever its bytes, and the dump of its last state; only where memory runs out
+  -- the dump may be as it was.
+  pub replied : (files : Files) (name dump script : List ℕ) → call.command ≡ Some (Run name dump) → call.shelf.holds ≡ Some files → NoFault call
+      → content name files ≡ Some script → length script ≤ MAX_SCRIPT_LENGTH → length (script_dump script) ≤ MAX_DUMP_LENGTH
+      → WritesOutput (replies_text (replies_of script)) (answered_status (has_refusal (replies_of script))) call.sink call.sink_after call.status
+      × (FilesRelate (Replaced dump (script_dump script)) call.shelf.holds call.shelf_after.holds
+      ⊎ ((call.status ≡ OutOfMemory) × (call.shelf_after.holds ≡ call.shelf.holds)))
+  -- `ask` answers from the dump of a script, whichever script made it, as the history of the script held it.
+  pub held : (files : Files) (dump name script questions : List ℕ) → call.command ≡ Some (Ask dump name) → call.shelf.holds ≡ Some files → NoFault call
+      → length script ≤ MAX_SCRIPT_LENGTH → content dump files ≡ Some (script_dump script) → length (script_dump script) ≤ MAX_DUMP_LENGTH
+      → content name files ≡ Some questions → length questions ≤ MAX_SCRIPT_LENGTH
+      → WritesOutput (answers_text (held_to (final_state plain script)) questions)
+      (answered_status (has_refused (held_to (final_state plain script)) questions)) call.sink call.sink_after call.status
   -- Each status has its cause: invalid arguments and no others give the usage line,
   pub usage : call.status ≡ Usage → call.command ≡ None
   pub invalid : call.command ≡ None → IsOrFails Usage call.status
-  -- a script is called absent or unreadable only where the shelf reported it so during the call,
+  -- a file is called absent or unreadable only where the shelf reported it so during the call,
   pub absent : call.status ≡ Absent → ReportsMissing call
   pub unreadable : call.status ≡ Unreadable → ReportsUnreadable call
-  -- a write error is claimed only where the output counted one (or its counter is saturated),
-  pub unwritten : call.status ≡ Unwritten → Increased call.sink.faults call.sink_after.faults
+  -- a write error is claimed only where the shelf reported that the dump was not replaced, or the output counted an error (or its counter is
+  -- saturated),
+  pub unwritten : call.status ≡ Unwritten → ReportsNotReplaced call ⊎ Increased call.sink.faults call.sink_after.faults
   -- and under the other statuses nothing was reported. Memory may run out in any call: no postcondition can rule that out.
   pub clean : IsClean call.status → ReportsNothing call
-  -- No file is modified, and no write of a file is attempted.
-  pub files : call.shelf_after.holds ≡ call.shelf.holds
-  pub replaces : call.shelf_after.replace_faults ≡ call.shelf.replace_faults
+  -- No file is modified but the dump of `run`.
+  pub files : LeavesOthers call.command call

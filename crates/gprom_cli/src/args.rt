@@ -1,23 +1,28 @@
 //! The arguments of the program.
 
-ghost use Rattle.std.specs.Prelude.{◌≡◌, None, map, string_bytes, MatchOption, Some, codes};
+ghost use Rattle.std.specs.Prelude.{◌≡◌, map, string_bytes, codes};
+ghost use Rattle.std.specs.Option.{option_map};
 ghost use Rattle.std.specs.Str.{bytes_eq};
-ghost use Rattle.gprom_cli.specs.Args.{command_of, is_file_name};
+ghost use Rattle.gprom_cli.specs.Args.{command_of, command_of_words, is_file_name};
+ghost use Rattle.gprom_cli.specs.Views.{command_view};
 
-/// `run SCRIPT DUMP`: the names of the two files.
+/// What the arguments ask for, with the names of the files.
 #[derive(Clone, Copy)]
-pub struct RunArgs<'a> {
-    /// The script, which is read.
-    pub script: &'a str,
-    /// The file for the dump. This version does not write it.
-    pub dump: &'a str,
-}
-
-/// Whether the argument is the command `run`.
-fn is_run(argument: &str) -> bool
-    ensures { result ≡ bytes_eq argument.now (codes "run") }
-{
-    argument == "run"
+pub enum Command<'a> {
+    /// `run SCRIPT DUMP`: the script is read, and the dump is replaced.
+    Run {
+        /// The name of the script.
+        script: &'a str,
+        /// The name of the dump.
+        dump: &'a str,
+    },
+    /// `ask DUMP QUESTIONS`: both files are read.
+    Ask {
+        /// The name of the dump.
+        dump: &'a str,
+        /// The name of the questions.
+        questions: &'a str,
+    },
 }
 
 /// Whether the argument can name a file: it is not empty, and no option.
@@ -30,22 +35,41 @@ fn is_file_name(argument: &str) -> bool
     }
 }
 
-/// The command that the arguments ask for, or `None` where they are invalid: `run`, then two names that are not empty and do not begin
-/// with a hyphen.
-pub(crate) fn parse(args: &[String]) -> Option<RunArgs<'_>>
-    ensures { MatchOption result (command_of (map string_bytes args.now) ≡ None) (λ run.
-        command_of (map string_bytes args.now) ≡ Some (record { script = run.script.now; dump = run.dump.now })) }
+/// Whether the two texts are the same.
+fn is_word(argument: &str, word: &str) -> bool
+    ensures { result ≡ bytes_eq argument.now word.now }
+{
+    argument == word
+}
+
+/// The command of a word, if it is one, and two names.
+fn command_of_words<'a>(word: &str, first: &'a str, second: &'a str) -> Option<Command<'a>>
+    ensures { option_map command_view result ≡ command_of_words word.now first.now second.now }
+{
+    if is_word(word, "run") {
+        Some(Command::Run {
+            script: first,
+            dump: second,
+        })
+    } else if is_word(word, "ask") {
+        Some(Command::Ask {
+            dump: first,
+            questions: second,
+        })
+    } else {
+        None
+    }
+}
+
+/// The command that the arguments ask for, or `None` where they are invalid: `run` or `ask`, then two names that are not empty and do not
+/// begin with a hyphen.
+pub(crate) fn parse(args: &[String]) -> Option<Command<'_>>
+    ensures { option_map command_view result ≡ command_of (map string_bytes args.now) }
 {
     match args {
-        [command, script, dump] => {
-            if is_run(command.as_str())
-                && is_file_name(script.as_str())
-                && is_file_name(dump.as_str())
-            {
-                Some(RunArgs {
-                    script: script.as_str(),
-                    dump: dump.as_str(),
-                })
+        [word, first, second] => {
+            if is_file_name(first.as_str()) && is_file_name(second.as_str()) {
+                command_of_words(word.as_str(), first.as_str(), second.as_str())
             } else {
                 None
             }

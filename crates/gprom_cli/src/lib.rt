@@ -1,7 +1,8 @@
 //! The program gprom as a library: one call, [`gprom`], does all that the program does, over any shelf of files and any sink of bytes.
 //!
-//! Reading order: `status.rt` (how a call ends), `args.rt` (what the arguments ask for), `run.rt` (the call).
-//! The contract of [`gprom`] is `Promises` in `specs/Promises.antt`.
+//! In reading order: `status.rt` (how a call ends), `args.rt` (what the arguments ask for), `output.rt` and `read.rt` (what is written and
+//! read), `run.rt` and `ask.rt` (the two commands), `laws.rt` (what dumps of scripts are), `call.rt` (the call). The contract of [`gprom`] is
+//! `Promises` in `specs/Promises.antt`.
 //!
 //! ```
 //! let mut shelf = DiskShelf::new(rt, rt.alloc());
@@ -11,8 +12,14 @@
 #![tactic(auto)]
 
 mod args;
+mod ask;
+mod call;
+mod laws;
+mod output;
+mod read;
 mod run;
 mod status;
 
-pub use run::gprom;
+pub use call::gprom;
+pub use laws::scripts_have_well_formed_dumps;
 pub use status::Status;

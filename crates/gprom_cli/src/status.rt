@@ -1,30 +1,45 @@
 //! The exit status of the program.
 
 ghost use Rattle.std.specs.Prelude.{◌≡◌};
+ghost use Rattle.gprom_cli.specs.Call.{answered_status};
 ghost use Rattle.gprom_cli.specs.Status.{number_of};
 
 /// How a call of the program ends.
 #[derive(Clone, Copy)]
 pub enum Status {
-    /// Every line of the script was answered, and none was refused.
+    /// Every line was answered, and none was refused.
     Done,
-    /// Every line of the script was answered, and some line was refused.
+    /// Every line was answered, and some line was refused.
     Refused,
     /// The arguments are invalid.
     Usage,
-    /// The script does not exist.
+    /// A file that is read does not exist.
     Absent,
-    /// The script cannot be read.
+    /// A file that is read cannot be read.
     Unreadable,
-    /// The output reported a write error.
+    /// The dump cannot be written, or the output reported a write error.
     Unwritten,
-    /// The script is longer than [`MAX_SCRIPT_LENGTH`](gp_script::MAX_SCRIPT_LENGTH).
+    /// A file that is read, or the dump that is written, is too long: a script or questions longer than
+    /// [`MAX_SCRIPT_LENGTH`](gp_script::MAX_SCRIPT_LENGTH), a dump longer than [`MAX_DUMP_LENGTH`](gp_dump::MAX_DUMP_LENGTH).
     TooLong,
+    /// The dump is not well formed.
+    Damaged,
     /// Memory ran out.
     OutOfMemory,
 }
 
 impl Status {
+    /// The status of lines that were all answered: whether one was refused.
+    pub(crate) fn answered(refused: bool) -> Status
+        ensures { result ≡ answered_status refused }
+    {
+        if refused {
+            Status::Refused
+        } else {
+            Status::Done
+        }
+    }
+
     /// The number with which the process exits.
     pub fn number(self) -> u8
         ensures { result ≡ number_of self }
@@ -37,6 +52,7 @@ impl Status {
             Status::Unreadable => 4,
             Status::Unwritten => 5,
             Status::TooLong => 6,
+            Status::Damaged => 7,
             Status::OutOfMemory => 8,
         }
     }

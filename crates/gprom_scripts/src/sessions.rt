@@ -6,6 +6,7 @@ use std::test::Fail;
 /// Scripts without a refused line.
 const ACCEPTED: &[&str] = &[
     "",
+    "\n \t\r\n  -- nothing\n",
     // The smallest run, with other ends of lines, blank lines and comments.
     "\
 s1: CREATE TABLE r (a INT, b INT)
@@ -85,6 +86,52 @@ s1: SELECT * FROM r
 > 18 rows 2
 >   1
 >   3
+",
+    // Each transaction begins at the newest version, and sees its own rows. Rows are in the order of their numbers.
+    "\
+s1: CREATE TABLE r (a INT, b INT)
+> 1 created r
+s1: BEGIN
+> 2 begin 1 at 0
+s1: SELECT * FROM r
+> 3 rows 0
+s1: INSERT INTO r VALUES (9, 1), (-9, 1), (10, -1)
+> 4 wrote 3
+s1: INSERT INTO r VALUES (-10, 1), (10, -2), (9, 1)
+> 5 wrote 3
+
+s1: SELECT * FROM r
+> 7 rows 6
+>   -10, 1
+>   -9, 1
+>   9, 1
+>   9, 1
+>   10, -2
+>   10, -1
+s1: COMMIT
+> 8 committed 1 as 1
+-- the next transaction
+s1: BEGIN
+> 10 begin 2 at 1
+s1: INSERT INTO r VALUES (9, 0)
+> 11 wrote 1
+s1: SELECT * FROM r
+> 12 rows 7
+>   -10, 1
+>   -9, 1
+>   9, 0
+>   9, 1
+>   9, 1
+>   10, -2
+>   10, -1
+s1: COMMIT
+> 13 committed 2 as 2
+s1: BEGIN
+> 14 begin 3 at 2
+s1: COMMIT
+> 15 committed 3 as 3
+s1: BEGIN
+> 16 begin 4 at 3
 ",
     // A rollback leaves the rows as they were. The numbers of transactions go on, those of versions count commits alone.
     "\
@@ -227,6 +274,68 @@ s2: COMMIT
 > 14 committed 3 as 2
 s1: COMMIT
 > 15 E11 transaction 2 lost to 3 on r 1.2.1
+",
+    // The smallest run, where one line in turn is refused.
+    "\
+s2: COMMIT
+> 1 E10 no transaction
+s1: BEGIN
+> 2 begin 1 at 0
+s1: INSERT INTO r VALUES (1, 10)
+> 3 E04 no table r
+s1: SELECT * FROM r
+> 4 E04 no table r
+s1: COMMIT
+> 5 committed 1 as 1
+",
+    "\
+s1: CREATE TABLE r (a INT, b INT)
+> 1 created r
+s2: COMMIT
+> 2 E10 no transaction
+s1: INSERT INTO r VALUES (1, 10)
+> 3 E10 no transaction
+s1: SELECT * FROM r
+> 4 E10 no transaction
+s1: COMMIT
+> 5 E10 no transaction
+",
+    "\
+s1: CREATE TABLE r (a INT, b INT)
+> 1 created r
+s1: BEGIN
+> 2 begin 1 at 0
+s2: COMMIT
+> 3 E10 no transaction
+s1: SELECT * FROM r
+> 4 rows 0
+s1: COMMIT
+> 5 committed 1 as 1
+",
+    "\
+s1: CREATE TABLE r (a INT, b INT)
+> 1 created r
+s1: BEGIN
+> 2 begin 1 at 0
+s1: INSERT INTO r VALUES (1, 10)
+> 3 wrote 1
+s2: COMMIT
+> 4 E10 no transaction
+s1: COMMIT
+> 5 committed 1 as 1
+",
+    "\
+s1: CREATE TABLE r (a INT, b INT)
+> 1 created r
+s1: BEGIN
+> 2 begin 1 at 0
+s1: INSERT INTO r VALUES (1, 10)
+> 3 wrote 1
+s1: SELECT * FROM r
+> 4 rows 1
+>   1, 10
+s2: COMMIT
+> 5 E10 no transaction
 ",
 ];
 

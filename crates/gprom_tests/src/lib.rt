@@ -1,25 +1,23 @@
-//! Tests of what no contract says, over the public calls of all crates: that calls succeed when memory is available, printed texts worked out by
-//! hand, the real files and the real output.
+//! Tests of what no contract says, over the public calls of the crates below the engine: that calls succeed when memory is available, and
+//! printed texts worked out by hand.
 //!
-//! Reading order: `values.rt` (cells, rows, refusals), `files.rt` (shelves and sinks), `lines.rt` (lines and commands of a script),
-//! `provenance.rt` (identities, tokens, monomials), `checks.rt` (names and types), `queries.rt` (expressions and answers), `programs.rt` (plain
-//! programs), `versions.rt` (row versions), `replies.rt` (whole scripts and the texts of replies), `calls.rt` (the whole call).
+//! Reading order: `cases.rt` (values of any type), `values.rt` (cells, rows, refusals), `provenance.rt` (identities, tokens, monomials), `lines.rt`
+//! (lines, commands and questions), `checks.rt` (names and types), `queries.rt` (answers), `programs.rt` (plain programs), `versions.rt` (row
+//! versions). Scripts with their replies, among them the faults of lines and the values of expressions, are in `gprom_scripts`.
 //!
-//! Each test is a `for` over a table of cases, and a helper that borrows compares one case:
+//! Most tests are a `for` over a table of cases, and a helper compares one case. It answers `false` also where memory runs out:
 //!
 //! ```
-//! for (script, replies, status) in SCRIPTS {
-//!     assert!(rt; answers(rt.alloc(), script, replies, *status)?, "at {script}");
+//! for (line, refusal) in QUESTIONS {
+//!     assert!(rt; refuses(rt.alloc(), line, refusal), "{line:?}");
 //! }
 //! ```
 #![tactic(auto)]
 
 #[cfg(test)]
-mod calls;
+mod cases;
 #[cfg(test)]
 mod checks;
-#[cfg(test)]
-mod files;
 #[cfg(test)]
 mod lines;
 #[cfg(test)]
@@ -28,8 +26,6 @@ mod programs;
 mod provenance;
 #[cfg(test)]
 mod queries;
-#[cfg(test)]
-mod replies;
 #[cfg(test)]
 mod values;
 #[cfg(test)]

@@ -1,31 +1,18 @@
-//! Lines of scripts, and the commands that they hold.
+//! Lines of scripts, the commands that they hold, and questions.
 
-use gp_base::{NoMemory, write_refusal};
+use crate::cases::inspect;
+use crate::values::is_refusal;
 use gp_grammar::canonical_texts_are_read;
-use gp_syntax::{Command, ReadStop, lines, read_command, read_line, read_question, write_command};
-use std::alloc::{AllocError, Global};
-use std::process::Abort;
-use std::test::Fail;
+use gp_syntax::{
+    Command, ReadStop, ScriptLine, lines, read_command, read_line, read_question, write_command,
+};
+use std::alloc::Global;
 
-/// A start, a piece this many times, and an end.
-fn repeated(
-    alloc: Global,
-    start: &[u8],
-    piece: &[u8],
-    times: u32,
-    end: &[u8],
-) -> Result<Vec<u8>, AllocError> {
-    let mut bytes = Vec::from_slice(alloc, start)?;
-    for _ in 0..times {
-        bytes.extend_from_slice(piece)?;
+/// Whether these are the lines of a script, which is short, that get a reply.
+fn has_lines(script: &[u8], expected: &[(u32, &[u8])]) -> bool {
+    if script.len() >= 10_000 {
+        return false;
     }
-    bytes.extend_from_slice(end)?;
-    Ok(bytes)
-}
-
-/// Whether these are the lines of the script that get a reply.
-fn has_lines(rt: &impl Abort, script: &[u8], expected: &[(u32, &[u8])]) -> bool {
-    assert!(rt; script.len() < 10_000);
     let mut found = lines(script);
     for (number, bytes) in expected {
         match found.next() {
@@ -62,36 +49,31 @@ const SCRIPTS: &[(&[u8], &[(u32, &[u8])])] = &[
 #[test]
 fn scripts_have_numbered_lines(rt: HostRuntime) {
     for (script, expected) in SCRIPTS {
-        assert!(rt; has_lines(&rt, script, expected), "{script:?}");
+        assert!(rt; has_lines(script, expected), "{script:?}");
     }
 }
 
-#[test]
-fn longest_blank_line_gets_no_reply(rt: HostRuntime) -> Result<(), Fail> {
-    let blanks = repeated(rt.alloc(), b"", b" ", 4096, b"\r\n")?;
-    assert!(rt; has_lines(&rt, &blanks, &[]));
-    let blanks = repeated(rt.alloc(), b"", b"\t", 4097, b"")?;
-    assert!(rt; has_lines(&rt, &blanks, &[(1, &blanks)]));
-    Ok(())
+/// Whether the command has this canonical text.
+fn is_command(alloc: Global, command: &Command, text: &[u8]) -> bool {
+    match write_command(alloc, command) {
+        Ok(written) => written.as_slice() == text,
+        Err(_) => false,
+    }
 }
 
-#[test]
-fn longest_comment_gets_no_reply(rt: HostRuntime) -> Result<(), Fail> {
-    let comment = repeated(rt.alloc(), b"--", b"x", 4094, b"\na")?;
-    assert!(rt; has_lines(&rt, &comment, &[(2, b"a")]));
-    let comment = repeated(rt.alloc(), b"--", b"x", 4095, b"")?;
-    assert!(rt; has_lines(&rt, &comment, &[(1, &comment)]));
-    Ok(())
+/// Whether it is a line of the session whose command has this canonical text.
+fn is_line(alloc: Global, line: &Result<ScriptLine, ReadStop>, session: u32, text: &[u8]) -> bool {
+    match line {
+        Ok(line) => line.session == session && is_command(alloc, &line.command, text),
+        Err(_) => false,
+    }
 }
 
 /// Whether the line is read as a line of the session whose command has this canonical text.
-fn reads(alloc: Global, line: &[u8], session: u32, text: &[u8]) -> Result<bool, NoMemory> {
-    match read_line(alloc, line) {
-        Ok(read) => Ok(
-            read.session == session && write_command(alloc, &read.command)?.as_slice() == text,
-        ),
-        Err(_) => Ok(false),
-    }
+fn reads(alloc: Global, line: &[u8], session: u32, text: &[u8]) -> bool {
+    inspect(read_line(alloc, line), |line| {
+        is_line(alloc, line, session, text)
+    })
 }
 
 /// Lines, their sessions and their canonical texts.
@@ -147,11 +129,10 @@ const COMMANDS: &[(&[u8], u32, &[u8])] = &[
 ];
 
 #[test]
-fn commands_are_read(rt: HostRuntime) -> Result<(), Fail> {
+fn commands_are_read(rt: HostRuntime) {
     for (line, session, text) in COMMANDS {
-        assert!(rt; reads(rt.alloc(), line, *session, text)?, "{line:?}");
+        assert!(rt; reads(rt.alloc(), line, *session, text), "{line:?}");
     }
-    Ok(())
 }
 
 /// The command of a short text.
@@ -163,196 +144,62 @@ pub(crate) fn command_of(alloc: Global, text: &[u8]) -> Option<Command> {
     }
 }
 
-/// Whether the command of the text has the text again.
-fn is_canonical(alloc: Global, text: &[u8]) -> Result<bool, NoMemory> {
-    match command_of(alloc, text) {
-        Some(command) => Ok(write_command(alloc, &command)?.as_slice() == text),
-        None => Ok(false),
+/// Whether there is a command, and it has this canonical text.
+fn is_some_command(alloc: Global, command: &Option<Command>, text: &[u8]) -> bool {
+    match command {
+        Some(command) => is_command(alloc, command, text),
+        None => false,
     }
 }
 
+/// Whether the command of the text has the text again.
+fn is_canonical(alloc: Global, text: &[u8]) -> bool {
+    inspect(command_of(alloc, text), |command| {
+        is_some_command(alloc, command, text)
+    })
+}
+
 #[test]
-fn canonical_texts_are_read_again(rt: HostRuntime) -> Result<(), Fail> {
+fn canonical_texts_are_read_again(rt: HostRuntime) {
     canonical_texts_are_read();
     for (_, _, text) in COMMANDS {
-        assert!(rt; is_canonical(rt.alloc(), text)?, "{text:?}");
+        assert!(rt; is_canonical(rt.alloc(), text), "{text:?}");
     }
-    Ok(())
 }
 
-/// The text of the refusal, or of no refusal.
-fn refusal_text(alloc: Global, stop: Option<ReadStop>) -> Result<Vec<u8>, NoMemory> {
-    let mut out = Vec::new(alloc);
-    if let Some(ReadStop::Refused(refusal)) = stop {
-        write_refusal(alloc, &refusal, &mut out)?;
+/// Whether the question is refused so, or read if the text is empty.
+fn refuses(alloc: Global, line: &[u8], refusal: &str) -> bool {
+    match &read_question(alloc, line).err() {
+        Some(ReadStop::Refused(stop)) => is_refusal(alloc, stop, refusal),
+        Some(ReadStop::NoMemory) => false,
+        None => refusal.is_empty(),
     }
-    Ok(out)
 }
 
-/// Whether the line is refused so.
-fn refuses(alloc: Global, line: &[u8], expected: &str) -> Result<bool, NoMemory> {
-    let text = refusal_text(alloc, read_line(alloc, line).err())?;
-    Ok(text.as_slice() == expected.as_bytes())
-}
-
-const FAULTS: &[(&[u8], &str)] = &[
-    (b"s1: SELCT * FROM r", "E03 syntax fault at column 5"),
+/// Questions of each form, and some that are refused.
+const QUESTIONS: &[(&[u8], &str)] = &[
+    (b"LOG 3", ""),
+    (b"versions of R;", ""),
+    (b"AS OF 2 SELECT * FROM r", ""),
+    (b"REENACT 2 AFTER 1 SELECT a FROM r x", ""),
+    (b"EXPLAIN REENACT 3 COMMIT SELECT * FROM r", ""),
     (
-        b"s1: SELECT * FROM r WHERE a = 'x",
-        "E02 lexical fault at column 31",
-    ),
-    (b"s1: SELECT a ! b FROM r", "E02 lexical fault at column 14"),
-    (b"s65: BEGIN", "E03 syntax fault at column 1"),
-    (b"s1 BEGIN", "E03 syntax fault at column 4"),
-    (b"s1: \xff", "E01 not UTF-8"),
-    (
-        b"s2: SELECT * FROM nowhere WHERE",
-        "E03 syntax fault at column 32",
-    ),
-    (
-        b"s1: INSERT INTO r VALUES (9223372036854775808)",
-        "E03 syntax fault at column 27",
-    ),
-    (
-        b"s1: INSERT INTO r VALUES (009223372036854775808)",
-        "E03 syntax fault at column 27",
-    ),
-    (
-        b"s1: INSERT INTO r VALUES (9223372036854775809)",
-        "E02 lexical fault at column 27",
-    ),
-    (
-        b"s1: DELETE FROM r WHERE a = -9223372036854775808",
-        "E03 syntax fault at column 30",
-    ),
-    (b"s1: COMMIT\r", "E02 lexical fault at column 11"),
-    (
-        b"s2: CREATE TABLE w (a INT, b INT, c INT, d INT, e INT, f INT, g INT, h INT, i INT, j INT, k INT, l INT, m INT, n INT, o INT, p INT, q INT)",
-        "E14 limit columns",
-    ),
-    (b"s1: SELECT a FROM r, r, r, r, r", "E14 limit from"),
-];
-
-#[test]
-fn faults_are_refused(rt: HostRuntime) -> Result<(), Fail> {
-    for (line, refusal) in FAULTS {
-        assert!(rt; refuses(rt.alloc(), line, refusal)?, "{line:?}");
-    }
-    Ok(())
-}
-
-#[test]
-fn longest_line_is_read(rt: HostRuntime) -> Result<(), Fail> {
-    let line = repeated(rt.alloc(), b"s1: BEGIN", b" ", 4087, b"")?;
-    assert!(rt; reads(rt.alloc(), &line, 1, b"BEGIN")?);
-    let line = repeated(rt.alloc(), b"s1: BEGIN", b" ", 4088, b"")?;
-    assert!(rt; refuses(rt.alloc(), &line, "E16 line too long")?);
-    Ok(())
-}
-
-/// Lines that are a start, a piece so many times and an end, and their refusals, which are empty where the line is read.
-const REPEATED: &[(&[u8], &[u8], u32, &[u8], &str)] = &[
-    (
-        b"s1: SELECT ",
-        b"(",
-        60,
-        b"",
-        "E03 syntax fault at column 72",
-    ),
-    (b"s1: SELECT ", b"(", 61, b"", "E14 limit depth"),
-    (b"", b"(", 4096, b"", "E14 limit depth"),
-    (b"s1: SELECT a", b" + 1", 59, b" FROM r", ""),
-    (b"s1: SELECT a", b" + 1", 60, b" FROM r", "E14 limit depth"),
-    (b"s1: SELECT -a", b" + 1", 99, b" FROM r", "E14 limit depth"),
-    (b"s1: SELECT a", b" + 1", 100, b" FROM r", "E14 limit nodes"),
-    (b"s1: SELECT a", b", a", 15, b" FROM r", ""),
-    (b"s1: SELECT a", b", a", 16, b" FROM r", "E14 limit columns"),
-    (b"s1: SELECT * FROM r", b", r", 3, b"", ""),
-    (b"s1: SELECT * FROM r", b", r", 4, b"", "E14 limit from"),
-    (
-        b"s1: SELECT * FROM r",
-        b" UNION ALL SELECT * FROM r",
-        7,
-        b"",
+        b"PROVENANCE OF AS OF 5 SELECT * FROM acct WHERE id > 10",
         "",
     ),
     (
-        b"s1: SELECT * FROM r",
-        b" UNION ALL SELECT * FROM r",
-        8,
-        b"",
-        "E14 limit branches",
+        b"EXPLAIN PROVENANCE OF REENACT 2 AFTER 1 SELECT * FROM r",
+        "",
     ),
-    (b"s1: INSERT INTO r VALUES (1)", b", (1)", 99, b"", ""),
+    (b"VALUE IN COUNT OF AS OF 2 SELECT * FROM r", ""),
     (
-        b"s1: INSERT INTO r VALUES (1)",
-        b", (1)",
-        100,
-        b"",
-        "E14 limit values",
+        b"VALUE IN COST (i = 3, q1.2 = 1, i1.2.3 = 4, ELSE 2) OF AS OF 2 SELECT * FROM r",
+        "",
     ),
-    (b"s1: INSERT INTO r VALUES ('", b"''", 255, b"')", ""),
     (
-        b"s1: INSERT INTO r VALUES ('",
-        b"''",
-        256,
-        b"')",
-        "E02 lexical fault at column 27",
+        b"VALUE IN LEVEL (ELSE 0) OF REENACT 1 COMMIT SELECT * FROM r",
+        "",
     ),
-];
-
-#[test]
-fn limits_are_kept(rt: HostRuntime) -> Result<(), Fail> {
-    for (start, piece, times, end, refusal) in REPEATED {
-        let line = repeated(rt.alloc(), start, piece, *times, end)?;
-        assert!(rt;
-            refuses(rt.alloc(), &line, refusal)?,
-            "{times} of {piece:?} after {start:?}"
-        );
-    }
-    Ok(())
-}
-
-#[test]
-fn longest_texts_are_read(rt: HostRuntime) -> Result<(), Fail> {
-    let text = repeated(rt.alloc(), b"INSERT INTO r VALUES ('", b"x", 255, b"')")?;
-    assert!(rt; is_canonical(rt.alloc(), &text)?);
-    let line = repeated(rt.alloc(), b"s1: INSERT INTO r VALUES ('", b"x", 256, b"')")?;
-    assert!(rt; refuses(rt.alloc(), &line, "E02 lexical fault at column 27")?);
-    Ok(())
-}
-
-#[test]
-fn longest_names_are_read(rt: HostRuntime) -> Result<(), Fail> {
-    let text = repeated(rt.alloc(), b"DELETE FROM ", b"x", 30, b"")?;
-    assert!(rt; is_canonical(rt.alloc(), &text)?);
-    let line = repeated(rt.alloc(), b"s1: DELETE FROM ", b"x", 31, b"")?;
-    assert!(rt; refuses(rt.alloc(), &line, "E02 lexical fault at column 17")?);
-    Ok(())
-}
-
-/// Lines that are questions of each form.
-const QUESTIONS: &[&[u8]] = &[
-    b"LOG 3",
-    b"versions of R;",
-    b"AS OF 2 SELECT * FROM r",
-    b"REENACT 2 AFTER 1 SELECT a FROM r x",
-    b"EXPLAIN REENACT 3 COMMIT SELECT * FROM r",
-    b"PROVENANCE OF AS OF 5 SELECT * FROM acct WHERE id > 10",
-    b"EXPLAIN PROVENANCE OF REENACT 2 AFTER 1 SELECT * FROM r",
-    b"VALUE IN COUNT OF AS OF 2 SELECT * FROM r",
-    b"VALUE IN COST (i = 3, q1.2 = 1, i1.2.3 = 4, ELSE 2) OF AS OF 2 SELECT * FROM r",
-    b"VALUE IN LEVEL (ELSE 0) OF REENACT 1 COMMIT SELECT * FROM r",
-];
-
-#[test]
-fn questions_are_read(rt: HostRuntime) {
-    for line in QUESTIONS {
-        assert!(rt; read_question(rt.alloc(), line).is_ok(), "{line:?}");
-    }
-}
-
-const QUESTION_FAULTS: &[(&[u8], &str)] = &[
     (
         b"AS OF 9223372036854775808 SELECT * FROM r",
         "E03 syntax fault at column 7",
@@ -364,16 +211,9 @@ const QUESTION_FAULTS: &[(&[u8], &str)] = &[
     ),
 ];
 
-/// Whether the question is refused so.
-fn refuses_question(alloc: Global, line: &[u8], expected: &str) -> Result<bool, NoMemory> {
-    let text = refusal_text(alloc, read_question(alloc, line).err())?;
-    Ok(text.as_slice() == expected.as_bytes())
-}
-
 #[test]
-fn question_faults_are_refused(rt: HostRuntime) -> Result<(), Fail> {
-    for (line, refusal) in QUESTION_FAULTS {
-        assert!(rt; refuses_question(rt.alloc(), line, refusal)?, "{line:?}");
+fn questions_are_read(rt: HostRuntime) {
+    for (line, refusal) in QUESTIONS {
+        assert!(rt; refuses(rt.alloc(), line, refusal), "{line:?}");
     }
-    Ok(())
 }

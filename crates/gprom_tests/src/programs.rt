@@ -1,15 +1,14 @@
 //! Plain programs that are made by hand: whether they are well built, their rows and where they stop.
 
-use crate::values::{Given, cell_of, lines_of};
+use crate::cases::{boxed, boxed_pair, inspect, pair};
+use crate::provenance::{Numbers, id_of};
+use crate::values::{Given, cell_of, have_texts};
 use gp_algebra::{PProgram, PQuery, PStep, ScanAt, is_well_built, scans};
-use gp_base::{Cell, NoMemory, Row, RowId, Sequence, sort_rows};
+use gp_base::{Cell, NoMemory, Row, Sequence, sort_rows};
 use gp_exec::{Env, ExecStop, Scanned, run, run_table};
 use gp_expr::{Cmp, Cond, Expr};
 use std::alloc::Global;
 use std::test::Fail;
-
-/// The three numbers of an identity.
-type Numbers = (u32, u32, u32);
 
 /// A row of a table of cases: a number, the identity of the row and its mark.
 type Marked = (i64, Numbers, bool);
@@ -57,8 +56,8 @@ enum Query {
     Rows(&'static [Marked]),
     /// Rows of one cell, with the numbers from 1.
     Numbers(u32),
-    /// A row of one cell, with an identity of this many nodes.
-    Identity(u32),
+    /// A row of one cell, with an identity of these sources, which have one node each.
+    Identity(&'static [Numbers]),
 }
 
 /// A step of a table of cases: its number and its query. Its table is the first.
@@ -67,26 +66,13 @@ type Step = (u32, Query);
 /// A program of a table of cases: its steps and its last query.
 type Program = (&'static [Step], Query);
 
-/// The identity of these numbers with this many sources of one node each.
-fn id_with_sources(alloc: Global, numbers: Numbers, count: u32) -> Result<Cell, NoMemory> {
-    let mut sources = Vec::new(alloc);
-    for _ in 0..count {
-        if let Some(source) = RowId::new(1, 1, 1, Vec::new(alloc)) {
-            sources.push(source)?;
-        }
-    }
-    let (t, k, n) = numbers;
-    match RowId::new(t, k, n, sources) {
-        Some(id) => Ok(Cell::Id(id)),
-        None => Ok(Cell::Null),
-    }
-}
-
+/// A row of a number, an identity without sources and a mark.
 fn marked_row(alloc: Global, marked: Marked) -> Result<Row, NoMemory> {
     let (number, numbers, mark) = marked;
+    let id = id_of(alloc, numbers, &[])?;
     let mut row = Row::new(alloc);
     row.push(Cell::Int(number))?;
-    row.push(id_with_sources(alloc, numbers, 0)?)?;
+    row.push(Cell::Id(id))?;
     row.push(Cell::Mark(mark))?;
     Ok(row)
 }
@@ -114,11 +100,11 @@ fn numbered_rows(alloc: Global, count: u32) -> Result<Sequence<Row>, NoMemory> {
     Ok(all)
 }
 
-/// The row of an identity of this many nodes, which are at least one.
-fn identity_row(alloc: Global, nodes: u32) -> Result<Sequence<Row>, NoMemory> {
+/// The row of an identity of these sources.
+fn identity_row(alloc: Global, sources: &[Numbers]) -> Result<Sequence<Row>, NoMemory> {
+    let row = row_with(alloc, Cell::Id(id_of(alloc, (1, 1, 1), sources)?))?;
     let mut all = Sequence::new(alloc);
-    let id = id_with_sources(alloc, (1, 1, 1), nodes.saturating_sub(1))?;
-    all.push(row_with(alloc, id)?)?;
+    all.push(row)?;
     Ok(all)
 }
 
@@ -131,9 +117,14 @@ fn columns_of(alloc: Global, columns: &[u32]) -> Result<Vec<Expr>, NoMemory> {
 }
 
 fn sum_of(alloc: Global, left: u32, right: u32) -> Result<Expr, NoMemory> {
-    let left = Box::new(alloc, Expr::Col(left))?;
-    let right = Box::new(alloc, Expr::Col(right))?;
+    let (left, right) = boxed_pair(alloc, Ok(Expr::Col(left)), Ok(Expr::Col(right)))?;
     Ok(Expr::Add(left, right))
+}
+
+fn new_id(alloc: Global, numbers: Numbers, columns: &[u32]) -> Result<Expr, NoMemory> {
+    let (t, k, b) = numbers;
+    let parts = columns_of(alloc, columns)?;
+    Ok(Expr::NewId { t, k, b, parts })
 }
 
 fn expr_of(alloc: Global, value: Value) -> Result<Expr, NoMemory> {
@@ -141,10 +132,7 @@ fn expr_of(alloc: Global, value: Value) -> Result<Expr, NoMemory> {
         Value::Col(column) => Ok(Expr::Col(column)),
         Value::Sum(left, right) => sum_of(alloc, left, right),
         Value::Mark(mark) => Ok(Expr::Const(Cell::Mark(mark))),
-        Value::Id((t, k, b), columns) => {
-            let parts = columns_of(alloc, columns)?;
-            Ok(Expr::NewId { t, k, b, parts })
-        }
+        Value::Id(numbers, columns) => new_id(alloc, numbers, columns),
     }
 }
 
@@ -156,50 +144,41 @@ fn exprs_of(alloc: Global, values: &[Value]) -> Result<Sequence<Expr>, NoMemory>
     Ok(all)
 }
 
+fn constant(alloc: Global, given: Given) -> Result<Expr, NoMemory> {
+    Ok(Expr::Const(cell_of(alloc, given)?))
+}
+
 fn equals(alloc: Global, column: u32, given: Given) -> Result<Cond, NoMemory> {
-    let left = Box::new(alloc, Expr::Col(column))?;
-    let right = Box::new(alloc, Expr::Const(cell_of(alloc, given)?))?;
+    let (left, right) = boxed_pair(alloc, Ok(Expr::Col(column)), constant(alloc, given))?;
     Ok(Cond::Cmp(Cmp::Eq, left, right))
+}
+
+fn is_not_true(alloc: Global, cond: Result<Cond, NoMemory>) -> Result<Cond, NoMemory> {
+    let cond = boxed(alloc, cond)?;
+    Ok(Cond::IsTrue { cond, yes: false })
 }
 
 fn cond_of(alloc: Global, condition: Condition) -> Result<Cond, NoMemory> {
     match condition {
         Condition::Equals(column, given) => equals(alloc, column, given),
-        Condition::EqualsIsNotTrue(column, given) => Ok(Cond::IsTrue {
-            cond: Box::new(alloc, equals(alloc, column, given)?)?,
-            yes: false,
-        }),
+        Condition::EqualsIsNotTrue(column, given) => {
+            is_not_true(alloc, equals(alloc, column, given))
+        }
     }
 }
 
-/// A query that was made, or no memory. The functions that put queries together take such results, so that `query_of` itself
-/// never gives up while it owns a part.
+/// A query that was made, or no memory. The functions that put queries together take such results, so that none gives up while it
+/// owns a part.
 type Made = Result<PQuery, NoMemory>;
 
-fn boxed(alloc: Global, made: Made) -> Result<Box<PQuery>, NoMemory> {
-    Ok(Box::new(alloc, made?)?)
-}
-
 fn filter(alloc: Global, input: Made, condition: Condition) -> Made {
-    let cond = cond_of(alloc, condition)?;
-    let input = boxed(alloc, input)?;
+    let (input, cond) = pair(boxed(alloc, input), cond_of(alloc, condition))?;
     Ok(PQuery::Filter { input, cond })
 }
 
 fn project(alloc: Global, input: Made, values: &[Value]) -> Made {
-    let exprs = exprs_of(alloc, values)?;
-    let input = boxed(alloc, input)?;
+    let (input, exprs) = pair(boxed(alloc, input), exprs_of(alloc, values))?;
     Ok(PQuery::Project { input, exprs })
-}
-
-fn boxed_pair(
-    alloc: Global,
-    left: Made,
-    right: Made,
-) -> Result<(Box<PQuery>, Box<PQuery>), NoMemory> {
-    let left = boxed(alloc, left)?;
-    let right = boxed(alloc, right)?;
-    Ok((left, right))
 }
 
 fn product(alloc: Global, left: Made, right: Made) -> Made {
@@ -207,14 +186,13 @@ fn product(alloc: Global, left: Made, right: Made) -> Made {
     Ok(PQuery::Product { left, right })
 }
 
-fn both(alloc: Global, left: Made, right: Made) -> Made {
+fn union(alloc: Global, left: Made, right: Made) -> Made {
     let (left, right) = boxed_pair(alloc, left, right)?;
     Ok(PQuery::Union { left, right })
 }
 
 fn publish(alloc: Global, base: Made, mine: Made, later: Made) -> Made {
-    let (base, mine) = boxed_pair(alloc, base, mine)?;
-    let later = boxed(alloc, later)?;
+    let ((base, mine), later) = pair(boxed_pair(alloc, base, mine), boxed(alloc, later))?;
     Ok(PQuery::Publish {
         at: 2,
         base,
@@ -239,7 +217,7 @@ fn query_of(alloc: Global, query: &Query) -> Made {
         Query::Product(left, right) => {
             product(alloc, query_of(alloc, left), query_of(alloc, right))
         }
-        Query::Union(left, right) => both(alloc, query_of(alloc, left), query_of(alloc, right)),
+        Query::Union(left, right) => union(alloc, query_of(alloc, left), query_of(alloc, right)),
         Query::Publish(base, mine, later) => publish(
             alloc,
             query_of(alloc, base),
@@ -248,43 +226,76 @@ fn query_of(alloc: Global, query: &Query) -> Made {
         ),
         Query::Rows(rows) => given(marked_rows(alloc, rows)),
         Query::Numbers(count) => given(numbered_rows(alloc, *count)),
-        Query::Identity(nodes) => given(identity_row(alloc, *nodes)),
+        Query::Identity(sources) => given(identity_row(alloc, sources)),
     }
+}
+
+fn step_of(alloc: Global, step: &Step) -> Result<PStep, NoMemory> {
+    let (j, query) = step;
+    Ok(PStep {
+        j: *j,
+        table: 0,
+        query: query_of(alloc, query)?,
+    })
 }
 
 fn steps_of(alloc: Global, steps: &[Step]) -> Result<Sequence<PStep>, NoMemory> {
     let mut all = Sequence::new(alloc);
-    for (j, query) in steps {
-        all.push(PStep {
-            j: *j,
-            table: 0,
-            query: query_of(alloc, query)?,
-        })?;
+    for step in steps {
+        all.push(step_of(alloc, step)?)?;
     }
     Ok(all)
 }
 
 fn program_of(alloc: Global, program: &Program) -> Result<PProgram, NoMemory> {
     let (steps, last) = program;
-    let last = query_of(alloc, last)?;
-    Ok(PProgram {
-        steps: steps_of(alloc, steps)?,
-        last,
-    })
+    let (steps, last) = pair(steps_of(alloc, steps), query_of(alloc, last))?;
+    Ok(PProgram { steps, last })
+}
+
+/// The rows of the first table in version 1.
+fn scanned(alloc: Global) -> Result<Scanned, NoMemory> {
+    let rows = marked_rows(alloc, TWO_ROWS)?;
+    let at = ScanAt {
+        table: 0,
+        version: 1,
+    };
+    Ok(Scanned { at, rows })
 }
 
 /// The rows of the tables: those of the first table in version 1.
 fn tables(alloc: Global) -> Result<Env, NoMemory> {
-    let rows = marked_rows(alloc, TWO_ROWS)?;
     let mut scans = Sequence::new(alloc);
-    scans.push(Scanned {
-        at: ScanAt {
-            table: 0,
-            version: 1,
-        },
-        rows,
-    })?;
+    scans.push(scanned(alloc)?)?;
     Ok(Env { scans })
+}
+
+/// How a program ends.
+#[derive(Clone, Copy, PartialEq, Eq)]
+enum End {
+    /// With this many rows.
+    Count(usize),
+    /// A step leaves too many rows.
+    Rows(u32),
+    /// A step makes an identity of too many nodes.
+    Ancestry(u32),
+    /// The last query has too many rows.
+    Answer,
+    /// Memory runs out.
+    NoMemory,
+}
+
+/// What is expected of a program.
+#[derive(Clone, Copy)]
+enum Outcome {
+    /// Its rows in ascending order have these texts, each with a line feed.
+    Rows(&'static str),
+    /// How it ends, and how it ends in a table.
+    Ends(End, End),
+    /// Whether it is well built.
+    Built(bool),
+    /// What it scans.
+    Scans(&'static [ScanAt]),
 }
 
 const TWO_ROWS: &[Marked] = &[(1, (1, 1, 1), false), (2, (1, 1, 2), false)];
@@ -305,44 +316,49 @@ const INSERT: Query = Query::Union(
 );
 
 /// Programs and their rows in ascending order.
-const PROGRAMS: &[(Program, &str)] = &[
-    ((&[], TABLE), "1, {1.1.1}, NO\n2, {1.1.2}, NO\n"),
-    ((&[], Query::Scan(0, 0)), ""),
-    ((&[], Query::Scan(1, 1)), ""),
+const PROGRAMS: &[(Program, Outcome)] = &[
+    (
+        (&[], TABLE),
+        Outcome::Rows("1, {1.1.1}, NO\n2, {1.1.2}, NO\n"),
+    ),
+    ((&[], Query::Scan(0, 0)), Outcome::Rows("")),
+    ((&[], Query::Scan(1, 1)), Outcome::Rows("")),
     (
         (
             &[(1, INSERT)],
             Query::Project(&Query::Step(1), &[Value::Col(1), Value::Col(2)]),
         ),
-        "1, {1.1.1}\n2, {1.1.2}\n2, {2.1.1(1.1.1,1.1.1)}\n3, {2.1.1(1.1.1,1.1.2)}\n3, {2.1.1(1.1.2,1.1.1)}\n4, {2.1.1(1.1.2,1.1.2)}\n",
+        Outcome::Rows(
+            "1, {1.1.1}\n2, {1.1.2}\n2, {2.1.1(1.1.1,1.1.1)}\n3, {2.1.1(1.1.1,1.1.2)}\n3, {2.1.1(1.1.2,1.1.1)}\n4, {2.1.1(1.1.2,1.1.2)}\n",
+        ),
     ),
     (
         (
             &[],
             Query::Filter(&TABLE, Condition::Equals(1, Given::Int(1))),
         ),
-        "1, {1.1.1}, NO\n",
+        Outcome::Rows("1, {1.1.1}, NO\n"),
     ),
     (
         (
             &[],
             Query::Filter(&TABLE, Condition::Equals(1, Given::Null)),
         ),
-        "",
+        Outcome::Rows(""),
     ),
     (
         (
             &[],
             Query::Filter(&TABLE, Condition::EqualsIsNotTrue(1, Given::Null)),
         ),
-        "1, {1.1.1}, NO\n2, {1.1.2}, NO\n",
+        Outcome::Rows("1, {1.1.1}, NO\n2, {1.1.2}, NO\n"),
     ),
     (
         (
             &[],
             Query::Filter(&TABLE, Condition::EqualsIsNotTrue(1, Given::Int(1))),
         ),
-        "2, {1.1.2}, NO\n",
+        Outcome::Rows("2, {1.1.2}, NO\n"),
     ),
     (
         (
@@ -357,71 +373,26 @@ const PROGRAMS: &[(Program, &str)] = &[
                 ]),
             ),
         ),
-        "3, {5.1.1}, NO\n7, {1.1.1}, YES\n",
+        Outcome::Rows("3, {5.1.1}, NO\n7, {1.1.1}, YES\n"),
     ),
 ];
 
-/// The rows of a program in ascending order, each with a line feed, or `none` if it has no answer.
-fn rows_text(alloc: Global, env: &Env, program: &Program) -> Result<Vec<u8>, NoMemory> {
-    let program = program_of(alloc, program)?;
-    if !is_well_built(&program) {
-        return Ok(Vec::from_slice(alloc, b"none")?);
-    }
-    match run(alloc, &program, env) {
-        Ok(mut rows) => {
-            sort_rows(&mut rows)?;
-            lines_of(alloc, &rows)
-        }
-        Err(_) => Ok(Vec::from_slice(alloc, b"none")?),
-    }
-}
-
-#[test]
-fn programs_have_rows(rt: HostRuntime) -> Result<(), Fail> {
-    let env = tables(rt.alloc())?;
-    for (program, rows) in PROGRAMS {
-        assert!(rt;
-            rows_text(rt.alloc(), &env, program)?.as_slice() == rows.as_bytes(),
-            "{rows}"
-        );
-    }
-    Ok(())
-}
-
-/// How a program ends.
-#[derive(Clone, Copy, PartialEq, Eq)]
-enum End {
-    /// With this many rows.
-    Count(usize),
-    /// A step leaves too many rows.
-    Rows(u32),
-    /// A step makes an identity of too many nodes.
-    Ancestry(u32),
-    /// The last query has too many rows.
-    Answer,
-    /// It is not well built, or memory runs out.
-    Other,
-}
-
-fn end_of(outcome: &Result<Vec<Row>, ExecStop>) -> End {
+/// Whether there are rows, and in ascending order they have these texts, each with a line feed.
+fn have_sorted_texts(alloc: Global, outcome: Result<Vec<Row>, ExecStop>, texts: &str) -> bool {
     match outcome {
+        Ok(mut rows) => sort_rows(&mut rows).is_ok() && have_texts(alloc, &rows, texts),
+        Err(_) => false,
+    }
+}
+
+fn end_of(outcome: Result<Vec<Row>, ExecStop>) -> End {
+    match &outcome {
         Ok(rows) => End::Count(rows.len()),
         Err(ExecStop::Rows { j }) => End::Rows(*j),
         Err(ExecStop::Ancestry { j }) => End::Ancestry(*j),
         Err(ExecStop::Answer) => End::Answer,
-        Err(ExecStop::NoMemory) => End::Other,
+        Err(ExecStop::NoMemory) => End::NoMemory,
     }
-}
-
-/// How the program ends, and how it ends in a table.
-fn ends_of(alloc: Global, env: &Env, program: &Program) -> Result<(End, End), NoMemory> {
-    let program = program_of(alloc, program)?;
-    if !is_well_built(&program) {
-        return Ok((End::Other, End::Other));
-    }
-    let answer = end_of(&run(alloc, &program, env));
-    let table = end_of(&run_table(alloc, &program, env));
-    Ok((answer, table))
 }
 
 /// As many rows as a table may have after an INSERT.
@@ -435,71 +406,69 @@ const NOTHING: Query = Query::Numbers(0);
 const ONE: Query = Query::Numbers(1);
 
 /// A new identity of 64 nodes: its only source has 63.
-const FROM_63_NODES: Query = Query::Project(&Query::Identity(63), &[Value::Id((2, 1, 1), &[1])]);
+const FROM_63_NODES: Query = Query::Project(
+    &Query::Identity(&[(1, 1, 1); 62]),
+    &[Value::Id((2, 1, 1), &[1])],
+);
 
 /// A new identity that would have 65 nodes.
-const FROM_64_NODES: Query = Query::Project(&Query::Identity(64), &[Value::Id((2, 1, 1), &[1])]);
+const FROM_64_NODES: Query = Query::Project(
+    &Query::Identity(&[(1, 1, 1); 63]),
+    &[Value::Id((2, 1, 1), &[1])],
+);
 
 /// A new identity of 64 nodes: each of its 63 sources has one.
 const FROM_63_SOURCES: Query = Query::Project(
-    &Query::Identity(1),
+    &Query::Identity(&[]),
     &[Value::Id((2, 1, 1), &[1; 63])],
 );
 
 /// A new identity that would have 65 nodes.
 const FROM_64_SOURCES: Query = Query::Project(
-    &Query::Identity(1),
+    &Query::Identity(&[]),
     &[Value::Id((2, 1, 1), &[1; 64])],
 );
 
 /// Programs, how they end and how they end in a table.
-const ENDS: &[(Program, End, End)] = &[
+const ENDS: &[(Program, Outcome)] = &[
     (
         (&[(3, Query::Union(&TEN_THOUSAND, &NOTHING))], NOTHING),
-        End::Count(0),
-        End::Count(0),
+        Outcome::Ends(End::Count(0), End::Count(0)),
     ),
     (
         (&[(3, Query::Union(&TEN_THOUSAND, &ONE))], NOTHING),
-        End::Rows(3),
-        End::Rows(3),
+        Outcome::Ends(End::Rows(3), End::Rows(3)),
     ),
     // Only an INSERT step is limited.
     (
         (&[(3, FIFTY_THOUSAND)], NOTHING),
-        End::Count(0),
-        End::Count(0),
+        Outcome::Ends(End::Count(0), End::Count(0)),
     ),
     (
         (
             &[(3, Query::Union(&NOTHING, &FROM_63_NODES))],
             Query::Step(3),
         ),
-        End::Count(1),
-        End::Count(1),
+        Outcome::Ends(End::Count(1), End::Count(1)),
     ),
     (
         (&[(3, Query::Union(&NOTHING, &FROM_64_NODES))], NOTHING),
-        End::Ancestry(3),
-        End::Ancestry(3),
+        Outcome::Ends(End::Ancestry(3), End::Ancestry(3)),
     ),
     (
         (
             &[(3, Query::Union(&NOTHING, &FROM_63_SOURCES))],
             Query::Step(3),
         ),
-        End::Count(1),
-        End::Count(1),
+        Outcome::Ends(End::Count(1), End::Count(1)),
     ),
     (
         (&[(3, Query::Union(&NOTHING, &FROM_64_SOURCES))], NOTHING),
-        End::Ancestry(3),
-        End::Ancestry(3),
+        Outcome::Ends(End::Ancestry(3), End::Ancestry(3)),
     ),
     (
         (&[(3, Query::Union(&FROM_64_NODES, &TEN_THOUSAND))], NOTHING),
-        End::Rows(3),
-        End::Rows(3),
+        Outcome::Ends(End::Rows(3), End::Rows(3)),
     ),
     // The first step that stops decides, whatever the later ones do.
     (
@@ -510,66 +479,43 @@ const ENDS: &[(Program, End, End)] = &[
             ],
             NOTHING,
         ),
-        End::Ancestry(3),
-        End::Ancestry(3),
+        Outcome::Ends(End::Ancestry(3), End::Ancestry(3)),
     ),
     (
         (&[], FIFTY_THOUSAND),
-        End::Count(50_000),
-        End::Count(50_000),
+        Outcome::Ends(End::Count(50_000), End::Count(50_000)),
     ),
     (
         (&[], Query::Union(&FIFTY_THOUSAND, &ONE)),
-        End::Answer,
-        End::Count(50_001),
+        Outcome::Ends(End::Answer, End::Count(50_001)),
     ),
 ];
 
-#[test]
-fn programs_stop(rt: HostRuntime) -> Result<(), Fail> {
-    let env = tables(rt.alloc())?;
-    for (place, (program, answer, table)) in ENDS.iter().enumerate() {
-        assert!(rt;
-            ends_of(rt.alloc(), &env, program)? == (*answer, *table),
-            "{place}"
-        );
-    }
-    Ok(())
-}
-
 /// Programs, and whether they are well built.
-const BUILT: &[(Program, bool)] = &[
-    ((&[(1, INSERT), (2, Query::Step(1))], Query::Step(2)), true),
-    ((&[(1, Query::Step(2)), (2, TABLE)], Query::Step(2)), false),
-    ((&[(1, Query::Step(1))], TABLE), false),
-    ((&[(1, TABLE)], Query::Step(2)), false),
-    ((&[(2, TABLE), (1, TABLE)], TABLE), false),
-    ((&[(1, TABLE), (1, TABLE)], TABLE), false),
-    ((&[], INSERT), false),
-    ((&[(1, FROM_63_SOURCES)], TABLE), false),
+const BUILT: &[(Program, Outcome)] = &[
+    (
+        (&[(1, INSERT), (2, Query::Step(1))], Query::Step(2)),
+        Outcome::Built(true),
+    ),
+    (
+        (&[(1, Query::Step(2)), (2, TABLE)], Query::Step(2)),
+        Outcome::Built(false),
+    ),
+    ((&[(1, Query::Step(1))], TABLE), Outcome::Built(false)),
+    ((&[(1, TABLE)], Query::Step(2)), Outcome::Built(false)),
+    ((&[(2, TABLE), (1, TABLE)], TABLE), Outcome::Built(false)),
+    ((&[(1, TABLE), (1, TABLE)], TABLE), Outcome::Built(false)),
+    ((&[], INSERT), Outcome::Built(false)),
+    ((&[(1, FROM_63_SOURCES)], TABLE), Outcome::Built(false)),
 ];
 
-#[test]
-fn some_programs_are_well_built(rt: HostRuntime) -> Result<(), Fail> {
-    for (place, (program, built)) in BUILT.iter().enumerate() {
-        assert!(rt;
-            is_well_built(&program_of(rt.alloc(), program)?) == *built,
-            "{place}"
-        );
-    }
-    Ok(())
-}
-
-/// A program that scans one table twice.
-const SCANS: Program = (
-    &[(1, Query::Scan(1, 0))],
-    Query::Union(&Query::Scan(0, 2), &Query::Scan(1, 0)),
-);
-
-#[test]
-fn scans_are_ascending_and_unique(rt: HostRuntime) -> Result<(), Fail> {
-    let found = scans(rt.alloc(), &program_of(rt.alloc(), &SCANS)?)?;
-    let wanted = [
+/// A program that scans one table twice. What it scans is ascending.
+const SCANS: &[(Program, Outcome)] = &[(
+    (
+        &[(1, Query::Scan(1, 0))],
+        Query::Union(&Query::Scan(0, 2), &Query::Scan(1, 0)),
+    ),
+    Outcome::Scans(&[
         ScanAt {
             table: 0,
             version: 2,
@@ -578,7 +524,63 @@ fn scans_are_ascending_and_unique(rt: HostRuntime) -> Result<(), Fail> {
             table: 1,
             version: 0,
         },
-    ];
-    assert!(rt; found.as_slice() == wanted.as_slice());
+    ]),
+)];
+
+/// Whether the program scans this.
+fn scans_are(alloc: Global, program: &PProgram, expected: &[ScanAt]) -> bool {
+    match scans(alloc, program) {
+        Ok(found) => found.as_slice() == expected,
+        Err(_) => false,
+    }
+}
+
+/// Whether there is a program, and it has the expected outcome.
+fn is_outcome(
+    alloc: Global,
+    env: &Env,
+    program: &Result<PProgram, NoMemory>,
+    expected: Outcome,
+) -> bool {
+    match program {
+        Ok(program) => match expected {
+            Outcome::Rows(texts) => {
+                is_well_built(program) && have_sorted_texts(alloc, run(alloc, program, env), texts)
+            }
+            Outcome::Ends(answer, table) => {
+                is_well_built(program)
+                    && end_of(run(alloc, program, env)) == answer
+                    && end_of(run_table(alloc, program, env)) == table
+            }
+            Outcome::Built(built) => is_well_built(program) == built,
+            Outcome::Scans(expected) => scans_are(alloc, program, expected),
+        },
+        Err(_) => false,
+    }
+}
+
+/// Whether the program has the expected outcome.
+fn has_outcome(alloc: Global, env: &Env, program: &Program, expected: Outcome) -> bool {
+    inspect(program_of(alloc, program), |program| {
+        is_outcome(alloc, env, program, expected)
+    })
+}
+
+/// The place of the first program that does not have its outcome.
+fn first_wrong(alloc: Global, env: &Env, cases: &[(Program, Outcome)]) -> Option<usize> {
+    for (place, (program, expected)) in cases.iter().enumerate() {
+        if !has_outcome(alloc, env, program, *expected) {
+            return Some(place);
+        }
+    }
+    None
+}
+
+#[test]
+fn programs_have_outcomes(rt: HostRuntime) -> Result<(), Fail> {
+    let env = tables(rt.alloc())?;
+    for cases in [PROGRAMS, ENDS, BUILT, SCANS] {
+        assert_eq!(rt; first_wrong(rt.alloc(), &env, cases), None);
+    }
     Ok(())
 }

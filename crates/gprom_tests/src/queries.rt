@@ -1,38 +1,16 @@
-//! Expressions, conditions and the answers of queries.
+//! The answers of queries.
 
+use crate::cases::{inspect, pair, with_made};
 use crate::checks::creates;
 use crate::lines::command_of;
+use crate::provenance::id_of;
 use gp_algebra::{Select, Stmt, select_is_simple};
 use gp_base::{Catalog, NoMemory, Row, RowId, Sequence, Stored, write_id, write_row};
-use gp_check::check;
+use gp_check::{CheckStop, check};
 use gp_exec::{ChooseStop, Chosen, Views, choose};
 use gp_syntax::Command;
 use std::alloc::Global;
 use std::test::Fail;
-
-/// The checked query of a SELECT.
-fn select_of(alloc: Global, catalog: &Catalog, text: &str) -> Option<Select> {
-    let command = command_of(alloc, text.as_bytes())?;
-    match &command {
-        Command::Select { .. } => match check(alloc, catalog, &command) {
-            Ok(Stmt::Read { select }) => Some(select),
-            _ => None,
-        },
-        _ => None,
-    }
-}
-
-/// The rows of an INSERT with VALUES.
-fn given_rows(alloc: Global, catalog: &Catalog, text: &str) -> Option<Sequence<Row>> {
-    let command = command_of(alloc, text.as_bytes())?;
-    match &command {
-        Command::Insert { .. } => match check(alloc, catalog, &command) {
-            Ok(Stmt::Insert { rows, .. }) => Some(rows),
-            _ => None,
-        },
-        _ => None,
-    }
-}
 
 /// The number of the row at this place, from 1.
 fn number_at(place: usize) -> u32 {
@@ -42,16 +20,69 @@ fn number_at(place: usize) -> u32 {
     }
 }
 
+/// A copy of the row.
+fn copy_of(row: &Row) -> Result<Row, NoMemory> {
+    Ok(row.clone()?)
+}
+
+/// The row with the identity 1.1.n.
+fn stored(alloc: Global, n: u32, row: &Row) -> Result<Stored, NoMemory> {
+    let (id, row) = pair(id_of(alloc, (1, 1, n), &[]), copy_of(row))?;
+    Ok(Stored { id, row })
+}
+
 /// The rows with the identities 1.1.1, 1.1.2 and so on.
 fn stored_rows(alloc: Global, rows: &[Row]) -> Result<Sequence<Stored>, NoMemory> {
     let mut all = Sequence::new(alloc);
     for (place, row) in rows.iter().enumerate() {
-        if let Some(id) = RowId::new(1, 1, number_at(place), Vec::new(alloc)) {
-            let row = row.clone()?;
-            all.push(Stored { id, row })?;
-        }
+        all.push(stored(alloc, number_at(place), row)?)?;
     }
     Ok(all)
+}
+
+/// The rows of an INSERT with VALUES that passed the check.
+fn rows_of_stmt(
+    alloc: Global,
+    stmt: &Result<Stmt, CheckStop>,
+) -> Result<Sequence<Stored>, NoMemory> {
+    match stmt {
+        Ok(Stmt::Insert { rows, .. }) => stored_rows(alloc, rows.as_slice()),
+        _ => Ok(Sequence::new(alloc)),
+    }
+}
+
+/// The rows of an INSERT with VALUES.
+fn rows_of_command(
+    alloc: Global,
+    catalog: &Catalog,
+    command: &Option<Command>,
+) -> Result<Sequence<Stored>, NoMemory> {
+    match command {
+        Some(command) => match command {
+            Command::Insert { .. } => {
+                inspect(check(alloc, catalog, command), |stmt| {
+                    rows_of_stmt(alloc, stmt)
+                })
+            }
+            _ => Ok(Sequence::new(alloc)),
+        },
+        None => Ok(Sequence::new(alloc)),
+    }
+}
+
+/// One table with these rows.
+fn views_of(alloc: Global, rows: Sequence<Stored>) -> Result<Views, NoMemory> {
+    let mut tables = Sequence::new(alloc);
+    tables.push(rows)?;
+    Ok(Views { tables })
+}
+
+/// One table with the rows of an INSERT with VALUES.
+fn inserted(alloc: Global, catalog: &Catalog, insert: &str) -> Result<Views, NoMemory> {
+    let rows = inspect(command_of(alloc, insert.as_bytes()), |command| {
+        rows_of_command(alloc, catalog, command)
+    })?;
+    views_of(alloc, rows)
 }
 
 /// One table, made by a CREATE TABLE, with the rows of an INSERT.
@@ -61,245 +92,227 @@ struct OneTable {
     views: Views,
 }
 
-impl OneTable {
-    fn new(alloc: Global, create: &str, insert: &str) -> Result<OneTable, NoMemory> {
-        let mut catalog = Catalog::new(alloc);
-        creates(alloc, &mut catalog, create);
-        let mut tables = Sequence::new(alloc);
-        if let Some(rows) = given_rows(alloc, &catalog, insert) {
-            tables.push(stored_rows(alloc, rows.as_slice())?)?;
-        }
-        Ok(OneTable {
-            catalog,
-            views: Views { tables },
-        })
-    }
+/// The catalogue of the table.
+fn catalog_of(alloc: Global, create: &str) -> Catalog {
+    let mut catalog = Catalog::new(alloc);
+    creates(alloc, &mut catalog, create);
+    catalog
+}
 
-    /// The answer of a query, or None if it has more than `most` elements.
-    fn answer(
-        &self,
-        alloc: Global,
-        text: &str,
-        most: usize,
-    ) -> Result<Option<Vec<Chosen>>, NoMemory> {
-        let Some(select) = select_of(alloc, &self.catalog, text) else {
-            return Ok(None);
-        };
-        if !select_is_simple(&select) {
-            return Ok(None);
-        }
-        match choose(alloc, &select, &self.views, most) {
-            Ok(chosen) => Ok(Some(chosen)),
-            Err(ChooseStop::TooMany) => Ok(None),
-            Err(ChooseStop::NoMemory) => Err(NoMemory),
-        }
-    }
+/// The table with the rows.
+fn table_of(alloc: Global, create: &str, insert: &str) -> Result<OneTable, NoMemory> {
+    let (catalog, views) = with_made(catalog_of(alloc, create), |catalog| {
+        inserted(alloc, catalog, insert)
+    })?;
+    Ok(OneTable { catalog, views })
+}
 
-    /// The rows of the answer of a query, in order, separated by semicolons.
-    fn rows(&self, alloc: Global, text: &str) -> Result<Vec<u8>, NoMemory> {
-        let mut out = Vec::new(alloc);
-        if let Some(chosen) = self.answer(alloc, text, 100)? {
-            for one in &chosen {
-                write_row(alloc, &one.row, &mut out)?;
-                out.push(b';')?;
+/// What is expected of an answer.
+#[derive(Clone, Copy)]
+enum Expected<'a> {
+    /// The texts of its rows in order, each with a semicolon.
+    Rows(&'a str),
+    /// The identities that an INSERT of the answer gives its rows, as statement 1 of transaction 2, each with a semicolon.
+    Identities(&'a str),
+    /// The number of its rows.
+    Count(usize),
+    /// It has too many rows.
+    TooMany,
+}
+
+/// Writes the rows, each with a semicolon.
+fn write_rows(alloc: Global, answer: &[Chosen], out: &mut Vec<u8>) -> Result<(), NoMemory> {
+    for one in answer {
+        write_row(alloc, &one.row, out)?;
+        out.push(b';')?;
+    }
+    Ok(())
+}
+
+/// Whether these are the texts of the rows, each with a semicolon.
+fn have_texts(alloc: Global, answer: &[Chosen], texts: &str) -> bool {
+    let mut out = Vec::new(alloc);
+    write_rows(alloc, answer, &mut out).is_ok() && out.as_slice() == texts.as_bytes()
+}
+
+/// Writes the identity that an INSERT gives the row.
+fn write_new_id(alloc: Global, one: &Chosen, out: &mut Vec<u8>) -> Result<(), NoMemory> {
+    let sources = one.ids.clone()?;
+    match RowId::new(2, 1, one.branch, sources.into_vec()) {
+        Some(id) => write_id(alloc, &id, out),
+        None => Ok(()),
+    }
+}
+
+/// Writes the identities that an INSERT gives the rows, each with a semicolon.
+fn write_new_ids(alloc: Global, answer: &[Chosen], out: &mut Vec<u8>) -> Result<(), NoMemory> {
+    for one in answer {
+        write_new_id(alloc, one, out)?;
+        out.push(b';')?;
+    }
+    Ok(())
+}
+
+/// Whether these are the texts of the identities.
+fn have_new_ids(alloc: Global, answer: &[Chosen], texts: &str) -> bool {
+    let mut out = Vec::new(alloc);
+    write_new_ids(alloc, answer, &mut out).is_ok() && out.as_slice() == texts.as_bytes()
+}
+
+/// Whether it is the expected answer.
+fn is_expected(
+    alloc: Global,
+    answer: &Result<Vec<Chosen>, ChooseStop>,
+    expected: Expected<'_>,
+) -> bool {
+    match answer {
+        Ok(answer) => match expected {
+            Expected::Rows(texts) => have_texts(alloc, answer, texts),
+            Expected::Identities(texts) => have_new_ids(alloc, answer, texts),
+            Expected::Count(count) => answer.len() == count,
+            Expected::TooMany => false,
+        },
+        Err(ChooseStop::TooMany) => matches!(expected, Expected::TooMany),
+        Err(ChooseStop::NoMemory) => false,
+    }
+}
+
+/// Whether the query has the expected answer, of at most this many rows.
+fn select_answers(
+    alloc: Global,
+    views: &Views,
+    select: &Select,
+    most: usize,
+    expected: Expected<'_>,
+) -> bool {
+    if !select_is_simple(select) {
+        return false;
+    }
+    inspect(choose(alloc, select, views, most), |answer| {
+        is_expected(alloc, answer, expected)
+    })
+}
+
+/// Whether it is a query with the expected answer.
+fn stmt_answers(
+    alloc: Global,
+    views: &Views,
+    stmt: &Result<Stmt, CheckStop>,
+    most: usize,
+    expected: Expected<'_>,
+) -> bool {
+    match stmt {
+        Ok(Stmt::Read { select }) => select_answers(alloc, views, select, most, expected),
+        _ => false,
+    }
+}
+
+/// Whether it is a SELECT with the expected answer.
+fn command_answers(
+    alloc: Global,
+    table: &OneTable,
+    command: &Option<Command>,
+    most: usize,
+    expected: Expected<'_>,
+) -> bool {
+    match command {
+        Some(command) => match command {
+            Command::Select { .. } => {
+                inspect(check(alloc, &table.catalog, command), |stmt| {
+                    stmt_answers(alloc, &table.views, stmt, most, expected)
+                })
             }
-        }
-        Ok(out)
+            _ => false,
+        },
+        None => false,
     }
 }
 
-/// Whether the expression has this value on the row 7, NULL, 'x' of the table r (a INT, b INT, c TEXT).
-fn has_value(alloc: Global, table: &OneTable, expr: &str, value: &str) -> Result<bool, NoMemory> {
-    let query = format!(in alloc; "SELECT {expr} FROM r")?;
-    let wanted = format!(in alloc; "{value};")?;
-    Ok(table.rows(alloc, &query)?.as_slice() == wanted.as_bytes())
+/// Whether the query has the expected answer, of at most this many rows.
+fn answers(
+    alloc: Global,
+    table: &OneTable,
+    query: &[u8],
+    most: usize,
+    expected: Expected<'_>,
+) -> bool {
+    inspect(command_of(alloc, query), |command| {
+        command_answers(alloc, table, command, most, expected)
+    })
 }
 
-const EXPRESSIONS: &[(&str, &str)] = &[
-    ("a", "7"),
-    ("c", "'x'"),
-    ("NULL", "NULL"),
-    ("a + 1", "8"),
-    ("a - 10", "-3"),
-    ("a * a", "49"),
-    ("-a", "-7"),
-    ("a + b", "NULL"),
-    ("b - a", "NULL"),
-    ("a * b", "NULL"),
-    ("-b", "NULL"),
-    ("9223372036854775807 + 0", "9223372036854775807"),
-    ("9223372036854775807 + 1", "NULL"),
-    ("-9223372036854775807 - 1", "-9223372036854775808"),
-    ("-9223372036854775807 - 2", "NULL"),
-    ("-(-9223372036854775807 - 1)", "NULL"),
-    ("3037000499 * 3037000499", "9223372030926249001"),
-    ("3037000500 * 3037000500", "NULL"),
-    ("CASE WHEN a = 7 THEN 1 ELSE 2 END", "1"),
-    ("CASE WHEN a = 8 THEN 1 ELSE 2 END", "2"),
-    ("CASE WHEN b = 7 THEN 1 ELSE 2 END", "2"),
-    ("CASE WHEN c = 'x' THEN c ELSE 'y' END", "'x'"),
-];
-
-#[test]
-fn expressions_have_values(rt: HostRuntime) -> Result<(), Fail> {
-    let table = OneTable::new(
-        rt.alloc(),
-        "CREATE TABLE r (a INT, b INT, c TEXT)",
-        "INSERT INTO r VALUES (7, NULL, 'x')",
-    )?;
-    for (expr, value) in EXPRESSIONS {
-        assert!(rt; has_value(rt.alloc(), &table, expr, value)?, "{expr}");
-    }
-    Ok(())
-}
-
-/// Whether the condition has this truth on that row: 1 is true, 0 false and NULL unknown.
-fn has_truth(alloc: Global, table: &OneTable, cond: &str, truth: &str) -> Result<bool, NoMemory> {
-    let expr = format!(in alloc;
-        "CASE WHEN {cond} THEN 1 ELSE CASE WHEN NOT ({cond}) THEN 0 ELSE NULL END END"
-    )?;
-    has_value(alloc, table, &expr, truth)
-}
-
-const CONDITIONS: &[(&str, &str)] = &[
-    ("1 = 1 AND 1 = 1", "1"),
-    ("1 = 1 AND 1 = 2", "0"),
-    ("1 = 1 AND 1 = NULL", "NULL"),
-    ("1 = 2 AND 1 = 1", "0"),
-    ("1 = 2 AND 1 = 2", "0"),
-    ("1 = 2 AND 1 = NULL", "0"),
-    ("1 = NULL AND 1 = 1", "NULL"),
-    ("1 = NULL AND 1 = 2", "0"),
-    ("1 = NULL AND 1 = NULL", "NULL"),
-    ("1 = 1 OR 1 = 1", "1"),
-    ("1 = 1 OR 1 = 2", "1"),
-    ("1 = 1 OR 1 = NULL", "1"),
-    ("1 = 2 OR 1 = 1", "1"),
-    ("1 = 2 OR 1 = 2", "0"),
-    ("1 = 2 OR 1 = NULL", "NULL"),
-    ("1 = NULL OR 1 = 1", "1"),
-    ("1 = NULL OR 1 = 2", "NULL"),
-    ("1 = NULL OR 1 = NULL", "NULL"),
-    ("NOT 1 = 1", "0"),
-    ("NOT 1 = 2", "1"),
-    ("NOT 1 = NULL", "NULL"),
-    ("b IS NULL", "1"),
-    ("b IS NOT NULL", "0"),
-    ("a IS NULL", "0"),
-    ("(b = 1) IS TRUE", "0"),
-    ("(b = 1) IS NOT TRUE", "1"),
-    ("(a = 7) IS TRUE", "1"),
-    ("(a = 8) IS NOT TRUE", "1"),
-    ("1 <> 2", "1"),
-    ("1 <> 1", "0"),
-    ("1 < 1", "0"),
-    ("1 <= 1", "1"),
-    ("2 > 1", "1"),
-    ("1 > 1", "0"),
-    ("1 >= 1", "1"),
-    ("-1 < 0", "1"),
-    ("'a' < 'b'", "1"),
-    ("'a' < 'ab'", "1"),
-    ("'b' <= 'ab'", "0"),
-    ("'a' = NULL", "NULL"),
-    ("NULL = NULL", "NULL"),
-];
-
-#[test]
-fn conditions_have_truths(rt: HostRuntime) -> Result<(), Fail> {
-    let table = OneTable::new(
-        rt.alloc(),
-        "CREATE TABLE r (a INT, b INT, c TEXT)",
-        "INSERT INTO r VALUES (7, NULL, 'x')",
-    )?;
-    for (cond, truth) in CONDITIONS {
-        assert!(rt; has_truth(rt.alloc(), &table, cond, truth)?, "{cond}");
-    }
-    Ok(())
-}
-
-const QUERIES: &[(&str, &str)] = &[
-    ("SELECT * FROM r", "1;2;NULL;"),
-    ("SELECT a FROM r WHERE a > 1", "2;"),
-    ("SELECT a FROM r WHERE NOT a > 1", "1;"),
-    ("SELECT x.a + y.a FROM r x, r y WHERE x.a <= y.a", "2;3;4;"),
+/// Queries over the rows 1, 2 and NULL, and their answers.
+const QUERIES: &[(&str, Expected<'static>)] = &[
+    ("SELECT * FROM r", Expected::Rows("1;2;NULL;")),
+    ("SELECT a FROM r WHERE a > 1", Expected::Rows("2;")),
+    ("SELECT a FROM r WHERE NOT a > 1", Expected::Rows("1;")),
+    (
+        "SELECT x.a + y.a FROM r x, r y WHERE x.a <= y.a",
+        Expected::Rows("2;3;4;"),
+    ),
     (
         "SELECT x.a, y.a FROM r x, r y WHERE x.a = 1",
-        "1, 1;1, 2;1, NULL;",
+        Expected::Rows("1, 1;1, 2;1, NULL;"),
     ),
     (
         "SELECT a FROM r WHERE a = 2 UNION ALL SELECT a FROM r WHERE a = 1",
-        "2;1;",
+        Expected::Rows("2;1;"),
     ),
     (
         "SELECT a FROM r WHERE a = 1 UNION ALL SELECT a FROM r WHERE a = 1",
-        "1;1;",
+        Expected::Rows("1;1;"),
     ),
-    ("SELECT 1 FROM r WHERE 1 = 2", ""),
+    ("SELECT 1 FROM r WHERE 1 = 2", Expected::Rows("")),
 ];
+
+/// Queries over the rows 1 and 2, and their answers.
+const IDENTITIES: &[(&str, Expected<'static>)] = &[
+    (
+        "SELECT x.a + y.a FROM r x, r y",
+        Expected::Identities(
+            "2.1.1(1.1.1,1.1.1);2.1.1(1.1.1,1.1.2);2.1.1(1.1.2,1.1.1);2.1.1(1.1.2,1.1.2);",
+        ),
+    ),
+    (
+        "SELECT a FROM r WHERE a = 2 UNION ALL SELECT a FROM r",
+        Expected::Identities("2.1.1(1.1.2);2.1.2(1.1.1);2.1.2(1.1.2);"),
+    ),
+];
+
+/// The first query that does not have its answer.
+fn first_wrong(
+    alloc: Global,
+    table: &OneTable,
+    queries: &[(&'static str, Expected<'static>)],
+) -> Option<&'static str> {
+    for (query, expected) in queries {
+        if !answers(alloc, table, query.as_bytes(), 100, *expected) {
+            return Some(query);
+        }
+    }
+    None
+}
 
 #[test]
 fn queries_have_answers(rt: HostRuntime) -> Result<(), Fail> {
-    let table = OneTable::new(
+    let table = table_of(
         rt.alloc(),
         "CREATE TABLE r (a INT)",
         "INSERT INTO r VALUES (1), (2), (NULL)",
     )?;
-    for (query, rows) in QUERIES {
-        assert!(rt;
-            table.rows(rt.alloc(), query)?.as_slice() == rows.as_bytes(),
-            "{query}"
-        );
-    }
+    assert_eq!(rt; first_wrong(rt.alloc(), &table, QUERIES), None);
     Ok(())
-}
-
-/// The identities that an INSERT of the answer gives its rows, as statement 1 of transaction 2.
-fn new_ids(alloc: Global, table: &OneTable, query: &str) -> Result<Vec<u8>, NoMemory> {
-    let mut out = Vec::new(alloc);
-    if let Some(chosen) = table.answer(alloc, query, 100)? {
-        for one in chosen {
-            if let Some(id) = RowId::new(2, 1, one.branch, one.ids.into_vec()) {
-                write_id(alloc, &id, &mut out)?;
-                out.push(b';')?;
-            }
-        }
-    }
-    Ok(out)
 }
 
 #[test]
 fn answers_have_identities(rt: HostRuntime) -> Result<(), Fail> {
-    let table = OneTable::new(
+    let table = table_of(
         rt.alloc(),
         "CREATE TABLE r (a INT)",
         "INSERT INTO r VALUES (1), (2)",
     )?;
-    let joined = new_ids(rt.alloc(), &table, "SELECT x.a + y.a FROM r x, r y")?;
-    assert!(rt;
-        joined.as_slice()
-            == b"2.1.1(1.1.1,1.1.1);2.1.1(1.1.1,1.1.2);2.1.1(1.1.2,1.1.1);2.1.1(1.1.2,1.1.2);".as_slice()
-    );
-    let branches = new_ids(
-        rt.alloc(),
-        &table,
-        "SELECT a FROM r WHERE a = 2 UNION ALL SELECT a FROM r",
-    )?;
-    assert!(rt; branches.as_slice() == b"2.1.1(1.1.2);2.1.2(1.1.1);2.1.2(1.1.2);".as_slice());
+    assert_eq!(rt; first_wrong(rt.alloc(), &table, IDENTITIES), None);
     Ok(())
-}
-
-/// The number of elements of an answer, if there are at most `most`.
-fn count_of(
-    alloc: Global,
-    table: &OneTable,
-    query: &str,
-    most: usize,
-) -> Result<Option<usize>, NoMemory> {
-    match table.answer(alloc, query, most)? {
-        Some(chosen) => Ok(Some(chosen.len())),
-        None => Ok(None),
-    }
 }
 
 const FOUR_ITEMS: &str = "SELECT w.a FROM r w, r x, r y, r z";
@@ -309,43 +322,43 @@ const EIGHT_BRANCHES: &str =
 
 #[test]
 fn answers_have_a_limit(rt: HostRuntime) -> Result<(), Fail> {
-    let table = OneTable::new(
+    let table = table_of(
         rt.alloc(),
         "CREATE TABLE r (a INT)",
         "INSERT INTO r VALUES (1), (2)",
     )?;
-    for query in [FOUR_ITEMS, EIGHT_BRANCHES] {
-        assert!(rt;
-            count_of(rt.alloc(), &table, query, 16)? == Some(16),
-            "{query}"
-        );
-        assert!(rt;
-            count_of(rt.alloc(), &table, query, 15)?.is_none(),
-            "{query}"
-        );
+    for query in [FOUR_ITEMS.as_bytes(), EIGHT_BRANCHES.as_bytes()] {
+        assert!(rt; answers(rt.alloc(), &table, query, 16, Expected::Count(16)));
+        assert!(rt; answers(rt.alloc(), &table, query, 15, Expected::TooMany));
     }
     Ok(())
 }
 
-/// One table with this many rows.
-fn table_of(alloc: Global, count: usize) -> Result<OneTable, NoMemory> {
-    let mut table = OneTable::new(alloc, "CREATE TABLE r (a INT)", "INSERT INTO r VALUES (1)")?;
+/// So many rows without cells.
+fn empty_rows(alloc: Global, count: usize) -> Result<Sequence<Stored>, NoMemory> {
     let mut rows = Vec::new(alloc);
     for _ in 0..count {
         rows.push(Row::new(alloc))?;
     }
-    let mut tables = Sequence::new(alloc);
-    tables.push(stored_rows(alloc, &rows)?)?;
-    table.views = Views { tables };
-    Ok(table)
+    stored_rows(alloc, &rows)
+}
+
+/// One table with so many rows.
+fn large_table(alloc: Global, count: usize) -> Result<OneTable, NoMemory> {
+    let (catalog, views) = with_made(catalog_of(alloc, "CREATE TABLE r (a INT)"), |_| {
+        views_of(alloc, empty_rows(alloc, count)?)
+    })?;
+    Ok(OneTable { catalog, views })
 }
 
 #[test]
 fn an_answer_has_at_most_50000_rows(rt: HostRuntime) -> Result<(), Fail> {
-    let all = "SELECT 1 FROM r";
-    let table = table_of(rt.alloc(), 50_000)?;
-    assert!(rt; count_of(rt.alloc(), &table, all, 50_000)? == Some(50_000));
-    let table = table_of(rt.alloc(), 50_001)?;
-    assert!(rt; count_of(rt.alloc(), &table, all, 50_000)?.is_none());
+    for (count, expected) in [
+        (50_000, Expected::Count(50_000)),
+        (50_001, Expected::TooMany),
+    ] {
+        let table = large_table(rt.alloc(), count)?;
+        assert!(rt; answers(rt.alloc(), &table, b"SELECT 1 FROM r", 50_000, expected));
+    }
     Ok(())
 }

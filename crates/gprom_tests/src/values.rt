@@ -45,67 +45,87 @@ fn rows_of(alloc: Global, rows: &[&[Given]]) -> Result<Vec<Row>, NoMemory> {
     Ok(all)
 }
 
-/// The texts of the rows, each with a line feed.
-pub(crate) fn lines_of(alloc: Global, rows: &[Row]) -> Result<Vec<u8>, NoMemory> {
-    let mut out = Vec::new(alloc);
+/// Writes the rows, each with a line feed.
+fn write_rows(alloc: Global, rows: &[Row], out: &mut Vec<u8>) -> Result<(), NoMemory> {
     for row in rows {
-        write_row(alloc, row, &mut out)?;
+        write_row(alloc, row, out)?;
         out.push(b'\n')?;
     }
-    Ok(out)
+    Ok(())
 }
+
+/// Whether these are the texts of the rows, each with a line feed.
+pub(crate) fn have_texts(alloc: Global, rows: &[Row], texts: &str) -> bool {
+    let mut out = Vec::new(alloc);
+    write_rows(alloc, rows, &mut out).is_ok() && out.as_slice() == texts.as_bytes()
+}
+
+const ROWS: &[&[Given]] = &[
+    &[Given::Int(1), Given::Int(10)],
+    &[Given::Null, Given::Int(-5), Given::Text("it's")],
+    &[Given::Int(i64::MIN)],
+    &[],
+];
 
 #[test]
 fn rows_have_texts(rt: HostRuntime) -> Result<(), Fail> {
     row_text_is_injective();
-    let rows = rows_of(
-        rt.alloc(),
-        &[
-            &[Given::Int(1), Given::Int(10)],
-            &[Given::Null, Given::Int(-5), Given::Text("it's")],
-            &[Given::Int(i64::MIN)],
-            &[],
-        ],
-    )?;
-    let lines = lines_of(rt.alloc(), &rows)?;
+    let rows = rows_of(rt.alloc(), ROWS)?;
     assert!(rt;
-        lines.as_slice() == b"1, 10\nNULL, -5, 'it''s'\n-9223372036854775808\n\n".as_slice()
+        have_texts(
+            rt.alloc(),
+            &rows,
+            "1, 10\nNULL, -5, 'it''s'\n-9223372036854775808\n\n"
+        )
     );
     Ok(())
 }
+
+const UNSORTED: &[&[Given]] = &[
+    &[Given::Text("b")],
+    &[Given::Int(10)],
+    &[Given::Int(2), Given::Null],
+    &[Given::Int(2)],
+    &[Given::Text("ab")],
+    &[Given::Int(-1)],
+    &[Given::Null],
+    &[Given::Int(2)],
+];
 
 #[test]
 fn rows_are_sorted(rt: HostRuntime) -> Result<(), Fail> {
     sorting_is_unique();
-    let mut rows = rows_of(
-        rt.alloc(),
-        &[
-            &[Given::Text("b")],
-            &[Given::Int(10)],
-            &[Given::Int(2), Given::Null],
-            &[Given::Int(2)],
-            &[Given::Text("ab")],
-            &[Given::Int(-1)],
-            &[Given::Null],
-            &[Given::Int(2)],
-        ],
-    )?;
-    sort_rows(&mut rows)?;
-    let lines = lines_of(rt.alloc(), &rows)?;
-    assert!(rt; lines.as_slice() == b"NULL\n-1\n2\n2\n2, NULL\n10\n'ab'\n'b'\n".as_slice());
+    let mut rows = rows_of(rt.alloc(), UNSORTED)?;
+    assert!(rt; sort_rows(&mut rows).is_ok());
+    assert!(rt;
+        have_texts(
+            rt.alloc(),
+            &rows,
+            "NULL\n-1\n2\n2\n2, NULL\n10\n'ab'\n'b'\n"
+        )
+    );
     Ok(())
 }
 
+/// Whether the refusal has this text.
+pub(crate) fn is_refusal(alloc: Global, refusal: &Refusal, text: &str) -> bool {
+    let mut out = Vec::new(alloc);
+    write_refusal(alloc, refusal, &mut out).is_ok() && out.as_slice() == text.as_bytes()
+}
+
 #[test]
-fn refusals_have_texts(rt: HostRuntime) -> Result<(), Fail> {
-    let mut out = Vec::new(rt.alloc());
-    for refusal in [Refusal::E09, Refusal::E10, Refusal::E16] {
-        write_refusal(rt.alloc(), &refusal, &mut out)?;
+fn refusals_have_texts(rt: HostRuntime) {
+    assert!(rt; is_refusal(rt.alloc(), &Refusal::E09, "E09 transaction active"));
+    assert!(rt; is_refusal(rt.alloc(), &Refusal::E10, "E10 no transaction"));
+    assert!(rt; is_refusal(rt.alloc(), &Refusal::E16, "E16 line too long"));
+}
+
+/// Whether a copy of the row is equal to it.
+fn is_copied(row: &Row) -> bool {
+    match row.clone() {
+        Ok(copy) => copy == *row && copy.cells().len() == 3,
+        Err(_) => false,
     }
-    assert!(rt;
-        out.as_slice() == b"E09 transaction activeE10 no transactionE16 line too long".as_slice()
-    );
-    Ok(())
 }
 
 #[test]
@@ -114,9 +134,7 @@ fn a_copy_is_equal(rt: HostRuntime) -> Result<(), Fail> {
         rt.alloc(),
         &[Given::Int(7), Given::Text("seven"), Given::Null],
     )?;
-    let copy = row.clone()?;
-    assert!(rt; copy == row);
-    assert!(rt; copy.cells().len() == 3);
+    assert!(rt; is_copied(&row));
     Ok(())
 }
 
@@ -131,38 +149,44 @@ fn sequences_are_compared(rt: HostRuntime) -> Result<(), Fail> {
 }
 
 /// Whether the cell has this text.
-fn has_text(alloc: Global, cell: Given, text: &str) -> Result<bool, NoMemory> {
+pub(crate) fn is_written(alloc: Global, cell: &Cell, text: &str) -> bool {
     let mut out = Vec::new(alloc);
-    CellFormat.write(alloc, &cell_of(alloc, cell)?, &mut out)?;
-    Ok(out.as_slice() == text.as_bytes())
+    CellFormat.write(alloc, cell, &mut out).is_ok() && out.as_slice() == text.as_bytes()
+}
+
+/// Whether the cell was made and has this text.
+fn has_text(alloc: Global, cell: Result<Cell, NoMemory>, text: &str) -> bool {
+    match &cell {
+        Ok(cell) => is_written(alloc, cell, text),
+        Err(_) => false,
+    }
 }
 
 #[test]
-fn cells_have_texts(rt: HostRuntime) -> Result<(), Fail> {
-    for (cell, text) in [
+fn cells_have_texts(rt: HostRuntime) {
+    for (given, text) in [
         (Given::Null, "NULL"),
         (Given::Int(-20), "-20"),
         (Given::Int(i64::MAX), "9223372036854775807"),
         (Given::Text(""), "''"),
         (Given::Text("''"), "''''''"),
     ] {
-        assert!(rt; has_text(rt.alloc(), cell, text)?, "{text}");
+        let cell = cell_of(rt.alloc(), given);
+        assert!(rt; has_text(rt.alloc(), cell, text), "{text}");
     }
-    Ok(())
+}
+
+/// Whether the cells, with this text between any two, have this text.
+fn are_joined(alloc: Global, cells: &[Cell], between: &[u8], text: &str) -> bool {
+    let mut out = Vec::new(alloc);
+    write_joined(alloc, cells, &CellFormat, between, &mut out).is_ok()
+        && out.as_slice() == text.as_bytes()
 }
 
 #[test]
-fn cells_are_joined(rt: HostRuntime) -> Result<(), Fail> {
-    let mut out = Vec::new(rt.alloc());
-    write_joined(
-        rt.alloc(),
-        &[Cell::Int(1), Cell::Null],
-        &CellFormat,
-        b" and ",
-        &mut out,
-    )?;
-    assert!(rt; out.as_slice() == b"1 and NULL".as_slice());
-    Ok(())
+fn cells_are_joined(rt: HostRuntime) {
+    let cells = [Cell::Int(1), Cell::Null];
+    assert!(rt; are_joined(rt.alloc(), &cells, b" and ", "1 and NULL"));
 }
 
 const WORDS: &[(&[u8], bool)] = &[
@@ -188,26 +212,21 @@ const WORDS: &[(&[u8], bool)] = &[
     (b"\xc3\xa4", false),
 ];
 
+/// Whether the name of the word has its bytes.
+fn keeps_bytes(alloc: Global, word: &[u8]) -> bool {
+    if !is_name(word) {
+        return true;
+    }
+    match Name::new(alloc, word) {
+        Ok(name) => name.as_bytes() == word,
+        Err(_) => false,
+    }
+}
+
 #[test]
 fn names_differ_from_other_words(rt: HostRuntime) {
     for (word, expected) in WORDS {
         assert!(rt; is_name(word) == *expected, "{word:?}");
+        assert!(rt; keeps_bytes(rt.alloc(), word), "{word:?}");
     }
-}
-
-/// Whether the name of the word has its bytes.
-fn keeps_bytes(alloc: Global, word: &[u8]) -> Result<bool, NoMemory> {
-    if !is_name(word) {
-        return Ok(true);
-    }
-    let name = Name::new(alloc, word)?;
-    Ok(name.as_bytes() == word)
-}
-
-#[test]
-fn names_keep_their_bytes(rt: HostRuntime) -> Result<(), Fail> {
-    for (word, _) in WORDS {
-        assert!(rt; keeps_bytes(rt.alloc(), word)?);
-    }
-    Ok(())
 }

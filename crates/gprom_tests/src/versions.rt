@@ -6,48 +6,49 @@
 ghost use Rattle.std.specs.Prelude.{◌+◌, ◌≤◌, OnOk};
 ghost use Rattle.gp_versions.specs.Commits.{AreBelow};
 
+use crate::cases::pair;
+use crate::provenance::id_of;
 use crate::values::{Given, row_of};
-use gp_base::{NoMemory, RowId, write_id, write_row};
+use gp_base::{NoMemory, Row, RowId, write_id, write_row};
 use gp_versions::{
-    VersionTable, Write, Writes, a_span_ends_at_the_next_write,
+    Span, VersionTable, Write, Writes, a_span_ends_at_the_next_write,
     a_version_has_one_row_of_an_identity, written_after_is_the_least,
 };
 use std::alloc::Global;
 use std::test::Fail;
 
 /// The identity of the first row that the first statement of a transaction inserts.
-fn id_of(alloc: Global, t: u32) -> Result<RowId, NoMemory> {
-    match RowId::new(t, 1, 1, Vec::new(alloc)) {
-        Some(id) => Ok(id),
-        None => Err(NoMemory),
+fn first_id(alloc: Global, t: u32) -> Result<RowId, NoMemory> {
+    id_of(alloc, (t, 1, 1), &[])
+}
+
+/// The row of one number, or None for a deletion.
+fn row_after(alloc: Global, number: Option<i64>) -> Result<Option<Row>, NoMemory> {
+    match number {
+        Some(number) => Ok(Some(row_of(alloc, &[Given::Int(number)])?)),
+        None => Ok(None),
     }
 }
 
 /// The write of a row of one number, or its deletion.
 fn write_of(alloc: Global, t: u32, number: Option<i64>) -> Result<Write, NoMemory> {
-    let row = match number {
-        Some(number) => Some(row_of(alloc, &[Given::Int(number)])?),
-        None => None,
-    };
-    Ok(Write {
-        id: id_of(alloc, t)?,
-        row,
-    })
+    let (id, row) = pair(first_id(alloc, t), row_after(alloc, number))?;
+    Ok(Write { id, row })
 }
 
-/// A version with one write.
+/// A version with one write that was made.
 fn commit(
     alloc: Global,
     table: &mut VersionTable,
     version: u32,
-    write: Write,
+    write: Result<Write, NoMemory>,
 ) -> Result<(), NoMemory>
     requires first { 1 ≤ version }
     requires above { AreBelow version table.old.spans }
     ensures below { OnOk result (AreBelow (version + 1) table.new.spans) }
 {
     let mut list = Vec::new(alloc);
-    list.push(write)?;
+    list.push(write?)?;
     let writes = Writes::from_vec(alloc, list)?;
     table.reserve(1)?;
     table.append_commit(version, writes);
@@ -57,23 +58,39 @@ fn commit(
 /// The table after the four versions.
 fn history(alloc: Global) -> Result<VersionTable, NoMemory> {
     let mut table = VersionTable::new(alloc);
-    commit(alloc, &mut table, 1, write_of(alloc, 2, Some(10))?)?;
-    commit(alloc, &mut table, 2, write_of(alloc, 2, Some(11))?)?;
-    commit(alloc, &mut table, 3, write_of(alloc, 1, Some(30))?)?;
-    commit(alloc, &mut table, 4, write_of(alloc, 2, None)?)?;
+    commit(alloc, &mut table, 1, write_of(alloc, 2, Some(10)))?;
+    commit(alloc, &mut table, 2, write_of(alloc, 2, Some(11)))?;
+    commit(alloc, &mut table, 3, write_of(alloc, 1, Some(30)))?;
+    commit(alloc, &mut table, 4, write_of(alloc, 2, None))?;
     Ok(table)
 }
 
-/// The rows of a version with their identities, one on each line.
-fn text_of(alloc: Global, table: &VersionTable, v: u32) -> Result<Vec<u8>, NoMemory> {
-    let mut out = Vec::new(alloc);
+/// Writes a row with its identity on a line.
+fn write_span(alloc: Global, span: &Span, out: &mut Vec<u8>) -> Result<(), NoMemory> {
+    write_id(alloc, &span.id, out)?;
+    out.push(b' ')?;
+    write_row(alloc, &span.row, out)?;
+    out.push(b'\n')?;
+    Ok(())
+}
+
+/// Writes the rows of a version with their identities, one on each line.
+fn write_version(
+    alloc: Global,
+    table: &VersionTable,
+    v: u32,
+    out: &mut Vec<u8>,
+) -> Result<(), NoMemory> {
     for span in table.as_of(v) {
-        write_id(alloc, &span.id, &mut out)?;
-        out.push(b' ')?;
-        write_row(alloc, &span.row, &mut out)?;
-        out.push(b'\n')?;
+        write_span(alloc, span, out)?;
     }
-    Ok(out)
+    Ok(())
+}
+
+/// Whether the rows of a version have this text.
+fn has_rows(alloc: Global, table: &VersionTable, v: u32, text: &str) -> bool {
+    let mut out = Vec::new(alloc);
+    write_version(alloc, table, v, &mut out).is_ok() && out.as_slice() == text.as_bytes()
 }
 
 const VERSIONS: &[(u32, &str)] = &[
@@ -91,8 +108,7 @@ fn each_version_has_its_rows(rt: HostRuntime) -> Result<(), Fail> {
     let table = history(rt.alloc())?;
     assert!(rt; table.len() == 3);
     for (v, text) in VERSIONS {
-        let rows = text_of(rt.alloc(), &table, *v)?;
-        assert!(rt; rows.as_slice() == text.as_bytes(), "version {v}");
+        assert!(rt; has_rows(rt.alloc(), &table, *v, text), "version {v}");
     }
     Ok(())
 }
@@ -109,14 +125,22 @@ const LATER_WRITES: &[(u32, u32, Option<u32>)] = &[
     (3, 0, None),
 ];
 
+/// Whether this version wrote the row of the identity next.
+fn is_later(table: &VersionTable, id: Result<RowId, NoMemory>, v: u32, later: Option<u32>) -> bool {
+    match &id {
+        Ok(id) => table.written_after(id, v) == later,
+        Err(_) => false,
+    }
+}
+
 #[test]
 fn rows_are_written_later(rt: HostRuntime) -> Result<(), Fail> {
     written_after_is_the_least();
     a_span_ends_at_the_next_write();
     let table = history(rt.alloc())?;
     for (t, v, later) in LATER_WRITES {
-        let id = id_of(rt.alloc(), *t)?;
-        assert!(rt; table.written_after(&id, *v) == *later, "{t}.1.1 after {v}");
+        let id = first_id(rt.alloc(), *t);
+        assert!(rt; is_later(&table, id, *v, *later), "{t}.1.1 after {v}");
     }
     Ok(())
 }
@@ -140,16 +164,29 @@ fn spans_are_ordered_by_identity(rt: HostRuntime) -> Result<(), Fail> {
     Ok(())
 }
 
+/// The writes of rows of one number, or their deletions.
+fn writes_of(alloc: Global, all: &[(u32, Option<i64>)]) -> Result<Writes, NoMemory> {
+    let mut list = Vec::new(alloc);
+    for (t, number) in all {
+        list.push(write_of(alloc, *t, *number)?)?;
+    }
+    Writes::from_vec(alloc, list)
+}
+
+/// Whether there is a write of the identity, or none.
+fn has(writes: &Writes, id: Result<RowId, NoMemory>, written: bool) -> bool {
+    match &id {
+        Ok(id) => writes.has(id) == written,
+        Err(_) => false,
+    }
+}
+
 #[test]
 fn deletions_are_writes(rt: HostRuntime) -> Result<(), Fail> {
-    let mut list = Vec::new(rt.alloc());
-    for (t, number) in [(3, Some(1)), (1, None), (2, Some(7))] {
-        list.push(write_of(rt.alloc(), t, number)?)?;
-    }
-    let writes = Writes::from_vec(rt.alloc(), list)?;
+    let writes = writes_of(rt.alloc(), &[(3, Some(1)), (1, None), (2, Some(7))])?;
     for (t, written) in [(0, false), (1, true), (2, true), (3, true), (4, false)] {
-        let id = id_of(rt.alloc(), t)?;
-        assert!(rt; writes.has(&id) == written, "{t}.1.1");
+        let id = first_id(rt.alloc(), t);
+        assert!(rt; has(&writes, id, written), "{t}.1.1");
     }
     assert!(rt; writes.as_slice().len() == 3);
     assert!(rt; writes.into_vec().len() == 3);

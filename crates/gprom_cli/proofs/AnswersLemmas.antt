@@ -1,0 +1,128 @@
+-- Answers that are written one after another.
+use Rattle.std.proofs.Common.{◌≡◌, ℕ, Bool, true, false, ◌||◌, List, [], ◌∷◌, ◌++◌, Result, Ok, Err, refl, sym, ap, ◌∙◌, subst, append_assoc}
+use Rattle.std.specs.List.{flat_map, list_any}
+use Rattle.std.specs.Result.{IsErrAnd}
+use Rattle.std.proofs.lemmas.List.{append-nil}
+use Rattle.gp_io.specs.declared.error.SinkStop.{SinkStop}
+use Rattle.gp_io.specs.Sink.{SinkState, appended, CountsFault, WritesPrefix}
+use Rattle.gp_io.proofs.SinkLemmas.{appended-append, appended-nothing, WritesPrefix-all, WritesPrefix-longer, WritesPrefix-then}
+use Rattle.gp_syntax.specs.Lines.{script_lines}
+use Rattle.gp_grammar.specs.LineReading.{Fault, question_of}
+use Rattle.gp_grammar.specs.Syntax as y
+use Rattle.gp_ask.specs.declared.answered.Answered.{Answered}
+use Rattle.gp_ask.specs.Questions.{answered, answers_text, has_refused, is_refused, line_answer, line_answer_text}
+use Rattle.gp_ask.specs.Texts.{answer_text}
+use Rattle.gprom_cli.specs.Steps.{WritesAnswers}
+
+abbrev pub is_line_refused : (y.Question → Answered) → ℕ × List ℕ → Bool
+is_line_refused answers line = is_refused (line_answer answers line)
+
+-- the answers to the lines before were written, and the remaining ones decide the rest
+pub record IsProgress (answers : y.Question → Answered) (questions : List ℕ) (lines : List (ℕ × List ℕ)) (refused : Bool) (old new : SinkState) : Type 0 where
+  pub text : List ℕ
+  pub taken : new.taken ≡ appended old.taken text
+  pub faults : new.faults ≡ old.faults
+  pub all : text ++ flat_map (line_answer_text answers) lines ≡ answers_text answers questions
+  pub refusals : (refused || list_any (is_line_refused answers) lines) ≡ has_refused answers questions
+
+or-nothing : (a : Bool) → (a || false) ≡ a
+or-nothing true = refl
+or-nothing false = refl
+
+or-again : (a b c : Bool) → ((a || b) || c) ≡ (a || (b || c))
+or-again true b c = refl
+or-again false b c = refl
+
+module _ (answers : y.Question → Answered) (questions : List ℕ) (old new : SinkState) where
+  -- before the first line
+  pub starts : (lines : List (ℕ × List ℕ)) → lines ≡ script_lines questions → IsProgress answers questions lines false old old
+  starts lines whole = record {
+    text = [];
+    taken = sym (appended-nothing old.taken);
+    faults = refl;
+    all = ap (flat_map (line_answer_text answers)) whole;
+    refusals = ap (list_any (is_line_refused answers)) whole;
+  }
+
+  -- after the last line
+  pub ends : (refused : Bool) → IsProgress answers questions [] refused old new → WritesAnswers (answers_text answers questions) (has_refused answers questions) old new (Ok refused)
+  ends refused way =
+      let whole : way.text ≡ answers_text answers questions = sym (append-nil way.text) ∙ way.all in
+      let taken : new.taken ≡ appended old.taken (answers_text answers questions) = way.taken ∙ ap (appended old.taken) whole in
+      record {
+        refused = sym (or-nothing refused) ∙ way.refusals;
+        complete = taken;
+        prefix = WritesPrefix-all (answers_text answers questions) old.taken new.taken taken;
+        faults = way.faults;
+      }
+
+  module _ (line : ℕ × List ℕ) (lines : List (ℕ × List ℕ)) (refused : Bool) (newest : SinkState) where
+    abbrev line_text : List ℕ
+    line_text = line_answer_text answers line
+
+    abbrev later_text : List ℕ
+    later_text = flat_map (line_answer_text answers) lines
+
+    -- one more line was answered
+    pub goes_on : (one : Bool) → IsProgress answers questions (line ∷ lines) refused old new → WritesAnswers line_text (is_line_refused answers line) new newest (Ok one)
+        → IsProgress answers questions lines (refused || one) old newest
+    goes_on one way wrote = record {
+      text = way.text ++ line_text;
+      taken = wrote.complete ∙ ap (λ t. appended t line_text) way.taken ∙ appended-append old.taken way.text line_text;
+      faults = wrote.faults ∙ way.faults;
+      all = append_assoc way.text line_text later_text ∙ way.all;
+      refusals =
+          or-again refused one (list_any (is_line_refused answers) lines)
+          ∙ ap (λ (b : Bool). refused || (b || list_any (is_line_refused answers) lines)) wrote.refused ∙ way.refusals;
+    }
+
+    -- the answer to a line was not written
+    pub stops : (stop : SinkStop) → IsProgress answers questions (line ∷ lines) refused old new → WritesAnswers line_text (is_line_refused answers line) new newest (Err stop)
+        → WritesAnswers (answers_text answers questions) (has_refused answers questions) old newest (Err stop)
+    stops stop way wrote = record {
+      refused = tt;
+      complete = tt;
+      prefix =
+          let some : WritesPrefix (way.text ++ line_text) old.taken newest.taken = WritesPrefix-then way.text line_text old.taken new.taken newest.taken way.taken wrote.prefix in
+          subst (λ (text : List ℕ). WritesPrefix text old.taken newest.taken) (append_assoc way.text line_text later_text ∙ way.all)
+          (WritesPrefix-longer (way.text ++ line_text) later_text old.taken newest.taken some);
+      faults = subst (λ (n : ℕ). CountsFault {T = Bool} (Err stop) n newest.faults) way.faults wrote.faults;
+    }
+
+    -- the same, where the error is handed on
+    pub stops_with : (result : Result Bool SinkStop) (stop : SinkStop) → IsErrAnd result (λ other. other ≡ stop) → IsProgress answers questions (line ∷ lines) refused old new
+        → WritesAnswers line_text (is_line_refused answers line) new newest (Err stop) → WritesAnswers (answers_text answers questions) (has_refused answers questions) old newest result
+    stops_with (Ok value) stop same way wrote = absurd same
+    stops_with (Err other) stop same way wrote =
+        subst (λ (e : SinkStop). WritesAnswers (answers_text answers questions) (has_refused answers questions) old newest (Err e)) (sym same) (stops stop way wrote)
+
+-- ---- answers with the same texts
+
+module _ (answers others : y.Question → Answered) where
+  module _ (same : (question : y.Question) (number : ℕ) → answer_text number (answers question) ≡ answer_text number (others question)) where
+    read-text : (number : ℕ) (read : Result y.Question Fault) → answer_text number (answered answers read) ≡ answer_text number (answered others read)
+    read-text number (Err fault) = refl
+    read-text number (Ok question) = same question number
+
+    texts-same : (lines : List (ℕ × List ℕ)) → flat_map (line_answer_text answers) lines ≡ flat_map (line_answer_text others) lines
+    texts-same [] = refl
+    texts-same (line ∷ lines) =
+        ap (λ (text : List ℕ). text ++ flat_map (line_answer_text answers) lines) (read-text line.0 (question_of line.1))
+        ∙ ap (λ (rest : List ℕ). line_answer_text others line ++ rest) (texts-same lines)
+
+    pub same-texts : (questions : List ℕ) → answers_text answers questions ≡ answers_text others questions
+    same-texts questions = texts-same (script_lines questions)
+
+  module _ (same : (question : y.Question) → is_refused (answers question) ≡ is_refused (others question)) where
+    read-refused : (read : Result y.Question Fault) → is_refused (answered answers read) ≡ is_refused (answered others read)
+    read-refused (Err fault) = refl
+    read-refused (Ok question) = same question
+
+    refusals-same : (lines : List (ℕ × List ℕ)) → list_any (is_line_refused answers) lines ≡ list_any (is_line_refused others) lines
+    refusals-same [] = refl
+    refusals-same (line ∷ lines) =
+        ap (λ (b : Bool). b || list_any (is_line_refused answers) lines) (read-refused (question_of line.1))
+        ∙ ap (λ (b : Bool). is_line_refused others line || b) (refusals-same lines)
+
+    pub same-refusals : (questions : List ℕ) → has_refused answers questions ≡ has_refused others questions
+    same-refusals questions = refusals-same (script_lines questions)

@@ -1,0 +1,97 @@
+-- How the steps of a call make its outcome.
+use Rattle.std.proofs.Common.{◌≡◌, ℕ, ◌≤◌, inl, inr, List, length, Option, Some, sym, subst}
+use Rattle.gp_io.specs.Shelf.{ShelfState, ReportsMiss, ReportsReadFault}
+use Rattle.gp_io.specs.Sink.{SinkState}
+use Rattle.gp_script.specs.declared.script.TheConstants.{MAX_SCRIPT_LENGTH}
+use Rattle.gp_dump.specs.declared.dump.TheConstants.{MAX_DUMP_LENGTH}
+use Rattle.gprom_cli.specs.declared.status.Status.{Status}
+use Rattle.gprom_cli.specs.Args.{Command, Run, Ask}
+use Rattle.gprom_cli.specs.Call.{Outcome, Usage, Absent, Unreadable, TooLong, NotReplaced, Replied, Damaged, Answered, OutOfMemory, HasContent, HasOutcome, IsRead, RunEnds, AskEnds}
+use Rattle.gprom_cli.specs.Steps.{AnswerEnds, Answers, ReadEnds, StopsReading}
+use Rattle.gprom_cli.proofs.ReadingLemmas.{read-length}
+
+-- the script was not read
+run-stops : (script dump : List ℕ) (before after : ShelfState) (o : Outcome) → ReadEnds script MAX_SCRIPT_LENGTH before after o → RunEnds script dump before after o
+run-stops script dump before after (Absent name) is = is
+run-stops script dump before after (Unreadable name) is = is
+run-stops script dump before after (TooLong name) is = (is.0, inl (is.1, is.2))
+run-stops script dump before after OutOfMemory is = is
+run-stops script dump before after Usage is = is
+run-stops script dump before after (NotReplaced name) is = absurd is
+run-stops script dump before after (Replied bytes) is = absurd is
+run-stops script dump before after (Damaged f line) is = is
+run-stops script dump before after (Answered contents questions) is = is
+
+-- the dump was not read
+dump-stops : (dump questions : List ℕ) (before after : ShelfState) (o : Outcome) → ReadEnds dump MAX_DUMP_LENGTH before after o → AskEnds dump questions before after o
+dump-stops dump questions before after (Absent name) is = (inl is.0, subst (λ (n : List ℕ). ReportsMiss n before after) (sym is.0) is.1)
+dump-stops dump questions before after (Unreadable name) is = (inl is.0, subst (λ (n : List ℕ). ReportsReadFault n before after) (sym is.0) is.1)
+dump-stops dump questions before after (TooLong name) is = (is.0, inl (is.1, is.2))
+dump-stops dump questions before after OutOfMemory is = is
+dump-stops dump questions before after Usage is = is
+dump-stops dump questions before after (NotReplaced name) is = is
+dump-stops dump questions before after (Replied bytes) is = is
+dump-stops dump questions before after (Damaged f line) is = absurd is
+dump-stops dump questions before after (Answered contents asked) is = absurd is
+
+-- the questions were not read, after the dump
+questions-stop : (dump questions : List ℕ) (before after : ShelfState) (o : Outcome) → IsRead dump MAX_DUMP_LENGTH before → ReadEnds questions MAX_SCRIPT_LENGTH before after o → AskEnds dump questions before after o
+questions-stop dump questions before after (Absent name) found is = (inr (is.0, found), subst (λ (n : List ℕ). ReportsMiss n before after) (sym is.0) is.1)
+questions-stop dump questions before after (Unreadable name) found is = (inr (is.0, found), subst (λ (n : List ℕ). ReportsReadFault n before after) (sym is.0) is.1)
+questions-stop dump questions before after (TooLong name) found is = (is.0, inr (is.1, found, is.2))
+questions-stop dump questions before after OutOfMemory found is = is
+questions-stop dump questions before after Usage found is = is
+questions-stop dump questions before after (NotReplaced name) found is = is
+questions-stop dump questions before after (Replied bytes) found is = is
+questions-stop dump questions before after (Damaged f line) found is = absurd is
+questions-stop dump questions before after (Answered contents asked) found is = absurd is
+
+-- the dump and the questions were read
+both-read : (dump questions bytes asked : List ℕ) (before after : ShelfState) (o : Outcome) → after ≡ before → HasContent dump before bytes → length bytes ≤ MAX_DUMP_LENGTH
+    → HasContent questions before asked → length asked ≤ MAX_SCRIPT_LENGTH → AnswerEnds bytes asked o → AskEnds dump questions before after o
+both-read dump questions bytes asked before after (Damaged f line) same found few there short is =
+    (same, read-length before.holds questions MAX_SCRIPT_LENGTH asked there short, (bytes, few, is, found))
+both-read dump questions bytes asked before after (Answered contents other) same found few there short is =
+    (same, subst (λ (x : List ℕ). length x ≤ MAX_SCRIPT_LENGTH) (sym is.0) short, subst (λ (x : List ℕ). HasContent questions before x) (sym is.0) there, (bytes, few, is.1, found))
+both-read dump questions bytes asked before after OutOfMemory same found few there short is = same
+both-read dump questions bytes asked before after Usage same found few there short is = is
+both-read dump questions bytes asked before after (Absent name) same found few there short is = absurd is
+both-read dump questions bytes asked before after (Unreadable name) same found few there short is = absurd is
+both-read dump questions bytes asked before after (TooLong name) same found few there short is = absurd is
+both-read dump questions bytes asked before after (NotReplaced name) same found few there short is = is
+both-read dump questions bytes asked before after (Replied script) same found few there short is = is
+
+-- the calls of these steps
+module _ (before after : ShelfState) (sink sink' : SinkState) (s : Status) where
+  pub run-stopped : (script dump : List ℕ) → StopsReading script MAX_SCRIPT_LENGTH before after sink sink' s
+      → HasOutcome (record { command = Some (Run script dump); shelf = before; shelf_after = after; sink = sink; sink_after = sink'; status = s })
+  run-stopped script dump stopped = record { outcome = stopped.outcome; is = run-stops script dump before after stopped.outcome stopped.is; writes = stopped.writes }
+
+  pub ask-stopped : (dump questions : List ℕ) → StopsReading dump MAX_DUMP_LENGTH before after sink sink' s
+      → HasOutcome (record { command = Some (Ask dump questions); shelf = before; shelf_after = after; sink = sink; sink_after = sink'; status = s })
+  ask-stopped dump questions stopped = record { outcome = stopped.outcome; is = dump-stops dump questions before after stopped.outcome stopped.is; writes = stopped.writes }
+
+  pub questions-stopped : (dump questions bytes : List ℕ) → HasContent dump before bytes → length bytes ≤ MAX_DUMP_LENGTH → StopsReading questions MAX_SCRIPT_LENGTH before after sink sink' s
+      → HasOutcome (record { command = Some (Ask dump questions); shelf = before; shelf_after = after; sink = sink; sink_after = sink'; status = s })
+  questions-stopped dump questions bytes found few stopped = record {
+    outcome = stopped.outcome;
+    is = questions-stop dump questions before after stopped.outcome (read-length before.holds dump MAX_DUMP_LENGTH bytes found few) stopped.is;
+    writes = stopped.writes;
+  }
+
+  pub ask-answered : (dump questions bytes asked : List ℕ) → after ≡ before → HasContent dump before bytes → length bytes ≤ MAX_DUMP_LENGTH
+      → HasContent questions before asked → length asked ≤ MAX_SCRIPT_LENGTH → Answers bytes asked sink sink' s
+      → HasOutcome (record { command = Some (Ask dump questions); shelf = before; shelf_after = after; sink = sink; sink_after = sink'; status = s })
+  ask-answered dump questions bytes asked same found few there short answers = record {
+    outcome = answers.outcome;
+    is = both-read dump questions bytes asked before after answers.outcome same found few there short answers.is;
+    writes = answers.writes;
+  }
+
+-- a call that goes on where the files and the output are as before
+pub goes-on : (command : Option Command) (before middle after : ShelfState) (sink sink' sink'' : SinkState) (s : Status) → middle ≡ before → sink' ≡ sink
+    → HasOutcome (record { command = command; shelf = middle; shelf_after = after; sink = sink'; sink_after = sink''; status = s })
+    → HasOutcome (record { command = command; shelf = before; shelf_after = after; sink = sink; sink_after = sink''; status = s })
+goes-on command before middle after sink sink' sink'' s same quiet has =
+    subst (λ (h : ShelfState). HasOutcome (record { command = command; shelf = h; shelf_after = after; sink = sink; sink_after = sink''; status = s })) same
+    (subst (λ (k : SinkState). HasOutcome (record { command = command; shelf = middle; shelf_after = after; sink = k; sink_after = sink''; status = s })) quiet has)

@@ -1,0 +1,26 @@
+use Rattle.std.proofs.Common.{refl, subst}
+use Rattle.gp_io.specs.Shelf.{ReadStops}
+use Rattle.gp_io.specs.declared.error.ShelfStop.{ShelfStop}
+use Rattle.gprom_cli.specs.Call.{Absent, Unreadable, OutOfMemory}
+use Rattle.gprom_cli.proofs.read.write_stop.Goals as goal
+
+pub returns-in-Absent : goal.returns-in-Absent
+returns-in-Absent g c = λ most before after stops. record {
+  outcome = Absent c.args.name.now;
+  is = (refl, subst (λ (stop : ShelfStop). ReadStops c.args.name.now before after stop) c.in-Absent.is stops);
+  writes = c.write_message.ensures;
+}
+
+pub returns-in-Failed : goal.returns-in-Failed
+returns-in-Failed g c = λ most before after stops. record {
+  outcome = Unreadable c.args.name.now;
+  is = (refl, subst (λ (stop : ShelfStop). ReadStops c.args.name.now before after stop) c.in-Failed.is stops);
+  writes = c.write_message-in-Failed.ensures;
+}
+
+pub returns-in-NoMemory : goal.returns-in-NoMemory
+returns-in-NoMemory g c = λ most before after stops. record {
+  outcome = OutOfMemory;
+  is = subst (λ (stop : ShelfStop). ReadStops c.args.name.now before after stop) c.in-NoMemory.is stops;
+  writes = (refl, refl);
+}

@@ -1,0 +1,170 @@
+//! `ask DUMP QUESTIONS`: answers questions from a dump.
+
+ghost use Rattle.std.specs.Prelude.{◌≡◌, ◌≤◌, ℕ, List, IfOk, length, Some, true};
+ghost use Rattle.gp_check.specs.Valid.{tables_are_valid};
+ghost use Rattle.gp_log.specs.LogFacts.{tables_in};
+ghost use Rattle.gp_ask.specs.Answers.{answer_to};
+ghost use Rattle.gp_ask.specs.Questions.{answers_text, has_refused, is_refused, line_answer, line_answer_text};
+ghost use Rattle.gp_dump.specs.Views.{dump_view};
+ghost use Rattle.gprom_cli.specs.Args.{Ask};
+ghost use Rattle.gprom_cli.specs.Call.{HasContent, HasOutcome, WritesOutput, answered_status};
+ghost use Rattle.gprom_cli.specs.Steps.{Answers, WritesAnswers};
+
+use crate::output::{stop_status, write_damage};
+use crate::read::read_file;
+use crate::status::Status;
+use gp_ask::{answer_line, write_answer};
+use gp_base::NoMemory;
+use gp_dump::{Dump, DumpStop, MAX_DUMP_LENGTH, read_dump};
+use gp_io::{Shelf, Sink, SinkStop};
+use gp_script::MAX_SCRIPT_LENGTH;
+use gp_syntax::lines;
+use std::alloc::Global;
+
+/// The text of the answer to a line of questions, and whether the question was refused.
+#[derive(Drop)]
+struct LineAnswer {
+    text: Vec<u8>,
+    refused: bool,
+}
+
+/// Answers a line of questions.
+fn answered(alloc: Global, dump: &Dump, number: u32, bytes: &[u8]) -> Result<LineAnswer, NoMemory>
+    requires tables { length dump.now.versions
+        ≡ length (tables_in (dump_view dump.now).entries) }
+    requires valid { tables_are_valid (tables_in (dump_view dump.now).entries) ≡ true }
+    ensures text { IfOk result (λ answer. answer.text.items
+        ≡ line_answer_text (answer_to (dump_view dump.now)) (number, bytes.now)) }
+    ensures refused { IfOk result (λ answer. answer.refused
+        ≡ is_refused (line_answer (answer_to (dump_view dump.now)) (number, bytes.now))) }
+{
+    let answer = answer_line(alloc, dump, bytes)?;
+    let refused = answer.is_refused();
+    let mut text = Vec::new(alloc);
+    write_answer(alloc, number, answer, &mut text)?;
+    Ok(LineAnswer { text, refused })
+}
+
+/// Answers a line of questions and writes the answer. Gives whether the question was refused.
+fn write_line<K: Sink>(
+    alloc: Global,
+    dump: &Dump,
+    number: u32,
+    bytes: &[u8],
+    out: &mut K,
+) -> Result<bool, SinkStop>
+    requires tables { length dump.now.versions
+        ≡ length (tables_in (dump_view dump.now).entries) }
+    requires valid { tables_are_valid (tables_in (dump_view dump.now).entries) ≡ true }
+    ensures { WritesAnswers (line_answer_text (answer_to (dump_view dump.now)) (number, bytes.now))
+        (is_refused (line_answer (answer_to (dump_view dump.now)) (number, bytes.now)))
+        (K.state out.old) (K.state out.new) result }
+{
+    match answered(alloc, dump, number, bytes) {
+        Ok(answer) => match out.write_all(&answer.text) {
+            Ok(()) => Ok(answer.refused),
+            Err(stop) => Err(stop),
+        },
+        Err(NoMemory) => Err(SinkStop::NoMemory),
+    }
+}
+
+/// Answers each line of questions in order, and writes each answer when it is made. Gives whether a question was refused.
+fn write_lines<K: Sink>(
+    alloc: Global,
+    dump: &Dump,
+    questions: &[u8],
+    out: &mut K,
+) -> Result<bool, SinkStop>
+    requires tables { length dump.now.versions
+        ≡ length (tables_in (dump_view dump.now).entries) }
+    requires valid { tables_are_valid (tables_in (dump_view dump.now).entries) ≡ true }
+    requires short { length questions.now ≤ MAX_SCRIPT_LENGTH }
+    ensures { WritesAnswers (answers_text (answer_to (dump_view dump.now)) questions.now)
+        (has_refused (answer_to (dump_view dump.now)) questions.now)
+        (K.state out.old) (K.state out.new) result }
+{
+    let mut refused = false;
+    let mut rest = lines(questions);
+    while let Some(line) = rest.next() {
+        refused = refused | write_line(alloc, dump, line.number, line.bytes, out)?;
+    }
+    Ok(refused)
+}
+
+/// Answers questions from a dump that is well formed.
+fn write_answers<K: Sink>(alloc: Global, dump: &Dump, questions: &[u8], out: &mut K) -> Status
+    requires tables { length dump.now.versions
+        ≡ length (tables_in (dump_view dump.now).entries) }
+    requires valid { tables_are_valid (tables_in (dump_view dump.now).entries) ≡ true }
+    requires short { length questions.now ≤ MAX_SCRIPT_LENGTH }
+    ensures { WritesOutput (answers_text (answer_to (dump_view dump.now)) questions.now)
+        (answered_status (has_refused (answer_to (dump_view dump.now)) questions.now))
+        (K.state out.old) (K.state out.new) result }
+{
+    match write_lines(alloc, dump, questions, out) {
+        Ok(refused) => Status::answered(refused),
+        Err(stop) => stop_status(stop),
+    }
+}
+
+/// Tests a dump against its rules, and answers questions from it.
+fn answer<K: Sink>(alloc: Global, bytes: &[u8], questions: &[u8], out: &mut K) -> Status
+    requires dump { length bytes.now ≤ MAX_DUMP_LENGTH }
+    requires questions { length questions.now ≤ MAX_SCRIPT_LENGTH }
+    ensures { Answers bytes.now questions.now (K.state out.old) (K.state out.new) result }
+{
+    match read_dump(alloc, bytes) {
+        Ok(dump) => write_answers(alloc, &dump, questions, out),
+        Err(DumpStop::Fault { f, line }) => write_damage(alloc, out, f, line),
+        Err(DumpStop::NoMemory) => Status::OutOfMemory,
+    }
+}
+
+/// Answers questions from a dump that was read.
+fn ask_bytes<H: Shelf, K: Sink>(
+    alloc: Global,
+    bytes: &[u8],
+    questions: &str,
+    shelf: &mut H,
+    out: &mut K,
+) -> Status
+    requires { length bytes.now ≤ MAX_DUMP_LENGTH }
+    ensures { (dump : List ℕ) → HasContent dump (H.state shelf.old) bytes.now
+        → HasOutcome (record {
+          command = Some (Ask dump questions.now);
+          shelf = H.state shelf.old;
+          shelf_after = H.state shelf.new;
+          sink = K.state out.old;
+          sink_after = K.state out.new;
+          status = result;
+        }) }
+{
+    match read_file(alloc, questions, MAX_SCRIPT_LENGTH, shelf, out) {
+        Ok(asked) => answer(alloc, bytes, &asked, out),
+        Err(status) => status,
+    }
+}
+
+/// Reads the dump, then the questions, tests the dump, answers each question in order, and writes each answer when it is made.
+pub(crate) fn ask<H: Shelf, K: Sink>(
+    alloc: Global,
+    dump: &str,
+    questions: &str,
+    shelf: &mut H,
+    out: &mut K,
+) -> Status
+    ensures { HasOutcome (record {
+      command = Some (Ask dump.now questions.now);
+      shelf = H.state shelf.old;
+      shelf_after = H.state shelf.new;
+      sink = K.state out.old;
+      sink_after = K.state out.new;
+      status = result;
+    }) }
+{
+    match read_file(alloc, dump, MAX_DUMP_LENGTH, shelf, out) {
+        Ok(bytes) => ask_bytes(alloc, &bytes, questions, shelf, out),
+        Err(status) => status,
+    }
+}

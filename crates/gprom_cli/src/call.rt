@@ -1,0 +1,67 @@
+//! The whole call: from the arguments of the program to the bytes written and the exit status.
+
+ghost use Rattle.std.specs.Prelude.{◌≡◌, map, string_bytes};
+ghost use Rattle.gprom_cli.specs.Args.{command_of};
+ghost use Rattle.gprom_cli.specs.Call.{HasOutcome};
+ghost use Rattle.gprom_cli.specs.Promises.{Promises};
+ghost use Rattle.gprom_cli.specs.Status.{number_of, status_of};
+
+use crate::args::{Command, parse};
+use crate::ask::ask;
+use crate::laws::scripts_have_well_formed_dumps;
+use crate::output::write_output;
+use crate::run::run;
+use crate::status::Status;
+use gp_io::{Shelf, Sink};
+use std::alloc::Global;
+
+/// The usage line.
+const USAGE: &[u8] = b"usage: gprom run SCRIPT DUMP, gprom ask DUMP QUESTIONS, gprom gen N\n";
+
+/// Does what the arguments ask for.
+fn execute<H: Shelf, K: Sink>(alloc: Global, args: &[String], shelf: &mut H, out: &mut K) -> Status
+    ensures { HasOutcome (record {
+      command = command_of (map string_bytes args.now);
+      shelf = H.state shelf.old;
+      shelf_after = H.state shelf.new;
+      sink = K.state out.old;
+      sink_after = K.state out.new;
+      status = result;
+    }) }
+{
+    match parse(args) {
+        Some(Command::Run { script, dump }) => run(alloc, script, dump, shelf, out),
+        Some(Command::Ask { dump, questions }) => ask(alloc, dump, questions, shelf, out),
+        None => write_output(out, USAGE, Status::Usage),
+    }
+}
+
+/// Does all that the program does: parses the arguments (those after the program's name), reads files from `shelf`, replaces the dump of
+/// `run` there, writes replies, answers or a message to `out`, and returns the exit status. A step that fails ends the call.
+///
+/// | Status | Meaning |
+/// |---|---|
+/// | 0 | every line was answered, none was refused |
+/// | 1 | every line was answered, some were refused |
+/// | 2 | the arguments are invalid |
+/// | 3 | a file that is read does not exist |
+/// | 4 | a file that is read cannot be read |
+/// | 5 | the dump cannot be written, or the output reported a write error |
+/// | 6 | a script or questions are longer than 16,777,216 bytes, or a dump is longer than 67,108,864 |
+/// | 7 | the dump is not well formed |
+/// | 8 | memory ran out |
+pub fn gprom<H: Shelf, K: Sink>(alloc: Global, args: &[String], shelf: &mut H, out: &mut K) -> u8
+    ensures number { result ≡ number_of (status_of result) }
+    ensures promises { Promises (record {
+      command = command_of (map string_bytes args.now);
+      shelf = H.state shelf.old;
+      shelf_after = H.state shelf.new;
+      sink = K.state out.old;
+      sink_after = K.state out.new;
+      status = status_of result;
+    }) }
+{
+    // What `ask` promises of the dumps of scripts rests on these laws. The call does nothing.
+    scripts_have_well_formed_dumps();
+    execute(alloc, args, shelf, out).number()
+}

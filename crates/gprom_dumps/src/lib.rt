@@ -1,0 +1,26 @@
+//! Dumps and the questions to them, over the call that is the program.
+//!
+//! The texts of dumps are written by hand, and so are the answers. An answer stands below its question, and its lines begin with `> `.
+//!
+//! ```text
+//! VERSIONS OF r
+//! > 1 versions 1
+//! >   1.1.1 1 - 1, 10
+//! ```
+//!
+//! Reading order: `call.rt` (a call and how it ends), `written.rt` (the dumps of scripts), `questions.rt` (answers from a dump),
+//! `damage.rt` (dumps that are refused), `outside.rt` (arguments, files and output that fail), `travel.rt` (the rows of past versions).
+#![tactic(auto)]
+
+#[cfg(test)]
+mod call;
+#[cfg(test)]
+mod damage;
+#[cfg(test)]
+mod outside;
+#[cfg(test)]
+mod questions;
+#[cfg(test)]
+mod travel;
+#[cfg(test)]
+mod written;

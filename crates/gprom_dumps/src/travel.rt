@@ -1,0 +1,56 @@
+//! The rows of past versions, as a plain program scans them.
+
+use gp_algebra::ScanAt;
+use gp_base::{NoMemory, write_row};
+use gp_dump::{Dump, read_dump};
+use gp_travel::env_at;
+use std::alloc::Global;
+use std::test::Fail;
+
+/// Version 2 changes a row and deletes another.
+const DUMP: &[u8] =
+    b"gprom-dump 1\nlog 8\n1 s1 CREATE TABLE r (a INT)\n2 s1 BEGIN\n3 s1 INSERT INTO r VALUES (1), (2)\n4 s1 COMMIT\n5 s1 BEGIN\n6 s1 UPDATE r SET a = 5 WHERE (a = 1)\n7 s1 DELETE FROM r WHERE (a = 2)\n8 s1 COMMIT\ntable r 3\n1.1.1 1 2 1\n1.1.1 2 - 5\n1.1.2 1 2 2\nend\n";
+
+/// A table, a version, and the rows of the table there: the cells, the identity and the mark of each.
+type Scan = (u32, u32, &'static [u8]);
+
+const SCANS: &[Scan] = &[
+    (0, 0, b""),
+    (0, 1, b"1, {1.1.1}, NO\n2, {1.1.2}, NO\n"),
+    (0, 2, b"5, {1.1.1}, NO\n"),
+    (0, 3, b"5, {1.1.1}, NO\n"),
+    // There is no such table.
+    (1, 1, b""),
+];
+
+fn rows_text(alloc: Global, dump: &Dump, at: ScanAt) -> Result<Vec<u8>, NoMemory> {
+    let env = env_at(alloc, dump.versions.as_slice(), &[at])?;
+    let mut out = Vec::new(alloc);
+    for scan in env.scans.as_slice() {
+        for row in scan.rows.as_slice() {
+            write_row(alloc, row, &mut out)?;
+            out.push(b'\n')?;
+        }
+    }
+    Ok(out)
+}
+
+/// Whether a table has these rows in a version.
+fn has_rows(alloc: Global, at: ScanAt, rows: &[u8]) -> Result<bool, NoMemory> {
+    match read_dump(alloc, DUMP) {
+        Ok(dump) => Ok(rows_text(alloc, &dump, at)?.as_slice() == rows),
+        Err(_) => Ok(false),
+    }
+}
+
+#[test]
+fn past_versions_are_scanned(rt: HostRuntime) -> Result<(), Fail> {
+    for (table, version, rows) in SCANS {
+        let at = ScanAt {
+            table: *table,
+            version: *version,
+        };
+        assert!(rt; has_rows(rt.alloc(), at, *rows)?, "at {table} in {version}");
+    }
+    Ok(())
+}
