@@ -1,2 +1,4 @@
+pub mod RebuildingLemmas
 pub mod SourceLemmas
+pub mod SubstitutionLemmas
 pub mod ViewLemmas
