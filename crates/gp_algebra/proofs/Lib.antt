@@ -4,6 +4,7 @@ pub mod Erasure
 pub mod Lists
 pub mod Permutations
 pub mod PlainBags
+pub mod QuerySizes
 pub mod ScanLemmas
 pub mod ScanOrder
 pub mod SimpleLemmas

@@ -10,7 +10,10 @@ use Rattle.std.proofs.lemmas.Bool.Decides.{nat_tests}
 use Rattle.gp_algebra.specs.declared.plain.ScanAt.{ScanAt}
 use Rattle.gp_algebra.specs.declared.plain.PProgram.{PProgram}
 use Rattle.gp_algebra.specs.PlainViews.{query_view, step_view, program_view}
-use Rattle.gp_algebra.specs.Scans.{scan_cmp, query_scans, program_scans}
+use Rattle.gp_algebra.specs.declared.annotated.AProgram.{AProgram}
+use Rattle.gp_algebra.specs.AnnotatedQueries.{QueryStep}
+use Rattle.gp_algebra.specs.QueryViews.{annotated_view, annotated_step_view, annotated_program_view}
+use Rattle.gp_algebra.specs.Scans.{scan_cmp, query_scans, program_scans, annotated_query_scans, annotated_program_scans}
 use Rattle.gp_algebra.proofs.Lists.{flat_map-map}
 
 pub scan_cmp_total : IsTotalOrder scan_cmp
@@ -43,3 +46,9 @@ same_scan-exact one other e =
 -- the scans of a program of the code
 pub program_scans-view : (program : PProgram) → program_scans (program_view program) ≡ flat_map (λ step. query_scans (query_view step.query)) program.steps ++ query_scans (query_view program.last)
 program_scans-view program = ap (λ scans. scans ++ query_scans (query_view program.last)) (flat_map-map (λ step. query_scans step.query) step_view program.steps)
+
+pub annotated_program_scans-view : (program : AProgram) →
+    annotated_program_scans (annotated_program_view program) ≡ flat_map (λ step. annotated_query_scans (annotated_view step.query)) program.steps
+    ++ annotated_query_scans (annotated_view program.last)
+annotated_program_scans-view program =
+    ap (λ scans. scans ++ annotated_query_scans (annotated_view program.last)) (flat_map-map (λ (step : QueryStep). annotated_query_scans step.query) annotated_step_view program.steps)

@@ -1,8 +1,11 @@
+pub mod AnnotatedQueries
 pub mod Answers
 pub mod Effects
 pub mod Fitting
 pub mod Plain
 pub mod PlainViews
+pub mod QueryForms
+pub mod QueryViews
 pub mod Reannotation
 pub mod SameRows
 pub mod Scans

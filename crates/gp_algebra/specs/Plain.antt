@@ -34,14 +34,15 @@ pub record PlainProgram : Type 0 where
 abbrev pub PlainEnvironment : Type 0
 PlainEnvironment = ℕ → ℕ → List (List Cell)
 
--- the rows that each step has given
+-- the rows that each step has given, of the plain algebra
 abbrev pub StepRows : Type 0
 StepRows = ℕ → List (List Cell)
 
-abbrev pub no_steps : StepRows
+-- rows of either algebra
+abbrev pub no_steps : {R : Type 0} → ℕ → List R
 no_steps j = []
 
-abbrev pub with_step : ℕ → List (List Cell) → StepRows → StepRows
+abbrev pub with_step : {R : Type 0} → ℕ → List R → (ℕ → List R) → ℕ → List R
 with_step place rows steps j = if j == place then rows else steps j
 
 -- ---- PUBLISH: what a transaction writes, onto a later version

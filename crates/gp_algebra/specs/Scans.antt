@@ -1,10 +1,11 @@
--- Part of the statement: the tables and versions that a plain query or program reads.
+-- Part of the statement: the tables and versions that a query or a program reads, a plain or an annotated one.
 use Rattle.std.specs.Prelude.{◌≡◌, List, [], ◌∷◌, ◌++◌, Contains}
 use Rattle.std.specs.Ordering.{nat_cmp, on, then_cmp}
 use Rattle.std.specs.declared.cmp.Ordering.{Ordering}
 use Rattle.std.specs.List.{flat_map}
 use Rattle.std.specs.List.Sorted.{IsPermutation}
 use Rattle.gp_algebra.specs.declared.plain.ScanAt.{ScanAt}
+use Rattle.gp_algebra.specs.AnnotatedQueries as q
 use Rattle.gp_algebra.specs.Plain.{Plain, scan, step, select, project, product, union, given, publish, PlainStep, PlainProgram, PlainEnvironment}
 
 -- the scans in a query, each as often as it occurs
@@ -24,6 +25,24 @@ steps_scans steps = flat_map (λ step. query_scans step.query) steps
 
 abbrev pub program_scans : PlainProgram → List ScanAt
 program_scans program = steps_scans program.steps ++ query_scans program.last
+
+-- the same of the annotated algebra
+abbrev pub annotated_query_scans : q.Query → List ScanAt
+annotated_query_scans (q.scan table version) = record { table = table; version = version } ∷ []
+annotated_query_scans (q.step j) = []
+annotated_query_scans (q.select query c) = annotated_query_scans query
+annotated_query_scans (q.project query exprs change) = annotated_query_scans query
+annotated_query_scans (q.product left right) = annotated_query_scans left ++ annotated_query_scans right
+annotated_query_scans (q.union left right) = annotated_query_scans left ++ annotated_query_scans right
+annotated_query_scans (q.given t k rows) = []
+annotated_query_scans (q.new_rows t k b query) = annotated_query_scans query
+annotated_query_scans (q.publish base mine later) = annotated_query_scans base ++ (annotated_query_scans mine ++ annotated_query_scans later)
+
+abbrev pub annotated_steps_scans : List q.QueryStep → List ScanAt
+annotated_steps_scans steps = flat_map (λ (step : q.QueryStep). annotated_query_scans step.query) steps
+
+abbrev pub annotated_program_scans : q.Program → List ScanAt
+annotated_program_scans program = annotated_steps_scans program.steps ++ annotated_query_scans program.last
 
 -- by table, then by version
 abbrev pub scan_cmp : ScanAt → ScanAt → Ordering

@@ -1,5 +1,5 @@
 -- Part of the statement: queries that compute neither identities nor provenance, as every query of a user.
-use Rattle.std.specs.Prelude.{◌≡◌, ◌^◌, nat_lt, Bool, true, ◌&&◌, List, length, Option, Some, None}
+use Rattle.std.specs.Prelude.{◌^◌, nat_lt, Bool, true, ◌&&◌, length, Option, Some, None}
 use Rattle.std.specs.List.{list_all}
 use Rattle.gp_expr.specs.Expressions.{Cond, is_simple, cond_is_simple}
 use Rattle.gp_algebra.specs.Statements.{Branch, Select}
