@@ -12,6 +12,8 @@ use Rattle.gp_algebra.specs.Stops as stops
 use Rattle.gp_algebra.specs.Stops.{stop_at, steps_stop}
 use Rattle.gp_algebra.specs.WellBuilt.{makes_no_identity, may_be_identity}
 use Rattle.gp_exec.specs.declared.evaluation.Done.{Done}
+use Rattle.gp_exec.specs.declared.found.Found.{Found}
+use Rattle.gp_exec.specs.declared.found.Found.TheVariants as found
 use Rattle.gp_exec.specs.declared.error.ExecStop.{ExecStop}
 use Rattle.gp_exec.specs.declared.error.ExecStop.TheVariants.{Rows, Ancestry, Answer, NoMemory}
 use Rattle.gp_exec.specs.declared.limit.TheConstants.{MAX_TABLE_ROWS}
@@ -40,6 +42,11 @@ step_is_evaluable query = is_evaluable query
 
 abbrev pub query_of_step_is_evaluable : PlainStep → Bool
 query_of_step_is_evaluable s = step_is_evaluable s.query
+
+-- the rows of a query, where they stand
+abbrev pub found_rows : Found → List (List Cell)
+found_rows (found.Standing rows) = rows.now
+found_rows (found.Made rows) = rows.items
 
 -- ---- rows with a flag
 

@@ -19,6 +19,7 @@ mod early;
 mod env;
 mod error;
 mod evaluation;
+mod found;
 mod limit;
 mod program;
 mod publication;
