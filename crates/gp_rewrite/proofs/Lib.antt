@@ -1,0 +1,11 @@
+pub mod ChoiceLemmas
+pub mod Each
+pub mod FitLemmas
+pub mod FormLemmas
+pub mod MeaningLemmas
+pub mod PlaceLemmas
+pub mod ReadLemmas
+pub mod SoundLemmas
+pub mod ThereLemmas
+pub mod UpdateLemmas
+pub mod WidthLemmas
