@@ -1,5 +1,5 @@
 -- The laws of dumps: the round trip, one dump for one text, and the order of its row lines.
-use Rattle.std.proofs.Common.{◌≡◌, inl, inr, ℕ, ◌<◌, true, List, [], ◌∷◌, map, Some, None, refl, sym, ap, subst, ◌∙◌}
+use Rattle.std.proofs.Common.{◌≡◌, inl, inr, ℕ, ◌<◌, true, List, [], ◌∷◌, map, Some, None, Result, Ok, Err, IfOk, refl, sym, ap, subst, ◌∙◌}
 use Rattle.std.specs.List.{AllByRecursion}
 use Rattle.std.specs.Ordering.{is_le, nat_cmp}
 use Rattle.std.specs.declared.cmp.Ordering.TheVariants.{Less, Equal}
@@ -12,8 +12,12 @@ use Rattle.gp_base.specs.IdentityOrder.{identity_cmp_total}
 use Rattle.gp_base.specs.Order.{insert_sorted, sorted_by}
 use Rattle.gp_versions.specs.declared.span.Span.{Span}
 use Rattle.gp_versions.specs.Spans.{AreWhole, NoOverlap, span_cmp}
-use Rattle.gp_dump.specs.Dumps.{AreInPlace, AreOfTables, Dump, WellFormed, dump_text, dump_with}
+use Rattle.gp_dump.specs.declared.dump.Dump as code
+use Rattle.gp_dump.specs.declared.error.DumpStop.{DumpStop}
+use Rattle.gp_dump.specs.Dumps.{AreInPlace, AreOfTables, Dump, IsDump, WellFormed, dump_text, dump_with}
+use Rattle.gp_dump.specs.Reading.{Continues}
 use Rattle.gp_dump.specs.Rules.{Fails, Holds, Verdict, fault_in, first_fault, verdict_on}
+use Rattle.gp_dump.specs.Views.{dump_view}
 use Rattle.gp_dump.proofs.PlaceLemmas.{Follows, in-place-apart, rows-follow}
 use Rattle.gp_dump.proofs.LineLemmas.{line-laws, log-lawful}
 use Rattle.gp_dump.proofs.RoundTrip.{read-well-formed, well-formed-read}
@@ -26,6 +30,12 @@ read = well-formed-read line-laws log-lawful
 
 pub only : (bytes : List ℕ) (dump : Dump) → verdict_on bytes ≡ Holds dump → WellFormed bytes dump
 only = read-well-formed line-laws log-lawful
+
+-- what was read keeps the rules
+pub read-rules : (bytes : List ℕ) (result : Result code.Dump DumpStop) → Continues result (λ dump. Holds (dump_view dump)) (verdict_on bytes)
+    → IfOk result (λ dump. IsDump (dump_view dump))
+read-rules bytes (Ok dump) is = (only bytes (dump_view dump) is).rules
+read-rules bytes (Err stop) is = tt
 
 -- ---- the order of row lines
 

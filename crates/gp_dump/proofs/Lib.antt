@@ -11,6 +11,7 @@ pub mod SortLemmas
 pub mod WriteLemmas
 pub mod AlongLines
 pub mod FittingRows
+pub mod FittingTables
 pub mod HistoryDumps
 pub mod KindLemmas
 pub mod LoggedLines

@@ -5,8 +5,8 @@
 //! first: the rules of each line, given the lines before it.
 //!
 //! In reading order: `lines` cuts the bytes into lines, `discipline` finds the entry of a log line, `rules` tests the rules
-//! of single lines, `read` reads the lines in order, and `write` writes them. The functions of `laws` and `histories`, as
-//! [`well_formed_dumps_are_read`] and [`dumps_of_histories_are_well_formed`], are laws.
+//! of single lines, `read` reads the lines in order, and `write` writes them. The functions of `laws`, `fitting` and
+//! `histories`, as [`well_formed_dumps_are_read`] and [`dumps_of_histories_are_well_formed`], are laws.
 //!
 //! ```text
 //! let text = write_dump(alloc, engine.log(), engine.versions())?;
@@ -21,6 +21,7 @@
 mod discipline;
 mod dump;
 mod error;
+mod fitting;
 mod histories;
 mod laws;
 mod lines;
@@ -30,6 +31,7 @@ mod write;
 
 pub use dump::{Dump, MAX_DUMP_LENGTH};
 pub use error::DumpStop;
+pub use fitting::well_formed_dumps_fit_their_tables;
 pub use histories::dumps_of_histories_are_well_formed;
 pub use laws::{one_text_for_one_dump, well_formed_dumps_are_read, what_was_read_is_written_again};
 pub use read::read_dump;

@@ -12,7 +12,7 @@ ghost use Rattle.gp_versions.specs.declared.span.Span as spec;
 ghost use Rattle.gp_versions.specs.Spans.{AreWhole, NoOverlap};
 ghost use Rattle.gp_dump.specs.declared.dump.TheConstants.{MAX_DUMP_LENGTH};
 ghost use Rattle.gp_dump.specs.Dumps as d;
-ghost use Rattle.gp_dump.specs.Dumps.{is_in_place, spans_in};
+ghost use Rattle.gp_dump.specs.Dumps.{IsDump, is_in_place, spans_in};
 ghost use Rattle.gp_dump.specs.Reading.{AreDue, Continues, CreatesValid, tables_before, takes_text, verdict_from};
 ghost use Rattle.gp_dump.specs.Rules.{Due, Header, Count, Logs, Sections, Rows, Nothing, Holds, after_text, then_verdict, verdict_on};
 ghost use Rattle.gp_dump.specs.Views.{dump_view};
@@ -311,9 +311,8 @@ fn read_end(rest: Rest<'_>) -> Result<(), DumpStop>
     read_nothing(behind)
 }
 
-/// Reads a dump, or gives its first fault: the number of the rule that fails first, and the number of its line. Rules are
-/// tested line by line, and on one line in the order of their numbers.
-pub fn read_dump(alloc: Global, bytes: &[u8]) -> Result<Dump, DumpStop>
+/// The lines of a dump in order: the log, then the tables.
+fn read_lines(alloc: Global, bytes: &[u8]) -> Result<Dump, DumpStop>
     requires { length bytes.now ≤ MAX_DUMP_LENGTH }
     ensures exact { Continues result (λ dump. Holds (dump_view dump)) (verdict_on bytes.now) }
     ensures tables { IfOk result
@@ -330,4 +329,18 @@ pub fn read_dump(alloc: Global, bytes: &[u8]) -> Result<Dump, DumpStop>
         log,
         versions: Sequence::from_vec(tables),
     })
+}
+
+/// Reads a dump, or gives its first fault: the number of the rule that fails first, and the number of its line. Rules are
+/// tested line by line, and on one line in the order of their numbers. What was read keeps the rules of a dump.
+pub fn read_dump(alloc: Global, bytes: &[u8]) -> Result<Dump, DumpStop>
+    requires { length bytes.now ≤ MAX_DUMP_LENGTH }
+    ensures exact { Continues result (λ dump. Holds (dump_view dump)) (verdict_on bytes.now) }
+    ensures rules { IfOk result (λ dump. IsDump (dump_view dump)) }
+    ensures tables { IfOk result
+        (λ dump. length dump.versions ≡ length (tables_in (log_view dump.log.entries))) }
+    ensures valid { IfOk result
+        (λ dump. tables_are_valid (tables_in (log_view dump.log.entries)) ≡ true) }
+{
+    read_lines(alloc, bytes)
 }

@@ -1,0 +1,274 @@
+-- The statements and the row versions of a well-formed dump fit its tables. What was checked fits the tables of its time, and what fits some tables fits
+-- them with more behind.
+use Rattle.std.proofs.Common.{◌≡◌, ◌<◌, ◌≤◌, ℕ, zero, suc, Bool, true, false, true≢false, ◌&&◌, ◌==◌, nat_le, nat_lt, List, [], ◌∷◌, ◌++◌, bytes_eq, codes, length, Option, Some, None, slice_get, if◌then◌else◌, Result, Ok, Err, refl, sym, ap, subst, arith, length-append}
+use Rattle.std.specs.Prelude.{slice_index_or}
+use Rattle.std.specs.List.{AllByRecursion, list_all}
+use Rattle.std.specs.Option.{option_map_or}
+use Rattle.std.proofs.lemmas.Bool.{eq-eqb, lt-ltb, ltb-true}
+use Rattle.gp_base.specs.declared.cell.Cell.{Cell}
+use Rattle.gp_base.specs.declared.cell.Cell.TheVariants as cell
+use Rattle.gp_base.specs.declared.refusal.Refusal.{Refusal}
+use Rattle.gp_base.specs.declared.row_id.TheConstants.{MAX_NODES}
+use Rattle.gp_base.specs.declared.table.Column.{Column}
+use Rattle.gp_base.specs.declared.table.Kind.{Kind}
+use Rattle.gp_base.specs.declared.table.Kind.TheVariants as kind
+use Rattle.gp_base.specs.declared.table.Table.{Table}
+use Rattle.gp_base.specs.Cells.{is_user_cell}
+use Rattle.gp_base.specs.Identities.{Identity, identity, nodes}
+use Rattle.gp_grammar.specs.Canonical.{command_text}
+use Rattle.gp_grammar.specs.LineReading.{Fault, command_of}
+use Rattle.gp_grammar.specs.Syntax as y
+use Rattle.gp_grammar.specs.Syntax.{Command}
+use Rattle.gp_algebra.specs.Fitting.{branch_fits, branches_fit, cond_fits, expr_fits, is_countable, is_there, joined_width, optional_cond_fits, row_fits, select_width, set_fits, statement_fits, width_of}
+use Rattle.gp_algebra.specs.Statements.{Branch, Select, Statement, delete, insert, insert_select, read, update}
+use Rattle.gp_check.specs.Checking.{checked, is_statement}
+use Rattle.gp_check.specs.Faults.{first_refusal}
+use Rattle.gp_check.specs.Meaning.{statement_of}
+use Rattle.gp_check.specs.Valid.{is_valid, tables_are_valid}
+use Rattle.gp_check.proofs.FittingLemmas.{and_true, fits}
+use Rattle.gp_check.proofs.TypingLemmas.{both}
+use Rattle.gp_check.proofs.ValidLemmas.{tables-added}
+use Rattle.gp_machine.specs.Actions as action
+use Rattle.gp_machine.specs.Entries.{Began, Committed, Created, Ended, Entry, Ran, statement_count, statements_in, transactions_in, versions_in}
+use Rattle.gp_machine.specs.Event.{count_refusal}
+use Rattle.gp_versions.specs.declared.span.Span.{Span}
+use Rattle.gp_log.specs.Discipline as d
+use Rattle.gp_log.specs.Discipline.{Disorder, Does, IsLog, Loses, doing, next_entry, transaction_in}
+use Rattle.gp_log.specs.LogFacts.{tables_in}
+use Rattle.gp_log.specs.LogFitting.{SpanFits, SpansFit, statements_fit}
+use Rattle.gp_log.specs.Limits.{limits}
+use Rattle.gp_dumpline.specs.Forms.{IsReadable, if_canonical, said_of}
+use Rattle.gp_dumpline.specs.Texts.{said_text}
+use Rattle.gp_dump.specs.Dumps.{AreInPlace, AreOfTables, AreReadable, Dump, IsDump, fits_columns, is_of_kind}
+use Rattle.gp_dump.proofs.FittingRows.{checked_is}
+use Rattle.gp_dump.proofs.ReadCommands.{read_valid}
+
+-- ---- more tables behind
+
+get_before : {X : Type 0} (xs others : List X) (place : ℕ) → place < length xs → slice_get (xs ++ others) place ≡ slice_get xs place
+get_before [] others place less = absurd (omega (arith, less))
+get_before (x ∷ xs) others zero less = refl
+get_before (x ∷ xs) others (suc place) less = get_before xs others place (omega (arith, less))
+
+module _ (tables others : List Table) where
+  there : (place : ℕ) → is_there tables place ≡ true → is_there (tables ++ others) place ≡ true
+  there place is =
+      let less : place < length tables = ltb-true place (length tables) is in
+      let more = length-append tables others in
+      lt-ltb place (length (tables ++ others)) (omega (arith, less, more))
+
+  all_there : (places : List ℕ) → list_all (is_there tables) places ≡ true → list_all (is_there (tables ++ others)) places ≡ true
+  all_there [] all = refl
+  all_there (place ∷ places) all =
+      let are = both (is_there tables place) _ all in and_true _ _ (there place are.0) (all_there places are.1)
+
+  width_same : (place : ℕ) → is_there tables place ≡ true → width_of (tables ++ others) place ≡ width_of tables place
+  width_same place is =
+      ap (λ (found : Option Table). option_map_or (λ (table : Table). length table.cols) found 0)
+      (get_before tables others place (ltb-true place (length tables) is))
+
+  joined_same : (places : List ℕ) → list_all (is_there tables) places ≡ true → joined_width (tables ++ others) places ≡ joined_width tables places
+  joined_same [] all = refl
+  joined_same (place ∷ places) all =
+      let are = both (is_there tables place) _ all in rw (width_same place are.0, joined_same places are.1) refl
+
+  branch_more : (width : ℕ) (branch : Branch) → branch_fits tables width branch ≡ true → branch_fits (tables ++ others) width branch ≡ true
+  branch_more width branch fit =
+      let from = both (nat_lt 0 (length branch.from)) _ fit in
+      let known = both (list_all (is_there tables) branch.from) _ from.1 in
+      let some = both (nat_lt 0 (length branch.items)) _ known.1 in
+      let same = both (length branch.items == width) _ some.1 in
+      and_true _ _ from.0 (and_true _ _ (all_there branch.from known.0) (and_true _ _ some.0 (and_true _ _ same.0
+      (subst (λ n. list_all (expr_fits n) branch.items && optional_cond_fits n branch.cond ≡ true) (sym (joined_same branch.from known.0)) same.1))))
+
+  all_branches : (width : ℕ) (select : Select) → list_all (branch_fits tables width) select ≡ true → list_all (branch_fits (tables ++ others) width) select ≡ true
+  all_branches width [] all = refl
+  all_branches width (branch ∷ select) all =
+      let are = both (branch_fits tables width branch) _ all in and_true _ _ (branch_more width branch are.0) (all_branches width select are.1)
+
+  branches_more : (width : ℕ) (select : Select) → branches_fit tables width select ≡ true → branches_fit (tables ++ others) width select ≡ true
+  branches_more width select fit = let are = both (is_countable select) _ fit in and_true _ _ are.0 (all_branches width select are.1)
+
+  -- a fact of a table that is there, and of its width
+  at_width : (table : ℕ) (test : ℕ → Bool) → is_there tables table && test (width_of tables table) ≡ true
+      → is_there (tables ++ others) table && test (width_of (tables ++ others) table) ≡ true
+  at_width table test fit =
+      let are = both (is_there tables table) _ fit in
+      and_true _ _ (there table are.0) (subst (λ n. test n ≡ true) (sym (width_same table are.0)) are.1)
+
+  statement_more : (statement : Statement) → statement_fits tables statement ≡ true → statement_fits (tables ++ others) statement ≡ true
+  statement_more (insert table rows) fit = at_width table (λ n. is_countable rows && list_all (row_fits n) rows) fit
+  statement_more (insert_select table select) fit =
+      let are = both (is_there tables table) _ fit in
+      and_true _ _ (there table are.0)
+      (subst (λ n. branches_fit (tables ++ others) n select ≡ true) (sym (width_same table are.0)) (branches_more (width_of tables table) select are.1))
+  statement_more (update table sets cond) fit = at_width table (λ n. list_all (set_fits n) sets && cond_fits n cond) fit
+  statement_more (delete table cond) fit = at_width table (λ n. cond_fits n cond) fit
+  statement_more (read select) fit = branches_more (select_width select) select fit
+
+  entries_more : (entries : List Entry) → statements_fit tables entries ≡ true → statements_fit (tables ++ others) entries ≡ true
+  entries_more [] fit = refl
+  entries_more (Created line session table ∷ older) fit = entries_more older fit
+  entries_more (Began line session t ∷ older) fit = entries_more older fit
+  entries_more (Ran line session command t statement ∷ older) fit =
+      let are = both (statement_fits tables statement) _ fit in and_true _ _ (statement_more statement are.0) (entries_more older are.1)
+  entries_more (Committed line session t ∷ older) fit = entries_more older fit
+  entries_more (Ended line session end t ∷ older) fit = entries_more older fit
+
+-- ---- commands that can be read from their texts
+
+said_valid : (command : Command) → said_of (said_text (Does command)) ≡ Some (Does command) → is_valid command ≡ true
+unfolding said_of
+said_valid command said = read_valid command (go (bytes_eq (command_text command) (codes "LOST")) said)
+  where
+    same : (one other : Command) → Some (Does one) ≡ Some (Does other) → one ≡ other
+    same one other e = cc
+
+    of_text : (b : Bool) (found : Command) → (if b then Some (Does found) else None) ≡ Some (Does command) → found ≡ command
+    of_text true found e = same found command e
+    of_text false found e = cc
+
+    canonical : (found : Result Command Fault) → if_canonical (command_text command) found ≡ Some (Does command) → found ≡ Ok command
+    canonical (Err fault) e = cc
+    canonical (Ok found) e = ap Ok (of_text (bytes_eq (command_text found) (command_text command)) found e)
+
+    go : (b : Bool) → (if b then Some Loses else if_canonical (command_text command) (command_of (command_text command))) ≡ Some (Does command)
+        → command_of (command_text command) ≡ Ok command
+    go true e = cc
+    go false e = canonical (command_of (command_text command)) e
+
+-- ---- statements of a log were checked
+
+module _ (older : List Entry) (line session : ℕ) (command : Command) (t : ℕ) (statement : Statement) where
+  abbrev Follows : Option ℕ → action.Action → Type 0
+  Follows active done = doing limits older line session active done ≡ Ok (Ran line session command t statement)
+
+  was_checked : (active : Option ℕ) → Follows active (action.Run command) → checked (tables_in older) command ≡ Ok statement
+  was_checked None e = cc
+  was_checked (Some own) e = go (count_refusal limits (statement_count own older) (statements_in older)) (checked (tables_in older) command) e
+    where
+      go : (refusal : Option Refusal) (found : Result Statement Refusal)
+          → d.running limits older line session own command refusal found ≡ Ok (Ran line session command t statement) → found ≡ Ok statement
+      go (Some refusal) found e = cc
+      go None (Err refusal) e = cc
+      go None (Ok found) e = cc
+
+  no_table : (active : Option ℕ) (table : Table) → Follows active (action.Create table) → ⊥
+  no_table (Some own) table e = cc
+  no_table None table e = go (nat_le limits.tables (length (tables_in older))) (limits.created (tables_in older) table) e
+    where
+      go : (full : Bool) (refusal : Option Refusal)
+          → (if full then Err Disorder else d.creating limits older line session table refusal) ≡ Ok (Ran line session command t statement) → ⊥
+      go true refusal e = cc
+      go false (Some refusal) e = cc
+      go false None e = cc
+
+  no_begin : (active : Option ℕ) → Follows active action.Begin → ⊥
+  no_begin (Some own) e = cc
+  no_begin None e = go (nat_le limits.transactions (transactions_in older)) e
+    where
+      go : (full : Bool) → (if full then Err Disorder else Ok (Began line session (suc (transactions_in older)))) ≡ Ok (Ran line session command t statement) → ⊥
+      go true e = cc
+      go false e = cc
+
+  no_commit : (active : Option ℕ) → Follows active action.Commit → ⊥
+  no_commit None e = cc
+  no_commit (Some own) e = cc
+
+  no_rollback : (active : Option ℕ) → Follows active action.Rollback → ⊥
+  no_rollback None e = cc
+  no_rollback (Some own) e = cc
+
+  fits_then : is_statement command ≡ true → is_valid command ≡ true → tables_are_valid (tables_in older) ≡ true
+      → (active : Option ℕ) → Follows active (action.Run command) → statement_fits (tables_in older) statement ≡ true
+  fits_then kind valid columns active e =
+      let is = checked_is (first_refusal (tables_in older) command) (statement_of (tables_in older) command) statement (was_checked active e) in
+      subst (λ made. statement_fits (tables_in older) made ≡ true) is.1 (fits (tables_in older) command columns kind valid is.0)
+
+ran_fits : (older : List Entry) (line session : ℕ) (command : Command) (t : ℕ) (statement : Statement)
+    → next_entry limits older line session (Does command) ≡ Ok (Ran line session command t statement)
+    → is_valid command ≡ true → tables_are_valid (tables_in older) ≡ true → statement_fits (tables_in older) statement ≡ true
+ran_fits older line session (y.create table) t statement e valid columns = absurd (no_table older line session _ t statement (transaction_in session older) table e)
+ran_fits older line session y.begin t statement e valid columns = absurd (no_begin older line session _ t statement (transaction_in session older) e)
+ran_fits older line session y.Command.commit t statement e valid columns = absurd (no_commit older line session _ t statement (transaction_in session older) e)
+ran_fits older line session y.rollback t statement e valid columns = absurd (no_rollback older line session _ t statement (transaction_in session older) e)
+ran_fits older line session (y.insert table rows) t statement e valid columns =
+    fits_then older line session (y.insert table rows) t statement refl valid columns (transaction_in session older) e
+ran_fits older line session (y.insert_select table query) t statement e valid columns =
+    fits_then older line session (y.insert_select table query) t statement refl valid columns (transaction_in session older) e
+ran_fits older line session (y.update table sets cond) t statement e valid columns =
+    fits_then older line session (y.update table sets cond) t statement refl valid columns (transaction_in session older) e
+ran_fits older line session (y.delete table cond) t statement e valid columns =
+    fits_then older line session (y.delete table cond) t statement refl valid columns (transaction_in session older) e
+ran_fits older line session (y.select query) t statement e valid columns =
+    fits_then older line session (y.select query) t statement refl valid columns (transaction_in session older) e
+
+log_valid : (entries : List Entry) → AreReadable entries → tables_are_valid (tables_in entries) ≡ true
+log_valid [] readable = refl
+log_valid (Created line session table ∷ older) readable = tables-added (tables_in older) table (log_valid older readable.1) (said_valid (y.create table) readable.0)
+log_valid (Began line session t ∷ older) readable = log_valid older readable.1
+log_valid (Ran line session command t statement ∷ older) readable = log_valid older readable.1
+log_valid (Committed line session t ∷ older) readable = log_valid older readable.1
+log_valid (Ended line session end t ∷ older) readable = log_valid older readable.1
+
+log_fits : (entries : List Entry) → IsLog limits entries → AreReadable entries → statements_fit (tables_in entries) entries ≡ true
+log_fits [] log readable = refl
+log_fits (Created line session table ∷ older) log readable = entries_more (tables_in older) (table ∷ []) older (log_fits older log.1 readable.1)
+log_fits (Began line session t ∷ older) log readable = log_fits older log.1 readable.1
+log_fits (Ran line session command t statement ∷ older) log readable =
+    and_true _ _ (ran_fits older line session command t statement log.0.follows (said_valid command readable.0) (log_valid older readable.1))
+    (log_fits older log.1 readable.1)
+log_fits (Committed line session t ∷ older) log readable = log_fits older log.1 readable.1
+log_fits (Ended line session end t ∷ older) log readable = log_fits older log.1 readable.1
+
+-- ---- row versions
+
+user_cell : (k : Kind) (x : Cell) → is_of_kind k x ≡ true → is_user_cell x ≡ true
+user_cell k cell.Null is = refl
+user_cell kind.Int (cell.Int number) is = is
+user_cell kind.Int (cell.Text text) is = absurd (true≢false (sym is))
+user_cell kind.Text (cell.Text text) is = is
+user_cell kind.Text (cell.Int number) is = absurd (true≢false (sym is))
+user_cell k (cell.Id id) is = absurd (true≢false (sym is))
+user_cell k (cell.Mark mark) is = absurd (true≢false (sym is))
+user_cell k (cell.Mono monomial) is = absurd (true≢false (sym is))
+
+user_cells : (cols : List Column) (row : List Cell) → fits_columns cols row ≡ true → list_all is_user_cell row ≡ true
+user_cells [] [] fit = refl
+user_cells [] (x ∷ row) fit = absurd (true≢false (sym fit))
+user_cells (col ∷ cols) [] fit = refl
+user_cells (col ∷ cols) (x ∷ row) fit =
+    let are = both (is_of_kind col.kind x) _ fit in and_true _ _ (user_cell col.kind x are.0) (user_cells cols row are.1)
+
+cells_fit : (cols : List Column) (row : List Cell) → fits_columns cols row ≡ true → row_fits (length cols) row ≡ true
+cells_fit cols row fit = and_true _ _ (eq-eqb (length row) (length cols) (same cols row fit)) (user_cells cols row fit)
+  where
+    same : (cols : List Column) (row : List Cell) → fits_columns cols row ≡ true → length row ≡ length cols
+    same [] [] fit = refl
+    same [] (x ∷ row) fit = absurd (true≢false (sym fit))
+    same (col ∷ cols) [] fit = absurd (true≢false (sym fit))
+    same (col ∷ cols) (x ∷ row) fit = ap suc (same cols row (both (is_of_kind col.kind x) _ fit).1)
+
+small : (id : Identity) → IsReadable id → nodes id ≤ MAX_NODES
+small (identity t k n ids) readable = readable.1.1.1.0
+
+rows_fit : (cols : List Column) (versions : ℕ) (before spans : List Span) → AreInPlace cols versions before spans → AllByRecursion (SpanFits (length cols)) spans
+rows_fit cols versions before [] all = tt
+rows_fit cols versions before (span ∷ spans) all =
+    (record { cells = cells_fit cols span.row all.0.cells; small = small span.id all.0.identity }, rows_fit cols versions (span ∷ before) spans all.1)
+
+tables_fit : (tables : List Table) (versions : ℕ) (spans : List (List Span)) → AreOfTables tables versions spans
+    → SpansFit tables (λ table. slice_index_or spans table [])
+tables_fit [] versions [] all table = tt
+tables_fit [] versions (first ∷ spans) all table = absurd all
+tables_fit (first ∷ tables) versions [] all table = absurd all
+tables_fit (first ∷ tables) versions (rows ∷ spans) all zero = rows_fit first.cols versions [] rows all.0
+tables_fit (first ∷ tables) versions (rows ∷ spans) all (suc table) = tables_fit tables versions spans all.1 table
+
+-- ---- dumps
+
+pub statements_of_dumps : (dump : Dump) → IsDump dump → statements_fit (tables_in dump.entries) dump.entries ≡ true
+statements_of_dumps dump is = log_fits dump.entries is.log is.commands
+
+pub spans_of_dumps : (dump : Dump) → IsDump dump → SpansFit (tables_in dump.entries) (λ table. slice_index_or dump.tables table [])
+spans_of_dumps dump is = tables_fit (tables_in dump.entries) (versions_in dump.entries) dump.tables is.spans
