@@ -1,0 +1,247 @@
+-- Composed programs are well built.
+use Rattle.std.proofs.Common.{◌≡◌, ℕ, zero, suc, ◌+◌, ◌<◌, true, false, cond, List, [], ◌∷◌, ◌++◌, refl, sym, subst, arith, Option, Some, None}
+use Rattle.std.specs.Prelude.{◌==◌}
+use Rattle.std.specs.List.{list_all}
+use Rattle.gp_base.specs.declared.table.Table.{Table}
+use Rattle.gp_algebra.specs.Statements.{Select, Statement}
+use Rattle.gp_algebra.specs.Fitting.{select_fits, statement_fits, width_of}
+use Rattle.gp_algebra.specs.AnnotatedQueries as q
+use Rattle.gp_algebra.specs.AnnotatedQueries.{Query, QueryStep}
+use Rattle.gp_algebra.specs.QueryForms.{AreAfter, AreRising, AreSteps, HasSteps, IsTable, IsTableProgram, IsWellBuilt, is_sound, numbers_with, reads_only, step_table, steps_read}
+use Rattle.gp_algebra.specs.WellBuilt.{is_among}
+use Rattle.gp_machine.specs.Entries.{Log}
+use Rattle.gp_rewrite.specs.Rewriting.{query_of, rewritten, target}
+use Rattle.gp_rewrite.proofs.Each.{both_true}
+use Rattle.gp_rewrite.proofs.FormLemmas.{query_answers, rewritten_step}
+use Rattle.gp_rewrite.proofs.ReadLemmas.{query_reads, rewritten_reads}
+use Rattle.gp_rewrite.proofs.SoundLemmas.{query_sound, rewritten_sound}
+use Rattle.gp_compose.specs.Composed.{after, as_of, commit, composed, contents, current, is_target, last_write, published, published_as, published_table, step_of, steps_of, writes}
+use Rattle.gp_compose.proofs.ComposedLemmas.{eq_from, none_some, some_equal}
+use Rattle.gp_compose.proofs.StepLists.{AreWithin, Stands, here, read_append, rising_append, sound_append, stands_among, stands_behind, stands_front, stands_table, steps_append, within_append}
+
+plus_zero : (k : ℕ) → k + 0 ≡ k
+plus_zero k = omega arith
+
+plus_suc : (k n : ℕ) → k + suc n ≡ suc (k + n)
+plus_suc k n = omega arith
+
+suc_plus : (k n : ℕ) → k + suc n ≡ suc k + n
+suc_plus k n = omega arith
+
+-- ---- numbers
+
+module _ (columns : ℕ → ℕ) (log : Log) (t : ℕ) where
+  one_within : (k : ℕ) (tables : ℕ → Query) (o : Option Statement) → AreWithin k (step_of columns t k tables o)
+  one_within k tables None = tt
+  one_within k tables (Some statement) = go (target statement)
+    where
+      go : (own : Option ℕ) → AreWithin k (steps_of columns t k tables statement own)
+      go None = tt
+      go (Some own) = (omega arith, tt)
+
+  one_after : (k : ℕ) (tables : ℕ → Query) (o : Option Statement) → AreAfter k (step_of columns t (suc k) tables o)
+  one_after k tables None = tt
+  one_after k tables (Some statement) = go (target statement)
+    where
+      go : (own : Option ℕ) → AreAfter k (steps_of columns t (suc k) tables statement own)
+      go None = tt
+      go (Some own) = (omega arith, tt)
+
+  one_rises : (k : ℕ) (tables : ℕ → Query) (o : Option Statement) → AreRising (step_of columns t k tables o)
+  one_rises k tables None = tt
+  one_rises k tables (Some statement) = go (target statement)
+    where
+      go : (own : Option ℕ) → AreRising (steps_of columns t k tables statement own)
+      go None = tt
+      go (Some own) = (tt, tt)
+
+  composed_within : (k : ℕ) → AreWithin k (composed columns log t k)
+  composed_within zero = tt
+  composed_within (suc k) =
+      within_append k (suc k) (composed columns log t k) (step_of columns t (suc k) (current log t k) (log.statement t (suc k))) (omega arith) (composed_within k) (one_within (suc k) (current log t k) (log.statement t (suc k)))
+
+  composed_rises : (k : ℕ) → AreRising (composed columns log t k)
+  composed_rises zero = tt
+  composed_rises (suc k) =
+      rising_append k (composed columns log t k) (step_of columns t (suc k) (current log t k) (log.statement t (suc k))) (composed_rises k) (composed_within k)
+      (one_after k (current log t k) (log.statement t (suc k))) (one_rises (suc k) (current log t k) (log.statement t (suc k)))
+
+  -- ---- what stands for a table
+
+  -- the step that wrote a table last is there
+  composed_stands : (k table j : ℕ) → last_write log t k table ≡ Some j → Stands j table (composed columns log t k)
+  composed_stands zero table j e = absurd (none_some j e)
+  composed_stands (suc k) table j e = one (log.statement t (suc k)) e (composed_stands k table j)
+    where
+      one : (o : Option Statement) → cond (writes o table) (Some (suc k)) (last_write log t k table) ≡ Some j → (last_write log t k table ≡ Some j → Stands j table (composed columns log t k)) →
+          Stands j table (composed columns log t k ++ step_of columns t (suc k) (current log t k) o)
+      one None e before = stands_front j table (composed columns log t k) [] (before e)
+      one (Some statement) e before = two (target statement) e
+        where
+          two : (own : Option ℕ) → cond (is_target own table) (Some (suc k)) (last_write log t k table) ≡ Some j → Stands j table (composed columns log t k ++ steps_of columns t (suc k) (current log t k) statement own)
+          two None e = stands_front j table (composed columns log t k) [] (before e)
+          two (Some own) e =
+              elim (table == own) as (λ b. (table == own) ≡ b → cond b (Some (suc k)) (last_write log t k table) ≡ Some j → Stands j table (composed columns log t k ++ (record { j = suc k; table = own; query = rewritten columns t (suc k) statement (current log t k) } ∷ []))) [
+                | true ↦ λ same e. let last : suc k ≡ j = some_equal (suc k) j e in
+                    stands_behind k j table (composed columns log t k) (record { j = suc k; table = own; query = rewritten columns t (suc k) statement (current log t k) } ∷ []) (composed_within k) (omega arith)
+                    (here (record { j = suc k; table = own; query = rewritten columns t (suc k) statement (current log t k) }) [] last (sym (eq_from table own same)))
+                | false ↦ λ same e. stands_front j table (composed columns log t k) (record { j = suc k; table = own; query = rewritten columns t (suc k) statement (current log t k) } ∷ []) (before e)
+              ] refl e
+
+  -- and among the steps of more statements
+  stands_among_more : (k more table j : ℕ) → last_write log t k table ≡ Some j → Stands j table (composed columns log t (k + more))
+  stands_among_more k zero table j e = subst (λ n. Stands j table (composed columns log t n)) (sym (plus_zero k)) (composed_stands k table j e)
+  stands_among_more k (suc more) table j e =
+      subst (λ n. Stands j table (composed columns log t n)) (sym (plus_suc k more))
+      (stands_front j table (composed columns log t (k + more)) (step_of columns t (suc (k + more)) (current log t (k + more)) (log.statement t (suc (k + more)))) (stands_among_more k more table j e))
+
+  current_table : (k more table : ℕ) → IsTable columns (step_table (composed columns log t (k + more))) table (current log t k table)
+  current_table k more table = go (last_write log t k table) refl
+    where
+      go : (o : Option ℕ) → last_write log t k table ≡ o → IsTable columns (step_table (composed columns log t (k + more))) table (contents (log.begin_version t) table o)
+      go None e = refl
+      go (Some j) e = stands_table j table (composed columns log t (k + more)) (stands_among_more k more table j e)
+
+  current_sound : (k table : ℕ) → is_sound (current log t k table) ≡ true
+  current_sound k table = go (last_write log t k table)
+    where
+      go : (o : Option ℕ) → is_sound (contents (log.begin_version t) table o) ≡ true
+      go None = refl
+      go (Some j) = refl
+
+  current_reads : (k table : ℕ) → reads_only (numbers_with [] (composed columns log t k)) (current log t k table) ≡ true
+  current_reads k table = go (last_write log t k table) refl
+    where
+      go : (o : Option ℕ) → last_write log t k table ≡ o → reads_only (numbers_with [] (composed columns log t k)) (contents (log.begin_version t) table o) ≡ true
+      go None e = refl
+      go (Some j) e = stands_among j table [] (composed columns log t k) (composed_stands k table j e)
+
+  published_table_is : (before table : ℕ) → IsTable columns (step_table (composed columns log t (log.statement_count t))) table (published log t before table)
+  published_table_is before table = go (last_write log t (log.statement_count t) table) refl
+    where
+      go : (o : Option ℕ) → last_write log t (log.statement_count t) table ≡ o → IsTable columns (step_table (composed columns log t (log.statement_count t))) table (published_as (log.begin_version t) before table o)
+      go None e = refl
+      go (Some j) e = (refl, stands_table j table (composed columns log t (log.statement_count t)) (composed_stands (log.statement_count t) table j e), refl)
+
+  published_sound : (before table : ℕ) → is_sound (published log t before table) ≡ true
+  published_sound before table = go (last_write log t (log.statement_count t) table)
+    where
+      go : (o : Option ℕ) → is_sound (published_as (log.begin_version t) before table o) ≡ true
+      go None = refl
+      go (Some j) = refl
+
+  published_reads : (before table : ℕ) → reads_only (numbers_with [] (composed columns log t (log.statement_count t))) (published log t before table) ≡ true
+  published_reads before table = go (last_write log t (log.statement_count t) table) refl
+    where
+      go : (o : Option ℕ) → last_write log t (log.statement_count t) table ≡ o → reads_only (numbers_with [] (composed columns log t (log.statement_count t))) (published_as (log.begin_version t) before table o) ≡ true
+      go None e = refl
+      go (Some j) e =
+          both_true (is_among (numbers_with [] (composed columns log t (log.statement_count t))) j) true (stands_among j table [] (composed columns log t (log.statement_count t)) (composed_stands (log.statement_count t) table j e)) refl
+
+  -- ---- what the steps read
+
+  one_reads : (k : ℕ) (o : Option Statement) → steps_read (numbers_with [] (composed columns log t k)) (step_of columns t (suc k) (current log t k) o) ≡ true
+  one_reads k None = refl
+  one_reads k (Some statement) = go (target statement)
+    where
+      go : (own : Option ℕ) → steps_read (numbers_with [] (composed columns log t k)) (steps_of columns t (suc k) (current log t k) statement own) ≡ true
+      go None = refl
+      go (Some own) =
+          both_true (reads_only (numbers_with [] (composed columns log t k)) (rewritten columns t (suc k) statement (current log t k))) true
+          (rewritten_reads (numbers_with [] (composed columns log t k)) (current log t k) (current_reads k) columns t (suc k) statement) refl
+
+  composed_reads : (k : ℕ) → steps_read [] (composed columns log t k) ≡ true
+  composed_reads zero = refl
+  composed_reads (suc k) = read_append [] (composed columns log t k) (step_of columns t (suc k) (current log t k) (log.statement t (suc k))) (composed_reads k) (one_reads k (log.statement t (suc k)))
+
+-- ---- forms
+
+-- every statement fits, and transactions count from 1
+module _ (catalogue : List Table) (log : Log) (t : ℕ) (some_transaction : 0 < t)
+    (fits : (k : ℕ) (statement : Statement) → log.statement t (suc k) ≡ Some statement → statement_fits catalogue statement ≡ true) where
+  composed_forms : (k more : ℕ) → AreSteps (width_of catalogue) (step_table (composed (width_of catalogue) log t (k + more))) (composed (width_of catalogue) log t k)
+  composed_forms zero more = tt
+  composed_forms (suc k) more =
+      steps_append (width_of catalogue) of_step (composed (width_of catalogue) log t k) (step_of (width_of catalogue) t (suc k) (current log t k) (log.statement t (suc k)))
+      (subst (λ n. AreSteps (width_of catalogue) (step_table (composed (width_of catalogue) log t n)) (composed (width_of catalogue) log t k)) (suc_plus k more) (composed_forms k (suc more)))
+      (one (log.statement t (suc k)) refl)
+    where
+      of_step : ℕ → ℕ
+      of_step = step_table (composed (width_of catalogue) log t (suc k + more))
+
+      tables : (table : ℕ) → IsTable (width_of catalogue) of_step table (current log t k table)
+      tables table = subst (λ n. IsTable (width_of catalogue) (step_table (composed (width_of catalogue) log t n)) table (current log t k table)) (suc_plus k more) (current_table (width_of catalogue) log t k (suc more) table)
+
+      one : (o : Option Statement) → log.statement t (suc k) ≡ o → AreSteps (width_of catalogue) of_step (step_of (width_of catalogue) t (suc k) (current log t k) o)
+      one None e = tt
+      one (Some statement) e = two (target statement) refl
+        where
+          two : (own : Option ℕ) → target statement ≡ own → AreSteps (width_of catalogue) of_step (steps_of (width_of catalogue) t (suc k) (current log t k) statement own)
+          two None is = tt
+          two (Some own) is = (rewritten_step catalogue of_step (current log t k) tables t (suc k) own statement (fits k statement e) is, tt)
+
+  composed_sound : (k : ℕ) → list_all (λ (step : QueryStep). is_sound step.query) (composed (width_of catalogue) log t k) ≡ true
+  composed_sound zero = refl
+  composed_sound (suc k) = sound_append (composed (width_of catalogue) log t k) (step_of (width_of catalogue) t (suc k) (current log t k) (log.statement t (suc k))) (composed_sound k) (one (log.statement t (suc k)) refl)
+    where
+      one : (o : Option Statement) → log.statement t (suc k) ≡ o → list_all (λ (step : QueryStep). is_sound step.query) (step_of (width_of catalogue) t (suc k) (current log t k) o) ≡ true
+      one None e = refl
+      one (Some statement) e = two (target statement)
+        where
+          two : (own : Option ℕ) → list_all (λ (step : QueryStep). is_sound step.query) (steps_of (width_of catalogue) t (suc k) (current log t k) statement own) ≡ true
+          two None = refl
+          two (Some own) =
+              both_true (is_sound (rewritten (width_of catalogue) t (suc k) statement (current log t k))) true
+              (rewritten_sound (current log t k) (current_sound (width_of catalogue) log t k) t (suc k) some_transaction (omega arith) catalogue statement (fits k statement e)) refl
+
+  -- ---- programs
+
+  composed_is_built : (k : ℕ) (last : Query) → reads_only (numbers_with [] (composed (width_of catalogue) log t k)) last ≡ true → is_sound last ≡ true → HasSteps (width_of catalogue) (record { steps = composed (width_of catalogue) log t k; last = last })
+  composed_is_built k last reads sound = record {
+    rising = composed_rises (width_of catalogue) log t k;
+    forms = subst (λ n. AreSteps (width_of catalogue) (step_table (composed (width_of catalogue) log t n)) (composed (width_of catalogue) log t k)) (plus_zero k) (composed_forms k 0);
+    reads = composed_reads (width_of catalogue) log t k;
+    sound = composed_sound k;
+    last_reads = reads;
+    last_sound = sound;
+  }
+
+  pub after_is_built : (k : ℕ) (select : Select) → select_fits catalogue select ≡ true → IsWellBuilt (width_of catalogue) (after (width_of catalogue) log t k select)
+  after_is_built k select fit = record {
+    steps =
+        composed_is_built k (query_of (current log t k) select) (query_reads (numbers_with [] (composed (width_of catalogue) log t k)) (current log t k) (current_reads (width_of catalogue) log t k) select)
+        (query_sound (current log t k) (current_sound (width_of catalogue) log t k) catalogue select fit);
+    answer = query_answers catalogue (step_table (composed (width_of catalogue) log t k)) (current log t k) tables select fit;
+  }
+    where
+      tables : (table : ℕ) → IsTable (width_of catalogue) (step_table (composed (width_of catalogue) log t k)) table (current log t k table)
+      tables table = subst (λ n. IsTable (width_of catalogue) (step_table (composed (width_of catalogue) log t n)) table (current log t k table)) (plus_zero k) (current_table (width_of catalogue) log t k 0 table)
+
+  pub commit_is_built : (before : ℕ) (select : Select) → select_fits catalogue select ≡ true → IsWellBuilt (width_of catalogue) (commit (width_of catalogue) log t before select)
+  commit_is_built before select fit =
+      let steps = composed (width_of catalogue) log t (log.statement_count t) in
+      record {
+        steps =
+            composed_is_built (log.statement_count t) (query_of (published log t before) select) (query_reads (numbers_with [] steps) (published log t before) (published_reads (width_of catalogue) log t before) select)
+            (query_sound (published log t before) (published_sound (width_of catalogue) log t before) catalogue select fit);
+        answer = query_answers catalogue (step_table steps) (published log t before) (published_table_is (width_of catalogue) log t before) select fit;
+      }
+
+  pub published_is_built : (before table : ℕ) → IsTableProgram (width_of catalogue) table (published_table (width_of catalogue) log t before table)
+  published_is_built before table = record {
+    steps = composed_is_built (log.statement_count t) (published log t before table) (published_reads (width_of catalogue) log t before table) (published_sound (width_of catalogue) log t before table);
+    contents = published_table_is (width_of catalogue) log t before table;
+  }
+
+pub as_of_is_built : (catalogue : List Table) (version : ℕ) (select : Select) → select_fits catalogue select ≡ true → IsWellBuilt (width_of catalogue) (as_of version select)
+as_of_is_built catalogue version select fit = record {
+  steps = record {
+    rising = tt;
+    forms = tt;
+    reads = refl;
+    sound = refl;
+    last_reads = query_reads [] (λ table. q.scan table version) (λ table. refl) select;
+    last_sound = query_sound (λ table. q.scan table version) (λ table. refl) catalogue select fit;
+  };
+  answer = query_answers catalogue (step_table []) (λ table. q.scan table version) (λ table. refl) select fit;
+}

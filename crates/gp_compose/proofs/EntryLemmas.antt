@@ -1,0 +1,171 @@
+-- The entry at a place of a log, and what the log says of the entries up to it.
+use Rattle.std.proofs.Common.{◌≡◌, ℕ, suc, ◌+◌, ◌<◌, ◌≤◌, Bool, true, false, cond, List, [], ◌∷◌, ◌++◌, map, reverse, take, drop, refl, sym, ap, ◌∙◌, arith}
+use Rattle.std.specs.Prelude.{◌&&◌, ◌==◌, Option, Some, None, slice_get}
+use Rattle.std.proofs.lemmas.List.{map-append, reverse-append, take-append-drop, take_more}
+use Rattle.std.proofs.lemmas.Option.{get_or_from_slice_get, slice_get_within}
+use Rattle.gp_base.specs.declared.table.Table.{Table}
+use Rattle.gp_algebra.specs.Statements.{Statement}
+use Rattle.gp_algebra.specs.Fitting.{statement_fits}
+use Rattle.gp_machine.specs.Entries as m
+use Rattle.gp_machine.specs.Entries.{statement_at, statement_count, version_of, versions_in}
+use Rattle.gp_log.proofs.EntryLemmas.{log-pushed}
+use Rattle.gp_log.specs.LogFitting.{statements_fit}
+use Rattle.gp_log.specs.Logs.{entry_view, log_view, what_view}
+use Rattle.gp_log.specs.declared.entry.Entry.{Entry}
+use Rattle.gp_log.specs.declared.entry.What.{What}
+use Rattle.gp_log.specs.declared.entry.What.TheVariants as w
+use Rattle.gp_rewrite.proofs.PlaceLemmas.{both_true}
+use Rattle.gp_compose.specs.Composition.{own_fits, own_statement}
+
+-- the log up to a place, with the entry there
+pub log-more : (entries : List Entry) (place : ℕ) (entry : Entry) → slice_get entries place ≡ Some entry
+    → log_view (take (place + 1) entries) ≡ entry_view entry ∷ log_view (take place entries)
+log-more entries place entry is =
+    ap log_view (take_more entries place entry (slice_get_within entries place entry is)
+    ∙ ap (λ (e : Entry). take place entries ++ e ∷ []) (get_or_from_slice_get entries place entry entry is))
+    ∙ log-pushed (take place entries) entry
+
+log-append : (older newer : List Entry) → log_view (older ++ newer) ≡ log_view newer ++ log_view older
+log-append older newer = ap (map entry_view) (reverse-append older newer) ∙ map-append entry_view (reverse newer) (reverse older)
+
+-- the whole log, cut behind an entry
+log-cut : (entries : List Entry) (place : ℕ) (entry : Entry) → slice_get entries place ≡ Some entry
+    → log_view entries ≡ log_view (drop (place + 1) entries) ++ (entry_view entry ∷ log_view (take place entries))
+log-cut entries place entry is =
+    sym (ap log_view (take-append-drop (place + 1) entries))
+    ∙ (log-append (take (place + 1) entries) (drop (place + 1) entries) ∙ ap (λ (es : List m.Entry). log_view (drop (place + 1) entries) ++ es) (log-more entries place entry is))
+
+-- ---- versions
+
+-- a COMMIT makes the next version
+pub commit-more : (t : ℕ) (entry : Entry) (older : List m.Entry) → entry.what ≡ w.Commit
+    → (versions_in (entry_view entry ∷ older) ≡ suc (versions_in older)) × (version_of t (entry_view entry ∷ older) ≡ cond (entry.t == t) (Some (suc (versions_in older))) (version_of t older))
+commit-more t entry older is = (
+  ap (λ (what : What). versions_in (what_view entry.line entry.session entry.t what ∷ older)) is,
+  ap (λ (what : What). version_of t (what_view entry.line entry.session entry.t what ∷ older)) is,
+)
+
+-- another entry makes none
+pub other-more : (t : ℕ) (entry : Entry) (older : List m.Entry) → (entry.what ≡ w.Commit → ⊥)
+    → (versions_in (entry_view entry ∷ older) ≡ versions_in older) × (version_of t (entry_view entry ∷ older) ≡ version_of t older)
+other-more t entry older other = by entry.what other
+  where
+    by : (what : What) → (what ≡ w.Commit → ⊥)
+        → (versions_in (what_view entry.line entry.session entry.t what ∷ older) ≡ versions_in older)
+        × (version_of t (what_view entry.line entry.session entry.t what ∷ older) ≡ version_of t older)
+    by (w.Create table) other = (refl, refl)
+    by w.Begin other = (refl, refl)
+    by (w.Statement k command stmt) other = (refl, refl)
+    by w.Commit other = absurd (other refl)
+    by w.Lost other = (refl, refl)
+    by w.Rollback other = (refl, refl)
+
+-- ---- statements
+
+-- how many statements of the transaction an entry is
+abbrev pub ran_more : Option Statement → ℕ → ℕ
+ran_more None n = n
+ran_more (Some statement) n = suc n
+
+own_by : (b : Bool) (statement : Statement) (n : ℕ) → cond b (suc n) n ≡ ran_more (cond b (Some statement) None) n
+own_by true statement n = refl
+own_by false statement n = refl
+
+pub count-more : (t : ℕ) (entry : m.Entry) (older : List m.Entry) → statement_count t (entry ∷ older) ≡ ran_more (own_statement t entry) (statement_count t older)
+count-more t (m.Created line session table) older = refl
+count-more t (m.Began line session u) older = refl
+count-more t (m.Ran line session command u statement) older = own_by (u == t) statement (statement_count t older)
+count-more t (m.Committed line session u) older = refl
+count-more t (m.Ended line session end u) older = refl
+
+cond-least : (b : Bool) (n : ℕ) → n ≤ cond b (suc n) n
+cond-least true n = omega arith
+cond-least false n = omega arith
+
+count-least : (t : ℕ) (newer older : List m.Entry) → statement_count t older ≤ statement_count t (newer ++ older)
+count-least t [] older = omega arith
+count-least t (m.Created line session table ∷ newer) older = count-least t newer older
+count-least t (m.Began line session u ∷ newer) older = count-least t newer older
+count-least t (m.Ran line session command u statement ∷ newer) older =
+    omega (arith, count-least t newer older, cond-least (u == t) (statement_count t (newer ++ older)))
+count-least t (m.Committed line session u ∷ newer) older = count-least t newer older
+count-least t (m.Ended line session end u ∷ newer) older = count-least t newer older
+
+not_equal : (a b : ℕ) → b < a → (a == b) ≡ false
+not_equal a b less = grind arith
+
+passed : (own same : Bool) (here : Statement) (found : Option Statement) (wanted : Option Statement) → same ≡ false → found ≡ wanted → cond (own && same) (Some here) found ≡ wanted
+passed true true here found wanted is e = absurd (cc)
+passed true false here found wanted is e = e
+passed false same here found wanted is e = e
+
+-- a statement is found behind newer entries
+found-behind : (t k : ℕ) (newer older : List m.Entry) → k ≤ statement_count t older → statement_at t k (newer ++ older) ≡ statement_at t k older
+found-behind t k [] older most = refl
+found-behind t k (m.Created line session table ∷ newer) older most = found-behind t k newer older most
+found-behind t k (m.Began line session u ∷ newer) older most = found-behind t k newer older most
+found-behind t k (m.Ran line session command u statement ∷ newer) older most =
+    passed (u == t) (suc (statement_count t (newer ++ older)) == k) statement (statement_at t k (newer ++ older)) (statement_at t k older)
+    (not_equal (suc (statement_count t (newer ++ older))) k (omega (arith, count-least t newer older, most))) (found-behind t k newer older most)
+found-behind t k (m.Committed line session u ∷ newer) older most = found-behind t k newer older most
+found-behind t k (m.Ended line session end u ∷ newer) older most = found-behind t k newer older most
+
+equal_here : (n : ℕ) → (n == n) ≡ true
+equal_here n = grind arith
+
+taken : (own same : Bool) (here statement : Statement) (found : Option Statement) → same ≡ true → cond own (Some here) None ≡ Some statement → cond (own && same) (Some here) found ≡ Some statement
+taken true true here statement found is e = e
+taken true false here statement found is e = absurd (cc)
+taken false same here statement found is e = absurd (cc)
+
+found-here : (t : ℕ) (entry : m.Entry) (older : List m.Entry) (statement : Statement) → own_statement t entry ≡ Some statement
+    → statement_at t (suc (statement_count t older)) (entry ∷ older) ≡ Some statement
+found-here t (m.Created line session table) older statement is = absurd (cc)
+found-here t (m.Began line session u) older statement is = absurd (cc)
+found-here t (m.Ran line session command u here) older statement is =
+    taken (u == t) (suc (statement_count t older) == suc (statement_count t older)) here statement (statement_at t (suc (statement_count t older)) older)
+    (equal_here (suc (statement_count t older))) is
+found-here t (m.Committed line session u) older statement is = absurd (cc)
+found-here t (m.Ended line session end u) older statement is = absurd (cc)
+
+-- the statement at a place is the next one of its transaction
+pub statement-here : (t : ℕ) (entries : List Entry) (place : ℕ) (entry : Entry) (statement : Statement) → slice_get entries place ≡ Some entry
+    → own_statement t (entry_view entry) ≡ Some statement → statement_at t (suc (statement_count t (log_view (take place entries)))) (log_view entries) ≡ Some statement
+statement-here t entries place entry statement is own =
+    let older : List m.Entry = log_view (take place entries) in
+    let count : statement_count t (entry_view entry ∷ older) ≡ suc (statement_count t older) =
+    count-more t (entry_view entry) older ∙ ap (λ (s : Option Statement). ran_more s (statement_count t older)) own in
+    ap (statement_at t (suc (statement_count t older))) (log-cut entries place entry is)
+    ∙ (found-behind t (suc (statement_count t older)) (log_view (drop (place + 1) entries)) (entry_view entry ∷ older) (omega (arith, count))
+    ∙ found-here t (entry_view entry) older statement own)
+
+-- ---- what fits
+
+fits-cond : (tables : List Table) (b : Bool) (statement : Statement) → statement_fits tables statement ≡ true → own_fits tables (cond b (Some statement) None) ≡ true
+fits-cond tables true statement fits = fits
+fits-cond tables false statement fits = refl
+
+fits-first : (tables : List Table) (t : ℕ) (entry : m.Entry) (older : List m.Entry) → statements_fit tables (entry ∷ older) ≡ true → own_fits tables (own_statement t entry) ≡ true
+fits-first tables t (m.Created line session table) older fit = refl
+fits-first tables t (m.Began line session u) older fit = refl
+fits-first tables t (m.Ran line session command u statement) older fit =
+    fits-cond tables (u == t) statement (both_true (statement_fits tables statement) (statements_fit tables older) fit).0
+fits-first tables t (m.Committed line session u) older fit = refl
+fits-first tables t (m.Ended line session end u) older fit = refl
+
+fit-behind : (tables : List Table) (newer older : List m.Entry) → statements_fit tables (newer ++ older) ≡ true → statements_fit tables older ≡ true
+fit-behind tables [] older fit = fit
+fit-behind tables (m.Created line session table ∷ newer) older fit = fit-behind tables newer older fit
+fit-behind tables (m.Began line session u ∷ newer) older fit = fit-behind tables newer older fit
+fit-behind tables (m.Ran line session command u statement ∷ newer) older fit =
+    fit-behind tables newer older (both_true (statement_fits tables statement) (statements_fit tables (newer ++ older)) fit).1
+fit-behind tables (m.Committed line session u ∷ newer) older fit = fit-behind tables newer older fit
+fit-behind tables (m.Ended line session end u ∷ newer) older fit = fit-behind tables newer older fit
+
+-- the statement at a place fits
+pub fits-here : (tables : List Table) (t : ℕ) (entries : List Entry) (place : ℕ) (entry : Entry) → slice_get entries place ≡ Some entry
+    → statements_fit tables (log_view entries) ≡ true → own_fits tables (own_statement t (entry_view entry)) ≡ true
+fits-here tables t entries place entry is fit =
+    fits-first tables t (entry_view entry) (log_view (take place entries))
+    (fit-behind tables (log_view (drop (place + 1) entries)) (entry_view entry ∷ log_view (take place entries))
+    (sym (ap (statements_fit tables) (log-cut entries place entry is)) ∙ fit))

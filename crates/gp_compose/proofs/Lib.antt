@@ -1,0 +1,11 @@
+pub mod Agreement
+pub mod BuiltLemmas
+pub mod ComposedLemmas
+pub mod EntryLemmas
+pub mod FittingLogs
+pub mod PartsLemmas
+pub mod PlacedLemmas
+pub mod ProgramLemmas
+pub mod PublishedLemmas
+pub mod ScanLemmas
+pub mod StepLists

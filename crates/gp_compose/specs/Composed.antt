@@ -1,0 +1,83 @@
+-- Part of the statement: the statements of a transaction as one program. Each statement that writes a table is a step, over the steps that wrote the tables
+-- it reads last, or over scans of the begin version where none did. What a COMMIT published is PUBLISH over the begin version, the transaction's own last
+-- contents, and the version before the commit.
+use Rattle.std.specs.Prelude.{ℕ, zero, suc, ◌==◌, Bool, false, List, [], ◌∷◌, ◌++◌, Option, Some, None, if◌then◌else◌}
+use Rattle.gp_grammar.specs.Syntax as y
+use Rattle.gp_algebra.specs.Statements.{Statement, Select}
+use Rattle.gp_algebra.specs.AnnotatedQueries as q
+use Rattle.gp_algebra.specs.AnnotatedQueries.{Query, QueryStep, Program}
+use Rattle.gp_machine.specs.Entries.{Entry, Log, log_of, version_of}
+use Rattle.gp_machine.specs.Points.{version_before}
+use Rattle.gp_rewrite.specs.Rewriting.{target, rewritten, query_of}
+
+-- ---- which statement wrote a table last
+
+abbrev pub is_target : Option ℕ → ℕ → Bool
+is_target None table = false
+is_target (Some own) table = table == own
+
+abbrev pub writes : Option Statement → ℕ → Bool
+writes None table = false
+writes (Some statement) table = is_target (target statement) table
+
+-- among the first statements of the transaction, this many
+abbrev pub last_write : Log → ℕ → ℕ → ℕ → Option ℕ
+last_write log t zero table = None
+last_write log t (suc k) table = if writes (log.statement t (suc k)) table then Some (suc k) else last_write log t k table
+
+-- a table after the statement that wrote it last, or in a version
+abbrev pub contents : ℕ → ℕ → Option ℕ → Query
+contents version table None = q.scan table version
+contents version table (Some j) = q.step j
+
+-- a table after the first statements of the transaction, this many
+abbrev pub current : Log → ℕ → ℕ → ℕ → Query
+current log t k table = contents (log.begin_version t) table (last_write log t k table)
+
+-- ---- steps, given the number of columns of each table
+
+abbrev pub steps_of : (ℕ → ℕ) → ℕ → ℕ → (ℕ → Query) → Statement → Option ℕ → List QueryStep
+steps_of columns t k tables statement None = []
+steps_of columns t k tables statement (Some table) = record { j = k; table = table; query = rewritten columns t k statement tables } ∷ []
+
+-- the step of a statement, if it writes a table
+abbrev pub step_of : (ℕ → ℕ) → ℕ → ℕ → (ℕ → Query) → Option Statement → List QueryStep
+step_of columns t k tables None = []
+step_of columns t k tables (Some statement) = steps_of columns t k tables statement (target statement)
+
+-- the steps of the first statements, this many; a step has the number of its statement
+abbrev pub composed : (ℕ → ℕ) → Log → ℕ → ℕ → List QueryStep
+composed columns log t zero = []
+composed columns log t (suc k) = composed columns log t k ++ step_of columns t (suc k) (current log t k) (log.statement t (suc k))
+
+-- ---- programs
+
+-- a query over what the transaction read after its k-th statement
+abbrev pub after : (ℕ → ℕ) → Log → ℕ → ℕ → Select → Program
+after columns log t k select = record { steps = composed columns log t k; last = query_of (current log t k) select }
+
+-- a table that the transaction published; one that it has no statement on is that of the version before
+abbrev pub published_as : ℕ → ℕ → ℕ → Option ℕ → Query
+published_as begin before table None = q.scan table before
+published_as begin before table (Some j) = q.publish (q.scan table begin) (q.step j) (q.scan table before)
+
+abbrev pub published : Log → ℕ → ℕ → ℕ → Query
+published log t before table = published_as (log.begin_version t) before table (last_write log t (log.statement_count t) table)
+
+-- a query over what the transaction published
+abbrev pub commit : (ℕ → ℕ) → Log → ℕ → ℕ → Select → Program
+commit columns log t before select = record { steps = composed columns log t (log.statement_count t); last = query_of (published log t before) select }
+
+-- a table that the transaction published
+abbrev pub published_table : (ℕ → ℕ) → Log → ℕ → ℕ → ℕ → Program
+published_table columns log t before table = record { steps = composed columns log t (log.statement_count t); last = published log t before table }
+
+-- a query over a version
+abbrev pub as_of : ℕ → Select → Program
+as_of version select = record { steps = []; last = query_of (λ table. q.scan table version) select }
+
+-- the program of a state
+abbrev pub program_at : (ℕ → ℕ) → List Entry → y.State → Select → Program
+program_at columns entries (y.as_of version) select = as_of version select
+program_at columns entries (y.after t k) select = after columns (log_of entries) t k select
+program_at columns entries (y.State.commit t) select = commit columns (log_of entries) t (version_before (version_of t entries)) select

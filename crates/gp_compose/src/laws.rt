@@ -1,0 +1,93 @@
+//! Laws of composed programs. Each function does nothing: its postconditions are the laws. A law with a type parameter holds
+//! for annotations of every type, as monomials, or nothing at all.
+
+ghost use Rattle.std.specs.Prelude.{◌≡◌, ◌<◌, ◌≤◌, ℕ, true, false, Contains, List, Some, None, map};
+ghost use Rattle.std.specs.List.{AllByRecursion};
+ghost use Rattle.gp_base.specs.declared.table.Table.{Table};
+ghost use Rattle.gp_base.specs.Annotated.{Annotations, Environment};
+ghost use Rattle.gp_grammar.specs.Syntax as y;
+ghost use Rattle.gp_algebra.specs.declared.plain.ScanAt.{ScanAt};
+ghost use Rattle.gp_algebra.specs.AnnotatedQueries.{program_meaning, scanned, steps_meaning};
+ghost use Rattle.gp_algebra.specs.Answers.{answer};
+ghost use Rattle.gp_algebra.specs.Fitting.{select_fits, width_of};
+ghost use Rattle.gp_algebra.specs.Plain.{no_steps};
+ghost use Rattle.gp_algebra.specs.QueryForms.{IsTableProgram, IsWellBuilt};
+ghost use Rattle.gp_algebra.specs.Scans.{annotated_program_scans};
+ghost use Rattle.gp_algebra.specs.Statements.{Select, Statement};
+ghost use Rattle.gp_machine.specs.Entries.{Entry, log_of, statement_at};
+ghost use Rattle.gp_machine.specs.Limits.{Limits};
+ghost use Rattle.gp_machine.specs.Points.{at_point};
+ghost use Rattle.gp_machine.specs.Publishing.{at_commit};
+ghost use Rattle.gp_machine.specs.Questions.{log_refusal, needed_version};
+ghost use Rattle.gp_machine.specs.Runs.{run};
+ghost use Rattle.gp_log.specs.Discipline.{IsLog};
+ghost use Rattle.gp_log.specs.LogFitting.{statements_fit};
+ghost use Rattle.gp_rewrite.specs.Meaning.{AreAsWide, IsMonoid, of_element, unmarked};
+ghost use Rattle.gp_rewrite.specs.Rewriting.{target};
+ghost use Rattle.gp_compose.specs.Composed.{composed, program_at, published_table};
+
+/// Reenactment of a transaction, for the annotations of any monoid and over any versions whose rows are unmarked and as wide
+/// as their tables: the program of a state gives the answer in that state, but for marks; the program of a published table
+/// gives that table as the COMMIT published it; and each step gives the table that its statement left, whatever comes behind
+/// it. All statements fit the catalogue, and so does the query.
+pub fn composed_programs_mean_the_states<M>()
+    ensures answers { (kind : Annotations M) → IsMonoid kind → (catalogue : List Table)
+        (entries : List Entry) → statements_fit catalogue entries ≡ true
+        → (env : Environment M)
+        → ((version : ℕ) → AreAsWide (width_of catalogue) (env version))
+        → ((version table : ℕ) → AllByRecursion (λ row. row.mark ≡ false) (env version table))
+        → (point : y.State) (select : Select) → select_fits catalogue select ≡ true
+        → map unmarked
+        (program_meaning kind env (program_at (width_of catalogue) entries point select))
+        ≡ map of_element (answer kind select (at_point kind entries point env)) }
+    ensures tables { (kind : Annotations M) → IsMonoid kind → (catalogue : List Table)
+        (entries : List Entry) → statements_fit catalogue entries ≡ true
+        → (env : Environment M)
+        → ((version : ℕ) → AreAsWide (width_of catalogue) (env version))
+        → ((version table : ℕ) → AllByRecursion (λ row. row.mark ≡ false) (env version table))
+        → (t before table : ℕ)
+        → program_meaning kind env
+        (published_table (width_of catalogue) (log_of entries) t before table)
+        ≡ map (scanned kind) (at_commit kind (log_of entries) t before env table) }
+    ensures steps { (kind : Annotations M) → IsMonoid kind → (catalogue : List Table)
+        (entries : List Entry) → statements_fit catalogue entries ≡ true
+        → (env : Environment M)
+        → ((version : ℕ) → AreAsWide (width_of catalogue) (env version))
+        → (t k j table : ℕ) (statement : Statement) → j ≤ k
+        → statement_at t j entries ≡ Some statement → target statement ≡ Some table
+        → steps_meaning kind env (composed (width_of catalogue) (log_of entries) t k) no_steps j
+        ≡ map (scanned kind) (run kind (log_of entries) t j env table) }
+{}
+
+/// The program of a state is well built, if the transaction that the state names is numbered from 1, as every transaction
+/// that the log does not refuse is; and so is the program of a published table. All statements fit the catalogue, and so
+/// does the query.
+pub fn composed_programs_are_well_built()
+    ensures programs { (catalogue : List Table) (entries : List Entry)
+        → statements_fit catalogue entries ≡ true → (point : y.State)
+        → ((t k : ℕ) → point ≡ y.after t k → 0 < t)
+        → ((t : ℕ) → point ≡ y.State.commit t → 0 < t)
+        → (select : Select) → select_fits catalogue select ≡ true
+        → IsWellBuilt (width_of catalogue)
+        (program_at (width_of catalogue) entries point select) }
+    ensures asked { (catalogue : List Table) (entries : List Entry)
+        → statements_fit catalogue entries ≡ true
+        → (point : y.State) → log_refusal entries point ≡ None
+        → (select : Select) → select_fits catalogue select ≡ true
+        → IsWellBuilt (width_of catalogue)
+        (program_at (width_of catalogue) entries point select) }
+    ensures tables { (catalogue : List Table) (entries : List Entry)
+        → statements_fit catalogue entries ≡ true → (t before table : ℕ) → 0 < t
+        → IsTableProgram (width_of catalogue) table
+        (published_table (width_of catalogue) (log_of entries) t before table) }
+{}
+
+/// The program of a state that a log does not refuse scans no version above the last one that the state needs: that of an AS OF,
+/// that which the transaction began at, or that before its commit. So the annotations of later versions are not needed either.
+pub fn composed_programs_scan_what_is_needed()
+    ensures { (limits : Limits) (entries : List Entry) → IsLog limits entries
+        → (columns : ℕ → ℕ) (point : y.State) → log_refusal entries point ≡ None
+        → (select : Select) (scan : ScanAt)
+        → Contains (annotated_program_scans (program_at columns entries point select)) scan
+        → scan.version ≤ needed_version entries point }
+{}
