@@ -1,0 +1,3 @@
+pub mod ForgettingLemmas
+pub mod ReplayLemmas
+pub mod StopLemmas

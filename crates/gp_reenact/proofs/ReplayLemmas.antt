@@ -1,0 +1,255 @@
+-- The program of a state, run over the row versions of a log, gives the answer that the run of the transaction gives.
+use Rattle.std.proofs.Common.{◌≡◌, inl, ℕ, zero, suc, ◌<◌, ◌≤◌, Bool, true, false, cond, List, [], ◌∷◌, ◌++◌, length, map, refl, sym, ap, ◌∙◌, subst, arith, Option, Some, None, Result, Ok, Err}
+use Rattle.std.specs.Prelude.{nat_lt}
+use Rattle.std.specs.List.{AllByRecursion}
+use Rattle.std.specs.List.Sorted.{IsPermutation}
+use Rattle.std.specs.Option.{option_map, option_or}
+use Rattle.std.proofs.lemmas.Bool.Decides.{nat_tests}
+use Rattle.std.proofs.lemmas.List.{append-nil, length-map}
+use Rattle.gp_base.specs.declared.cell.Cell.{Cell}
+use Rattle.gp_base.specs.declared.refusal.Refusal.{Refusal}
+use Rattle.gp_base.specs.declared.refusal.Refusal.TheVariants.{E25, E26, E27}
+use Rattle.gp_base.specs.declared.row_id.TheConstants.{MAX_NODES}
+use Rattle.gp_base.specs.Annotated.{Annotations, Database, Environment, monomials, plain}
+use Rattle.gp_base.specs.Tokens.{Monomial}
+use Rattle.gp_base.proofs.ProductLaws.{times-associative, times-one}
+use Rattle.gp_grammar.specs.Syntax as y
+use Rattle.gp_algebra.specs.AnnotatedQueries as q
+use Rattle.gp_algebra.specs.AnnotatedQueries.{Derived}
+use Rattle.gp_algebra.specs.Answers.{Element, answer, cells_of}
+use Rattle.gp_algebra.specs.Effects.{is_over_rows, is_over_nodes}
+use Rattle.gp_algebra.specs.Fitting.{select_fits, width_of}
+use Rattle.gp_algebra.specs.QueryForms.{HasSteps, IsWellBuilt, step_table}
+use Rattle.gp_algebra.specs.Plain as p
+use Rattle.gp_algebra.specs.Reannotation.{IsHomomorphism, forgotten, reannotated}
+use Rattle.gp_algebra.specs.Statements.{Select, Statement}
+use Rattle.gp_algebra.specs.Stops.{Stop, rows, ancestry, program_stop}
+use Rattle.gp_algebra.specs.WellBuilt.{is_well_built}
+use Rattle.gp_algebra.proofs.Lists.{map-map}
+use Rattle.gp_exec.specs.declared.env.Env.{Env}
+use Rattle.gp_exec.specs.Running.{Runs, environment_view}
+use Rattle.gp_exec.specs.declared.error.ExecStop.{ExecStop}
+use Rattle.gp_exec.specs.declared.error.ExecStop.TheVariants as exec
+use Rattle.gp_exec.specs.declared.limit.TheConstants.{MAX_TABLE_ROWS, MAX_ANSWER_ROWS}
+use Rattle.gp_machine.specs.Entries.{Entry, Log, begin_version, log_of, statement_count}
+use Rattle.gp_machine.specs.HistorySpans as machine
+use Rattle.gp_machine.specs.Limits.{Limits}
+use Rattle.gp_machine.specs.Points.{RunStop, OverRows, OverNodes, at_point, run_stop, statement_stop}
+use Rattle.gp_machine.specs.Questions.{given, log_refusal, own_stop, rows_answer, stop_refusal}
+use Rattle.gp_machine.specs.Runs.{run}
+use Rattle.gp_log.specs.Limits.{limits}
+use Rattle.gp_log.specs.LogFacts.{tables_in}
+use Rattle.gp_log.specs.LogFitting.{SpansFit, statements_fit}
+use Rattle.gp_versions.specs.declared.span.Span.{Span}
+use Rattle.gp_versions.specs.Spans.{Versions, row_of, spans_at}
+use Rattle.gp_rewrite.specs.Meaning.{AreAsWide, IsMonoid, of_element, unmarked}
+use Rattle.gp_compose.specs.Composed.{composed, program_at}
+use Rattle.gp_compose.proofs.ProgramLemmas.{asked_program_is_built, composed_step_is, program_is}
+use Rattle.gp_prov.specs.Encoding as enc
+use Rattle.gp_prov.specs.ToPlain.{plain_program}
+use Rattle.gp_prov.proofs.BuiltLemmas.{program_built}
+use Rattle.gp_prov.proofs.MeaningLemmas.{HaveWidths, answers_are, rows_between, steps_are}
+use Rattle.gp_travel.specs.Encoding as travel
+use Rattle.gp_travel.specs.Travel as travels
+use Rattle.gp_travel.specs.Travel.{no_table}
+use Rattle.gp_travel.proofs.EncodingLemmas.{rows-plain}
+use Rattle.gp_reenact.specs.Reenacting.{Reenacts, RunsOver, spans_of, stopped, transaction_at}
+use Rattle.gp_reenact.proofs.ForgettingLemmas.{VersionsReannotate, cells_reannotated, run_stop_reannotated}
+use Rattle.gp_reenact.proofs.StopLemmas.{gives_run, held_rows, program_stops, step_stop, wide_rows}
+
+-- ---- stops
+
+-- the refusal of a stop, in the run of a transaction
+abbrev pub refusal_at : ℕ → Stop → Refusal
+refusal_at t (rows k) = E25 t k
+refusal_at t (ancestry k) = E26 t k
+
+-- a run stops in its own transaction
+module _ {M : Type 0} (kind : Annotations M) (bounds : Limits) (log : Log) (t : ℕ) (env : Environment M) where
+  one_refusal : (k : ℕ) (over_rows over_nodes : Bool)
+      → option_map stop_refusal (cond over_rows (Some (OverRows t k)) (cond over_nodes (Some (OverNodes t k)) None))
+      ≡ option_map (refusal_at t) (option_map step_stop (cond over_rows (Some (OverRows t k)) (cond over_nodes (Some (OverNodes t k)) None)))
+  one_refusal k true over_nodes = refl
+  one_refusal k false true = refl
+  one_refusal k false false = refl
+
+  statement_refused : (k : ℕ) (found : Option Statement) (db : Database M)
+      → option_map stop_refusal (statement_stop kind bounds t k found db) ≡ option_map (refusal_at t) (option_map step_stop (statement_stop kind bounds t k found db))
+  statement_refused k None db = refl
+  statement_refused k (Some statement) db = one_refusal k (is_over_rows kind bounds.rows t k statement db) (is_over_nodes kind bounds.nodes t k statement db)
+
+  abbrev AreRefused : Option RunStop → Type 0
+  AreRefused stop = option_map stop_refusal stop ≡ option_map (refusal_at t) (option_map step_stop stop)
+
+  first_refused : (stop next : Option RunStop) → AreRefused stop → AreRefused next → AreRefused (option_or stop next)
+  first_refused (Some stop) next one two = one
+  first_refused None next one two = two
+
+  pub run_refused : (k : ℕ) → AreRefused (run_stop kind bounds log t k env)
+  run_refused zero = refl
+  run_refused (suc k) =
+      first_refused (run_stop kind bounds log t k env) (statement_stop kind bounds t (suc k) (log.statement t (suc k)) (run kind log t k env)) (run_refused k)
+      (statement_refused (suc k) (log.statement t (suc k)) (run kind log t k env))
+
+-- ---- answers
+
+-- a program that gives the rows of a state, and stops where its run does
+pub record Replays (entries : List Entry) (versions : List Versions) (point : y.State) (select : Select) (program : p.PlainProgram) : Type 0 where
+  pub known : log_refusal entries point ≡ None
+  pub gives : p.program_meaning (travel.encoded (travels.as_of plain versions)) program
+      ≡ cells_of (answer plain select (at_point plain entries point (machine.as_of plain (spans_of versions))))
+  pub stops : own_stop plain limits entries point (machine.as_of plain (spans_of versions))
+      ≡ option_map (refusal_at (transaction_at point)) (program_stop MAX_TABLE_ROWS MAX_NODES (travel.encoded (travels.as_of plain versions)) program)
+
+module _ {X : Type 0} (view : X → List (List Cell)) (entries : List Entry) (versions : List Versions) (point : y.State) (select : Select) (program : p.PlainProgram)
+    (replays : Replays entries versions point select program) where
+  abbrev env : p.PlainEnvironment
+  env = travel.encoded (travels.as_of plain versions)
+
+  abbrev elements : List (Element (Unit {0}))
+  elements = answer plain select (at_point plain entries point (machine.as_of plain (spans_of versions)))
+
+  abbrev due : Result (List (Element (Unit {0}))) Refusal
+  due = rows_answer limits entries (spans_of versions) point select
+
+  due_is : (stop : Option Stop) → program_stop MAX_TABLE_ROWS MAX_NODES env program ≡ stop → (over : Bool) → nat_lt MAX_ANSWER_ROWS (length elements) ≡ over
+      → due ≡ given (option_or (option_map (refusal_at (transaction_at point)) stop) (cond over (Some E27) None)) elements
+  due_is stop is over many =
+      λ i. given (option_or (replays.known i) (option_or ((replays.stops ∙ ap (option_map (refusal_at (transaction_at point))) is) i) (cond (many i) (Some E27) None))) elements
+
+  rows_many : length (p.program_meaning env program) ≡ length elements
+  rows_many = ap length replays.gives ∙ length-map elements (λ (element : Element (Unit {0})). element.cells)
+
+  pub found_is : (found : X) → RunsOver view (Ok found) env program → Reenacts view (Ok found) due
+  found_is found runs =
+      let count : length elements ≤ MAX_ANSWER_ROWS = subst (λ n. n ≤ MAX_ANSWER_ROWS) rows_many runs.1.1 in
+      let few : nat_lt MAX_ANSWER_ROWS (length elements) ≡ false = grind (arith, nat_tests) in
+      subst (λ d. Reenacts view (Ok found) d) (sym (due_is None runs.0 false few))
+      (subst (λ rows. IsPermutation (view found) rows) replays.gives runs.1.0)
+
+  pub stop_is : (stop : ExecStop) → RunsOver view (Err stop) env program → Reenacts view (Err (stopped (transaction_at point) stop)) due
+  stop_is (exec.Rows j) runs =
+      subst (λ d. Reenacts view (Err (stopped (transaction_at point) (exec.Rows j))) d) (sym (due_is (Some (rows j)) runs (nat_lt MAX_ANSWER_ROWS (length elements)) refl)) refl
+  stop_is (exec.Ancestry j) runs =
+      subst (λ d. Reenacts view (Err (stopped (transaction_at point) (exec.Ancestry j))) d) (sym (due_is (Some (ancestry j)) runs (nat_lt MAX_ANSWER_ROWS (length elements)) refl)) refl
+  stop_is exec.Answer runs =
+      let count : MAX_ANSWER_ROWS < length elements = subst (λ n. MAX_ANSWER_ROWS < n) rows_many runs.1 in
+      let many : nat_lt MAX_ANSWER_ROWS (length elements) ≡ true = grind (arith, nat_tests) in
+      subst (λ d. Reenacts view (Err (stopped (transaction_at point) exec.Answer)) d) (sym (due_is None runs.0 true many)) refl
+  stop_is exec.NoMemory runs = tt
+
+-- the run of a program that has asked for all that it scans
+pub runs_over : {X : Type 0} (view : X → List (List Cell)) (result : Result X ExecStop) (scanned : Env) (versions : List Versions) (program : p.PlainProgram)
+    → p.program_meaning (environment_view scanned) program ≡ p.program_meaning (travel.encoded (travels.as_of plain versions)) program
+    → program_stop MAX_TABLE_ROWS MAX_NODES (environment_view scanned) program ≡ program_stop MAX_TABLE_ROWS MAX_NODES (travel.encoded (travels.as_of plain versions)) program
+    → Runs view result scanned program → RunsOver view result (travel.encoded (travels.as_of plain versions)) program
+runs_over view (Ok found) scanned versions program same_rows same_stop runs =
+    (sym same_stop ∙ runs.0, (subst (λ rows. IsPermutation (view found) rows) same_rows runs.1.0, subst (λ rows. length rows ≤ MAX_ANSWER_ROWS) same_rows runs.1.1))
+runs_over view (Err (exec.Rows j)) scanned versions program same_rows same_stop runs = sym same_stop ∙ runs
+runs_over view (Err (exec.Ancestry j)) scanned versions program same_rows same_stop runs = sym same_stop ∙ runs
+runs_over view (Err exec.Answer) scanned versions program same_rows same_stop runs = (sym same_stop ∙ runs.0, subst (λ rows. MAX_ANSWER_ROWS < length rows) same_rows runs.1)
+runs_over view (Err exec.NoMemory) scanned versions program same_rows same_stop runs = tt
+
+-- ---- rows of queries
+
+-- the cells of the rows of a query are those of an answer, if the rows are its elements but for marks
+cells_out : {M : Type 0} (made : List (Derived M)) (chosen : List (Element M)) → map unmarked made ≡ map of_element chosen
+    → map (λ (row : Derived M). row.cells ++ []) made ≡ cells_of chosen
+cells_out {M = M} made chosen same =
+    whole made ∙ sym (map-map (λ row. row.cells) unmarked made) ∙ ap (map (λ row. row.cells)) same ∙ map-map (λ row. row.cells) of_element chosen
+  where
+    whole : (each : List (Derived M)) → map (λ (row : Derived M). row.cells ++ []) each ≡ map (λ (row : Derived M). row.cells) each
+    whole [] = refl
+    whole (row ∷ each) = λ i. append-nil row.cells i ∷ whole each i
+
+-- ---- past versions
+
+module _ (versions : List Versions) where
+  -- the two encodings agree where there is no provenance
+  pub env_is : travel.encoded (travels.as_of plain versions) ≡ enc.encoded false (machine.as_of monomials (spans_of versions))
+  env_is = λ i. λ version table. sym (rows-plain monomials (spans_at version (spans_of versions table))) i
+
+  pub forgets : VersionsReannotate forgotten (machine.as_of monomials (spans_of versions)) (machine.as_of plain (spans_of versions))
+  forgets version table = sym (map-map (reannotated forgotten) (row_of monomials) (spans_at version (spans_of versions table)))
+
+  -- no transaction has written a past version
+  pub none_marked : (version table : ℕ) → AllByRecursion (λ row. row.mark ≡ false) (machine.as_of monomials (spans_of versions) version table)
+  none_marked version table = go (spans_at version (spans_of versions table))
+    where
+      go : (spans : List Span) → AllByRecursion (λ row. row.mark ≡ false) (map (row_of monomials) spans)
+      go [] = tt
+      go (span ∷ spans) = (refl, go spans)
+
+-- ---- the program of a state
+
+monoid : IsMonoid monomials
+monoid = record { right_one = times-one; associative = times-associative }
+
+forgetting : IsHomomorphism monomials plain forgotten
+forgetting = record { one = refl; times = λ a b. refl; token = λ token. refl }
+
+module _ (entries : List Entry) (versions : List Versions) (select : Select) (fit : statements_fit (tables_in entries) entries ≡ true)
+    (spans_fit : SpansFit (tables_in entries) (spans_of versions)) (fits : select_fits (tables_in entries) select ≡ true) where
+  abbrev columns : ℕ → ℕ
+  columns = width_of (tables_in entries)
+
+  abbrev past : Environment Monomial
+  past = machine.as_of monomials (spans_of versions)
+
+  abbrev plain_past : Environment (Unit {0})
+  plain_past = machine.as_of plain (spans_of versions)
+
+  abbrev program : y.State → q.Program
+  program point = program_at columns entries point select
+
+  wide : (version : ℕ) → AreAsWide columns (past version)
+  wide version = wide_rows monomials (tables_in entries) (spans_of versions) spans_fit version
+
+  widths : HaveWidths columns past
+  widths version table = wide version table
+
+  built : (point : y.State) → log_refusal entries point ≡ None → IsWellBuilt columns (program point)
+  built point known = asked_program_is_built (tables_in entries) entries fit point known select fits
+
+  gives : (point : y.State) → log_refusal entries point ≡ None
+      → p.program_meaning (travel.encoded (travels.as_of plain versions)) (plain_program columns false (program point)) ≡ cells_of (answer plain select (at_point plain entries point plain_past))
+  gives point known =
+      ap (λ env. p.program_meaning env (plain_program columns false (program point))) (env_is versions)
+      ∙ answers_are columns false past widths (program point) (built point known)
+      ∙ cells_out (q.program_meaning monomials past (program point)) (answer monomials select (at_point monomials entries point past))
+      (program_is monomials monoid (tables_in entries) entries fit past wide (none_marked versions) point select fits)
+      ∙ sym (cells_reannotated monomials plain forgotten forgetting past plain_past (forgets versions) entries point select)
+
+  -- the steps of a transaction stop where its run does
+  steps_stop_is : (t k : ℕ) (last : q.Query) → HasSteps columns (record { steps = composed columns (log_of entries) t k; last = last })
+      → program_stop MAX_TABLE_ROWS MAX_NODES (travel.encoded (travels.as_of plain versions)) (plain_program columns false (record { steps = composed columns (log_of entries) t k; last = last }))
+      ≡ option_map step_stop (run_stop plain limits (log_of entries) t k plain_past)
+  steps_stop_is t k last has =
+      let steps : List q.QueryStep = composed columns (log_of entries) t k in
+      ap (λ env. program_stop MAX_TABLE_ROWS MAX_NODES env (plain_program columns false (record { steps = steps; last = last }))) (env_is versions)
+      ∙ program_stops limits (tables_in entries) entries t k past last fit
+      (held_rows monomials (tables_in entries) (spans_of versions) spans_fit (begin_version t entries))
+      (gives_run columns (step_table steps) (log_of entries) t past k
+      (λ j table statement within is writes_it. composed_step_is monomials monoid (tables_in entries) entries fit past wide t k j table statement within is writes_it)
+      (λ j. rows_between false (columns (step_table steps j)) (steps_are columns false past widths (record { steps = steps; last = last }) has j)))
+      ∙ ap (option_map step_stop) (sym (run_stop_reannotated monomials plain forgotten forgetting past plain_past (forgets versions) limits (log_of entries) t k))
+
+  stops : (point : y.State) → log_refusal entries point ≡ None
+      → own_stop plain limits entries point plain_past
+      ≡ option_map (refusal_at (transaction_at point)) (program_stop MAX_TABLE_ROWS MAX_NODES (travel.encoded (travels.as_of plain versions)) (plain_program columns false (program point)))
+  stops (y.as_of version) known = refl
+  stops (y.after t k) known =
+      run_refused plain limits (log_of entries) t plain_past k
+      ∙ ap (option_map (refusal_at t)) (sym (steps_stop_is t k (program (y.after t k)).last (built (y.after t k) known).steps))
+  stops (y.State.commit t) known =
+      run_refused plain limits (log_of entries) t plain_past (statement_count t entries)
+      ∙ ap (option_map (refusal_at t)) (sym (steps_stop_is t (statement_count t entries) (program (y.State.commit t)).last (built (y.State.commit t) known).steps))
+
+  -- what was planned is well built, and replays the state
+  pub planned_is_built : (point : y.State) → log_refusal entries point ≡ None → is_well_built (plain_program columns false (program point)) ≡ true
+  planned_is_built point known = program_built columns false (program point) (built point known).steps (inl (built point known).answer)
+
+  pub planned_replays : (point : y.State) (planned : p.PlainProgram) → planned ≡ plain_program columns false (program point) → log_refusal entries point ≡ None
+      → Replays entries versions point select planned
+  planned_replays point planned is known =
+      subst (λ (planned : p.PlainProgram). Replays entries versions point select planned) (sym is) (record { known = known; gives = gives point known; stops = stops point known })

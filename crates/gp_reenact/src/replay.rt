@@ -1,0 +1,159 @@
+//! Programs of states, run over past versions.
+
+ghost use Rattle.std.specs.Prelude.{◌≡◌, true, false, None};
+ghost use Rattle.gp_base.specs.Annotated.{plain};
+ghost use Rattle.gp_syntax.specs.Views.{state_view};
+ghost use Rattle.gp_algebra.specs.Fitting.{select_fits, width_of};
+ghost use Rattle.gp_algebra.specs.PlainViews.{program_view};
+ghost use Rattle.gp_algebra.specs.QueryViews.{annotated_program_view};
+ghost use Rattle.gp_algebra.specs.Views.{select_view};
+ghost use Rattle.gp_algebra.specs.WellBuilt.{is_well_built};
+ghost use Rattle.gp_log.specs.Limits.{limits};
+ghost use Rattle.gp_log.specs.LogFacts.{tables_in};
+ghost use Rattle.gp_log.specs.LogFitting.{SpansFit, statements_fit};
+ghost use Rattle.gp_log.specs.Logs.{log_view};
+ghost use Rattle.gp_machine.specs.Questions as m;
+ghost use Rattle.gp_machine.specs.Questions.{rows_answer};
+ghost use Rattle.gp_compose.specs.Composed.{program_at};
+ghost use Rattle.gp_prov.specs.ToPlain as to;
+ghost use Rattle.gp_travel.specs.Encoding.{encoded};
+ghost use Rattle.gp_travel.specs.Travel.{as_of};
+ghost use Rattle.gp_reenact.specs.Reenacting as r;
+ghost use Rattle.gp_reenact.specs.Reenacting.{Plans, Reenacts, RunsOver, spans_of};
+
+use crate::error::ReenactStop;
+use gp_algebra::{AProgram, PProgram, Select, scans};
+use gp_base::{Refusal, Row};
+use gp_compose::{ComposeStop, check_state, program};
+use gp_exec::{ExecStop, run};
+use gp_log::Log;
+use gp_prov::to_plain;
+use gp_syntax::State;
+use gp_travel::{asked_scans_suffice, env_at};
+use gp_versions::VersionTable;
+use std::alloc::Global;
+
+/// The refusal of a state that the log does not have: E20 if no transaction has the number, E21 if it did not commit, E22 if it has
+/// no such statement, E23 if there is no such version.
+pub fn log_refusal(log: &Log, state: State) -> Option<Refusal>
+    ensures { result ≡ m.log_refusal (log_view log.now.entries) (state_view state) }
+{
+    match check_state(log, state) {
+        Ok(()) => None,
+        Err(ComposeStop::Unknown { t }) => Some(Refusal::E20 { t }),
+        Err(ComposeStop::NotCommitted { t, fate }) => Some(Refusal::E21 { t, fate }),
+        Err(ComposeStop::NoStatement { t, count }) => Some(Refusal::E22 { t, count }),
+        Err(ComposeStop::NoVersion { count }) => Some(Refusal::E23 { count }),
+        Err(ComposeStop::NoMemory) => unreachable!(),
+    }
+}
+
+/// The rows of a program over past versions.
+fn rows_over(
+    alloc: Global,
+    versions: &[VersionTable],
+    program: &PProgram,
+) -> Result<Vec<Row>, ExecStop>
+    requires { is_well_built (program_view program.now) ≡ true }
+    ensures { RunsOver (λ found. found.items) result
+        (encoded (as_of plain versions.now)) (program_view program.now) }
+{
+    asked_scans_suffice();
+    let asked = scans(alloc, program)?;
+    let env = env_at(alloc, versions, &asked)?;
+    run(alloc, program, &env)
+}
+
+/// The transaction of a state that the log has, or 0 for a version.
+fn transaction_at(log: &Log, state: State) -> u32
+    requires { m.log_refusal (log_view log.now.entries) (state_view state) ≡ None }
+    ensures { result ≡ r.transaction_at (state_view state) }
+{
+    // A log numbers its transactions by 32 bits. That is known of it where it is asked for their number.
+    let _count = log.transactions();
+    match state {
+        State::AsOf { .. } => 0,
+        State::After { t, .. } | State::Commit { t } => t as u32,
+    }
+}
+
+/// The refusal of a state of this transaction whose program stops.
+fn stopped(t: u32, stop: ExecStop) -> ReenactStop
+    ensures { result ≡ r.stopped t stop }
+{
+    match stop {
+        ExecStop::Rows { j } => ReenactStop::Refused(Refusal::E25 { t, k: j }),
+        ExecStop::Ancestry { j } => ReenactStop::Refused(Refusal::E26 { t, k: j }),
+        ExecStop::Answer => ReenactStop::Refused(Refusal::E27),
+        ExecStop::NoMemory => ReenactStop::NoMemory,
+    }
+}
+
+/// The refusal of a state that has no program.
+fn uncomposed(stop: ComposeStop) -> ReenactStop
+    ensures { result ≡ r.uncomposed stop }
+{
+    match stop {
+        ComposeStop::Unknown { t } => ReenactStop::Refused(Refusal::E20 { t }),
+        ComposeStop::NotCommitted { t, fate } => ReenactStop::Refused(Refusal::E21 { t, fate }),
+        ComposeStop::NoStatement { t, count } => ReenactStop::Refused(Refusal::E22 { t, count }),
+        ComposeStop::NoVersion { count } => ReenactStop::Refused(Refusal::E23 { count }),
+        ComposeStop::NoMemory => ReenactStop::NoMemory,
+    }
+}
+
+/// A program without columns for provenance.
+fn plain_program(alloc: Global, log: &Log, program: &AProgram) -> Result<PProgram, ReenactStop>
+    ensures { Plans program_view result None (to.plain_program
+        (width_of (tables_in (log_view log.now.entries))) false
+        (annotated_program_view program.now)) }
+{
+    Ok(to_plain(alloc, program, log.catalog(), false)?)
+}
+
+/// The plain program of a query over a state, if the log has the state.
+fn planned(alloc: Global, log: &Log, state: State, select: &Select) -> Result<PProgram, ReenactStop>
+    requires fits { select_fits (tables_in (log_view log.now.entries))
+        (select_view select.now) ≡ true }
+    requires statements { statements_fit (tables_in (log_view log.now.entries))
+        (log_view log.now.entries) ≡ true }
+    ensures { Plans program_view result (m.log_refusal (log_view log.now.entries) (state_view state))
+        (to.plain_program (width_of (tables_in (log_view log.now.entries))) false
+        (program_at (width_of (tables_in (log_view log.now.entries)))
+        (log_view log.now.entries) (state_view state) (select_view select.now))) }
+{
+    // What may fail borrows the program, which has many parts: each way out that owns it lets them all go.
+    match program(alloc, log, state, select) {
+        Ok(program) => plain_program(alloc, log, &program),
+        Err(stop) => Err(uncomposed(stop)),
+    }
+}
+
+/// The rows of a query over a state, in no particular order: a version, what a transaction saw after one of its statements, or
+/// what its commit published. The log and the row versions have been checked against the tables of the log, and so has the query.
+///
+/// Refused as [`log_refusal`] refuses the state; else if a statement of the transaction leaves more rows in its table than a
+/// statement may (E25) or makes an identity of too many nodes (E26), by the first such statement, and in one statement the rows
+/// first; else if the answer has more than [`MAX_ANSWER_ROWS`](gp_exec::MAX_ANSWER_ROWS) rows (E27).
+pub fn reenact(
+    alloc: Global,
+    log: &Log,
+    versions: &[VersionTable],
+    state: State,
+    select: &Select,
+) -> Result<Vec<Row>, ReenactStop>
+    requires fits { select_fits (tables_in (log_view log.now.entries))
+        (select_view select.now) ≡ true }
+    requires statements { statements_fit (tables_in (log_view log.now.entries))
+        (log_view log.now.entries) ≡ true }
+    requires spans { SpansFit (tables_in (log_view log.now.entries)) (spans_of versions.now) }
+    ensures { Reenacts (λ rows. rows.items) result
+        (rows_answer limits (log_view log.now.entries) (spans_of versions.now)
+        (state_view state) (select_view select.now)) }
+{
+    let plain = planned(alloc, log, state, select)?;
+    match rows_over(alloc, versions, &plain) {
+        Ok(rows) => Ok(rows),
+        Err(stop) => Err(stopped(transaction_at(log, state), stop)),
+    }
+}
