@@ -1,10 +1,7 @@
 -- The answers of the dump of a history are those that the history held.
-use Rattle.std.proofs.Common.{◌≡◌, ℕ, List, [], ◌∷◌, length, Option, Some, None, Result, Ok, Err, refl, sym, ap, ◌∙◌}
-use Rattle.std.specs.List.{concat, flat_map}
+use Rattle.std.proofs.Common.{◌≡◌, ℕ, List, Option, Some, None, Result, Ok, Err, refl, sym, ap, ◌∙◌}
 use Rattle.std.specs.List.Sorted.{IsPermutation, IsSorted}
-use Rattle.std.specs.Fmt.{decimal}
-use Rattle.std.specs.Prelude.{codes}
-use Rattle.std.proofs.lemmas.List.Sorted.{IsPermutation-map, IsPermutation-trans, length_permutation}
+use Rattle.std.proofs.lemmas.List.Sorted.{IsPermutation-map, IsPermutation-trans}
 use Rattle.gp_base.specs.declared.cell.Cell.{Cell}
 use Rattle.gp_base.specs.declared.refusal.Refusal.{Refusal}
 use Rattle.gp_base.specs.declared.table.Table.{Table}
@@ -19,7 +16,6 @@ use Rattle.gp_log.specs.LogFacts.{tables_in}
 use Rattle.gp_machine.specs.Event.{Line, after}
 use Rattle.gp_machine.specs.Questions.{AreAlike, held_answer, log_refusal, rows_answer}
 use Rattle.gp_machine.specs.State.{State, start}
-use Rattle.gp_script.specs.Replies.{newline, row_line}
 use Rattle.gp_dump.specs.Dumps.{dump_of}
 use Rattle.gp_ask.specs.declared.answered.Answered.TheVariants.{Refused, Rows}
 use Rattle.gp_ask.specs.Answers.{answer_to, checked_answer, held_to, of_elements, query_answer, spans_at}
@@ -45,19 +41,11 @@ module _ (sorts : SortsRows) (number : ℕ) where
   same-sorted rows others moved =
       sorts.unique rows (sorted_by row_cmp others) (IsPermutation-trans rows others (sorted_by row_cmp others) moved (sorts.permutation others)) (sorts.sorted others)
 
-  rows-text : (count : ℕ) (rows : List (List Cell)) → List ℕ
-  rows-text count rows =
-      concat (decimal number ∷ codes " " ∷ concat (codes "rows " ∷ decimal count ∷ newline ∷ flat_map row_line rows ∷ []) ∷ [])
-
-  alike-rows : (rows others : List (List Cell)) → IsPermutation rows others → answer_text number (Rows rows) ≡ answer_text number (Rows others)
-  unfolding rows-text
-  alike-rows rows others moved =
-      ap (λ n. rows-text n (sorted_by row_cmp rows)) (sym (length_permutation rows others moved))
-      ∙ ap (rows-text (length others)) (sym (same-sorted rows others moved))
-
   -- answers that are alike have the same text
   alike : {M : Type 0} (answer other : Result (List (Element M)) Refusal) → AreAlike answer other → answer_text number (of_elements answer) ≡ answer_text number (of_elements other)
-  alike (Ok elements) (Ok others) same = alike-rows (cells_of elements) (cells_of others) (IsPermutation-map (λ element. element.cells) elements others same)
+  alike (Ok elements) (Ok others) same =
+      ap (λ (rows : List (List Cell)). answer_text number (Rows rows))
+      (sym (same-sorted (cells_of elements) (cells_of others) (IsPermutation-map (λ element. element.cells) elements others same)))
   alike (Err refusal) (Err other) same = ap (λ (r : Refusal). answer_text number (Refused r)) same
   alike (Ok elements) (Err other) same = absurd same
   alike (Err refusal) (Ok others) same = absurd same
@@ -72,17 +60,15 @@ module _ (sorts : SortsRows) (number : ℕ) where
     alike-query (Some refusal) checked = refl
 
   module _ (state : State (Unit {0})) (tables : tables_in state.entries ≡ state.catalogue) (answers : AnswersRows state) where
-    rows-held : (version : ℕ) (query : y.Query) → answer_text number (answer_to (dump_of state) (y.ask y.rows (y.as_of version) query)) ≡ answer_text number (held_to state (y.ask y.rows (y.as_of version) query))
-    rows-held version query =
-        ap (λ (catalogue : List Table). answer_text number (query_answer (rows_answer limits state.entries (spans_at (dump_of state).tables) (y.as_of version)) (log_refusal state.entries (y.as_of version)) (checked_query catalogue query))) tables
-        ∙ alike-query (rows_answer limits state.entries (spans_at (dump_of state).tables) (y.as_of version)) (held_answer plain limits state (y.as_of version)) (answers (y.as_of version)) (log_refusal state.entries (y.as_of version)) (checked_query state.catalogue query)
+    rows-held : (point : y.State) (query : y.Query) → answer_text number (answer_to (dump_of state) (y.ask y.rows point query)) ≡ answer_text number (held_to state (y.ask y.rows point query))
+    rows-held point query =
+        ap (λ (catalogue : List Table). answer_text number (query_answer (rows_answer limits state.entries (spans_at (dump_of state).tables) point) (log_refusal state.entries point) (checked_query catalogue query))) tables
+        ∙ alike-query (rows_answer limits state.entries (spans_at (dump_of state).tables) point) (held_answer plain limits state point) (answers point) (log_refusal state.entries point) (checked_query state.catalogue query)
 
     pub held : (question : y.Question) → answer_text number (answer_to (dump_of state) question) ≡ answer_text number (held_to state question)
     held (y.log t) = refl
     held (y.versions name) = refl
-    held (y.ask y.rows (y.as_of version) query) = rows-held version query
-    held (y.ask y.rows (y.after t k) query) = refl
-    held (y.ask y.rows (y.State.commit t) query) = refl
+    held (y.ask y.rows point query) = rows-held point query
     held (y.ask y.provenance state' query) = refl
     held (y.ask (y.explain provenance) state' query) = refl
     held (y.ask (y.value semiring rules other) state' query) = refl
@@ -105,18 +91,16 @@ module _ {M : Type 0} (answer other : Select → Result (List (Element M)) Refus
   query-refused (Some refusal) checked = refl
 
 module _ (state : State (Unit {0})) (tables : tables_in state.entries ≡ state.catalogue) (answers : AnswersRows state) where
-  rows-refused : (version : ℕ) (query : y.Query) → is_refused (answer_to (dump_of state) (y.ask y.rows (y.as_of version) query)) ≡ is_refused (held_to state (y.ask y.rows (y.as_of version) query))
-  rows-refused version query =
-      ap (λ (catalogue : List Table). is_refused (query_answer (rows_answer limits state.entries (spans_at (dump_of state).tables) (y.as_of version)) (log_refusal state.entries (y.as_of version)) (checked_query catalogue query))) tables
-      ∙ query-refused (rows_answer limits state.entries (spans_at (dump_of state).tables) (y.as_of version)) (held_answer plain limits state (y.as_of version)) (answers (y.as_of version)) (log_refusal state.entries (y.as_of version)) (checked_query state.catalogue query)
+  rows-refused : (point : y.State) (query : y.Query) → is_refused (answer_to (dump_of state) (y.ask y.rows point query)) ≡ is_refused (held_to state (y.ask y.rows point query))
+  rows-refused point query =
+      ap (λ (catalogue : List Table). is_refused (query_answer (rows_answer limits state.entries (spans_at (dump_of state).tables) point) (log_refusal state.entries point) (checked_query catalogue query))) tables
+      ∙ query-refused (rows_answer limits state.entries (spans_at (dump_of state).tables) point) (held_answer plain limits state point) (answers point) (log_refusal state.entries point) (checked_query state.catalogue query)
 
   -- the dump refuses a question where the history did
   pub held-refused : (question : y.Question) → is_refused (answer_to (dump_of state) question) ≡ is_refused (held_to state question)
   held-refused (y.log t) = refl
   held-refused (y.versions name) = refl
-  held-refused (y.ask y.rows (y.as_of version) query) = rows-refused version query
-  held-refused (y.ask y.rows (y.after t k) query) = refl
-  held-refused (y.ask y.rows (y.State.commit t) query) = refl
+  held-refused (y.ask y.rows point query) = rows-refused point query
   held-refused (y.ask y.provenance state' query) = refl
   held-refused (y.ask (y.explain provenance) state' query) = refl
   held-refused (y.ask (y.value semiring rules other) state' query) = refl

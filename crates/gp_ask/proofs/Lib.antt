@@ -1,7 +1,7 @@
 mod HeldLemmas
 mod LogLemmas
 mod ReadLemmas
-mod SnapshotLemmas
+mod ReenactedLemmas
 mod SpanLemmas
 mod TableLemmas
 mod TargetLemmas

@@ -1,10 +1,12 @@
 -- Part of the statement: the answer to a question, from a dump alone, and the answer that the history of a script held. A question is refused by the
--- first that applies: its version or transaction is not in the log, the check of its query, the number of its rows.
+-- first that applies: its version, transaction or statement is not in the log, the check of its query, a limit that the statements of its transaction
+-- pass, the number of its rows.
 use Rattle.std.specs.Prelude.{ℕ, Bool, false, List, [], map, filter, reverse, Option, Some, None, Result, Ok, Err, if◌then◌else◌, ◌==◌, slice_index_or}
 use Rattle.gp_base.specs.declared.refusal.Refusal.{Refusal}
 use Rattle.gp_base.specs.declared.refusal.Refusal.TheVariants.{E04, E20, NotBuilt}
 use Rattle.gp_base.specs.Annotated.{plain}
 use Rattle.gp_base.specs.Catalogs.{place_of}
+use Rattle.gp_base.specs.Order.{row_cmp, sorted_by}
 use Rattle.gp_grammar.specs.Syntax as y
 use Rattle.gp_versions.specs.declared.span.Span.{Span}
 use Rattle.gp_algebra.specs.Answers.{Element, cells_of}
@@ -45,8 +47,9 @@ versions_answer name tables (Some place) = Versions (map span_text (spans_at tab
 
 -- ---- queries
 
+-- the rows are in row order, each as often as it occurs
 abbrev pub of_elements : {M : Type 0} → Result (List (Element M)) Refusal → Answered
-of_elements (Ok elements) = Rows (cells_of elements)
+of_elements (Ok elements) = Rows (sorted_by row_cmp (cells_of elements))
 of_elements (Err refusal) = Refused refusal
 
 -- a query that was checked, given what answers it
@@ -64,13 +67,13 @@ query_answer answer None checked = checked_answer answer checked
 abbrev pub answer_to : Dump → y.Question → Answered
 answer_to dump (y.log t) = log_answer t dump.entries
 answer_to dump (y.versions name) = versions_answer name dump.tables (place_of name (tables_in dump.entries))
-answer_to dump (y.ask y.rows (y.as_of version) query) =
-    query_answer (rows_answer limits dump.entries (spans_at dump.tables) (y.as_of version)) (log_refusal dump.entries (y.as_of version))
-    (checked_query (tables_in dump.entries) query)
-answer_to dump (y.ask how state query) = Refused NotBuilt
+answer_to dump (y.ask y.rows point query) =
+    query_answer (rows_answer limits dump.entries (spans_at dump.tables) point) (log_refusal dump.entries point) (checked_query (tables_in dump.entries) query)
+answer_to dump (y.ask how point query) = Refused NotBuilt
 
--- the answer that a history held: its log and its row versions are those of its dump, its rows those that it committed
+-- The answer that a history held: its log and its row versions are those of its dump, its rows those that a commit published, or that a transaction saw
+-- after one of its statements.
 abbrev pub held_to : State (Unit {0}) → y.Question → Answered
-held_to state (y.ask y.rows (y.as_of version) query) =
-    query_answer (held_answer plain limits state (y.as_of version)) (log_refusal state.entries (y.as_of version)) (checked_query state.catalogue query)
+held_to state (y.ask y.rows point query) =
+    query_answer (held_answer plain limits state point) (log_refusal state.entries point) (checked_query state.catalogue query)
 held_to state question = answer_to (dump_of state) question

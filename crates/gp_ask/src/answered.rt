@@ -7,7 +7,7 @@ use gp_base::{Refusal, Row, Sequence, Text};
 /// The answer to a question.
 #[derive(Drop)]
 pub enum Answered {
-    /// The rows of a query, in no particular order.
+    /// The rows of a query, in row order, each as often as it occurs.
     Rows(Sequence<Row>),
     /// The lines of a log, in order.
     Log(Sequence<Text>),

@@ -1,11 +1,12 @@
 //! Answering questions.
 
-ghost use Rattle.std.specs.Prelude.{◌≡◌, true, length, IfOk};
+ghost use Rattle.std.specs.Prelude.{◌≡◌, true, IfOk};
 ghost use Rattle.gp_grammar.specs.LineReading.{question_of};
 ghost use Rattle.gp_grammar.specs.Syntax as y;
 ghost use Rattle.gp_syntax.specs.Views.{how_view, query_view, question_view, state_view};
 ghost use Rattle.gp_check.specs.Valid.{query_is_valid, tables_are_valid};
 ghost use Rattle.gp_log.specs.LogFacts.{tables_in};
+ghost use Rattle.gp_dump.specs.Dumps.{IsDump};
 ghost use Rattle.gp_dump.specs.Views.{dump_view};
 ghost use Rattle.gp_ask.specs.Answerable.{question_is_valid};
 ghost use Rattle.gp_ask.specs.Answers.{answer_to};
@@ -20,7 +21,7 @@ use gp_dump::Dump;
 use gp_syntax::{How, Query, Question, ReadStop, State, read_question};
 use std::alloc::Global;
 
-/// Answers a query: only for its rows, and only over a version.
+/// Answers a query, if only its rows are asked.
 fn ask_answer(
     alloc: Global,
     dump: &Dump,
@@ -28,29 +29,29 @@ fn ask_answer(
     state: State,
     query: &Query,
 ) -> Result<Answered, NoMemory>
-    requires tables { length dump.now.versions
-        ≡ length (tables_in (dump_view dump.now).entries) }
+    requires rules { IsDump (dump_view dump.now) }
     requires valid { tables_are_valid (tables_in (dump_view dump.now).entries) ≡ true }
     requires query { query_is_valid (query_view query.now) ≡ true }
     ensures { IfOk result (λ answered. answered ≡ answer_to (dump_view dump.now)
         (y.ask (how_view how.now) (state_view state) (query_view query.now))) }
 {
-    match (how, state) {
-        (How::Rows, State::AsOf { v }) => query_answer(alloc, dump, v, query),
+    match how {
+        How::Rows => query_answer(alloc, dump, state, query),
         _ => Ok(Answered::Refused(Refusal::NotBuilt)),
     }
 }
 
-/// Answers a question that was read ([`gp_check::read_questions_are_valid`]) from a dump that was read: its tables have columns,
-/// and each has its row versions.
+/// Answers a question that was read ([`gp_check::read_questions_are_valid`]) from a dump that was read: it keeps the rules of
+/// dumps, and its tables have columns.
 ///
 /// LOG is refused if no transaction has the number (E20), VERSIONS if no table has the name (E04). AS OF is refused if there is no
-/// such version (E23), by the check of its query (E04 to E07, E15), or if the answer has more than
-/// [`MAX_ANSWER_ROWS`](gp_exec::MAX_ANSWER_ROWS) rows (E27), in this order. All other questions are refused as not supported.
-/// Running out of memory is the only error.
+/// such version (E23), REENACT if there is no such transaction (E20), it did not commit (E21) or has no such statement (E22).
+/// Both are then refused by the check of their query (E04 to E07, E15), REENACT also if a statement of the transaction leaves
+/// more rows in its table than a statement may (E25) or makes an identity of too many nodes (E26), which no dump of a history
+/// does, and both if the answer has more than [`MAX_ANSWER_ROWS`](gp_exec::MAX_ANSWER_ROWS) rows (E27), in this order. All other
+/// questions are refused as not supported. Running out of memory is the only error.
 pub fn answer(alloc: Global, dump: &Dump, question: &Question) -> Result<Answered, NoMemory>
-    requires tables { length dump.now.versions
-        ≡ length (tables_in (dump_view dump.now).entries) }
+    requires rules { IsDump (dump_view dump.now) }
     requires valid { tables_are_valid (tables_in (dump_view dump.now).entries) ≡ true }
     requires question { question_is_valid (question_view question.now) ≡ true }
     ensures { IfOk result (λ answered. answered
@@ -66,8 +67,7 @@ pub fn answer(alloc: Global, dump: &Dump, question: &Question) -> Result<Answere
 /// Answers a line of a file of questions from a dump. A line that is no question is refused as
 /// [`read_question`](gp_syntax::read_question) refuses it, any other as [`answer`] does. Running out of memory is the only error.
 pub fn answer_line(alloc: Global, dump: &Dump, line: &[u8]) -> Result<Answered, NoMemory>
-    requires tables { length dump.now.versions
-        ≡ length (tables_in (dump_view dump.now).entries) }
+    requires rules { IsDump (dump_view dump.now) }
     requires valid { tables_are_valid (tables_in (dump_view dump.now).entries) ≡ true }
     ensures { IfOk result (λ found. found
         ≡ answered (answer_to (dump_view dump.now)) (question_of line.now)) }

@@ -16,7 +16,8 @@ use gp_base::sorting_is_unique;
 use gp_machine::{commits_publish_the_spans, questions_are_answered_by_the_history};
 
 /// The dump of a history answers every question as the history held it, in the same text, and refuses it where the history
-/// did: the rows of a past version are those that its commit published, whatever was written since.
+/// did: the rows of a past version are those that its commit published, whatever was written since, and the statements of a
+/// transaction, run again over the versions that it read, give the rows that it saw. They never pass a limit.
 pub fn histories_answer_as_their_dumps()
     ensures texts { (lines : List Line) (question : y.Question) (number : ℕ)
         → answer_text number (answer_to (dump_of (after plain limits start lines)) question)

@@ -1,14 +1,16 @@
 //! Questions to a dump, and their answers.
 //!
 //! [`answer_line`] reads a question and answers it from a [`Dump`](gp_dump::Dump) alone: neither the script nor the engine
-//! that made the dump is needed. LOG and VERSIONS print lines of the dump, and AS OF answers a query over the rows of a past
-//! version. All other questions are refused as not supported. The answers are those that the history itself would have
-//! given: so says the law [`histories_answer_as_their_dumps`].
+//! that made the dump is needed. LOG and VERSIONS print lines of the dump, AS OF answers a query over the rows of a past
+//! version, and REENACT over those that a transaction saw after one of its statements, or that its commit published. All other
+//! questions are refused as not supported. The answers are those that the history itself would have given: so says the law
+//! [`histories_answer_as_their_dumps`].
 //!
 //! In reading order: [`Answered`] is the answer to a question, [`answer`] answers a question that was read, [`answer_line`]
 //! a line, and [`write_answer`] writes the answer. In `specs/`, `Answers` says what the answer is, `Questions` which answers
 //! the lines of a file get, and `Texts` how they are written. Inside, `logs` answers LOG, `row_versions` VERSIONS, and
-//! `queries` AS OF.
+//! `queries` AS OF
+//! and REENACT.
 //!
 //! ```text
 //! let answered = answer_line(alloc, &dump, b"as of 2 select * from acct")?;

@@ -5,6 +5,7 @@ ghost use Rattle.gp_check.specs.Valid.{tables_are_valid};
 ghost use Rattle.gp_log.specs.LogFacts.{tables_in};
 ghost use Rattle.gp_ask.specs.Answers.{answer_to};
 ghost use Rattle.gp_ask.specs.Questions.{answers_text, has_refused, is_refused, line_answer, line_answer_text};
+ghost use Rattle.gp_dump.specs.Dumps.{IsDump};
 ghost use Rattle.gp_dump.specs.Views.{dump_view};
 ghost use Rattle.gprom_cli.specs.Args.{Ask};
 ghost use Rattle.gprom_cli.specs.Call.{HasContent, HasOutcome, WritesOutput, answered_status};
@@ -30,8 +31,7 @@ struct LineAnswer {
 
 /// Answers a line of questions.
 fn answered(alloc: Global, dump: &Dump, number: u32, bytes: &[u8]) -> Result<LineAnswer, NoMemory>
-    requires tables { length dump.now.versions
-        ≡ length (tables_in (dump_view dump.now).entries) }
+    requires rules { IsDump (dump_view dump.now) }
     requires valid { tables_are_valid (tables_in (dump_view dump.now).entries) ≡ true }
     ensures text { IfOk result (λ answer. answer.text.items
         ≡ line_answer_text (answer_to (dump_view dump.now)) (number, bytes.now)) }
@@ -53,8 +53,7 @@ fn write_line<K: Sink>(
     bytes: &[u8],
     out: &mut K,
 ) -> Result<bool, SinkStop>
-    requires tables { length dump.now.versions
-        ≡ length (tables_in (dump_view dump.now).entries) }
+    requires rules { IsDump (dump_view dump.now) }
     requires valid { tables_are_valid (tables_in (dump_view dump.now).entries) ≡ true }
     ensures { WritesAnswers (line_answer_text (answer_to (dump_view dump.now)) (number, bytes.now))
         (is_refused (line_answer (answer_to (dump_view dump.now)) (number, bytes.now)))
@@ -76,8 +75,7 @@ fn write_lines<K: Sink>(
     questions: &[u8],
     out: &mut K,
 ) -> Result<bool, SinkStop>
-    requires tables { length dump.now.versions
-        ≡ length (tables_in (dump_view dump.now).entries) }
+    requires rules { IsDump (dump_view dump.now) }
     requires valid { tables_are_valid (tables_in (dump_view dump.now).entries) ≡ true }
     requires short { length questions.now ≤ MAX_SCRIPT_LENGTH }
     ensures { WritesAnswers (answers_text (answer_to (dump_view dump.now)) questions.now)
@@ -94,8 +92,7 @@ fn write_lines<K: Sink>(
 
 /// Answers questions from a dump that is well formed.
 fn write_answers<K: Sink>(alloc: Global, dump: &Dump, questions: &[u8], out: &mut K) -> Status
-    requires tables { length dump.now.versions
-        ≡ length (tables_in (dump_view dump.now).entries) }
+    requires rules { IsDump (dump_view dump.now) }
     requires valid { tables_are_valid (tables_in (dump_view dump.now).entries) ≡ true }
     requires short { length questions.now ≤ MAX_SCRIPT_LENGTH }
     ensures { WritesOutput (answers_text (answer_to (dump_view dump.now)) questions.now)

@@ -9,7 +9,8 @@
 //! ```
 //!
 //! Reading order: `call.rt` (a call and how it ends), `written.rt` (the dumps of scripts), `questions.rt` (answers from a dump),
-//! `damage.rt` (dumps that are refused), `outside.rt` (arguments, files and output that fail), `travel.rt` (the rows of past versions).
+//! `reenacting.rt` (past transactions replayed), `damage.rt` (dumps that are refused), `outside.rt` (arguments, files and output that
+//! fail), `travel.rt` (the rows of past versions).
 #![tactic(auto)]
 
 #[cfg(test)]
@@ -20,6 +21,8 @@ mod damage;
 mod outside;
 #[cfg(test)]
 mod questions;
+#[cfg(test)]
+mod reenacting;
 #[cfg(test)]
 mod travel;
 #[cfg(test)]

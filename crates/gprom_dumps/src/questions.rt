@@ -5,21 +5,22 @@ use std::alloc::{AllocError, Global};
 use std::test::Fail;
 
 /// Two transactions write one row; the first committer wins. Two more transactions do not commit.
-const LOST_UPDATE: &[u8] =
+pub const LOST_UPDATE: &[u8] =
     b"s1: CREATE TABLE r (a INT, b INT)\ns1: BEGIN\ns1: INSERT INTO r VALUES (1, 10), (2, 20)\ns1: COMMIT\ns1: BEGIN\ns2: BEGIN\ns1: UPDATE r SET b = b + 1 WHERE a = 1\ns2: UPDATE r SET b = 10 WHERE a = 1\ns1: COMMIT\ns2: COMMIT\ns1: BEGIN\ns1: ROLLBACK\ns3: BEGIN\n";
 
 /// The same row is written twice, with an equal value.
 const EQUAL_VALUES: &[u8] =
     b"s1: CREATE TABLE r (a INT, b INT)\ns1: BEGIN\ns1: INSERT INTO r VALUES (1, 10), (2, 20)\ns1: COMMIT\ns1: BEGIN\ns2: BEGIN\ns1: UPDATE r SET b = b WHERE a = 1\ns2: UPDATE r SET b = 10 WHERE a = 1\ns1: COMMIT\ns2: COMMIT\n";
 
-const BANK: &[u8] =
+/// A bank: transfers, interest, a lost DELETE and rows computed from rows.
+pub const BANK: &[u8] =
     b"s1: CREATE TABLE acct (id INT, bal INT)\ns1: CREATE TABLE owner (id INT, name TEXT)\ns1: CREATE TABLE audit (id INT, amt INT)\ns1: BEGIN\ns1: INSERT INTO acct VALUES (1, 100), (2, 50), (3, 0)\ns1: INSERT INTO owner VALUES (1, 'Ann'), (2, 'Bo'), (3, 'Cy')\ns1: COMMIT\ns2: BEGIN\ns3: BEGIN\ns2: UPDATE acct SET bal = bal - 30 WHERE id = 1\ns3: UPDATE acct SET bal = bal + 7 WHERE id = 3\ns2: UPDATE acct SET bal = bal + 30 WHERE id = 2\ns2: INSERT INTO audit SELECT id, bal FROM acct WHERE id <= 2\ns2: SELECT * FROM acct\ns2: COMMIT\ns3: SELECT * FROM acct\ns3: COMMIT\ns4: BEGIN\ns5: BEGIN\ns4: UPDATE acct SET bal = bal + 1\ns5: DELETE FROM acct WHERE bal < 10\ns4: COMMIT\ns5: COMMIT\ns5: BEGIN\ns5: INSERT INTO acct SELECT x.id + 10, x.bal + y.amt FROM acct x, audit y WHERE x.id = y.id\ns5: SELECT o.name, x.bal FROM owner o, acct x WHERE o.id = x.id\ns5: COMMIT\ns2: BEGIN\ns2: DELETE FROM owner WHERE name = 'Cy'\ns2: ROLLBACK\n";
 
 const BANK_QUESTIONS: &[u8] =
     b"VERSIONS OF audit\n> 1 versions 2\n>   2.3.1(1.1.1) 2 - 1, 70\n>   2.3.1(1.1.2) 2 - 2, 80\nAS OF 1 SELECT * FROM acct\n> 2 rows 3\n>   1, 100\n>   2, 50\n>   3, 0\nAS OF 3 SELECT o.name, x.bal FROM owner o, acct x WHERE o.id = x.id\n> 3 rows 3\n>   'Ann', 70\n>   'Bo', 80\n>   'Cy', 7\nAS OF 5 SELECT * FROM acct WHERE id > 10\n> 4 rows 2\n>   11, 141\n>   12, 161\nAS OF 5 SELECT * FROM owner\n> 5 rows 3\n>   1, 'Ann'\n>   2, 'Bo'\n>   3, 'Cy'\nLOG 6\n> 6 log 4\n>   24 s5 BEGIN\n>   25 s5 INSERT INTO acct SELECT (x.id + 10), (x.bal + y.amt) FROM acct x, audit y WHERE (x.id = y.id)\n>   26 s5 SELECT o.name, x.bal FROM owner o, acct x WHERE (o.id = x.id)\n>   27 s5 COMMIT\n";
 
 /// A script, questions to its dump with their answers, and the status.
-type Asked = (&'static [u8], &'static [u8], u8);
+pub type Asked = (&'static [u8], &'static [u8], u8);
 
 const ASKED: &[Asked] = &[
     // What the log says of transactions; transaction 0 is none.
@@ -74,7 +75,7 @@ const ASKED: &[Asked] = &[
     // These come with later versions of the program.
     (
         LOST_UPDATE,
-        b"REENACT 2 AFTER 1 SELECT * FROM r\n> 1 E29 not built\nREENACT 9 COMMIT SELECT * FROM t\n> 2 E29 not built\nPROVENANCE OF AS OF 9 SELECT * FROM r\n> 3 E29 not built\nEXPLAIN AS OF 1 SELECT * FROM r\n> 4 E29 not built\nVALUE IN COUNT OF AS OF 1 SELECT * FROM r\n> 5 E29 not built\nAS OF 1 SELECT * FROM r, r, r, r, r\n> 6 E14 limit from\n",
+        b"PROVENANCE OF REENACT 2 AFTER 1 SELECT * FROM r\n> 1 E29 not built\nEXPLAIN REENACT 9 COMMIT SELECT * FROM t\n> 2 E29 not built\nPROVENANCE OF AS OF 9 SELECT * FROM r\n> 3 E29 not built\nEXPLAIN AS OF 1 SELECT * FROM r\n> 4 E29 not built\nVALUE IN COUNT OF AS OF 1 SELECT * FROM r\n> 5 E29 not built\nAS OF 1 SELECT * FROM r, r, r, r, r\n> 6 E14 limit from\n",
         1,
     ),
 ];
@@ -108,7 +109,8 @@ fn are_answered(
     Ok(actual == status && out.bytes() == answers)
 }
 
-fn plays(alloc: Global, asked: &Asked) -> Result<bool, AllocError> {
+/// Whether the dump of a script gives the answers of a transcript.
+pub fn plays(alloc: Global, asked: &Asked) -> Result<bool, AllocError> {
     let (script, transcript, status) = asked;
     let mut questions = Vec::new(alloc);
     let mut answers = Vec::new(alloc);
@@ -125,19 +127,20 @@ fn questions_are_answered(rt: HostRuntime) -> Result<(), Fail> {
 }
 
 /// The dump of a lost update, with another value in one cell of version 2.
-const ALTERED: &[u8] =
+pub const ALTERED: &[u8] =
     b"gprom-dump 1\nlog 10\n1 s1 CREATE TABLE r (a INT, b INT)\n2 s1 BEGIN\n3 s1 INSERT INTO r VALUES (1, 10), (2, 20)\n4 s1 COMMIT\n5 s1 BEGIN\n6 s2 BEGIN\n7 s1 UPDATE r SET b = (b + 1) WHERE (a = 1)\n8 s2 UPDATE r SET b = 10 WHERE (a = 1)\n9 s1 COMMIT\n10 s2 LOST\ntable r 3\n1.1.1 1 2 1, 10\n1.1.1 2 - 1, 12\n1.1.2 1 - 2, 20\nend\n";
 
-/// Whether `ask` on this dump gives these answers.
-fn dump_answers(
+/// Whether `ask` on this dump gives these answers, with this status.
+pub fn dump_answers(
     alloc: Global,
     dump: &[u8],
     questions: &[u8],
     answers: &[u8],
+    status: u8,
 ) -> Result<bool, AllocError> {
     let mut shelf = shelf_of(alloc, &[("D", dump), ("Q", questions)], &[])?;
-    let (status, out) = called(alloc, ASK, &mut shelf, &[])?;
-    Ok(status == 0 && out.bytes() == answers)
+    let (actual, out) = called(alloc, ASK, &mut shelf, &[])?;
+    Ok(actual == status && out.bytes() == answers)
 }
 
 /// Past rows are those of the dump, whatever its statements would give.
@@ -145,7 +148,7 @@ fn dump_answers(
 fn rows_are_those_of_the_dump(rt: HostRuntime) -> Result<(), Fail> {
     let questions = b"AS OF 2 SELECT * FROM r\n";
     let answers = b"1 rows 2\n  1, 12\n  2, 20\n";
-    assert!(rt; dump_answers(rt.alloc(), ALTERED, questions, answers)?);
+    assert!(rt; dump_answers(rt.alloc(), ALTERED, questions, answers, 0)?);
     Ok(())
 }
 
@@ -162,7 +165,7 @@ fn push_insert(alloc: Global, line: u32, dump: &mut Vec<u8>) -> Result<(), Alloc
 }
 
 /// A dump whose one transaction would insert 10,100 rows if its statements ran.
-fn exploding_dump(alloc: Global) -> Result<Vec<u8>, AllocError> {
+pub fn exploding_dump(alloc: Global) -> Result<Vec<u8>, AllocError> {
     let mut dump = Vec::from_slice(
         alloc,
         b"gprom-dump 1\nlog 105\n1 s1 CREATE TABLE r (a INT, b INT)\n2 s1 BEGIN\n",
@@ -182,7 +185,7 @@ fn statements_of_a_dump_are_not_run(rt: HostRuntime) -> Result<(), Fail> {
     let dump = exploding_dump(rt.alloc())?;
     let questions = b"AS OF 1 SELECT * FROM r\nVERSIONS OF r\n";
     let answers = b"1 rows 1\n  1, 10\n2 versions 1\n  1.1.1 1 - 1, 10\n";
-    assert!(rt; dump_answers(rt.alloc(), &dump, questions, answers)?);
+    assert!(rt; dump_answers(rt.alloc(), &dump, questions, answers, 0)?);
     Ok(())
 }
 

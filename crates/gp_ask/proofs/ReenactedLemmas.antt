@@ -1,0 +1,36 @@
+-- The rows that reenactment gives, in row order, are the answer.
+use Rattle.std.proofs.Common.{◌≡◌, List, Result, Ok, Err, sym, ap}
+use Rattle.std.specs.List.Sorted.{IsPermutation}
+use Rattle.std.proofs.Math.ListN.{get_or-map}
+use Rattle.std.proofs.lemmas.List.Sorted.{IsPermutation-sym, IsPermutation-trans}
+use Rattle.gp_base.specs.declared.cell.Cell.{Cell}
+use Rattle.gp_base.specs.declared.refusal.Refusal.{Refusal}
+use Rattle.gp_base.specs.Order.{row_cmp, sorted_by}
+use Rattle.gp_base.proofs.OrderLemmas.{rows_permuted, rows_sorted, sorted_rows_unique}
+use Rattle.gp_algebra.specs.Answers.{Element, cells_of}
+use Rattle.gp_travel.specs.Travel.{no_table}
+use Rattle.gp_versions.specs.Spans.{Versions}
+use Rattle.gp_reenact.specs.declared.error.ReenactStop.TheVariants as stop
+use Rattle.gp_reenact.specs.Reenacting.{Reenacts, spans_of}
+use Rattle.gp_dump.specs.Views.{tables_view}
+use Rattle.gp_ask.specs.declared.answered.Answered.TheVariants.{Refused, Rows}
+use Rattle.gp_ask.specs.Answers.{of_elements, spans_at}
+
+-- the row versions of the tables of a dump
+pub dump-spans : (versions : List Versions) → spans_of versions ≡ spans_at (tables_view versions)
+dump-spans versions = λ i place. sym (get_or-map (λ (table : Versions). table.spans) versions place no_table) i
+
+same-order : (rows others : List (List Cell)) → IsPermutation rows others → sorted_by row_cmp rows ≡ sorted_by row_cmp others
+same-order rows others moved =
+    sorted_rows_unique others (sorted_by row_cmp rows) (IsPermutation-trans others rows (sorted_by row_cmp rows) (IsPermutation-sym rows others moved) (rows_permuted rows))
+    (rows_sorted rows)
+
+pub in-order : {X M : Type 0} (view : X → List (List Cell)) (found : X) (due : Result (List (Element M)) Refusal) → Reenacts view (Ok found) due
+    → Rows (sorted_by row_cmp (view found)) ≡ of_elements due
+in-order view found (Ok elements) moved = ap Rows (same-order (view found) (cells_of elements) moved)
+in-order view found (Err refusal) none = absurd none
+
+pub refused : {X M : Type 0} (view : X → List (List Cell)) (refusal : Refusal) (due : Result (List (Element M)) Refusal) → Reenacts view (Err (stop.Refused refusal)) due
+    → Refused refusal ≡ of_elements due
+refused view refusal (Ok elements) none = absurd none
+refused view refusal (Err due) same = ap Refused same

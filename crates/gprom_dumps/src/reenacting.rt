@@ -1,0 +1,147 @@
+//! Past transactions, replayed from the dumps of scripts and from dumps that no script makes.
+
+use crate::questions::{ALTERED, Asked, BANK, LOST_UPDATE, dump_answers, exploding_dump, plays};
+use std::alloc::{AllocError, Global};
+use std::test::Fail;
+
+/// Two transactions write different rows, and both commit.
+const DIFFERENT_ROWS: &[u8] =
+    b"s1: CREATE TABLE r (a INT, b INT)\ns1: BEGIN\ns1: INSERT INTO r VALUES (1, 10), (2, 20)\ns1: COMMIT\ns1: BEGIN\ns2: BEGIN\ns1: UPDATE r SET b = b + 1 WHERE a = 1\ns2: UPDATE r SET b = b + 5 WHERE a = 2\ns1: COMMIT\ns2: COMMIT\n";
+
+const ASKED: &[Asked] = &[
+    // A transaction sees the version that it began with and its own writes; its commit is onto the versions in between.
+    (
+        DIFFERENT_ROWS,
+        b"REENACT 3 AFTER 1 SELECT * FROM r\n> 1 rows 2\n>   1, 10\n>   2, 25\nREENACT 3 COMMIT SELECT * FROM r\n> 2 rows 2\n>   1, 11\n>   2, 25\nREENACT 2 COMMIT SELECT * FROM r\n> 3 rows 2\n>   1, 11\n>   2, 20\nREENACT 1 AFTER 1 SELECT * FROM r\n> 4 rows 2\n>   1, 10\n>   2, 20\n",
+        0,
+    ),
+    // A DELETE drops a row only where its condition is true, and the row stays deleted.
+    (
+        b"s1: CREATE TABLE r (a INT, b INT)\ns1: BEGIN\ns1: INSERT INTO r VALUES (7, 1), (NULL, 2), (3, 3)\ns1: COMMIT\ns1: BEGIN\ns1: DELETE FROM r WHERE a > 5\ns1: COMMIT\n",
+        b"REENACT 2 AFTER 1 SELECT * FROM r\n> 1 rows 2\n>   NULL, 2\n>   3, 3\nREENACT 2 COMMIT SELECT * FROM r\n> 2 rows 2\n>   NULL, 2\n>   3, 3\n",
+        0,
+    ),
+    // A row that a transaction deletes does not come back from a version that was committed in between.
+    (
+        b"s1: CREATE TABLE r (a INT)\ns1: BEGIN\ns1: INSERT INTO r VALUES (1), (2), (3)\ns1: COMMIT\ns1: BEGIN\ns2: BEGIN\ns1: DELETE FROM r WHERE a = 1\ns2: UPDATE r SET a = 20 WHERE a = 2\ns2: COMMIT\ns1: COMMIT\n",
+        b"REENACT 2 AFTER 1 SELECT * FROM r\n> 1 rows 2\n>   2\n>   3\nREENACT 2 COMMIT SELECT * FROM r\n> 2 rows 2\n>   3\n>   20\nREENACT 3 COMMIT SELECT * FROM r\n> 3 rows 3\n>   1\n>   3\n>   20\n",
+        0,
+    ),
+    // Every new value of an UPDATE reads the old row.
+    (
+        b"s1: CREATE TABLE r (a INT, b INT)\ns1: BEGIN\ns1: INSERT INTO r VALUES (1, 10), (2, 20)\ns1: COMMIT\ns1: BEGIN\ns1: UPDATE r SET a = b, b = a\ns1: COMMIT\n",
+        b"REENACT 2 AFTER 1 SELECT * FROM r\n> 1 rows 2\n>   10, 1\n>   20, 2\nREENACT 2 COMMIT SELECT a FROM r\n> 2 rows 2\n>   10\n>   20\n",
+        0,
+    ),
+    // Rows that are inserted and deleted at once were seen in between.
+    (
+        b"s1: CREATE TABLE r (a INT)\ns1: BEGIN\ns1: INSERT INTO r VALUES (1)\ns1: DELETE FROM r WHERE a = 1\ns1: COMMIT\n",
+        b"REENACT 1 AFTER 1 SELECT * FROM r\n> 1 rows 1\n>   1\nREENACT 1 AFTER 2 SELECT * FROM r\n> 2 rows 0\nREENACT 1 COMMIT SELECT * FROM r\n> 3 rows 0\nVERSIONS OF r\n> 4 versions 0\n",
+        0,
+    ),
+    // An INSERT reads the rows from before it, and computes a row for each choice.
+    (
+        b"s1: CREATE TABLE r (a INT)\ns1: BEGIN\ns1: INSERT INTO r VALUES (1), (2)\ns1: COMMIT\ns1: BEGIN\ns1: INSERT INTO r SELECT x.a + y.a FROM r x, r y\ns1: COMMIT\n",
+        b"REENACT 2 AFTER 1 SELECT * FROM r\n> 1 rows 6\n>   1\n>   2\n>   2\n>   3\n>   3\n>   4\nREENACT 2 COMMIT SELECT a FROM r WHERE a > 2 UNION ALL SELECT 0 FROM r\n> 2 rows 9\n>   0\n>   0\n>   0\n>   0\n>   0\n>   0\n>   3\n>   3\n>   4\n",
+        0,
+    ),
+    // A statement reads what the statements before it wrote, in every table that it names, and a SELECT has a number too.
+    (
+        BANK,
+        b"REENACT 2 AFTER 2 SELECT * FROM acct\n> 1 rows 3\n>   1, 70\n>   2, 80\n>   3, 0\nREENACT 3 COMMIT SELECT * FROM acct\n> 2 rows 3\n>   1, 70\n>   2, 80\n>   3, 7\nREENACT 2 AFTER 1 SELECT * FROM acct\n> 3 rows 3\n>   1, 70\n>   2, 50\n>   3, 0\nREENACT 2 AFTER 4 SELECT a.id, a.amt, o.name FROM audit a, owner o WHERE a.id = o.id\n> 4 rows 2\n>   1, 70, 'Ann'\n>   2, 80, 'Bo'\nREENACT 2 AFTER 2 SELECT * FROM audit\n> 5 rows 0\nREENACT 6 AFTER 2 SELECT x.id FROM acct x WHERE x.bal > 100\n> 6 rows 2\n>   11\n>   12\nREENACT 4 COMMIT SELECT * FROM owner\n> 7 rows 3\n>   1, 'Ann'\n>   2, 'Bo'\n>   3, 'Cy'\nREENACT 5 COMMIT SELECT * FROM acct\n> 8 E21 transaction 5 is lost\nREENACT 7 AFTER 1 SELECT * FROM owner\n> 9 E21 transaction 7 is rolled back\n",
+        1,
+    ),
+    // Transactions that are unknown or did not commit, and statements that are not there.
+    (
+        LOST_UPDATE,
+        b"REENACT 9 AFTER 1 SELECT * FROM r\n> 1 E20 no transaction 9\nREENACT 3 AFTER 1 SELECT * FROM r\n> 2 E21 transaction 3 is lost\nREENACT 4 AFTER 1 SELECT * FROM r\n> 3 E21 transaction 4 is rolled back\nREENACT 5 COMMIT SELECT * FROM r\n> 4 E21 transaction 5 is active\nREENACT 2 AFTER 0 SELECT * FROM r\n> 5 E22 transaction 2 has 1 statements\nREENACT 2 AFTER 2 SELECT * FROM r\n> 6 E22 transaction 2 has 1 statements\nREENACT 0 COMMIT SELECT * FROM r\n> 7 E20 no transaction 0\nREENACT 4294967298 AFTER 1 SELECT * FROM r\n> 8 E20 no transaction 4294967298\nREENACT 2 AFTER 4294967297 SELECT * FROM r\n> 9 E22 transaction 2 has 1 statements\nREENACT 3 AFTER 0 SELECT * FROM r\n> 10 E21 transaction 3 is lost\n",
+        1,
+    ),
+    // The log is asked before the query is checked.
+    (
+        LOST_UPDATE,
+        b"REENACT 9 COMMIT SELECT * FROM t\n> 1 E20 no transaction 9\nREENACT 2 AFTER 0 SELECT c FROM r\n> 2 E22 transaction 2 has 1 statements\nREENACT 2 AFTER 1 SELECT * FROM t\n> 3 E04 no table t\nREENACT 2 COMMIT SELECT c FROM r\n> 4 E05 no column c\nREENACT 2 COMMIT SELECT a FROM r UNION ALL SELECT * FROM r\n> 5 E15 column count\nREENACT 2 SELECT * FROM r\n> 6 E03 syntax fault at column 11\n",
+        1,
+    ),
+    // An answer has 50,000 rows at most.
+    (
+        b"s1: CREATE TABLE r (a INT)\ns1: BEGIN\ns1: INSERT INTO r VALUES (1), (1), (1), (1), (1), (1), (1), (1), (1), (1), (1), (1), (1), (1), (1)\ns1: INSERT INTO r SELECT x.a + 1 FROM r x, r y\ns1: COMMIT\n",
+        b"REENACT 1 AFTER 1 SELECT x.a FROM r x, r y WHERE x.a = 2\n> 1 rows 0\nREENACT 1 AFTER 2 SELECT x.a FROM r x, r y\n> 2 E27 more than 50000 rows\nREENACT 1 COMMIT SELECT x.a FROM r x, r y\n> 3 E27 more than 50000 rows\n",
+        1,
+    ),
+];
+
+#[test]
+fn transactions_are_replayed(rt: HostRuntime) -> Result<(), Fail> {
+    for (place, asked) in ASKED.iter().enumerate() {
+        assert!(rt; plays(rt.alloc(), asked)?, "at {place}");
+    }
+    Ok(())
+}
+
+/// A transaction is replayed over the versions that it read, whatever the dump has of the version that it made.
+#[test]
+fn statements_run_over_the_versions_of_the_dump(rt: HostRuntime) -> Result<(), Fail> {
+    let questions = b"AS OF 2 SELECT * FROM r\nREENACT 2 AFTER 1 SELECT * FROM r\n";
+    let answers = b"1 rows 2\n  1, 12\n  2, 20\n2 rows 2\n  1, 11\n  2, 20\n";
+    assert!(rt; dump_answers(rt.alloc(), ALTERED, questions, answers, 0)?);
+    Ok(())
+}
+
+/// The 101st statement leaves more rows than a statement may. The check of the query comes before.
+#[test]
+fn rows_pass_their_limit(rt: HostRuntime) -> Result<(), Fail> {
+    let dump = exploding_dump(rt.alloc())?;
+    let questions =
+        b"REENACT 1 AFTER 101 SELECT * FROM r\nREENACT 1 COMMIT SELECT * FROM r\nREENACT 1 AFTER 101 SELECT * FROM t\nREENACT 1 AFTER 103 SELECT * FROM r\nREENACT 1 AFTER 100 SELECT * FROM r WHERE a > 1\n";
+    let answers =
+        b"1 E25 rows over limit in transaction 1 at 101\n2 E25 rows over limit in transaction 1 at 101\n3 E04 no table t\n4 E22 transaction 1 has 102 statements\n5 rows 0\n";
+    assert!(rt; dump_answers(rt.alloc(), &dump, questions, answers, 1)?);
+    Ok(())
+}
+
+/// A dump whose one transaction makes identities of up to 65 nodes if its statements run; another line is its last statement.
+fn deep_dump(alloc: Global, last: &[u8]) -> Result<Vec<u8>, AllocError> {
+    let mut dump = Vec::from_slice(
+        alloc,
+        b"gprom-dump 1\nlog 68\n1 s1 CREATE TABLE r (a INT)\n2 s1 BEGIN\n3 s1 INSERT INTO r VALUES (1)\n",
+    )?;
+    for value in 1u32..64 {
+        let line = value.saturating_add(3);
+        dump.extend_from_slice(format!(in alloc;
+            "{line} s1 INSERT INTO r SELECT (a + 1) FROM r WHERE (a = {value})\n"
+        )?.as_bytes())?;
+    }
+    dump.extend_from_slice(b"67 s1 ")?;
+    dump.extend_from_slice(last)?;
+    dump.extend_from_slice(b"\n68 s1 COMMIT\ntable r 0\nend\n")?;
+    Ok(dump)
+}
+
+/// The 65th statement makes an identity of more nodes than one may have.
+#[test]
+fn identities_pass_their_limit(rt: HostRuntime) -> Result<(), Fail> {
+    let dump = deep_dump(
+        rt.alloc(),
+        b"INSERT INTO r SELECT (a + 1) FROM r WHERE (a = 64)",
+    )?;
+    let questions =
+        b"REENACT 1 AFTER 65 SELECT * FROM r\nREENACT 1 COMMIT SELECT * FROM r\nREENACT 1 AFTER 64 SELECT * FROM r WHERE a > 62\n";
+    let answers =
+        b"1 E26 identity over limit in transaction 1 at 65\n2 E26 identity over limit in transaction 1 at 65\n3 rows 2\n  63\n  64\n";
+    assert!(rt; dump_answers(rt.alloc(), &dump, questions, answers, 1)?);
+    Ok(())
+}
+
+/// A statement that passes both limits is refused for its rows.
+#[test]
+fn rows_come_before_identities(rt: HostRuntime) -> Result<(), Fail> {
+    let dump = deep_dump(
+        rt.alloc(),
+        b"INSERT INTO r SELECT x.a FROM r x, r y UNION ALL SELECT x.a FROM r x, r y UNION ALL SELECT x.a FROM r x, r y",
+    )?;
+    let questions = b"REENACT 1 AFTER 65 SELECT * FROM r\n";
+    let answers = b"1 E25 rows over limit in transaction 1 at 65\n";
+    assert!(rt; dump_answers(rt.alloc(), &dump, questions, answers, 1)?);
+    Ok(())
+}
