@@ -11,8 +11,8 @@ use gp_base::{NoMemory, Row, Sequence};
 use gp_expr::{Cond, Expr, copy_cond, copy_expr};
 use std::alloc::Global;
 
-/// Copies of expressions.
-fn copy_exprs(alloc: Global, exprs: &[Expr]) -> Result<Sequence<Expr>, NoMemory>
+/// Copies of expressions, in their order. Running out of memory is the only error.
+pub fn copy_exprs(alloc: Global, exprs: &[Expr]) -> Result<Sequence<Expr>, NoMemory>
     ensures { IfOk result (λ copies. map expr_view copies ≡ map expr_view exprs.now) }
 {
     let mut copies = Sequence::new(alloc);

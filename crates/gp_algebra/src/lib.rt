@@ -3,9 +3,10 @@
 //!
 //! In reading order: [`Stmt`] is a statement, [`Select`] a query of [`Branch`]es, [`SetExpr`] an assignment of an UPDATE.
 //! [`AProgram`] is a program of the annotated algebra, whose rows carry identities, marks and annotations: steps [`AStep`] and
-//! a last [`AQuery`], in which a [`Change`] is what an UPDATE does to a row; [`copy_query`] copies a query. [`PProgram`] is a
-//! plain program: steps [`PStep`] and a last [`PQuery`]. [`scans_of`] and [`scans`] give the tables and versions that a program
-//! of the one and of the other algebra reads. [`select_is_simple`] and [`is_well_built`] test what the executor asks for.
+//! a last [`AQuery`], in which a [`Change`] is what an UPDATE does to a row; [`copy_query`] copies a query and [`copy_exprs`]
+//! a list of expressions. [`PProgram`] is a plain program: steps [`PStep`] and a last [`PQuery`]. [`scans_of`] and [`scans`]
+//! give the tables and versions that a program of the one and of the other algebra reads. [`select_is_simple`] and
+//! [`is_well_built`] test what the executor asks for.
 //!
 //! In `specs/`, `Statements`, `AnnotatedQueries` and `Plain` have these types without the pointers of their boxes, and `Views`,
 //! `QueryViews` and `PlainViews` map the types of the code to those. `Answers` and `Effects` say what queries and statements
@@ -30,7 +31,7 @@ mod statement;
 
 pub use annotated::{AProgram, AQuery, AStep, Change};
 pub use built::is_well_built;
-pub use copying::copy_query;
+pub use copying::{copy_exprs, copy_query};
 pub use laws::{
     annotations_commute, answers_respect_bags, fitting_queries_are_simple,
     programs_read_their_scans, programs_respect_bags, statements_respect_bags,

@@ -11,9 +11,9 @@ ghost use Rattle.gp_rewrite.specs.Meaning.{branch_is_there, select_is_there};
 ghost use Rattle.gp_rewrite.specs.Rewriting as r;
 ghost use Rattle.gp_rewrite.specs.Rewriting.{query_at};
 
-use gp_algebra::{AQuery, Branch, Select, copy_query};
+use gp_algebra::{AQuery, Branch, Select, copy_exprs, copy_query};
 use gp_base::{NoMemory, Sequence};
-use gp_expr::{Cond, Expr, copy_cond, copy_expr};
+use gp_expr::{Cond, Expr, copy_cond};
 use std::alloc::Global;
 
 /// A copy of the query of a table.
@@ -107,17 +107,6 @@ fn selected(alloc: Global, query: AQuery, cond: &Option<Cond>) -> Result<AQuery,
     }
 }
 
-/// Copies of expressions.
-fn copied(alloc: Global, exprs: &[Expr]) -> Result<Sequence<Expr>, NoMemory>
-    ensures { IfOk result (λ copies. map expr_view copies ≡ map expr_view exprs.now) }
-{
-    let mut copies = Sequence::new(alloc);
-    for expr in exprs {
-        copies.push(copy_expr(alloc, expr)?)?;
-    }
-    Ok(copies)
-}
-
 /// The values of expressions on each row of a query.
 fn projected(alloc: Global, input: AQuery, exprs: Sequence<Expr>) -> Result<AQuery, NoMemory>
     ensures { IfOk result (λ found. annotated_view found
@@ -140,7 +129,7 @@ pub(crate) fn branch_query(
     ensures { IfOk result (λ found. annotated_view found
         ≡ r.branch_of (query_at (map annotated_view tables.now)) (branch_view branch.now)) }
 {
-    let exprs = copied(alloc, branch.items.as_slice())?;
+    let exprs = copy_exprs(alloc, branch.items.as_slice())?;
     let rows = product(alloc, tables, branch.from.as_slice())?;
     let rows = selected(alloc, rows, &branch.cond)?;
     projected(alloc, rows, exprs)
