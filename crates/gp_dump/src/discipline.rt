@@ -1,6 +1,6 @@
 //! The next entry of a log, from what its line says.
 
-ghost use Rattle.std.specs.Prelude.{◌≡◌, ◌<◌, ℕ, true, length, None, IfOk, OnOk};
+ghost use Rattle.std.specs.Prelude.{◌≡◌, ◌<◌, ℕ, suc, true, length, None, IfOk, OnOk};
 ghost use Rattle.gp_algebra.specs.Views.{statement_view};
 ghost use Rattle.gp_base.specs.declared.catalog.TheConstants.{MAX_TABLES};
 ghost use Rattle.gp_base.specs.Catalogs.{place_of};
@@ -13,7 +13,7 @@ ghost use Rattle.gp_log.specs.LogFacts.{tables_in};
 ghost use Rattle.gp_log.specs.Limits.{limits};
 ghost use Rattle.gp_log.specs.Logs.{entry_view, log_view};
 ghost use Rattle.gp_machine.specs.Actions as action;
-ghost use Rattle.gp_machine.specs.Entries.{Created, Ran};
+ghost use Rattle.gp_machine.specs.Entries.{Created, Ran, statement_count};
 ghost use Rattle.gp_syntax.specs.Views.{command_view};
 ghost use Rattle.gp_dump.specs.Reading.{CreatesValid, GivesEntry, ended};
 ghost use Rattle.gp_dumpline.specs.Views.{IsValid, said_view};
@@ -77,7 +77,7 @@ fn create(
     ensures entry { GivesEntry entry_view result
         (doing limits (log_view log.now.entries) line session active (action.Create table)) }
     ensures new { IfOk result
-        (λ entry. IsAddable (tables_in (log_view log.now.entries)) entry.what) }
+        (λ entry. IsAddable (log_view log.now.entries) entry) }
     ensures valid { table_is_valid table ≡ true → IfOk result (λ entry. CreatesValid entry.what) }
 {
     match check_create(log, active, &table) {
@@ -96,7 +96,7 @@ fn begin(log: &Log, line: u32, session: u32, active: Option<u32>) -> Result<Entr
     ensures entry { GivesEntry entry_view result
         (doing limits (log_view log.now.entries) line session active action.Begin) }
     ensures new { IfOk result
-        (λ entry. IsAddable (tables_in (log_view log.now.entries)) entry.what) }
+        (λ entry. IsAddable (log_view log.now.entries) entry) }
     ensures valid { IfOk result (λ entry. CreatesValid entry.what) }
 {
     let begun = log.transactions();
@@ -126,10 +126,12 @@ fn check_run(
     command: &Command,
 ) -> Result<Run, EntryStop>
     requires { is_statement (command_view command.now) ≡ true }
-    ensures { (line session : ℕ) → GivesEntry
+    ensures entry { (line session : ℕ) → GivesEntry
         (λ run. Ran line session (command_view command.now) run.t (statement_view run.stmt)) result
         (doing limits (log_view log.now.entries) line session active
         (action.Run (command_view command.now))) }
+    ensures number { IfOk result
+        (λ run. run.k ≡ suc (statement_count run.t (log_view log.now.entries))) }
 {
     let Some(t) = active else {
         return Err(EntryStop::Disorder);
@@ -163,7 +165,7 @@ fn statement(
         (doing limits (log_view log.now.entries) line session active
         (action.Run (command_view command))) }
     ensures new { IfOk result
-        (λ entry. IsAddable (tables_in (log_view log.now.entries)) entry.what) }
+        (λ entry. IsAddable (log_view log.now.entries) entry) }
     ensures valid { IfOk result (λ entry. CreatesValid entry.what) }
 {
     match check_run(alloc, log, active, &command) {
@@ -205,7 +207,7 @@ pub fn next_entry(
     ensures entry { GivesEntry entry_view result
         (d.next_entry limits (log_view log.now.entries) line session (said_view said)) }
     ensures new { IfOk result
-        (λ entry. IsAddable (tables_in (log_view log.now.entries)) entry.what) }
+        (λ entry. IsAddable (log_view log.now.entries) entry) }
     ensures valid { IsValid said → IfOk result (λ entry. CreatesValid entry.what) }
 {
     let active = transaction_in(log, session);

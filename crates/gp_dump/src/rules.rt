@@ -9,7 +9,6 @@ ghost use Rattle.gp_base.specs.Cells.{AreInRange, IsInRange};
 ghost use Rattle.gp_txn.specs.declared.counting.TheConstants.{MAX_SPANS};
 ghost use Rattle.gp_log.specs.Discipline as d;
 ghost use Rattle.gp_log.specs.Kinds.{IsAddable};
-ghost use Rattle.gp_log.specs.LogFacts.{tables_in};
 ghost use Rattle.gp_log.specs.Logs.{entry_view, log_view};
 ghost use Rattle.gp_dump.specs.declared.dump.TheConstants.{MAX_DUMP_LENGTH};
 ghost use Rattle.gp_dump.specs.Dumps as r;
@@ -85,7 +84,7 @@ pub fn log_line(alloc: Global, log: &Log, text: &[u8]) -> Result<Entry, LineStop
     requires { length text.now ≤ MAX_DUMP_LENGTH }
     ensures value { GivesLine entry_view result (log_rule (log_view log.now.entries) text.now) }
     ensures new { IfOk result
-        (λ entry. IsAddable (tables_in (log_view log.now.entries)) entry.what) }
+        (λ entry. IsAddable (log_view log.now.entries) entry) }
     ensures valid { IfOk result (λ entry. CreatesValid entry.what) }
 {
     let Some(line) = parse_log_line(text) else {

@@ -2,7 +2,7 @@
 use Rattle.std.proofs.Common.{◌≡◌, ◌≢◌, ℕ, zero, suc, pred, ◌+◌, ◌-◌, ◌^◌, ◌<◌, ◌≤◌, Bool, true, false, cond, List, [], ◌∷◌, ◌++◌, length, Option, Some, None, get_or, refl, ap, sym, ◌∙◌, subst, arith, inl, inr, ◌⊎◌}
 use Rattle.std.specs.Prelude.{if◌then◌else◌, nat_le, slice_set, IsSome, Result, Ok, Err}
 use Rattle.std.specs.List.{AllByRecursion}
-use Rattle.std.proofs.lemmas.Bool.{cases_eq, false≢true, leb-false, ne_eqb}
+use Rattle.std.proofs.lemmas.Bool.{cases_eq, eq-eqb, false≢true, leb-false, ne_eqb}
 use Rattle.std.proofs.lemmas.List.{get_or-set_other, get_or-set_same, length-set, length_push}
 use Rattle.std.proofs.Math.ListN.{get_or-eq_default}
 use Rattle.gp_base.specs.declared.catalog.TheConstants.{MAX_TABLES}
@@ -25,7 +25,7 @@ use Rattle.gp_txn.specs.Overlay.{AreOthers, HoldsOthers, PlainRow, Writes, no_ta
 use Rattle.gp_txn.proofs.PairLemmas.{all-weaker}
 use Rattle.gp_machine.specs.declared.reply.Reply.{Reply}
 use Rattle.gp_machine.specs.Actions.{Action, Create, Begin, Commit, Rollback, Run, action_of}
-use Rattle.gp_machine.specs.Entries.{End, Entry, RolledBack, Lost, Created, Began, Ran, Committed, Ended, transactions_in, versions_in}
+use Rattle.gp_machine.specs.Entries.{End, Entry, RolledBack, Lost, Created, Began, Ran, Committed, Ended, statement_count, transactions_in, versions_in}
 use Rattle.gp_machine.specs.Event.{count_refusal, creation_refusal, target_of}
 use Rattle.gp_check.specs.Checking.{checked}
 use Rattle.gp_log.specs.declared.limit.TheConstants.{MAX_TRANSACTIONS, MAX_STATEMENTS}
@@ -101,14 +101,16 @@ pub keeps-sound : (engine : Engine) (entries : List Entry) (versions : List Vers
 keeps-sound engine entries versions sessions keeps sound =
     subst (λ (x : List Entry × (List Versions × List (Option Running))). IsSound x.0 x.1.0 x.1.1) (λ i. (sym keeps.log_is i, (sym keeps.versions_are i, sym keeps.sessions_are i))) sound
 
--- a transaction stays as it was, where the row versions are the same, and there are no fewer tables, versions and transactions
+-- a transaction stays as it was, where the row versions are the same, there are no fewer tables, versions and transactions, and its statements are as many
 pub session-stays : (entries later : List Entry) (versions others : List Versions) (running : Running) → ((place : ℕ) → spans_of others place ≡ spans_of versions place)
-    → length versions ≤ length others → versions_in entries ≤ versions_in later → transactions_in entries ≤ transactions_in later → IsSession entries versions running → IsSession later others running
-session-stays entries later versions others running spans tables committed begun was = record {
+    → length versions ≤ length others → versions_in entries ≤ versions_in later → transactions_in entries ≤ transactions_in later → statement_count running.active.t later ≡ statement_count running.active.t entries
+    → IsSession entries versions running → IsSession later others running
+session-stays entries later versions others running spans tables committed begun counted was = record {
   first = was.first;
   began = omega (arith, was.began, begun);
   begin = omega (arith, was.begin, committed);
   last = was.last;
+  count = was.count ∙ sym counted;
   others = λ place. subst (AreOthers running.active.t) (sym (spans place)) (was.others place);
   beyond = λ place high. subst (λ held. view_rows (writes_at place running.active.tables) (rows_at plain running.active.begin held) ≡ []) (sym (spans place)) (was.beyond place (omega (arith, high, tables)));
 }
@@ -123,10 +125,11 @@ respanned entries versions others sessions kept spans same = record {
   places = kept.places;
   transactions = kept.transactions;
   statements = kept.statements;
+  numbers = kept.numbers;
   unended = kept.unended;
   below = λ place. subst (AreBelow (suc (versions_in entries))) (sym (spans place)) (kept.below place);
   makers = λ place. subst (AllByRecursion (λ (span : Span). transaction_of span.id ≤ transactions_in entries)) (sym (spans place)) (kept.makers place);
-  each = λ session running at. session-stays entries entries versions others running spans (omega (arith, same)) (omega arith) (omega arith) (kept.each session running at);
+  each = λ session running at. session-stays entries entries versions others running spans (omega (arith, same)) (omega arith) (omega arith) refl (kept.each session running at);
   apart = kept.apart;
 }
 
@@ -162,11 +165,12 @@ created_sound entries versions sessions line session table added kept valid few 
       places = kept.places;
       transactions = kept.transactions;
       statements = kept.statements;
+      numbers = kept.numbers;
       unended = kept.unended;
       below = λ place. subst (AreBelow (suc (versions_in entries))) (sym (spans place)) (kept.below place);
       makers = λ place. subst (AllByRecursion (λ (span : Span). transaction_of span.id ≤ transactions_in entries)) (sym (spans place)) (kept.makers place);
       each = λ other running at.
-          session-stays entries (Created line session table ∷ entries) versions (versions ++ added ∷ []) running spans (omega (arith, versions-pushed)) (omega arith) (omega arith) (kept.each other running at);
+          session-stays entries (Created line session table ∷ entries) versions (versions ++ added ∷ []) running spans (omega (arith, versions-pushed)) (omega arith) (omega arith) refl (kept.each other running at);
       apart = kept.apart;
     }
 
@@ -183,12 +187,18 @@ module _ (entries later : List Entry) (versions : List Versions) (sessions : Lis
       → ((session ≡ suc place) × (Some after ≡ Some running)) ⊎ ((session ≢ suc place) × (session_at session sessions ≡ Some running))
   found session running at = session-put sessions place (Some after) within session running at
 
-  sessions-stay : versions_in entries ≤ versions_in later → transactions_in entries ≤ transactions_in later → IsSession later versions after
+  -- the other sessions' transactions have as many statements
+  abbrev IsCounted : Type 0
+  IsCounted =
+      (session : ℕ) (other : Running) → session ≢ suc place → session_at session sessions ≡ Some other
+      → statement_count other.active.t later ≡ statement_count other.active.t entries
+
+  sessions-stay : versions_in entries ≤ versions_in later → transactions_in entries ≤ transactions_in later → IsCounted → IsSession later versions after
       → (session : ℕ) (running : Running) → session_at session (slice_set sessions place (Some after)) ≡ Some running → IsSession later versions running
-  sessions-stay committed begun mine session running at =
+  sessions-stay committed begun counted mine session running at =
       elim (found session running at) [
         | inl here ↦ subst (IsSession later versions) (some-is after running here.1) mine
-        | inr there ↦ session-stays entries later versions versions running (λ place. refl) (omega arith) committed begun (kept.each session running there.1)
+        | inr there ↦ session-stays entries later versions versions running (λ place. refl) (omega arith) committed begun (counted session running there.0 there.1) (kept.each session running there.1)
       ]
 
   stay-apart : IsAlone → (session other : ℕ) (a b : Running) → session_at session (slice_set sessions place (Some after)) ≡ Some a → session_at other (slice_set sessions place (Some after)) ≡ Some b
@@ -225,6 +235,7 @@ began_sound entries versions sessions line place active kept within at few t beg
       began = omega (arith, t);
       begin = omega (arith, begin);
       last = omega (arith, last);
+      count = sym (kept.numbers active.t (omega (arith, t)));
       others = λ table. all-weaker (λ (span : Span). transaction_of span.id ≤ transactions_in entries) (λ (span : Span). transaction_of span.id ≢ active.t) (λ span is same. omega (arith, is, same, t)) (spans_of versions table) (kept.makers table);
       beyond = λ table high. nothing-written active versions table (tables table) high;
     } in
@@ -235,10 +246,11 @@ began_sound entries versions sessions line place active kept within at few t beg
       places = length-set sessions place (Some after) ∙ kept.places;
       transactions = omega (arith, few);
       statements = kept.statements;
+      numbers = λ number above. kept.numbers number (omega (arith, above));
       unended = omega (arith, kept.unended, count-taken sessions place after within at);
       below = kept.below;
       makers = λ table. all-weaker (λ (span : Span). transaction_of span.id ≤ transactions_in entries) (λ (span : Span). transaction_of span.id ≤ suc (transactions_in entries)) (λ span is. omega (arith, is)) (spans_of versions table) (kept.makers table);
-      each = sessions-stay entries later versions sessions place after kept within (omega arith) (omega arith) mine;
+      each = sessions-stay entries later versions sessions place after kept within (omega arith) (omega arith) (λ session other elsewhere there. refl) mine;
       apart = stay-apart entries later versions sessions place after kept within (λ session other elsewhere there same. omega (arith, (kept.each session other there).began, same, t));
     }
 
@@ -256,10 +268,11 @@ ended_sound entries versions sessions line session place end t running kept with
       places = length-set sessions place None ∙ kept.places;
       transactions = kept.transactions;
       statements = kept.statements;
+      numbers = kept.numbers;
       unended = omega (arith, kept.unended, count-cleared sessions place running at);
       below = kept.below;
       makers = kept.makers;
-      each = λ other b found. session-stays entries later versions versions b (λ place. refl) (omega arith) (omega arith) (omega arith) (kept.each other b (left other b found).1);
+      each = λ other b found. session-stays entries later versions versions b (λ place. refl) (omega arith) (omega arith) (omega arith) refl (kept.each other b (left other b found).1);
       apart = λ one other a b first second. kept.apart one other a b (left one a first).1 (left other b second).1;
     }
 
@@ -287,6 +300,15 @@ all-below true full first second none = absurd cc
 all-below false true first second none = absurd cc
 all-below false false first second none = refl
 
+-- one more statement of its own transaction, and of another one
+counted-own : (t u line session : ℕ) (command : Command) (statement : Statement) (entries : List Entry) → u ≡ t
+    → statement_count t (Ran line session command u statement ∷ entries) ≡ suc (statement_count t entries)
+counted-own t u line session command statement entries same = rw (eq-eqb u t same) refl
+
+counted-other : (t u line session : ℕ) (command : Command) (statement : Statement) (entries : List Entry) → u ≢ t
+    → statement_count t (Ran line session command u statement ∷ entries) ≡ statement_count t entries
+counted-other t u line session command statement entries other = rw (ne_eqb u t other) refl
+
 ran_sound : (old new : Engine) (answer : Reply) (line place : ℕ) (running : Running) (command : Command) (statement : Statement) → IsEngine old → place < 64
     → get_or old.sessions place None ≡ Some running → statements_of old < MAX_STATEMENTS → Records old new answer line place running command statement → IsEngine new
 ran_sound old new answer line place running command statement kept within at below records =
@@ -301,6 +323,11 @@ ran_sound old new answer line place running command statement kept within at bel
       began = omega (arith, was.began, accepts.t);
       begin = omega (arith, was.begin, accepts.begin);
       last = omega (arith, accepts.last, accepts.statements);
+      count =
+          accepts.statements
+          ∙ ap suc was.count
+          ∙ ap (λ t. suc (statement_count t entries)) (sym accepts.t)
+          ∙ sym (counted-own after.active.t running.active.t line (suc place) command statement entries (sym accepts.t));
       others = subst (λ t. HoldsOthers t old.versions) (sym accepts.t) was.others;
       beyond = λ table high.
           accepts.view table
@@ -314,10 +341,14 @@ ran_sound old new answer line place running command statement kept within at bel
       places = length-set old.sessions place (Some after) ∙ kept.places;
       transactions = kept.transactions;
       statements = omega (arith, below);
+      numbers = λ t above.
+          counted-other t running.active.t line (suc place) command statement entries (λ same. omega (arith, same, was.began, above)) ∙ kept.numbers t above;
       unended = count-same old.sessions place running after at (ends_in entries) (transactions_in entries) kept.unended;
       below = kept.below;
       makers = kept.makers;
-      each = sessions-stay entries later old.versions old.sessions place after kept inside (omega arith) (omega arith) mine;
+      each = sessions-stay entries later old.versions old.sessions place after kept inside (omega arith) (omega arith)
+          (λ session other elsewhere found.
+          counted-other other.active.t running.active.t line (suc place) command statement entries (λ same. elsewhere (kept.apart session (suc place) other running found at (sym same)))) mine;
       apart = stay-apart entries later old.versions old.sessions place after kept inside
           (λ session other elsewhere found same. elsewhere (kept.apart session (suc place) other running found at (same ∙ accepts.t)));
     })

@@ -218,6 +218,7 @@ module _ (entries : List Entry) (held : List Versions) (sessions : List (Option 
         began = was.began;
         begin = omega (arith, was.begin);
         last = was.last;
+        count = was.count;
         others =
             others-after other.active.t (suc (versions_in entries)) running.active held versions same holds commits
             (λ equal. left.0 (kept.apart session (suc place) other running left.1 at equal)) was.others;
@@ -235,6 +236,7 @@ module _ (entries : List Entry) (held : List Versions) (sessions : List (Option 
     places = length-set sessions place None ∙ kept.places;
     transactions = kept.transactions;
     statements = kept.statements;
+    numbers = kept.numbers;
     unended = omega (arith, kept.unended, count-cleared sessions place running at);
     below = λ table. subst (λ n. AreBelow n (spans_of versions table)) next (commits.below table);
     makers = made;

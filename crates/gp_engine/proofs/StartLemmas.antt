@@ -43,6 +43,7 @@ nothing-sound sessions none places = record {
   places = places;
   transactions = omega arith;
   statements = omega arith;
+  numbers = λ t above. refl;
   unended = omega (arith, count-none sessions none);
   below = λ place. tt;
   makers = λ place. tt;

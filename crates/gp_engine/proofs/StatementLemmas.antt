@@ -1,6 +1,6 @@
 -- The statement of a line, from its check to its entry.
 use Rattle.std.proofs.Common.{◌≡◌, ℕ, suc, ◌<◌, Bool, true, false, List, ◌∷◌, length, Option, Some, None, Result, Ok, get_or, refl, sym, ap, ◌∙◌, subst}
-use Rattle.std.specs.Prelude.{if◌then◌else◌, nat_le, slice_set}
+use Rattle.std.specs.Prelude.{if◌then◌else◌, nat_le, slice_set, IsSome}
 use Rattle.std.proofs.lemmas.Bool.{false≢true, leb-false}
 use Rattle.std.proofs.lemmas.List.{get_or-set_same, set-get_or}
 use Rattle.gp_base.specs.Annotated.{Database, plain}
@@ -11,7 +11,7 @@ use Rattle.gp_grammar.specs.Syntax.{Command}
 use Rattle.gp_txn.specs.Overlay.{view_of}
 use Rattle.gp_versions.specs.Spans.{Versions}
 use Rattle.gp_machine.specs.declared.reply.Reply.{Reply}
-use Rattle.gp_machine.specs.Entries.{Ran}
+use Rattle.gp_machine.specs.Entries.{Ran, statement_count}
 use Rattle.gp_machine.specs.Event.{count_refusal, reply_of}
 use Rattle.gp_machine.specs.Replies.{is_refusal}
 use Rattle.gp_log.specs.declared.limit.TheConstants.{MAX_STATEMENTS, MAX_STEPS}
@@ -19,8 +19,8 @@ use Rattle.gp_log.specs.Limits.{limits}
 use Rattle.gp_log.specs.LogFacts.{tables_in}
 use Rattle.gp_log.specs.Logs.{log_view}
 use Rattle.gp_log.specs.declared.entry.Entry.{Entry}
-use Rattle.gp_engine.specs.Engine.{Engine, spans_of, statements_of, tables_of}
-use Rattle.gp_engine.specs.Methods.{Appends, Applies, AppliesAt, Runs, RunsAs, RunsChecked, meaning_of, refusal_at, refusal_in}
+use Rattle.gp_engine.specs.Engine.{Engine, IsEngine, entries_of, spans_of, statements_of, tables_of}
+use Rattle.gp_engine.specs.Methods.{Appends, Applies, AppliesAt, HasRun, Runs, RunsAs, RunsChecked, meaning_of, refusal_at, refusal_in}
 use Rattle.gp_engine.specs.declared.running.Running.{Running}
 
 steps-below : (steps full : Bool) (first second : Refusal) (meaning : Result Statement Refusal) (statement : Statement)
@@ -79,6 +79,30 @@ applied-after old middle new answer place running statement entries versions ses
   versions = applied.versions ∙ versions;
   sessions = applied.sessions ∙ ap (λ ss. slice_set ss place (Some applied.after)) sessions;
 }
+
+-- one that is accepted is not in the log yet
+ran-one : (old middle : Engine) (answer : Reply) (place : ℕ) (running : Running) (statement : Statement) → place < length old.sessions
+    → running.statements ≡ statement_count running.active.t (entries_of old) → AppliesAt old middle answer place running statement → is_refusal answer ≡ false → HasRun middle place
+ran-one old middle answer place running statement within count applied accepted = by (refusal_in (tables_of old) old.versions running after answer statement) applied.applies
+  where
+    after : Running
+    after = applied.after
+
+    by : (refusal : Option Refusal) → Applies (tables_of old) old.versions running after answer statement refusal → HasRun middle place
+    by (Some refusal) declines = absurd (false≢true (sym accepted ∙ ap is_refusal declines.1))
+    by None accepts = record {
+      running = after;
+      at = ap (λ sessions. get_or sessions place None) applied.sessions ∙ get_or-set_same old.sessions place (Some after) None within;
+      count = accepts.statements ∙ ap suc count ∙ (λ i. suc (statement_count (sym accepts.t i) (log_view (sym applied.entries i))));
+    }
+
+pub has-run : (old middle : Engine) (answer : Reply) (place : ℕ) (statement : Statement) → IsEngine old → place < length old.sessions → IsSome (get_or old.sessions place None)
+    → ((running : Running) → get_or old.sessions place None ≡ Some running → AppliesAt old middle answer place running statement) → is_refusal answer ≡ false → HasRun middle place
+has-run old middle answer place statement kept within there applied accepted = by (get_or old.sessions place None) refl there
+  where
+    by : (found : Option Running) → get_or old.sessions place None ≡ found → IsSome found → HasRun middle place
+    by None at there = absurd (false≢true there)
+    by (Some running) at there = ran-one old middle answer place running statement within (kept.each (suc place) running at).count (applied running at) accepted
 
 -- one that is accepted is in the log
 pub applied-recorded : (old middle new : Engine) (answer : Reply) (line place : ℕ) (running : Running) (command : Command) (statement : Statement) → place < length old.sessions

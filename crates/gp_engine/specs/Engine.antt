@@ -1,5 +1,5 @@
 -- Machinery of the engine's contract: what the engine keeps, and when it represents a state of the history machine.
-use Rattle.std.specs.Prelude.{◌≡◌, ℕ, zero, suc, ◌+◌, ◌≤◌, true, List, [], ◌∷◌, length, slice_index_or, Option, Some, None}
+use Rattle.std.specs.Prelude.{◌≡◌, ℕ, zero, suc, ◌+◌, ◌<◌, ◌≤◌, true, List, [], ◌∷◌, length, slice_index_or, Option, Some, None}
 use Rattle.std.specs.List.{AllByRecursion}
 use Rattle.std.specs.Option.{option_map}
 use Rattle.gp_base.specs.declared.catalog.TheConstants.{MAX_TABLES}
@@ -15,7 +15,7 @@ use Rattle.gp_versions.specs.Commits.{AreBelow}
 use Rattle.gp_txn.specs.Overlay.{HoldsOthers, table_at, view_of, view_over, names}
 use Rattle.gp_txn.specs.Counts.{count_spans}
 use Rattle.gp_machine.specs.declared.reply.Reply.{Reply}
-use Rattle.gp_machine.specs.Entries.{Entry, statements_in, transactions_in, versions_in}
+use Rattle.gp_machine.specs.Entries.{Entry, statement_count, statements_in, transactions_in, versions_in}
 use Rattle.gp_machine.specs.Event.{Line, after, event}
 use Rattle.gp_machine.specs.Represents.{Kept, Overlay, Represents}
 use Rattle.gp_machine.specs.State.{State, start}
@@ -118,12 +118,13 @@ pub record IsUnchanged (old new : Engine) : Type 0 where
 
 -- ---- what holds between two lines
 
--- the transaction began, no row version is its own, and its last write was one of its statements
+-- the transaction began, no row version is its own, its last write was one of its statements, and all of these are in the log
 pub record IsSession (entries : List Entry) (versions : List Versions) (running : Running) : Type 0 where
   pub first : 1 ≤ running.active.t
   pub began : running.active.t ≤ transactions_in entries
   pub begin : running.active.begin ≤ versions_in entries
   pub last : running.active.last ≤ running.statements
+  pub count : running.statements ≡ statement_count running.active.t entries
   pub others : HoldsOthers running.active.t versions
   -- it reads no rows of tables that are not there
   pub beyond : (place : ℕ) → length versions ≤ place → view_of running.active versions place ≡ []
@@ -136,6 +137,8 @@ pub record IsSound (entries : List Entry) (versions : List Versions) (sessions :
   pub places : length sessions ≡ MAX_SESSION
   pub transactions : transactions_in entries ≤ MAX_TRANSACTIONS
   pub statements : statements_in entries ≤ MAX_STATEMENTS
+  -- transactions that have not begun have no statements
+  pub numbers : (t : ℕ) → transactions_in entries < t → statement_count t entries ≡ 0
   -- the sessions run the transactions that have not ended
   pub unended : count_running sessions + ends_in entries ≡ transactions_in entries
   pub below : (place : ℕ) → AreBelow (suc (versions_in entries)) (spans_of versions place)

@@ -1,5 +1,5 @@
 -- Machinery: what each method of the engine does to what it keeps.
-use Rattle.std.specs.Prelude.{◌≡◌, ◌≢◌, ◌⊎◌, ℕ, suc, ◌<◌, ◌≤◌, ◌-◌, Bool, true, false, ◌||◌, ◌^◌, List, [], ◌∷◌, ◌++◌, length, slice_set, nat_le, Option, Some, None, Result, Ok, Err}
+use Rattle.std.specs.Prelude.{◌≡◌, ◌≢◌, ◌⊎◌, ℕ, suc, ◌<◌, ◌≤◌, ◌-◌, Bool, true, false, ◌||◌, ◌^◌, List, [], ◌∷◌, ◌++◌, length, slice_index_or, slice_set, nat_le, Option, Some, None, Result, Ok, Err}
 use Rattle.gp_base.specs.declared.limit.Limit.TheVariants as limit
 use Rattle.gp_base.specs.declared.refusal.Refusal.{Refusal}
 use Rattle.gp_base.specs.declared.refusal.Refusal.TheVariants.{E09, E10, E11, E14}
@@ -21,7 +21,7 @@ use Rattle.gp_txn.specs.Overlay.{Writes, HoldsOwn, view_of, writes_at, no_writes
 use Rattle.gp_machine.specs.declared.reply.Reply.{Reply}
 use Rattle.gp_machine.specs.declared.reply.Reply.TheVariants as reply
 use Rattle.gp_machine.specs.Actions.{Action, Create, Begin, Commit, Rollback, Run}
-use Rattle.gp_machine.specs.Entries.{Entry, RolledBack, Lost, Created, Began, Ran, Committed, Ended, committer_of}
+use Rattle.gp_machine.specs.Entries.{Entry, RolledBack, Lost, Created, Began, Ran, Committed, Ended, committer_of, statement_count}
 use Rattle.gp_machine.specs.Event.{count_refusal, creation_refusal, name_at, refusal_of, reply_of, target_of}
 use Rattle.gp_grammar.specs.Syntax.{Command}
 use Rattle.gp_check.specs.Checking.{checked}
@@ -84,6 +84,12 @@ pub record Keeps (engine : Engine) (entries : List Entry) (held : List Versions)
 pub record HasPlace (log : Logged) : Type 0 where
   pub few : length log.entries < 2 ^ 32 - 1
   pub unended : 0 < open_in (log_view log.entries)
+
+-- the transaction of the session at a place has one statement more than the log has of it
+pub record HasRun (engine : Engine) (place : ℕ) : Type 0 where
+  pub running : Running
+  pub at : slice_index_or engine.sessions place None ≡ Some running
+  pub count : running.statements ≡ suc (statement_count running.active.t (entries_of engine))
 
 -- a conflict is with a version below this one, in one of so many tables
 abbrev pub IsConflictBelow : ℕ → ℕ → CommitStop → Type 0

@@ -1,7 +1,7 @@
 //! What a session without a transaction may do.
 
 ghost use Rattle.std.specs.Prelude.{◌≡◌, ◌<◌, ◌-◌, ◌^◌, suc, nat_le, length, IfOk, OnErr};
-ghost use Rattle.gp_log.specs.Kinds.{IsAddable};
+ghost use Rattle.gp_log.specs.Kinds.{CreatesNew};
 ghost use Rattle.gp_log.specs.Limits.{limits};
 ghost use Rattle.gp_log.specs.declared.entry.What.TheVariants as what;
 ghost use Rattle.gp_log.specs.declared.limit.TheConstants.{MAX_TRANSACTIONS};
@@ -41,7 +41,7 @@ impl State {
     fn add(&mut self, line: u32, place: usize, table: Table) -> Result<Reply, NoMemory>
         requires place { place < 64 }
         requires few { length self.old.log.entries < 2 ^ 32 - 1 }
-        requires new { IsAddable (tables_of self.old) (what.Create table) }
+        requires new { CreatesNew (tables_of self.old) (what.Create table) }
         ensures ok { IfOk result (λ reply. Adds self.old self.new reply line (suc place) table) }
         ensures err { OnErr result (self.new ≡ self.old) }
     {

@@ -1,7 +1,7 @@
 //! What the engine keeps.
 
 ghost use Rattle.std.specs.Prelude.{◌≡◌, ℕ, ◌<◌, ◌-◌, ◌^◌, [], suc, true, length, None, OnErr, OnOk, IsOk, slice_index_or};
-ghost use Rattle.gp_log.specs.Kinds.{IsAddable, ends, is_statement};
+ghost use Rattle.gp_log.specs.Kinds.{CreatesNew, HasNextNumber, ends, is_statement};
 ghost use Rattle.gp_log.specs.LogFacts.{open_in};
 ghost use Rattle.gp_log.specs.Logs.{what_view};
 ghost use Rattle.gp_engine.specs.Engine.{entries_of, tables_of};
@@ -69,7 +69,8 @@ impl State {
     pub fn append(&mut self, line: u32, place: usize, t: u32, what: What) -> Result<(), NoMemory>
         requires place { place < 64 }
         requires few { length self.old.log.entries < 2 ^ 32 - 1 }
-        requires new { IsAddable (tables_of self.old) what }
+        requires new { CreatesNew (tables_of self.old) what }
+        requires number { HasNextNumber (entries_of self.old) t what }
         ensures ok { OnOk result (Appends self.old self.new (what_view line (suc place) t what)) }
         ensures err { OnErr result (self.new ≡ self.old) }
         ensures ends { ends what ≡ true → 0 < open_in (entries_of self.old) → IsOk result }

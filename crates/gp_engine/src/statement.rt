@@ -1,6 +1,6 @@
 //! The statement of a line.
 
-ghost use Rattle.std.specs.Prelude.{◌≡◌, ℕ, ◌<◌, ◌-◌, ◌^◌, suc, true, false, IfErr, IfOk, OnErr, OnOk, Some, None, length, slice_index_or};
+ghost use Rattle.std.specs.Prelude.{◌≡◌, ℕ, ◌<◌, ◌-◌, ◌^◌, suc, true, false, IfErr, IfOk, OnErr, OnOk, IsSome, Some, None, length, slice_index_or};
 ghost use Rattle.gp_algebra.specs.Fitting.{statement_fits};
 ghost use Rattle.gp_algebra.specs.Views.{statement_view};
 ghost use Rattle.gp_check.specs.Checking.{checked, is_statement};
@@ -14,7 +14,7 @@ ghost use Rattle.gp_syntax.specs.Views.{command_view};
 ghost use Rattle.gp_log.specs.Limits.{limits};
 ghost use Rattle.gp_log.specs.declared.limit.TheConstants.{MAX_STEPS};
 ghost use Rattle.gp_engine.specs.Engine.{IsEngine, IsUnchanged, statements_of, tables_of};
-ghost use Rattle.gp_engine.specs.Methods.{Appends, AppliesAt, Runs, RunsChecked, meaning_of, refusal_at};
+ghost use Rattle.gp_engine.specs.Methods.{Appends, AppliesAt, HasRun, Runs, RunsChecked, meaning_of, refusal_at};
 ghost use Rattle.gp_engine.specs.declared.running.Running as spec;
 
 use crate::state::State;
@@ -39,6 +39,7 @@ impl State {
             (checked (tables_of self.now) (command_view command.now))) }
         ensures fits { IfOk result
             (λ stmt. statement_fits (tables_of self.now) (statement_view stmt) ≡ true) }
+        ensures there { OnOk result (IsSome (slice_index_or self.now.sessions place None)) }
     {
         match &self.sessions[place] {
             None => Err(CheckStop::Refused(Refusal::E10)),
@@ -108,6 +109,7 @@ impl State {
         requires place { place < 64 }
         requires few { length self.old.log.entries < 2 ^ 32 - 1 }
         requires ready { self.old.log.ready ≡ true }
+        requires ran { HasRun self.old place }
         ensures { (running : spec.Running)
             → slice_index_or self.old.sessions place None ≡ Some running
             → Appends self.old self.new (m.Ran line (suc place)
@@ -165,6 +167,7 @@ impl State {
         stmt: Stmt,
     ) -> Result<Reply, NoMemory>
         requires place { place < 64 }
+        requires there { IsSome (slice_index_or self.old.sessions place None) }
         requires fits { statement_fits (tables_of self.old) (statement_view stmt) ≡ true }
         requires engine { IsEngine self.old }
         requires count { (running : spec.Running)

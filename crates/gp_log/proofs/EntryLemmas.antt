@@ -1,8 +1,10 @@
 -- A log with one more entry, and how many entries of each kind it has.
-use Rattle.std.proofs.Common.{◌≡◌, ◌≤◌, ◌+◌, List, [], ◌∷◌, ◌++◌, length, map, ap, arith, length-append}
+use Rattle.std.proofs.Common.{◌≡◌, ◌≤◌, ◌+◌, ℕ, zero, suc, List, [], ◌∷◌, ◌++◌, length, map, take, Some, ap, subst, arith, length-append}
+use Rattle.std.specs.Prelude.{slice_get}
 use Rattle.std.proofs.lemmas.List.{reverse-append}
 use Rattle.gp_machine.specs.Entries as m
 use Rattle.gp_machine.specs.Entries.{statements_in, transactions_in, versions_in}
+use Rattle.gp_log.specs.Kinds.{AreNumbered, IsNumbered}
 use Rattle.gp_log.specs.LogFacts.{ends_in, tables_in}
 use Rattle.gp_log.specs.Logs.{entry_view, log_view}
 use Rattle.gp_log.specs.declared.entry.Entry.{Entry}
@@ -27,3 +29,18 @@ versions-ended (m.Began line session t ∷ older) = versions-ended older
 versions-ended (m.Ran line session command t statement ∷ older) = versions-ended older
 versions-ended (m.Committed line session t ∷ older) = omega (arith, versions-ended older)
 versions-ended (m.Ended line session end t ∷ older) = omega (arith, versions-ended older)
+
+-- what holds of each entry and those before it holds with one more entry
+each-pushed : (P : List Entry → Entry → Type 0) (entries : List Entry) (entry : Entry) → ((place : ℕ) (e : Entry) → slice_get entries place ≡ Some e → P (take place entries) e) → P entries entry
+    → (place : ℕ) (e : Entry) → slice_get (entries ++ entry ∷ []) place ≡ Some e → P (take place (entries ++ entry ∷ [])) e
+each-pushed P [] entry all here zero e found = let same : entry ≡ e = cc in subst (P []) same here
+each-pushed P [] entry all here (suc place) e found = absurd cc
+each-pushed P (first ∷ entries) entry all here zero e found = all zero e found
+each-pushed P (first ∷ entries) entry all here (suc place) e found =
+    each-pushed (λ before. P (first ∷ before)) entries entry (λ n other there. all (suc n) other there) here place e found
+
+pub numbered-pushed : (entries : List Entry) (entry : Entry) → AreNumbered entries → IsNumbered (log_view entries) entry → AreNumbered (entries ++ entry ∷ [])
+numbered-pushed entries entry all here = each-pushed (λ before e. IsNumbered (log_view before) e) entries entry all here
+
+pub none-numbered : AreNumbered []
+none-numbered place e found = absurd cc

@@ -1,11 +1,11 @@
 //! The log.
 
-ghost use Rattle.std.specs.Prelude.{◌≡◌, ◌<◌, ◌≤◌, ◌+◌, ◌-◌, ◌^◌, ◌++◌, ◌∷◌, [], OnOk, OnErr, IsOk, if◌then◌else◌, true, false, length, slice_get, vec_capacity, vec_len, Some};
+ghost use Rattle.std.specs.Prelude.{◌≡◌, ◌<◌, ◌≤◌, ◌+◌, ◌-◌, ◌^◌, ◌++◌, ◌∷◌, [], OnOk, OnErr, IsOk, if◌then◌else◌, true, false, length, slice_get, take, vec_capacity, vec_len, Some};
 ghost use Rattle.std.specs.Option.{option_map};
 ghost use Rattle.gp_algebra.specs.Views.{statement_view};
 ghost use Rattle.gp_log.specs.LogFacts.{numbered, open_in, tables_in, version_at};
 ghost use Rattle.gp_log.specs.Logs.{log_view};
-ghost use Rattle.gp_log.specs.Kinds.{begins, commits, created_by, creates, ends, is_statement, IsAddable};
+ghost use Rattle.gp_log.specs.Kinds.{begins, commits, created_by, creates, ends, is_statement, CreatesNew, IsAddable, IsNumbered};
 ghost use Rattle.gp_machine.specs.Entries.{begin_version, committer_of, fate_of, statement_at, statement_count, statements_in, transactions_in, versions_in};
 
 use crate::entry::{Entry, What};
@@ -30,6 +30,7 @@ pub struct Log {
 
 impl Model for Log {
     ghost use Rattle.std.specs.Prelude.{◌≡◌, ◌≤◌, ◌<◌, ◌+◌, ◌-◌, ◌^◌, if◌then◌else◌, vec_len, vec_capacity};
+    ghost use Rattle.gp_log.specs.Kinds.{AreNumbered};
     ghost use Rattle.gp_log.specs.LogFacts.{ends_in, tables_in};
     ghost use Rattle.gp_log.specs.LogCode.{logged_code};
     ghost use Rattle.gp_log.specs.Logs.{Logged, log_view};
@@ -46,6 +47,7 @@ impl Model for Log {
         × (a.commits ≡ versions_in (log_view a.entries.items))
         × (a.statements ≡ statements_in (log_view a.entries.items))
         × (a.catalog ≡ tables_in (log_view a.entries.items))
+        × AreNumbered a.entries.items
         × (vec_len a.entries < 2 ^ 32)
         × (vec_len a.entries + (a.begun - a.ended) + (if a.ready then 1 else 0) ≤ vec_capacity a.entries) };
 }
@@ -92,7 +94,7 @@ fn ran_by(what: &What) -> u32
 
 /// Adds the table of an entry to the catalogue, if it creates one.
 fn add_created(catalog: &mut Catalog, what: &What) -> Result<(), NoMemory>
-    requires { IsAddable catalog.old what.now }
+    requires { CreatesNew catalog.old what.now }
     ensures ok { OnOk result (catalog.new ≡ catalog.old ++ created_by what.now) }
     ensures err { OnErr result (catalog.new ≡ catalog.old) }
     ensures others { creates what.now ≡ false → IsOk result }
@@ -116,7 +118,7 @@ fn prepare(
     what: &What,
 ) -> Result<(), NoMemory>
     requires few { left < 2 ^ 32 }
-    requires new { IsAddable catalog.old what.now }
+    requires new { CreatesNew catalog.old what.now }
     ensures items { entries.new.items ≡ entries.old.items }
     ensures len { vec_len entries.new ≡ vec_len entries.old }
     ensures room { OnOk result (vec_len entries.new + (left + 1) ≤ vec_capacity entries.new) }
@@ -154,10 +156,12 @@ impl Log {
         self.entries.len() as u32
     }
 
-    /// The entry at a place; places are numbered from 0, in the order of the lines.
+    /// The entry at a place; places are numbered from 0, in the order of the lines. A statement has the next number of its
+    /// transaction.
     pub fn entry(&self, place: u32) -> &Entry
         requires { place < length self.now.entries }
-        ensures { slice_get self.now.entries place ≡ Some result.now }
+        ensures entry { slice_get self.now.entries place ≡ Some result.now }
+        ensures number { IsNumbered (log_view (take place self.now.entries)) result.now }
     {
         &self.entries[place as usize]
     }
@@ -191,10 +195,11 @@ impl Log {
 
     /// Adds an entry behind the others. The end of a transaction never runs out of memory, and a statement does not where
     /// a place is kept for it. A new table has another name than the others, and there are fewer than
-    /// [`MAX_TABLES`](gp_base::MAX_TABLES). If memory runs out, the log is unchanged.
+    /// [`MAX_TABLES`](gp_base::MAX_TABLES); a statement has the next number of its transaction. If memory runs out, the log
+    /// is unchanged.
     pub fn append(&mut self, entry: Entry) -> Result<(), NoMemory>
         requires few { length self.old.entries < 2 ^ 32 - 1 }
-        requires new { IsAddable (tables_in (log_view self.old.entries)) entry.what }
+        requires new { IsAddable (log_view self.old.entries) entry }
         ensures ok { OnOk result (self.new.entries ≡ self.old.entries ++ entry ∷ []) }
         ensures used { OnOk result (self.new.ready ≡ false) }
         ensures err { OnErr result (self.new ≡ self.old) }

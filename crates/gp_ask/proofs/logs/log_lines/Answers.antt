@@ -8,7 +8,7 @@ pub loop-place-preserved : goal.loop-place-preserved
 loop-place-preserved c =
     c.in_ok-push_line.ensures
     ∙ ap (λ (lines : List (List ℕ)). lines ++ lines_of c.args.t (c.entry.result.now ∷ [])) c.loop-place.invariant
-    ∙ sym (one-more c.args.t c.args.log.now.entries c.loop-place.place c.entry.result.now c.entry.ensures)
+    ∙ sym (one-more c.args.t c.args.log.now.entries c.loop-place.place c.entry.result.now c.entry.ensures.entry)
 
 pub returns : goal.returns
 returns c =

@@ -2,11 +2,16 @@ use Rattle.gp_algebra.specs.Views.{statement_view}
 use Rattle.gp_syntax.specs.Views.{command_view}
 use Rattle.gp_engine.proofs.FitLemmas.{ok-map}
 use Rattle.gp_engine.proofs.InvariantLemmas.{few-entries, within-sessions}
-use Rattle.gp_engine.proofs.StatementLemmas.{applied-recorded}
+use Rattle.gp_engine.proofs.StatementLemmas.{applied-recorded, has-run}
 use Rattle.gp_engine.proofs.state.State.run.Goals as goal
 
 pub keep-requires-clause-few : goal.keep-requires-clause-few
 keep-requires-clause-few c = rw c.in-Ok.ensures.log (few-entries c.args.self.now c.requires.engine)
+
+pub keep-requires-clause-ran : goal.keep-requires-clause-ran
+keep-requires-clause-ran c =
+    has-run c.args.self.now c.accept.new.self c.in-Ok.reply c.args.place (statement_view c.args.stmt) c.requires.engine
+    (within-sessions c.args.self.now c.args.place c.requires.engine c.requires.place) c.requires.there c.in-Ok.ensures.applied c.in-Ok.ensures.accepted
 
 pub returns-in-Ok-clause-ok : goal.returns-in-Ok-clause-ok
 returns-in-Ok-clause-ok c running at =
