@@ -2,6 +2,7 @@ pub mod ChoosingLemmas
 pub mod EarlyLemmas
 pub mod EvaluationLemmas
 pub mod ListLemmas
+pub mod LivenessLemmas
 pub mod ProgramLemmas
 pub mod PublishingLemmas
 pub mod RelationLemmas

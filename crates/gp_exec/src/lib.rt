@@ -7,7 +7,8 @@
 //!
 //! Inside, `search` is the nested loops of [`choose`] and `early` the tests that prune them. `relation` has the operators of
 //! the plain algebra over lists of rows, `publication` the one that puts a transaction onto a later version, `evaluation`
-//! evaluates a query by them, and `program` takes the steps of a program in turn.
+//! evaluates a query by them, and `program` takes the steps of a program in turn. `liveness` tells which of them later
+//! ones still read.
 //!
 //! ```text
 //! // every element of the answer, at most 50,000
@@ -21,6 +22,7 @@ mod error;
 mod evaluation;
 mod found;
 mod limit;
+mod liveness;
 mod program;
 mod publication;
 mod relation;

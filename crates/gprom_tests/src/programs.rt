@@ -315,6 +315,18 @@ const INSERT: Query = Query::Union(
     ),
 );
 
+/// `INSERT INTO r VALUES (9)` as statement 1 of transaction 2, without the rows before.
+const MARKED_ROW: Query = Query::Rows(&[(9, (2, 1, 1), true)]);
+
+/// `INSERT INTO r SELECT a FROM r` as statement 1 of transaction 2, after step 1.
+const TWICE: Query = Query::Union(
+    &Query::Step(1),
+    &Query::Project(
+        &Query::Step(1),
+        &[Value::Col(1), Value::Id((2, 1, 1), &[2]), Value::Mark(true)],
+    ),
+);
+
 /// Programs and their rows in ascending order.
 const PROGRAMS: &[(Program, Outcome)] = &[
     (
@@ -331,6 +343,28 @@ const PROGRAMS: &[(Program, Outcome)] = &[
         Outcome::Rows(
             "1, {1.1.1}\n2, {1.1.2}\n2, {2.1.1(1.1.1,1.1.1)}\n3, {2.1.1(1.1.1,1.1.2)}\n3, {2.1.1(1.1.2,1.1.1)}\n4, {2.1.1(1.1.2,1.1.2)}\n",
         ),
+    ),
+    // A step that is read again keeps its rows, though an INSERT appends to them.
+    (
+        (
+            &[
+                (1, TABLE),
+                (2, Query::Union(&Query::Step(1), &MARKED_ROW)),
+                (3, Query::Union(&Query::Step(2), &Query::Step(1))),
+            ],
+            Query::Union(&Query::Step(3), &Query::Step(2)),
+        ),
+        Outcome::Rows(
+            "1, {1.1.1}, NO\n1, {1.1.1}, NO\n1, {1.1.1}, NO\n2, {1.1.2}, NO\n2, {1.1.2}, NO\n2, {1.1.2}, NO\n9, {2.1.1}, YES\n9, {2.1.1}, YES\n",
+        ),
+    ),
+    // An INSERT may read the rows that it appends to.
+    (
+        (
+            &[(1, TABLE), (2, TWICE)],
+            Query::Project(&Query::Step(2), &[Value::Col(1), Value::Col(2)]),
+        ),
+        Outcome::Rows("1, {1.1.1}\n1, {2.1.1(1.1.1)}\n2, {1.1.2}\n2, {2.1.1(1.1.2)}\n"),
     ),
     (
         (
