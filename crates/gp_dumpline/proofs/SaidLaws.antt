@@ -1,8 +1,6 @@
 -- What a log line says is read only from its own text, and again from it where it is the command of a script line. Its text is UTF-8 and has no line feed.
 use Rattle.std.proofs.Common.{◌≡◌, ℕ, true, cond, List, [], ◌∷◌, ◌++◌, get_or, Some, None, Result, Ok, Err, refl, sym, ap, subst, ◌∙◌, inl, inr, arith, codes}
-use Rattle.std.specs.Option.{option_map}
-use Rattle.std.specs.Result.{result_ok}
-use Rattle.std.specs.Str.{IsUtf8, bytes_eq}
+use Rattle.std.specs.Str.{bytes_eq}
 use Rattle.std.proofs.lemmas.Bool.{cases_Bool}
 use Rattle.std.proofs.lemmas.Slice.Eq.{bytes_eq-Decides}
 use Rattle.gp_base.specs.declared.table.Table.{Table}
@@ -13,27 +11,24 @@ use Rattle.gp_lexer.specs.declared.lexeme.Lexeme.TheVariants.{Symbol as Sign}
 use Rattle.gp_lexer.specs.declared.lexeme.Symbol.TheVariants as s
 use Rattle.gp_lexer.specs.Layout.{next_gap, empty_page, laid_out}
 use Rattle.gp_lexer.specs.Lexemes.{AreProper, spelled, symbol_text}
-use Rattle.gp_lexer.specs.Lexing.{Lexed, lexed, lexemes_of}
-use Rattle.gp_lexer.proofs.LayoutLemmas.{added, lexemes_of-laid_out, written-added}
+use Rattle.gp_lexer.proofs.LayoutLemmas.{added, written-added}
 use Rattle.gp_lexer.proofs.ProperLemmas.{lexemes-proper}
-use Rattle.gp_grammar.specs.Canonical.{command_lexemes, command_text, query_lexemes}
-use Rattle.gp_grammar.specs.Capping.{capped_command, capped_line}
+use Rattle.gp_grammar.specs.Canonical.{command_text, query_lexemes}
+use Rattle.gp_grammar.specs.Capping.{capped_command}
 use Rattle.gp_grammar.specs.CommandGrammar as g
 use Rattle.gp_grammar.specs.CommandGrammar.{IsCommand, IsSessionCommand, IsScriptLine}
-use Rattle.gp_grammar.specs.CommandParsing.{command, script_line}
-use Rattle.gp_grammar.specs.Limits.{command_shape, line_shape, passed_limit}
-use Rattle.gp_grammar.specs.LineReading.{Fault, ReadsLine, command_of, script_line_of}
+use Rattle.gp_grammar.specs.CommandParsing.{command}
+use Rattle.gp_grammar.specs.Limits.{command_shape}
+use Rattle.gp_grammar.specs.LineReading.{Fault, command_of, script_line_of}
 use Rattle.gp_grammar.specs.Syntax as y
 use Rattle.gp_grammar.specs.Syntax.{Lexemes, Bytes, Command, ScriptLine, Query}
-use Rattle.gp_grammar.proofs.CanonicalCommands.{command-canonical}
-use Rattle.gp_grammar.proofs.CanonicalCommandDepth.{command-shallow}
-use Rattle.gp_grammar.proofs.CanonicalLaws.{proper, text-utf8, text-one_line}
-use Rattle.gp_grammar.proofs.CanonicalSource.{command-every}
-use Rattle.gp_grammar.proofs.LineLaws.{lines-read, texts-read}
-use Rattle.gp_grammar.proofs.ParserLaws.{lawful-command, lawful-line}
-use Rattle.gp_grammar.proofs.ShapeLemmas.{commands-fair, lines-fair}
-use Rattle.gp_grammar.proofs.Utf8Lemmas.{AllHaveUtf8, HasUtf8, big-utf8, laid_out-utf8, lexed-utf8, symbols-utf8}
+use Rattle.gp_grammar.proofs.CanonicalLaws.{text-utf8, text-one_line}
+use Rattle.gp_grammar.proofs.LineLaws.{texts-read}
+use Rattle.gp_grammar.proofs.ParserLaws.{lawful-command}
+use Rattle.gp_grammar.proofs.ShapeLemmas.{commands-fair}
+use Rattle.gp_grammar.proofs.Utf8Lemmas.{symbols-utf8}
 use Rattle.gp_log.specs.Discipline.{Said, Does, Loses}
+use Rattle.gp_log.proofs.LineCommands.{derived-read, lexed-lexemes, line-command}
 use Rattle.gp_dumpline.specs.Forms.{if_canonical, said_of}
 use Rattle.gp_dumpline.specs.Texts.{said_text}
 use Rattle.gp_dumpline.proofs.LineBytes.{IsLine, tested-free, words-alone}
@@ -126,38 +121,14 @@ said-command x e = elim (cases_Bool (bytes_eq (command_text x) (codes "LOST"))) 
 
 -- ---- commands of lexemes
 
-record Columns (bytes : Bytes) (ts : Lexemes) : Type 0 where
-  columns : List ℕ
-  found : lexed bytes ≡ Ok (ts, columns)
-
-columns-by : (bytes : Bytes) (ts : Lexemes) (o : Lexed) → lexed bytes ≡ o → option_map (λ found. found.0) (result_ok o) ≡ Some ts → Columns bytes ts
-columns-by bytes ts (Ok found) e h = let k : found.0 ≡ ts = cc in record { columns = found.1; found = e ∙ ap (λ z. Ok (z, found.1)) k }
-columns-by bytes ts (Err column) e h = cc
-
--- the canonical text of a command that was derived from such lexemes is read as the command
-text-read : (ts : Lexemes) (x : Command) → IsCommand ts x → passed_limit (command_shape x) ≡ None → AreProper ts → AllHaveUtf8 ts → command_of (command_text x) ≡ Ok x
-text-read ts x is within are texts =
-    let canonical : AreProper (command_lexemes x) = proper ts x is are in
-    let utf8 : IsUtf8 (command_text x) = laid_out-utf8 (command_lexemes x) canonical (command-every HasUtf8 symbols-utf8 big-utf8 ts x is texts) in
-    let c : Columns (command_text x) (command_lexemes x) =
-    columns-by (command_text x) (command_lexemes x) (lexed (command_text x)) refl (lexemes_of-laid_out (command_lexemes x) canonical) in
-    (texts-read command IsCommand capped_command command_shape lawful-command commands-fair (command_text x) x).1 (record {
-      lexemes = command_lexemes x;
-      columns = c.columns;
-      lexical = record { utf8 = utf8; found = c.found };
-      shallow = command-shallow x within;
-      derived = command-canonical ts x is;
-      within = within;
-    })
-
 begin-read : command_of (command_text y.begin) ≡ Ok y.begin
-begin-read = text-read (Sign s.Begin ∷ []) y.begin g.begin refl (tt, tt) (symbols-utf8 s.Begin, tt)
+begin-read = derived-read (Sign s.Begin ∷ []) y.begin g.begin refl (tt, tt) (symbols-utf8 s.Begin, tt)
 
 commit-read : command_of (command_text y.Command.commit) ≡ Ok y.Command.commit
-commit-read = text-read (Sign s.Commit ∷ []) y.Command.commit g.commit refl (tt, tt) (symbols-utf8 s.Commit, tt)
+commit-read = derived-read (Sign s.Commit ∷ []) y.Command.commit g.commit refl (tt, tt) (symbols-utf8 s.Commit, tt)
 
 rollback-read : command_of (command_text y.rollback) ≡ Ok y.rollback
-rollback-read = text-read (Sign s.Rollback ∷ []) y.rollback g.rollback refl (tt, tt) (symbols-utf8 s.Rollback, tt)
+rollback-read = derived-read (Sign s.Rollback ∷ []) y.rollback g.rollback refl (tt, tt) (symbols-utf8 s.Rollback, tt)
 
 pub begin-said : said_of (said_text (Does y.begin)) ≡ Some (Does y.begin)
 begin-said = command-said y.begin begin-read
@@ -173,31 +144,6 @@ unfolding said_of
 lost-said = refl
 
 -- ---- the command of a script line
-
-front-proper : (a b : Lexemes) → AreProper (a ++ b) → AreProper a
-front-proper [] b h = tt
-front-proper (t ∷ a) b h = (h.0, front-proper a b h.1)
-
-front-utf8 : (a b : Lexemes) → AllHaveUtf8 (a ++ b) → AllHaveUtf8 a
-front-utf8 [] b h = tt
-front-utf8 (t ∷ a) b h = (h.0, front-utf8 a b h.1)
-
-session-read : (ts : Lexemes) (line : ScriptLine) → IsSessionCommand ts line → passed_limit (line_shape line) ≡ None → AreProper ts → AllHaveUtf8 ts → command_of (command_text line.command) ≡ Ok line.command
-session-read _ _ (g.in_session name session a x e is) within are texts = text-read a x is within are.1.1 texts.1.1
-
-closed-read : (ts : Lexemes) (line : ScriptLine) → IsScriptLine ts line → passed_limit (line_shape line) ≡ None → AreProper ts → AllHaveUtf8 ts → command_of (command_text line.command) ≡ Ok line.command
-closed-read _ _ (g.open_end a x is) within are texts = session-read a x is within are texts
-closed-read _ _ (g.semicolon a x is) within are texts = session-read a x is within (front-proper a (Sign s.Semicolon ∷ []) are) (front-utf8 a (Sign s.Semicolon ∷ []) texts)
-
-lexed-lexemes : (bytes : Bytes) (ts : Lexemes) (cs : List ℕ) → lexed bytes ≡ Ok (ts, cs) → lexemes_of bytes ≡ Some ts
-lexed-lexemes bytes ts cs e = ap (λ o. option_map (λ found. found.0) (result_ok o)) e
-
-pub line-command : (bytes : Bytes) (line : ScriptLine) → script_line_of bytes ≡ Ok line → command_of (command_text line.command) ≡ Ok line.command
-line-command bytes line e =
-    let r : ReadsLine IsScriptLine line_shape bytes line = (lines-read script_line IsScriptLine capped_line line_shape lawful-line lines-fair bytes line).0 e in
-    closed-read r.text.lexemes line r.text.derived r.text.within
-    (lexemes-proper bytes r.text.lexemes (lexed-lexemes bytes r.text.lexemes r.text.columns r.text.lexical.found))
-    (lexed-utf8 bytes r.text.lexemes r.text.columns r.text.lexical.utf8 r.text.lexical.found)
 
 pub line-said : (bytes : Bytes) (line : ScriptLine) → script_line_of bytes ≡ Ok line → said_of (said_text (Does line.command)) ≡ Some (Does line.command)
 line-said bytes line e = command-said line.command (line-command bytes line e)

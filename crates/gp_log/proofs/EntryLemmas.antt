@@ -41,6 +41,3 @@ each-pushed P (first ∷ entries) entry all here (suc place) e found =
 
 pub numbered-pushed : (entries : List Entry) (entry : Entry) → AreNumbered entries → IsNumbered (log_view entries) entry → AreNumbered (entries ++ entry ∷ [])
 numbered-pushed entries entry all here = each-pushed (λ before e. IsNumbered (log_view before) e) entries entry all here
-
-pub none-numbered : AreNumbered []
-none-numbered place e found = absurd cc
