@@ -76,8 +76,7 @@ fn create(
 ) -> Result<Entry, EntryStop>
     ensures entry { GivesEntry entry_view result
         (doing limits (log_view log.now.entries) line session active (action.Create table)) }
-    ensures new { IfOk result
-        (λ entry. IsAddable (log_view log.now.entries) entry) }
+    ensures new { IfOk result (λ entry. IsAddable (log_view log.now.entries) entry) }
     ensures valid { table_is_valid table ≡ true → IfOk result (λ entry. CreatesValid entry.what) }
 {
     match check_create(log, active, &table) {
@@ -95,8 +94,7 @@ fn create(
 fn begin(log: &Log, line: u32, session: u32, active: Option<u32>) -> Result<Entry, EntryStop>
     ensures entry { GivesEntry entry_view result
         (doing limits (log_view log.now.entries) line session active action.Begin) }
-    ensures new { IfOk result
-        (λ entry. IsAddable (log_view log.now.entries) entry) }
+    ensures new { IfOk result (λ entry. IsAddable (log_view log.now.entries) entry) }
     ensures valid { IfOk result (λ entry. CreatesValid entry.what) }
 {
     let begun = log.transactions();
@@ -164,8 +162,7 @@ fn statement(
     ensures entry { GivesEntry entry_view result
         (doing limits (log_view log.now.entries) line session active
         (action.Run (command_view command))) }
-    ensures new { IfOk result
-        (λ entry. IsAddable (log_view log.now.entries) entry) }
+    ensures new { IfOk result (λ entry. IsAddable (log_view log.now.entries) entry) }
     ensures valid { IfOk result (λ entry. CreatesValid entry.what) }
 {
     match check_run(alloc, log, active, &command) {
@@ -206,8 +203,7 @@ pub fn next_entry(
 ) -> Result<Entry, EntryStop>
     ensures entry { GivesEntry entry_view result
         (d.next_entry limits (log_view log.now.entries) line session (said_view said)) }
-    ensures new { IfOk result
-        (λ entry. IsAddable (log_view log.now.entries) entry) }
+    ensures new { IfOk result (λ entry. IsAddable (log_view log.now.entries) entry) }
     ensures valid { IsValid said → IfOk result (λ entry. CreatesValid entry.what) }
 {
     let active = transaction_in(log, session);

@@ -123,8 +123,7 @@ fn next_entry<'a>(alloc: Global, log: &Log, rest: Rest<'a>) -> Result<(Entry, Re
         (Logs next (entry_view x.0 ∷ log_view log.now.entries)) x.1.number)
         (verdict_from rest.entry.bytes.now (Logs left (log_view log.now.entries))
         rest.entry.number) }
-    ensures new { IfOk result
-        (λ x. IsAddable (log_view log.now.entries) x.0) }
+    ensures new { IfOk result (λ x. IsAddable (log_view log.now.entries) x.0) }
     ensures valid { IfOk result (λ x. CreatesValid x.0.what) }
     ensures room { IfOk result (λ x. x.1.number + length x.1.bytes.now ≤ MAX_DUMP_LENGTH + 1) }
 {

@@ -83,8 +83,7 @@ fn last_line(log: &Log) -> u32
 pub fn log_line(alloc: Global, log: &Log, text: &[u8]) -> Result<Entry, LineStop>
     requires { length text.now ≤ MAX_DUMP_LENGTH }
     ensures value { GivesLine entry_view result (log_rule (log_view log.now.entries) text.now) }
-    ensures new { IfOk result
-        (λ entry. IsAddable (log_view log.now.entries) entry) }
+    ensures new { IfOk result (λ entry. IsAddable (log_view log.now.entries) entry) }
     ensures valid { IfOk result (λ entry. CreatesValid entry.what) }
 {
     let Some(line) = parse_log_line(text) else {
