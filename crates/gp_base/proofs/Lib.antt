@@ -6,4 +6,6 @@ pub mod MonomialLemmas
 pub mod OrderLemmas
 pub mod ProductLaws
 pub mod TextLemmas
+pub mod UserTextLemmas
 pub mod WritingLemmas
+pub mod FollowingLemmas

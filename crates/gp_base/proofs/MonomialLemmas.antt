@@ -19,7 +19,7 @@ IsBelow token pairs = below_all token_cmp token pairs ≡ true
 abbrev IsAscending : Monomial → Type 0
 IsAscending pairs = is_sorted token_cmp pairs ≡ true
 
-less_is : (o : Ordering) → is_lt o ≡ true → o ≡ Less
+pub less_is : (o : Ordering) → is_lt o ≡ true → o ≡ Less
 less_is Less e = refl
 less_is Equal e = absurd cc
 less_is Greater e = absurd cc

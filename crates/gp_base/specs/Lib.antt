@@ -7,6 +7,7 @@ pub mod IdentityOrder
 pub mod Names
 pub mod Order
 pub mod Refusals
+pub mod RowOrder
 pub mod Texts
 pub mod TokenOrder
 pub mod Tokens

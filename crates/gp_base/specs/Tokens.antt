@@ -1,9 +1,9 @@
 -- Part of the statement: the tokens of provenance polynomials, and monomials: finite products of tokens, each with its count (Green,
 -- Karvounarakis and Tannen 2007). Their counts stop at the greatest number of 64 bits.
-use Rattle.std.specs.Prelude.{ℕ, ◌+◌, ◌≤◌, min, List, [], ◌∷◌, codes, unwrap_or, if◌then◌else◌, ◌==◌, IsTrue}
+use Rattle.std.specs.Prelude.{ℕ, ◌+◌, ◌≤◌, min, Bool, true, List, [], ◌∷◌, codes, unwrap_or, if◌then◌else◌, ◌==◌, IsTrue}
 use Rattle.std.specs.List.{concat}
 use Rattle.std.specs.Fmt.{decimal}
-use Rattle.std.specs.Ordering.{nat_cmp, ordering_then, on, then_cmp}
+use Rattle.std.specs.Ordering.{nat_cmp, ordering_then, on, then_cmp, is_lt}
 use Rattle.std.specs.declared.cmp.Ordering.{Ordering}
 use Rattle.std.specs.declared.cmp.Ordering.TheVariants.{Less, Greater}
 use Rattle.std.specs.Cmp.Lexicographic.{slice_cmp}
@@ -81,6 +81,12 @@ ArePowers (pair ∷ pairs) = IsPower pair × ArePowers pairs
 pub record IsMonomial (monomial : Monomial) : Type 0 where
   pub sorted : IsTrue (is_sorted token_cmp monomial)
   pub powers : ArePowers monomial
+
+-- a token is above all of a monomial
+abbrev pub follows : Token → Monomial → Bool
+follows token [] = true
+follows token (pair ∷ []) = is_lt (token_cmp pair.0 token)
+follows token (pair ∷ next ∷ pairs) = follows token (next ∷ pairs)
 
 -- i, q or u and the numbers
 abbrev pub token_text : Token → List ℕ

@@ -54,5 +54,5 @@ pub use sequence::Sequence;
 pub use sort::sort_rows;
 pub use stored::Stored;
 pub use table::{Column, Kind, Table};
-pub use text::{MAX_TEXT_LENGTH, Text};
+pub use text::{MAX_TEXT_LENGTH, Text, is_user_text};
 pub use token::Token;

@@ -1,9 +1,9 @@
 //! Monomials over tokens.
 
-ghost use Rattle.std.specs.Prelude.{◌≡◌, IfOk};
+ghost use Rattle.std.specs.Prelude.{◌≡◌, ◌++◌, ◌∷◌, ◌&&◌, [], IfOk, OnErr, if◌then◌else◌, nat_le};
 ghost use Rattle.std.specs.Ordering.{eq_by_cmp, as_partial_cmp};
 ghost use Rattle.std.specs.Cmp.{eq_by_cmp_equiv, partial_equiv_from_equiv, po};
-ghost use Rattle.gp_base.specs.Tokens.{IsMonomial, monomial_cmp, once, one, power, times, token_cmp};
+ghost use Rattle.gp_base.specs.Tokens.{IsMonomial, follows, monomial_cmp, once, one, power, times, token_cmp};
 ghost use Rattle.gp_base.specs.TokenOrder.{monomial_cmp_total};
 
 use crate::error::NoMemory;
@@ -15,10 +15,10 @@ use std::marker::Model;
 
 /// A product of tokens, each with its count: a monomial of a provenance polynomial (Green, Karvounarakis and Tannen 2007).
 /// Contracts see it as the list of its tokens with their counts, in ascending order of the tokens. Counts are from 1 to
-/// 2^64 - 1, where they stop. Most rows have a few tokens only, and those need no allocation.
+/// 2^64 - 1, where they stop. One token is kept in the value, which keeps cells small; more need an allocation.
 #[derive(Drop)]
 pub struct Monomial {
-    powers: SmallVec<(Token, u64), 4>,
+    powers: SmallVec<(Token, u64), 1>,
 }
 
 impl Model for Monomial {
@@ -41,12 +41,23 @@ fn compare_tokens(left: &Token, right: &Token) -> Ordering
     left.cmp(right)
 }
 
+/// Whether the token is greater than the last of an ascending list.
+#[tactic(auto, using(crate::proofs::FollowingLemmas::lasts))]
+fn follows(token: &Token, powers: &[(Token, u64)]) -> bool
+    ensures { result ≡ follows token.now powers.now }
+{
+    match powers.last() {
+        None => true,
+        Some((last, _)) => compare_tokens(last, token).is_lt(),
+    }
+}
+
 /// The product of two lists of tokens with counts.
 fn merge(
     alloc: Global,
     left: &[(Token, u64)],
     right: &[(Token, u64)],
-) -> Result<SmallVec<(Token, u64), 4>, NoMemory>
+) -> Result<SmallVec<(Token, u64), 1>, NoMemory>
     ensures { IfOk result (λ powers. powers.items ≡ times left.now right.now) }
 {
     let mut powers = SmallVec::new(alloc);
@@ -92,13 +103,13 @@ impl Monomial {
         }
     }
 
-    /// One token. Running out of memory is the only error.
-    pub fn of(alloc: Global, token: Token) -> Result<Monomial, NoMemory>
-        ensures { IfOk result (λ monomial. monomial ≡ once token) }
+    /// One token, which needs no allocation.
+    pub fn of(alloc: Global, token: Token) -> Monomial
+        ensures { result ≡ once token }
     {
         let mut powers = SmallVec::new(alloc);
-        powers.push((token, 1))?;
-        Ok(Monomial { powers })
+        powers.push_reserved((token, 1));
+        Monomial { powers }
     }
 
     /// The tokens with their counts, in ascending order.
@@ -107,6 +118,22 @@ impl Monomial {
         ensures valid { IsMonomial self.now }
     {
         self.powers.as_slice()
+    }
+
+    /// Adds a token with its count behind all others, and returns true. If the count is 0, or if the token is not greater than
+    /// all others, the monomial is unchanged, and the result is false. If memory runs out, it is unchanged too.
+    pub fn push(&mut self, token: Token, count: u64) -> Result<bool, NoMemory>
+        ensures value { IfOk result (λ pushed.
+            pushed ≡ (nat_le 1 count && follows token self.old)) }
+        ensures ok { IfOk result (λ pushed. self.new
+            ≡ (if pushed then self.old ++ (token, count) ∷ [] else self.old)) }
+        ensures unchanged { OnErr result (self.new ≡ self.old) }
+    {
+        if count == 0 || !follows(&token, self.powers.as_slice()) {
+            return Ok(false);
+        }
+        self.powers.push((token, count))?;
+        Ok(true)
     }
 
     /// The product: the counts of common tokens add up, and stop at 2^64 - 1. Running out of memory is the only error.

@@ -152,8 +152,6 @@ pub enum Refusal {
         /// The semiring's name.
         semiring: Text,
     },
-    /// E29: this version does not support the line.
-    NotBuilt,
 }
 
 fn limit_text(limit: Limit) -> &'static [u8]
@@ -330,7 +328,6 @@ fn refusal_text(alloc: Global, refusal: &Refusal) -> Result<Vec<u8>, NoMemory>
         }
         Refusal::E27 => text_of_pieces(alloc, &[b"E27 more than 50000 rows"]),
         Refusal::E28 { number, semiring } => semiring_refusal_text(alloc, *number, semiring),
-        Refusal::NotBuilt => text_of_pieces(alloc, &[b"E29 not built"]),
     }
 }
 

@@ -1,6 +1,6 @@
 //! Rows of a table.
 
-ghost use Rattle.std.specs.Prelude.{◌≡◌, ◌++◌, ◌∷◌, [], OnOk, OnErr};
+ghost use Rattle.std.specs.Prelude.{◌≡◌, ◌++◌, ◌∷◌, [], IfOk, OnOk, OnErr};
 ghost use Rattle.gp_base.specs.Cells.{AreInRange};
 
 use crate::cell::Cell;
@@ -42,6 +42,15 @@ impl Row {
         Row {
             cells: Sequence::new(alloc),
         }
+    }
+
+    /// A row with no cells, and room for this many. Running out of memory is the only error.
+    pub fn with_capacity(alloc: Global, capacity: usize) -> Result<Row, NoMemory>
+        ensures { IfOk result (λ row. row ≡ []) }
+    {
+        Ok(Row {
+            cells: Sequence::with_capacity(alloc, capacity)?,
+        })
     }
 
     /// The cells of the row.

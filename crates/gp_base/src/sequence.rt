@@ -32,6 +32,15 @@ impl<T> Sequence<T> {
         }
     }
 
+    /// A sequence with no items, and room for this many. Running out of memory is the only error.
+    pub fn with_capacity(alloc: Global, capacity: usize) -> Result<Sequence<T>, NoMemory>
+        ensures { IfOk result (λ list. list ≡ []) }
+    {
+        Ok(Sequence {
+            items: Vec::with_capacity(alloc, capacity)?,
+        })
+    }
+
     /// The items of a vector.
     pub fn from_vec(items: Vec<T>) -> Sequence<T>
         ensures { result ≡ items.items }

@@ -31,10 +31,6 @@ utf8-test P Q (Err e) bytes h = elim (cases_Bool (is_utf8 bytes)) [
   | inr e ↦ sym e
 ]
 
-pub utf8-whole : {A E : Type 0} (P : A → Type 0) (n : E → ℕ) (r : Result A E) (bytes : List ℕ) → MatchResult r (λ s. P s × IsUtf8 bytes) (λ e. ¬ (IsUtf8 bytes) × IsValidUpTo bytes (n e)) → is_ok r ≡ eqb (utf8_valid_len bytes) (length bytes)
-utf8-whole P n (Ok s) bytes h = sym (eq-eqb _ _ (utf8_valid_len-IsUtf8 bytes h.1))
-utf8-whole P n (Err e) bytes h = sym (ne_eqb _ _ (λ same. omega (arith, h.1.short, utf8_valid_len-IsValidUpTo bytes (n e) h.1, same)))
-
 -- ---- the order of row lines
 
 pub after-less : (last span : Span) → identity_cmp last.id span.id ≡ Less → is_after last span ≡ true

@@ -1,10 +1,6 @@
 //! The rules of single lines.
 
-ghost use Rattle.std.specs.Prelude.{◌≡◌, ◌==◌, ◌+◌, ◌≤◌, true, not, length, reverse, IfOk, MatchOption, Ok, Err};
-ghost use Rattle.std.specs.Char.{is_ascii_control};
-ghost use Rattle.std.specs.List.{list_any};
-ghost use Rattle.std.specs.Str.Lossy.{utf8_valid_len};
-ghost use Rattle.gp_base.specs.Cells as c;
+ghost use Rattle.std.specs.Prelude.{◌≡◌, ◌+◌, ◌≤◌, true, length, reverse, IfOk, MatchOption, Ok, Err};
 ghost use Rattle.gp_base.specs.Cells.{AreInRange, IsInRange};
 ghost use Rattle.gp_txn.specs.declared.counting.TheConstants.{MAX_SPANS};
 ghost use Rattle.gp_log.specs.Discipline as d;
@@ -18,7 +14,7 @@ ghost use Rattle.gp_dump.specs.Rules.{Count, header_line, log_rule, nothing_line
 use crate::discipline::next_entry;
 use crate::error::LineStop;
 use crate::lines::{Line, is_header, is_text};
-use gp_base::{Cell, Column, Kind, MAX_TEXT_LENGTH, Table};
+use gp_base::{Cell, Column, Kind, Table, is_user_text};
 use gp_dumpline::{parse_log_line, parse_said, parse_section, parse_span};
 use gp_log::{Entry, Log};
 use gp_txn::MAX_SPANS;
@@ -116,32 +112,6 @@ pub fn section_line(before: u32, table: &Table, text: &[u8]) -> Result<u32, Line
         return Err(LineStop::Rule(10));
     }
     Ok(rows)
-}
-
-/// Whether the bytes of a text in a cell are UTF-8.
-fn is_whole(text: &[u8]) -> bool
-    ensures { result ≡ (utf8_valid_len text.now == length text.now) }
-{
-    str::from_utf8(text).is_ok()
-}
-
-/// Whether no byte of the text is a control character.
-fn is_printable(text: &[u8]) -> bool
-    ensures { result ≡ not (list_any is_ascii_control text.now) }
-{
-    for byte in text {
-        if byte.is_ascii_control() {
-            return false;
-        }
-    }
-    true
-}
-
-/// Whether a user can write the text.
-fn is_user_text(text: &[u8]) -> bool
-    ensures { result ≡ c.is_user_text text.now }
-{
-    is_whole(text) && text.len() <= MAX_TEXT_LENGTH && is_printable(text)
 }
 
 /// Whether a column of this kind can hold the cell.

@@ -135,7 +135,7 @@ const U3: Token = Token::Updated { t: 3, k: 1 };
 
 /// The product with one more token.
 fn times(alloc: Global, product: &Monomial, token: Token) -> Result<Monomial, NoMemory> {
-    let once = Monomial::of(alloc, token)?;
+    let once = Monomial::of(alloc, token);
     product.times(alloc, &once)
 }
 
@@ -212,7 +212,7 @@ fn monomials_have_an_order(rt: HostRuntime) {
 
 /// U3 after it is squared so many times.
 fn squared(alloc: Global, times: u32) -> Result<Monomial, NoMemory> {
-    let mut product = Monomial::of(alloc, U3)?;
+    let mut product = Monomial::of(alloc, U3);
     for _ in 0..times {
         product = instead(product.times(alloc, &product), product)?;
     }
