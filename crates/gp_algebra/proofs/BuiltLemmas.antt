@@ -3,12 +3,11 @@ use Rattle.std.proofs.Common.{◌≡◌, ℕ, suc, ◌+◌, ◌<◌, Bool, true,
 use Rattle.std.specs.Prelude.{◌&&◌, ◌||◌, ◌==◌, nat_lt}
 use Rattle.std.specs.List.{list_all, list_any}
 use Rattle.std.proofs.lemmas.List.{take_more}
-use Rattle.gp_expr.specs.Expressions.{is_simple}
 use Rattle.gp_expr.specs.declared.expr.Expr.{Expr}
 use Rattle.gp_expr.specs.Views.{expr_view, parts_of}
 use Rattle.gp_algebra.specs.declared.plain.PStep.{PStep}
 use Rattle.gp_algebra.specs.PlainViews.{query_view, step_view}
-use Rattle.gp_algebra.specs.WellBuilt.{parts_are_simple, is_among, is_above, step_is_built, steps_are_built, numbers_after}
+use Rattle.gp_algebra.specs.WellBuilt.{makes_no_identity, parts_make_no_identity, is_among, is_above, step_is_built, steps_are_built, numbers_after}
 
 or_moved : (a b c : Bool) → (a || (b || c)) ≡ ((b || a) || c)
 or_moved true true c = refl
@@ -56,9 +55,9 @@ numbers_after-push earlier [] s = refl
 numbers_after-push earlier (t ∷ steps) s = numbers_after-push (t.j ∷ earlier) steps s
 
 -- the parts of an identity as a list
-pub parts-simple : (parts : List Expr) → list_all (λ part. is_simple (expr_view part)) parts ≡ parts_are_simple (parts_of parts)
-parts-simple [] = refl
-parts-simple (a ∷ others) = ap (λ b. is_simple (expr_view a) && b) (parts-simple others)
+pub parts-none : (parts : List Expr) → list_all (λ part. makes_no_identity (expr_view part)) parts ≡ parts_make_no_identity (parts_of parts)
+parts-none [] = refl
+parts-none (a ∷ others) = ap (λ b. makes_no_identity (expr_view a) && b) (parts-none others)
 
 abbrev numbers : List PStep → List ℕ
 numbers steps = numbers_after [] (map step_view steps)

@@ -3,7 +3,7 @@
 use Rattle.std.specs.Prelude.{ℕ, nat_lt, ◌==◌, Bool, true, false, ◌&&◌, List, [], ◌∷◌}
 use Rattle.std.specs.List.{list_all, list_any}
 use Rattle.gp_expr.specs.Expressions as e
-use Rattle.gp_expr.specs.Expressions.{Expr, Parts, is_simple, cond_is_simple}
+use Rattle.gp_expr.specs.Expressions.{Expr, Parts, cond_is_simple}
 use Rattle.gp_algebra.specs.Plain.{Plain, scan, step, select, project, product, union, given, publish, PlainStep, PlainProgram}
 
 -- provenance is multiplied, and no identity is made
@@ -18,13 +18,13 @@ makes_no_identity (e.case c a b) = cond_is_simple c && (makes_no_identity a && m
 makes_no_identity (e.new_id t k b parts) = false
 makes_no_identity (e.times a b) = makes_no_identity a && makes_no_identity b
 
-abbrev pub parts_are_simple : Parts → Bool
-parts_are_simple e.no_parts = true
-parts_are_simple (e.part a others) = is_simple a && parts_are_simple others
+abbrev pub parts_make_no_identity : Parts → Bool
+parts_make_no_identity e.no_parts = true
+parts_make_no_identity (e.part a others) = makes_no_identity a && parts_make_no_identity others
 
 -- an expression that may be a new identity as a whole
 abbrev pub may_be_identity : Expr → Bool
-may_be_identity (e.new_id t k b parts) = parts_are_simple parts
+may_be_identity (e.new_id t k b parts) = parts_make_no_identity parts
 may_be_identity e = makes_no_identity e
 
 -- one of these numbers

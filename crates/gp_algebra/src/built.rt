@@ -4,11 +4,10 @@ ghost use Rattle.std.specs.Prelude.{◌≡◌, ◌&&◌, ◌==◌, [], map, nat_
 ghost use Rattle.std.specs.List.{list_all, list_any};
 ghost use Rattle.gp_algebra.specs.PlainViews.{program_view, query_view, step_view};
 ghost use Rattle.gp_algebra.specs.WellBuilt as w;
-ghost use Rattle.gp_expr.specs.Expressions.{is_simple};
 ghost use Rattle.gp_expr.specs.Views.{expr_view};
 
 use crate::plain::{PProgram, PQuery, PStep};
-use gp_expr::{Expr, cond_is_simple, is_simple};
+use gp_expr::{Expr, cond_is_simple};
 
 /// Whether an expression makes no identity.
 fn makes_no_identity(expr: &Expr) -> bool
@@ -28,10 +27,10 @@ fn makes_no_identity(expr: &Expr) -> bool
     }
 }
 
-fn parts_are_simple(parts: &[Expr]) -> bool
-    ensures { result ≡ list_all (λ part. is_simple (expr_view part)) parts.now }
+fn make_no_identities(exprs: &[Expr]) -> bool
+    ensures { result ≡ list_all (λ expr. w.makes_no_identity (expr_view expr)) exprs.now }
 {
-    parts.iter().all(|part| is_simple(part))
+    exprs.iter().all(|expr| makes_no_identity(expr))
 }
 
 /// Whether an expression makes no identity but itself.
@@ -39,15 +38,9 @@ fn may_be_identity(expr: &Expr) -> bool
     ensures { result ≡ w.may_be_identity (expr_view expr.now) }
 {
     match expr {
-        Expr::NewId { parts, .. } => parts_are_simple(parts),
+        Expr::NewId { parts, .. } => make_no_identities(parts),
         _ => makes_no_identity(expr),
     }
-}
-
-fn make_no_identities(exprs: &[Expr]) -> bool
-    ensures { result ≡ list_all (λ expr. w.makes_no_identity (expr_view expr)) exprs.now }
-{
-    exprs.iter().all(|expr| makes_no_identity(expr))
 }
 
 fn may_be_identities(exprs: &[Expr]) -> bool

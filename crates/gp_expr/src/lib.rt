@@ -3,8 +3,8 @@
 //! In reading order: [`Expr`] is an expression, which has a cell as its value, [`Cond`] a condition, [`Cmp`] a comparison,
 //! and [`Ternary`] the truth of a condition. [`eval_simple`] and [`truth`] evaluate them on a row, [`eval`] also those that make
 //! identities and provenance; [`is_simple`] and [`cond_is_simple`] test for the former, [`size`] and [`cond_size`] count nodes.
-//! [`copy_expr`] and [`copy_cond`] copy them, and [`substitute`] and [`substitute_cond`] put expressions in place of their
-//! columns. In `specs/`, `Expressions` has expressions without the pointers of their boxes, which all contracts speak of, and
+//! [`copy_expr`] and [`copy_cond`] copy them, and [`substitute`], [`substitute_each`] and [`substitute_cond`] put expressions in
+//! place of their columns. In `specs/`, `Expressions` has expressions without the pointers of their boxes, which all contracts speak of, and
 //! `Views` maps the types of the code to them.
 //!
 //! ```text
@@ -32,5 +32,5 @@ pub use evaluation::{eval, eval_simple, truth};
 pub use expr::{Cmp, Cond, Expr};
 pub use simple::{cond_is_simple, is_simple};
 pub use sizes::{cond_size, size};
-pub use substitution::{substitute, substitute_cond};
+pub use substitution::{substitute, substitute_cond, substitute_each};
 pub use ternary::Ternary;

@@ -32,3 +32,16 @@ pub fn substitute_cond(alloc: Global, cond: &Cond, inner: &[Expr]) -> Result<Con
 {
     rebuild_cond(alloc, cond, Some(inner))
 }
+
+/// Each expression with `inner` in place of its columns, as [`substitute`] does for one. Running out of memory is the only
+/// error.
+pub fn substitute_each(alloc: Global, exprs: &[Expr], inner: &[Expr]) -> Result<Vec<Expr>, NoMemory>
+    ensures exact { IfOk result (λ new. map expr_view new.items
+        ≡ s.substituted_each (map expr_view exprs.now) (map expr_view inner.now)) }
+{
+    let mut new = Vec::new(alloc);
+    for expr in exprs {
+        new.push(substitute(alloc, expr, inner)?)?;
+    }
+    Ok(new)
+}

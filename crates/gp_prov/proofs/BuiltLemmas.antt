@@ -14,7 +14,7 @@ use Rattle.gp_expr.specs.Expressions.{Expr, Cond, is_simple, cond_is_simple}
 use Rattle.gp_expr.specs.Substitution.{substituted_each, substituted_cond}
 use Rattle.gp_algebra.specs.Plain as p
 use Rattle.gp_algebra.specs.Plain.{Plain}
-use Rattle.gp_algebra.specs.WellBuilt.{makes_no_identity, parts_are_simple, may_be_identity, query_is_built, rows_are_built, step_is_built, is_above, steps_are_built, numbers_after, is_well_built}
+use Rattle.gp_algebra.specs.WellBuilt.{makes_no_identity, parts_make_no_identity, may_be_identity, query_is_built, rows_are_built, step_is_built, is_above, steps_are_built, numbers_after, is_well_built}
 use Rattle.gp_algebra.specs.AnnotatedQueries as q
 use Rattle.gp_algebra.specs.AnnotatedQueries.{Change, Query, QueryStep, Program}
 use Rattle.gp_algebra.specs.QueryForms.{IsTable, IsSomeTable, IsJoin, IsSource, IsBranch, AreNew, IsStep, IsAnswer, is_sound, step_table, AreAfter, AreRising, AreSteps, HasSteps, reads_only, steps_read, numbers_with}
@@ -74,9 +74,9 @@ module _ (prov : Bool) where
       all_joined is_simple (columns_from at width) (users_from prov (at + (width + system_width prov)) widths) (columns_simple at width)
       (users_simple (at + (width + system_width prov)) widths)
 
-  identities_simple : (at : ℕ) (widths : List ℕ) → parts_are_simple (identities_from prov at widths) ≡ true
-  identities_simple at [] = refl
-  identities_simple at (width ∷ widths) = identities_simple (at + (width + system_width prov)) widths
+  identities_make_none : (at : ℕ) (widths : List ℕ) → parts_make_no_identity (identities_from prov at widths) ≡ true
+  identities_make_none at [] = refl
+  identities_make_none at (width ∷ widths) = identities_make_none (at + (width + system_width prov)) widths
 
   times_make_none : (at : ℕ) (widths : List ℕ) (expr : Expr) → makes_no_identity expr ≡ true → makes_no_identity (times_from prov at widths expr) ≡ true
   times_make_none at [] expr so = so
@@ -117,7 +117,7 @@ module _ (prov : Bool) (widths : List ℕ) where
       let annotation : Expr = times_from prov 0 widths (e.constant (cell.Mono (once (Queried t k)))) in
       all_joined may_be_identity (substituted_each exprs (users_from prov 0 widths)) _
       (all_weaker makes_no_identity may_be_identity none_may_be (substituted_each exprs (users_from prov 0 widths)) (each_makes_none exprs so))
-      (both (identities_simple prov 0 widths)
+      (both (identities_make_none prov 0 widths)
       (noted_all may_be_identity prov annotation (none_may_be annotation (times_make_none prov 0 widths (e.constant (cell.Mono (once (Queried t k)))) refl))))
 
 -- ---- queries

@@ -17,20 +17,8 @@ use crate::columns::{
 use crate::numbers::add;
 use gp_algebra::Change;
 use gp_base::{Cell, Monomial, NoMemory, Sequence, Token};
-use gp_expr::{Expr, substitute, substitute_cond};
+use gp_expr::{Expr, substitute_cond, substitute_each};
 use std::alloc::Global;
-
-/// The expressions with others in place of their columns.
-fn substitute_each(alloc: Global, exprs: &[Expr], inner: &[Expr]) -> Result<Vec<Expr>, NoMemory>
-    ensures { IfOk result (λ new. map expr_view new.items
-        ≡ substituted_each (map expr_view exprs.now) (map expr_view inner.now)) }
-{
-    let mut new = Vec::new(alloc);
-    for expr in exprs {
-        push(&mut new, substitute(alloc, expr, inner)?)?;
-    }
-    Ok(new)
-}
 
 /// The expressions on the user columns of joined rows.
 fn user_values(
@@ -50,7 +38,7 @@ fn user_values(
 fn token_monomial(alloc: Global, token: Token) -> Result<Expr, NoMemory>
     ensures { IfOk result (λ new. expr_view new ≡ e.constant (cell.Mono (m.once token))) }
 {
-    Ok(Expr::Const(Cell::Mono(Monomial::of(alloc, token)?)))
+    Ok(Expr::Const(Cell::Mono(Monomial::of(alloc, token))))
 }
 
 /// The first expression where the condition of a change is true on the user columns, else the second.

@@ -42,7 +42,7 @@ fn given_row(
     row.push(Cell::Id(given_id(alloc, t, k, n)))?;
     row.push(Cell::Mark(true))?;
     if with_prov {
-        row.push(Cell::Mono(Monomial::of(alloc, Token::Inserted { t, k, n })?))?;
+        row.push(Cell::Mono(Monomial::of(alloc, Token::Inserted { t, k, n })))?;
     }
     Ok(row)
 }

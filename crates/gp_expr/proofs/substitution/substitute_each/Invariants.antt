@@ -1,7 +1,7 @@
 use Rattle.std.proofs.Common.{◌≡◌, ◌++◌, map, drop}
 use Rattle.gp_expr.specs.Substitution.{substituted_each}
 use Rattle.gp_expr.specs.Views.{expr_view}
-use Rattle.gp_prov.proofs.projections.substitute_each.Given as goal
+use Rattle.gp_expr.proofs.substitution.substitute_each.Given as goal
 
 -- those so far and the others are all
 abbrev pub invariant-loop-expr : goal.invariant-loop-expr
