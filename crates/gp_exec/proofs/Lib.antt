@@ -1,8 +1,15 @@
+pub mod BackendLemmas
 pub mod ChoosingLemmas
 pub mod EarlyLemmas
+pub mod EqualityLemmas
 pub mod EvaluationLemmas
+pub mod LevelLemmas
 pub mod ListLemmas
+pub mod IndexLemmas
+pub mod InputLemmas
+pub mod JoiningLemmas
 pub mod LivenessLemmas
+pub mod PairLemmas
 pub mod ProgramLemmas
 pub mod PublishingLemmas
 pub mod RelationLemmas

@@ -1,6 +1,13 @@
+pub mod Backends
 pub mod Choosing
 pub mod Evaluating
+pub mod Indexing
+pub mod Inputs
+pub mod Joining
+pub mod Keys
+pub mod Levels
 pub mod Liveness
+pub mod Pairs
 pub mod Publishing
 pub mod Running
 pub mod Search

@@ -10,10 +10,14 @@ use gp_versions::{Span, VersionTable};
 use std::alloc::Global;
 
 /// The row of a span, then its identity, then the mark NO.
-fn encoded_row(span: &Span) -> Result<Row, NoMemory>
+fn encoded_row(alloc: Global, span: &Span) -> Result<Row, NoMemory>
     ensures { IfOk result (λ row. row ≡ encoded_row (row_of plain span.now)) }
 {
-    let mut row = span.row.clone()?;
+    let cells = span.row.cells();
+    let mut row = Row::with_capacity(alloc, cells.len().saturating_add(2))?;
+    for cell in cells {
+        row.push(cell.clone()?)?;
+    }
     row.push(Cell::Id(span.id.clone()?))?;
     row.push(Cell::Mark(false))?;
     Ok(row)
@@ -30,7 +34,7 @@ pub fn encoded_rows(
 {
     let mut rows = Sequence::new(alloc);
     for span in table.as_of(version) {
-        rows.push(encoded_row(span)?)?;
+        rows.push(encoded_row(alloc, span)?)?;
     }
     Ok(rows)
 }
