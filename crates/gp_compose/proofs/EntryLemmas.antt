@@ -35,31 +35,6 @@ log-cut entries place entry is =
     sym (ap log_view (take-append-drop (place + 1) entries))
     ∙ (log-append (take (place + 1) entries) (drop (place + 1) entries) ∙ ap (λ (es : List m.Entry). log_view (drop (place + 1) entries) ++ es) (log-more entries place entry is))
 
--- ---- versions
-
--- a COMMIT makes the next version
-pub commit-more : (t : ℕ) (entry : Entry) (older : List m.Entry) → entry.what ≡ w.Commit
-    → (versions_in (entry_view entry ∷ older) ≡ suc (versions_in older)) × (version_of t (entry_view entry ∷ older) ≡ cond (entry.t == t) (Some (suc (versions_in older))) (version_of t older))
-commit-more t entry older is = (
-  ap (λ (what : What). versions_in (what_view entry.line entry.session entry.t what ∷ older)) is,
-  ap (λ (what : What). version_of t (what_view entry.line entry.session entry.t what ∷ older)) is,
-)
-
--- another entry makes none
-pub other-more : (t : ℕ) (entry : Entry) (older : List m.Entry) → (entry.what ≡ w.Commit → ⊥)
-    → (versions_in (entry_view entry ∷ older) ≡ versions_in older) × (version_of t (entry_view entry ∷ older) ≡ version_of t older)
-other-more t entry older other = by entry.what other
-  where
-    by : (what : What) → (what ≡ w.Commit → ⊥)
-        → (versions_in (what_view entry.line entry.session entry.t what ∷ older) ≡ versions_in older)
-        × (version_of t (what_view entry.line entry.session entry.t what ∷ older) ≡ version_of t older)
-    by (w.Create table) other = (refl, refl)
-    by w.Begin other = (refl, refl)
-    by (w.Statement k command stmt) other = (refl, refl)
-    by w.Commit other = absurd (other refl)
-    by w.Lost other = (refl, refl)
-    by w.Rollback other = (refl, refl)
-
 -- ---- statements
 
 -- how many statements of the transaction an entry is

@@ -157,7 +157,7 @@ refused_accepted entry e = cc
 
 module _ (limits : Limits) where
   -- a BEGIN takes the next number
-  begun_is : (older : List Entry) (line session t : ℕ) → IsNext limits older (Began line session t) → t ≡ suc (transactions_in older)
+  pub begun_is : (older : List Entry) (line session t : ℕ) → IsNext limits older (Began line session t) → t ≡ suc (transactions_in older)
   begun_is older line session t next = go (transaction_in session older) next.follows
     where
       same : (u : ℕ) → accepted (Began line session u) ≡ accepted (Began line session t) → t ≡ u
@@ -172,7 +172,7 @@ module _ (limits : Limits) where
       go (Some u) e = absurd (refused_accepted (Began line session t) e)
 
   -- a COMMIT is of the transaction of its session
-  committed_is : (older : List Entry) (line session t : ℕ) → IsNext limits older (Committed line session t) → transaction_in session older ≡ Some t
+  pub committed_is : (older : List Entry) (line session t : ℕ) → IsNext limits older (Committed line session t) → transaction_in session older ≡ Some t
   committed_is older line session t next = go (transaction_in session older) next.follows
     where
       same : (u : ℕ) → accepted (Committed line session u) ≡ accepted (Committed line session t) → u ≡ t
@@ -182,7 +182,7 @@ module _ (limits : Limits) where
       go None e = absurd (refused_accepted (Committed line session t) e)
       go (Some u) e = ap Some (same u e)
 
-  active_within : (entries : List Entry) → IsLog limits entries → (session t : ℕ) → transaction_in session entries ≡ Some t → t ≤ transactions_in entries
+  pub active_within : (entries : List Entry) → IsLog limits entries → (session t : ℕ) → transaction_in session entries ≡ Some t → t ≤ transactions_in entries
   active_within [] is session t e = absurd (none_some t e)
   active_within (Created line s table ∷ older) is session t e = active_within older is.1 session t e
   active_within (Began line s u ∷ older) is session t e = go (session == s) e (active_within older is.1 session t)
@@ -202,7 +202,7 @@ module _ (limits : Limits) where
       go true e before = absurd (none_some t e)
       go false e before = before e
 
-  committed_within : (entries : List Entry) → IsLog limits entries → (t v : ℕ) → version_of t entries ≡ Some v → t ≤ transactions_in entries
+  pub committed_within : (entries : List Entry) → IsLog limits entries → (t v : ℕ) → version_of t entries ≡ Some v → t ≤ transactions_in entries
   committed_within [] is t v e = absurd (none_some v e)
   committed_within (Created line s table ∷ older) is t v e = committed_within older is.1 t v e
   committed_within (Began line s u ∷ older) is t v e = let l : t ≤ transactions_in older = committed_within older is.1 t v e in omega arith

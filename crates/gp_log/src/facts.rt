@@ -5,7 +5,7 @@ ghost use Rattle.std.specs.Option.{option_map};
 ghost use Rattle.gp_algebra.specs.Views.{statement_view};
 ghost use Rattle.gp_log.specs.LogFacts.{version_at};
 ghost use Rattle.gp_log.specs.Logs.{log_view};
-ghost use Rattle.gp_machine.specs.Entries.{begin_version, committer_of, fate_of, statement_at, statement_count};
+ghost use Rattle.gp_machine.specs.Entries.{begin_version, committer_of, fate_of, statement_at, statement_count, version_of};
 
 use crate::entry::{Entry, What};
 use gp_algebra::Stmt;
@@ -64,6 +64,27 @@ pub fn fate(entries: &[Entry], t: u32) -> Fate
         }
     }
     fate
+}
+
+/// The version that the transaction made, if it made one.
+pub fn version_of(entries: &[Entry], t: u32) -> Option<u32>
+    requires { length entries.now < 2 ^ 32 }
+    ensures { result ≡ version_of t (log_view entries.now) }
+{
+    let mut version = 0;
+    let mut found = None;
+    for entry in entries {
+        match entry.what {
+            What::Commit => {
+                version += 1;
+                if entry.t == t {
+                    found = Some(version);
+                }
+            }
+            _ => {}
+        }
+    }
+    found
 }
 
 /// The transaction that made the version.

@@ -5,11 +5,13 @@ ghost use Rattle.std.specs.Option.{option_map};
 ghost use Rattle.gp_algebra.specs.Views.{statement_view};
 ghost use Rattle.gp_log.specs.LogFacts.{numbered, open_in, tables_in, version_at};
 ghost use Rattle.gp_log.specs.Logs.{log_view};
+ghost use Rattle.gp_log.specs.Indexing.{known_of};
 ghost use Rattle.gp_log.specs.Kinds.{begins, commits, created_by, creates, ends, is_statement, CreatesNew, IsAddable, IsNumbered};
-ghost use Rattle.gp_machine.specs.Entries.{begin_version, committer_of, fate_of, statement_at, statement_count, statements_in, transactions_in, versions_in};
+ghost use Rattle.gp_machine.specs.Entries.{begin_version, committer_of, fate_of, statement_at, statement_count, statements_in, transactions_in, version_of, versions_in};
 
 use crate::entry::{Entry, What};
 use crate::facts;
+use crate::index::{Index, Known};
 use gp_algebra::Stmt;
 use gp_base::{Catalog, Fate, NoMemory};
 use std::alloc::Global;
@@ -25,11 +27,13 @@ pub struct Log {
     ended: u32,
     commits: u32,
     statements: u32,
+    index: Index,
     ready: bool,
 }
 
 impl Model for Log {
     ghost use Rattle.std.specs.Prelude.{◌≡◌, ◌≤◌, ◌<◌, ◌+◌, ◌-◌, ◌^◌, if◌then◌else◌, vec_len, vec_capacity};
+    ghost use Rattle.gp_log.specs.Indexing.{IsIndex};
     ghost use Rattle.gp_log.specs.Kinds.{AreNumbered};
     ghost use Rattle.gp_log.specs.LogFacts.{ends_in, tables_in};
     ghost use Rattle.gp_log.specs.LogCode.{logged_code};
@@ -48,6 +52,7 @@ impl Model for Log {
         × (a.statements ≡ statements_in (log_view a.entries.items))
         × (a.catalog ≡ tables_in (log_view a.entries.items))
         × AreNumbered a.entries.items
+        × IsIndex a.index (log_view a.entries.items)
         × (vec_len a.entries < 2 ^ 32)
         × (vec_len a.entries + (a.begun - a.ended) + (if a.ready then 1 else 0) ≤ vec_capacity a.entries) };
 }
@@ -145,6 +150,7 @@ impl Log {
             ended: 0,
             commits: 0,
             statements: 0,
+            index: Index::new(alloc),
             ready: false,
         }
     }
@@ -212,7 +218,9 @@ impl Log {
         let commits = self.commits + committed_by(&entry.what);
         let statements = self.statements + ran_by(&entry.what);
         let open = Log::open(begun, ended);
+        let place = self.len();
         prepare(&mut self.entries, &mut self.catalog, open, &entry.what)?;
+        self.index.add(place, commits, entry.t, &entry.what);
         self.entries.push_reserved(entry);
         self.begun = begun;
         self.ended = ended;
@@ -245,13 +253,38 @@ impl Log {
         self.statements
     }
 
+    /// What is known of a transaction: by the index or, where that does not have it, by passes over the entries.
+    fn known(&self, t: u32) -> Known
+        ensures { result ≡ known_of t (log_view self.now.entries) }
+    {
+        match self.index.known(t) {
+            Some(known) => known,
+            None => Known {
+                begin: facts::begin_version(&self.entries, t),
+                ran: facts::statement_count(&self.entries, t),
+                fate: facts::fate(&self.entries, t),
+                version: facts::version_of(&self.entries, t),
+            },
+        }
+    }
+
+    /// The transaction that made a version: by the index or, where that does not have it, by a pass over the entries.
+    fn maker(&self, version: u32) -> u32
+        ensures { result ≡ committer_of version (log_view self.now.entries) }
+    {
+        match self.index.committer(version) {
+            Some(t) => t,
+            None => facts::committer(&self.entries, version),
+        }
+    }
+
     /// What has become of the transaction, or None if no transaction has this number.
     pub fn fate(&self, t: u32) -> Option<Fate>
         ensures { result ≡ numbered t (transactions_in (log_view self.now.entries))
             (fate_of t (log_view self.now.entries)) }
     {
         if 0 < t && t <= self.begun {
-            Some(facts::fate(&self.entries, t))
+            Some(self.known(t).fate)
         } else {
             None
         }
@@ -263,7 +296,7 @@ impl Log {
             (begin_version t (log_view self.now.entries)) }
     {
         if 0 < t && t <= self.begun {
-            Some(facts::begin_version(&self.entries, t))
+            Some(self.known(t).begin)
         } else {
             None
         }
@@ -273,7 +306,20 @@ impl Log {
     pub fn statement_count(&self, t: u32) -> u32
         ensures { result ≡ statement_count t (log_view self.now.entries) }
     {
-        facts::statement_count(&self.entries, t)
+        self.known(t).ran
+    }
+
+    /// The version that the transaction made, if it made one.
+    pub fn version_of(&self, t: u32) -> Option<u32>
+        ensures { result ≡ version_of t (log_view self.now.entries) }
+    {
+        self.known(t).version
+    }
+
+    /// Where to look for the first statement of a transaction. Nothing is promised of the place: whether the statement there
+    /// is the first one is told by its number.
+    pub fn first_statement(&self, t: u32) -> u32 {
+        self.index.first(t)
     }
 
     /// The statement of this number in the transaction, from 1, or None if there is none.
@@ -290,7 +336,7 @@ impl Log {
             (committer_of version (log_view self.now.entries)) }
     {
         if 0 < version && version <= self.commits {
-            Some(facts::committer(&self.entries, version))
+            Some(self.maker(version))
         } else {
             None
         }

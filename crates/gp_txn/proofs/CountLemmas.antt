@@ -52,14 +52,6 @@ count-after version writes old new (suc place) follows =
     let here = ap length (follows place (omega arith)) ∙ spans-count version (writes place) (table_at place old).spans in
     omega (arith, rest, here)
 
--- equal writes leave equally many rows
-pub count-same : (one other : ℕ → List Write) (count : ℕ) → ((place : ℕ) → place < count → one place ≡ other place) → count_rows one count ≡ count_rows other count
-count-same one other zero same = refl
-count-same one other (suc place) same =
-    let rest = count-same one other place (λ p low. same p (omega arith)) in
-    let here = ap (λ writes. length (live_rows plain writes)) (same place (omega arith)) in
-    omega (arith, rest, here)
-
 -- ---- too many spans
 
 none-below : (p : ℕ) → p ≤ 0 → p ≡ 0
@@ -82,14 +74,3 @@ pub over-here : (versions : List Versions) (writes : ℕ → List Write) (place 
     → left + spans_after versions writes place ≡ MAX_SPANS → place < n → left < old + new → true ≡ nat_lt MAX_SPANS (spans_after versions writes n)
 over-here versions writes place n left old new is-old is-new sum low over =
     sym (lt-ltb MAX_SPANS (spans_after versions writes n) (omega (arith, is-old, is-new, sum, over, more-spans versions writes (suc place) n low)))
-
--- ---- the copied writes are those of the commit
-
-after-same : (versions : List Versions) (one other : ℕ → List Write) (count : ℕ) → ((place : ℕ) → place < count → one place ≡ other place) → spans_after versions one count ≡ spans_after versions other count
-after-same versions one other count same = ap (λ n. count_spans versions count + n) (count-same one other count same)
-
-pub few-after : (versions : List Versions) (one other : ℕ → List Write) (count : ℕ) → ((place : ℕ) → place < count → one place ≡ other place) → nat_lt MAX_SPANS (spans_after versions one count) ≡ false → spans_after versions other count ≤ MAX_SPANS
-few-after versions one other count same fits = let is = after-same versions one other count same in omega (arith, is, ltb-false MAX_SPANS (spans_after versions one count) fits)
-
-pub many-after : (versions : List Versions) (one other : ℕ → List Write) (count : ℕ) → ((place : ℕ) → place < count → one place ≡ other place) → nat_lt MAX_SPANS (spans_after versions one count) ≡ true → MAX_SPANS < spans_after versions other count
-many-after versions one other count same over = let is = after-same versions one other count same in omega (arith, is, ltb-true MAX_SPANS (spans_after versions one count) over)

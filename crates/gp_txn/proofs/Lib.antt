@@ -10,6 +10,7 @@ pub mod LostLemmas
 pub mod OverlayLemmas
 pub mod OwnLemmas
 pub mod PairLemmas
+pub mod PutLemmas
 pub mod ReadLemmas
 pub mod StepLemmas
 pub mod VersionLemmas

@@ -32,6 +32,12 @@ shown_count Same = 1
 shown_count (Put now) = 1
 shown_count Dropped = 0
 
+-- how many rows a commit puts in its place
+abbrev pub put_count : Slot → ℕ
+put_count Same = 0
+put_count (Put now) = 1
+put_count Dropped = 0
+
 -- whether a row passes that is seen
 abbrev pub passes_seen : Change → Option (List Cell) → Bool
 passes_seen change None = false

@@ -68,11 +68,10 @@ fn prepare_few(
         (spans_after
         versions.now (commit_of tables.now versions.now begin) (length versions.now))) }
 {
-    let all = prepare(alloc, t, tables, versions, begin)?;
-    if is_full(versions, all.as_slice()) {
+    if is_full(tables, versions, begin) {
         return Err(CommitStop::Full);
     }
-    Ok(all)
+    Ok(prepare(alloc, t, tables, versions, begin)?)
 }
 
 /// Makes room for the writes, and then the version.

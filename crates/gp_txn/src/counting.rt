@@ -1,40 +1,68 @@
-//! How many row versions a commit leaves.
+//! How many row versions a commit leaves. The writes are counted where they stand, so that a commit that is refused copies
+//! nothing.
 
-ghost use Rattle.std.specs.Prelude.{◌≡◌, ◌≤◌, length, nat_lt};
+ghost use Rattle.std.specs.Prelude.{◌≡◌, ◌≤◌, drop, length, nat_lt};
 ghost use Rattle.gp_base.specs.Annotated.{plain};
+ghost use Rattle.gp_txn.specs.Committing.{commit_of};
 ghost use Rattle.gp_txn.specs.Counts.{spans_after};
-ghost use Rattle.gp_txn.specs.Prepared.{prepared_at};
+ghost use Rattle.gp_txn.specs.Overlay.{base_writes, head_slot, table_writes};
+ghost use Rattle.gp_txn.specs.Slots.{put_count};
 ghost use Rattle.gp_versions.specs.Commits.{live_rows};
+ghost use Rattle.gp_versions.specs.Spans.{rows_at};
 
-use gp_versions::{VersionTable, Write, Writes};
+use crate::overlay::{Slot, TableWrites};
+use gp_versions::{Span, VersionTable};
 
 /// All tables together have at most this many spans.
 pub const MAX_SPANS: u32 = 100_000;
 
-/// How many of the writes have a row.
-fn live_count(writes: &[Write]) -> usize
-    ensures { result ≡ length (live_rows plain writes.now) }
+/// How many rows a commit puts in place of a row of the snapshot.
+fn count_put(slots: &[Slot], place: usize) -> usize
+    ensures { result ≡ put_count (head_slot (drop place slots.now)) }
+{
+    match slots.get(place) {
+        Some(Slot::Put(_)) => 1,
+        None | Some(Slot::Same | Slot::Dropped) => 0,
+    }
+}
+
+/// How many rows a commit puts in place of rows of the snapshot.
+fn count_base(slots: &[Slot], spans: &[Span], begin: u32) -> usize
+    ensures count { result ≡ length
+        (live_rows plain (base_writes slots.now (rows_at plain begin spans.now))) }
+    ensures few { result ≤ length spans.now }
 {
     let mut count = 0usize;
-    for write in writes {
-        if write.row.is_some() {
-            count += 1;
+    let mut place = 0usize;
+    for span in spans {
+        if span.holds(begin) {
+            count += count_put(slots, place);
+            place += 1;
         }
     }
     count
 }
 
-/// Whether the tables would have more than [`MAX_SPANS`] spans after these writes. It counts down from the limit, so that
-/// no sum can overflow.
-pub fn is_full(versions: &[VersionTable], prepared: &[Writes]) -> bool
-    requires { length versions.now ≤ length prepared.now }
+/// How many of the writes of a commit to a table have a row.
+fn count_live(writes: &TableWrites, spans: &[Span], begin: u32) -> usize
+    ensures { result ≡ length
+        (live_rows plain (table_writes writes.now (rows_at plain begin spans.now))) }
+{
+    count_base(writes.slots.as_slice(), spans, begin) + writes.own.as_slice().len()
+}
+
+/// Whether the tables would have more than [`MAX_SPANS`] spans after the commit. It counts down from the limit, so that no
+/// sum can overflow.
+pub fn is_full(tables: &[TableWrites], versions: &[VersionTable], begin: u32) -> bool
+    requires { length versions.now ≤ length tables.now }
     ensures { result ≡ nat_lt MAX_SPANS
-        (spans_after versions.now (prepared_at prepared.now) (length versions.now)) }
+        (spans_after versions.now (commit_of tables.now versions.now begin) (length versions.now)) }
 {
     let mut left = MAX_SPANS as usize;
     for place in 0..versions.len() {
-        let old = versions[place].len();
-        let new = live_count(prepared[place].as_slice());
+        let table = &versions[place];
+        let old = table.len();
+        let new = count_live(&tables[place], table.as_slice(), begin);
         if old > left || new > left - old {
             return true;
         }

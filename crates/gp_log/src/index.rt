@@ -1,0 +1,203 @@
+//! What a log keeps of each transaction and version, so that a question about one does not pass over the entries.
+
+ghost use Rattle.std.specs.Prelude.{◌≡◌, ℕ, suc, ◌<◌, ◌∷◌, ◌++◌, [], List, OnOk};
+ghost use Rattle.std.specs.Option.{IfSome};
+ghost use Rattle.gp_algebra.specs.Statements.{Statement};
+ghost use Rattle.gp_grammar.specs.Syntax.{Command};
+ghost use Rattle.gp_log.specs.Indexing.{IsIndex, begun, known_of};
+ghost use Rattle.gp_log.specs.Kinds.{HasNextNumber};
+ghost use Rattle.gp_log.specs.Logs.{what_view};
+ghost use Rattle.gp_machine.specs.Entries as m;
+ghost use Rattle.gp_machine.specs.Entries.{committer_of, fate_of_end, statement_count, versions_in};
+
+use crate::entry::What;
+use gp_base::{Fate, NoMemory};
+use std::alloc::Global;
+
+/// What is known of a transaction.
+#[derive(Clone, Copy)]
+pub struct Known {
+    /// The newest version when it began.
+    pub begin: u32,
+    /// How many statements it ran.
+    pub ran: u32,
+    /// What has become of it.
+    pub fate: Fate,
+    /// The version that it made, if it made one.
+    pub version: Option<u32>,
+}
+
+/// What is known of the transactions and versions of a log.
+#[derive(Drop)]
+pub struct Index {
+    /// The transactions, from the first one on.
+    pub transactions: Vec<Known>,
+    /// For each transaction where its first statement is, to begin there. Nothing is promised of these places.
+    pub firsts: Vec<u32>,
+    /// The transactions that made the versions, from version 1 on. There are as many places as transactions.
+    pub committers: Vec<u32>,
+    /// Whether each transaction is known. It is not if memory ran out, or if one has another number than the next.
+    pub is_complete: bool,
+}
+
+/// The place of a number from 1, if it is at most the count.
+fn place_of(number: u32, count: usize) -> Option<usize>
+    ensures { IfSome result (λ place. (suc place ≡ number) × (place < count)) }
+{
+    if number == 0 || number as usize > count {
+        return None;
+    }
+    Some(number as usize - 1)
+}
+
+/// Keeps the place of a statement that is the first one of its transaction.
+fn note_first(firsts: &mut [u32], t: u32, k: u32, place: u32) {
+    match place_of(t, firsts.len()) {
+        Some(i) if k == 1 => firsts[i] = place,
+        _ => {}
+    }
+}
+
+impl Index {
+    /// The index of an empty log, which takes no memory.
+    pub fn new(alloc: Global) -> Index
+        ensures { IsIndex result [] }
+    {
+        Index {
+            transactions: Vec::new(alloc),
+            firsts: Vec::new(alloc),
+            committers: Vec::new(alloc),
+            is_complete: true,
+        }
+    }
+
+    /// What is known of a transaction, if the index has it.
+    pub fn known(&self, t: u32) -> Option<Known>
+        ensures { (log : List m.Entry) → IsIndex self.now log
+            → IfSome result (λ known. known ≡ known_of t log) }
+    {
+        match place_of(t, self.transactions.len()) {
+            Some(place) if self.is_complete => Some(self.transactions[place]),
+            _ => None,
+        }
+    }
+
+    /// The transaction that made a version, if the index has it.
+    pub fn committer(&self, version: u32) -> Option<u32>
+        ensures { (log : List m.Entry) → IsIndex self.now log
+            → IfSome result (λ t. t ≡ committer_of version log) }
+    {
+        match place_of(version, self.committers.len()) {
+            Some(place) if self.is_complete => Some(self.committers[place]),
+            _ => None,
+        }
+    }
+
+    /// Makes a place for a transaction that begins at this version.
+    fn push(&mut self, version: u32) -> Result<(), NoMemory>
+        ensures flag { self.new.is_complete ≡ self.old.is_complete }
+        ensures transactions { OnOk result (self.new.transactions.items
+            ≡ self.old.transactions.items ++ begun version ∷ []) }
+        ensures committers { OnOk result (self.new.committers.items
+            ≡ self.old.committers.items ++ 0 ∷ []) }
+    {
+        self.committers.push(0)?;
+        self.firsts.push(0)?;
+        self.transactions.push(Known {
+            begin: version,
+            ran: 0,
+            fate: Fate::Active,
+            version: None,
+        })?;
+        Ok(())
+    }
+
+    /// A transaction begins at this version. If it has another number than the next, or if memory runs out, the index is not
+    /// complete any more.
+    fn begin(&mut self, t: u32, version: u32)
+        ensures { (log : List m.Entry) (line session : ℕ) → version ≡ versions_in log
+            → IsIndex self.old log → IsIndex self.new (m.Began line session t ∷ log) }
+    {
+        if t as usize != self.transactions.len() + 1 {
+            self.is_complete = false;
+            return;
+        }
+        match self.push(version) {
+            Ok(()) => {}
+            Err(_) => self.is_complete = false,
+        }
+    }
+
+    /// A transaction runs a statement of this number.
+    fn run(&mut self, t: u32, k: u32)
+        ensures { (log : List m.Entry) (line session : ℕ) (command : Command) (statement : Statement)
+            → k ≡ suc (statement_count t log) → IsIndex self.old log
+            → IsIndex self.new (m.Ran line session command t statement ∷ log) }
+    {
+        match place_of(t, self.transactions.len()) {
+            Some(place) => self.transactions[place].ran = k,
+            None => self.is_complete = false,
+        }
+    }
+
+    /// A transaction ends without a version.
+    fn end(&mut self, t: u32, fate: Fate)
+        ensures { (log : List m.Entry) (line session : ℕ) (how : m.End) → fate ≡ fate_of_end how
+            → IsIndex self.old log → IsIndex self.new (m.Ended line session how t ∷ log) }
+    {
+        match place_of(t, self.transactions.len()) {
+            Some(place) => self.transactions[place].fate = fate,
+            None => self.is_complete = false,
+        }
+    }
+
+    /// A transaction makes this version.
+    fn commit(&mut self, t: u32, version: u32)
+        ensures { (log : List m.Entry) (line session : ℕ) → version ≡ suc (versions_in log)
+            → IsIndex self.old log → IsIndex self.new (m.Committed line session t ∷ log) }
+    {
+        let place = place_of(t, self.transactions.len());
+        let made = place_of(version, self.committers.len());
+        match (place, made) {
+            (Some(place), Some(made)) => {
+                let Known { begin, ran, .. } = self.transactions[place];
+                self.transactions[place] = Known {
+                    begin,
+                    ran,
+                    fate: Fate::Committed(version),
+                    version: Some(version),
+                };
+                self.committers[made] = t;
+            }
+            _ => self.is_complete = false,
+        }
+    }
+
+    /// Adds an entry of the log, which stands at this place, where the log has so many commits with it.
+    pub fn add(&mut self, place: u32, commits: u32, t: u32, what: &What)
+        ensures { (log : List m.Entry) (line session : ℕ)
+            → commits ≡ versions_in (what_view line session t what.now ∷ log)
+            → HasNextNumber log t what.now → IsIndex self.old log
+            → IsIndex self.new (what_view line session t what.now ∷ log) }
+    {
+        match what {
+            What::Create(_) => {}
+            What::Begin => self.begin(t, commits),
+            What::Statement { k, .. } => {
+                note_first(&mut self.firsts, t, *k, place);
+                self.run(t, *k);
+            }
+            What::Commit => self.commit(t, commits),
+            What::Lost => self.end(t, Fate::Lost),
+            What::Rollback => self.end(t, Fate::RolledBack),
+        }
+    }
+
+    /// Where to look for the first statement of a transaction.
+    pub fn first(&self, t: u32) -> u32 {
+        match place_of(t, self.firsts.len()) {
+            Some(place) => self.firsts[place],
+            None => 0,
+        }
+    }
+}
