@@ -1,9 +1,10 @@
 //! The engine.
 
-ghost use Rattle.std.specs.Prelude.{◌≡◌, ◌≤◌, true, false, length, IfOk, OnErr};
+ghost use Rattle.std.specs.Prelude.{◌≡◌, ◌≤◌, true, false, length, IfOk, IsOk, OnErr};
 ghost use Rattle.gp_machine.specs.Actions.{action_of};
 ghost use Rattle.gp_machine.specs.Recorded.{is_recorded};
 ghost use Rattle.gp_check.specs.Valid.{is_valid};
+ghost use Rattle.gp_grammar.specs.Syntax as y;
 ghost use Rattle.gp_grammar.specs.declared.limits.TheConstants.{MAX_SESSION};
 ghost use Rattle.gp_machine.specs.State.{start};
 ghost use Rattle.gp_syntax.specs.Views.{command_view};
@@ -72,7 +73,7 @@ impl Engine {
     /// Runs the command of a line in a session, numbered from 1, and gives the reply. The log keeps the line's number and the
     /// command, if the line is accepted. The command was read, so it is valid ([`gp_check::read_lines_are_valid`]). A line that
     /// is refused leaves the log, the rows of every version and all transactions unchanged, unless it is a COMMIT that is lost,
-    /// which ends its transaction; so does running out of memory, in any line but a ROLLBACK.
+    /// which ends its transaction; so does running out of memory. A ROLLBACK never runs out of memory.
     pub fn line(&mut self, line: u32, session: u32, command: Command) -> Result<Reply, NoMemory>
         requires first { 1 ≤ session }
         requires last { session ≤ MAX_SESSION }
@@ -83,6 +84,7 @@ impl Engine {
             is_recorded (action_of (command_view command)) reply ≡ false
             → IsUnchanged self.old self.new) }
         ensures err { OnErr result (IsUnchanged self.old self.new) }
+        ensures rollback { command_view command ≡ y.rollback → IsOk result }
     {
         self.state.line(line, session as usize - 1, command)
     }

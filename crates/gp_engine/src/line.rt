@@ -1,8 +1,9 @@
 //! One line of a session.
 
-ghost use Rattle.std.specs.Prelude.{◌≡◌, ◌<◌, true, false, None, Some, IfOk, OnErr, IsSome, slice_index_or};
+ghost use Rattle.std.specs.Prelude.{◌≡◌, ◌<◌, true, false, None, Some, IfOk, IsOk, OnErr, IsSome, slice_index_or};
 ghost use Rattle.gp_check.specs.Checking.{is_statement};
 ghost use Rattle.gp_check.specs.Valid.{is_valid};
+ghost use Rattle.gp_grammar.specs.Syntax as y;
 ghost use Rattle.gp_machine.specs.Actions.{action_of};
 ghost use Rattle.gp_syntax.specs.Views.{command_view};
 ghost use Rattle.gp_engine.specs.Engine.{IsEngine, IsUnchanged};
@@ -32,6 +33,7 @@ impl State {
         ensures ok { IfOk result (λ reply.
             Outside self.old self.new reply line place (action_of (command_view command.now))) }
         ensures err { OnErr result (self.new ≡ self.old) }
+        ensures rollback { command_view command.now ≡ y.rollback → IsOk result }
     {
         match command {
             Command::Create { table } => self.create(line, place, table),
@@ -51,6 +53,7 @@ impl State {
             → Inside self.old self.new reply line place running
             (action_of (command_view command.now))) }
         ensures err { OnErr result (IsUnchanged self.old self.new) }
+        ensures rollback { command_view command.now ≡ y.rollback → IsOk result }
     {
         match command {
             Command::Create { .. } => Ok(Reply::Refused(Refusal::E09)),
@@ -70,6 +73,7 @@ impl State {
         ensures ok { IfOk result (λ reply. DoesAt self.old self.new reply line place
             (slice_index_or self.old.sessions place None) (action_of (command_view command.now))) }
         ensures err { OnErr result (IsUnchanged self.old self.new) }
+        ensures rollback { command_view command.now ≡ y.rollback → IsOk result }
     {
         if self.sessions[place].is_some() {
             self.inside(line, place, command)
@@ -97,6 +101,7 @@ impl State {
         ensures ok { IfOk result (λ reply. DoesAt self.old self.new reply line place
             (slice_index_or self.old.sessions place None) (action_of (command_view command))) }
         ensures err { OnErr result (IsUnchanged self.old self.new) }
+        ensures rollback { command_view command ≡ y.rollback → IsOk result }
     {
         if self.runs(place, &command) {
             self.statement(line, place, command)
