@@ -91,7 +91,7 @@ module _ {M : Type 0} (kind : Annotations M) (limits : Limits) (lines : List Lin
 
   module _ (are : (table : ℕ) → SameBag (spans table) (state_spans state table)) where
     -- the transaction of a question, as the one that made a version
-    after_held : (t k v : ℕ) → version_of t state.entries ≡ Some v → k ≤ statement_count t state.entries → SameTables (run kind (log_of state.entries) t k (annotated_versions kind state.entries spans)) (state.views t k)
+    pub after_held : (t k v : ℕ) → version_of t state.entries ≡ Some v → k ≤ statement_count t state.entries → SameTables (run kind (log_of state.entries) t k (annotated_versions kind state.entries spans)) (state.views t k)
     after_held t k v e l =
         let reached : IsReached kind limits state = all_reached kind limits lines in
         let i = version_is t v state.entries e in
@@ -102,7 +102,7 @@ module _ {M : Type 0} (kind : Annotations M) (limits : Limits) (lines : List Lin
         (runs_held kind (log_of state.entries) state.committed state.written reached.history spans are (versions_in state.entries) i.earlier k (let w = i.within in omega arith) (omega arith) i.within table))
         (same_from _ _ (ap (λ (database : Database M). database table) (sym (reached.views t k (omega arith) (omega arith) l))))
 
-    commit_held : (t v : ℕ) → version_of t state.entries ≡ Some v → (table : ℕ) →
+    pub commit_held : (t v : ℕ) → version_of t state.entries ≡ Some v → (table : ℕ) →
         SameBag (cleared (at_commit kind (log_of state.entries) t (version_before (version_of t state.entries)) (annotated_versions kind state.entries spans)) table) (at_version (version_of t state.entries) state.committed table)
     commit_held t v e table =
         let i = version_is t v state.entries e in

@@ -1,23 +1,25 @@
 mod ActiveLemmas
 mod AnnotationLemmas
+pub mod AskedLemmas
 mod CommitLemmas
 mod ConflictLemmas
 pub mod CountLemmas
 pub mod Distinct
 pub mod EngineLemmas
 pub mod FoundLemmas
-mod HeldPoints
+pub mod HeldPoints
 mod LeastLemmas
 pub mod LimitLemmas
 mod LogLemmas
 mod Made
+pub mod PointReannotation
 mod PublishLemmas
 mod QuestionLemmas
 pub mod ReachedLemmas
 mod RecordedLemmas
 mod RepresentLemmas
 mod RunBags
-mod Simulation
+pub mod Simulation
 mod SpanCommit
 mod SpanEnds
 mod SpanGrowth

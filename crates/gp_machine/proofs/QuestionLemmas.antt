@@ -1,68 +1,30 @@
 -- From the log and the spans of a history, every question is answered as the history would, and no run stops.
-use Rattle.std.proofs.Common.{◌≡◌, ℕ, zero, suc, ◌≤◌, Bool, true, false, cond, List, length, refl, sym, ap, ◌∙◌, subst, arith, Option, Some, None, nat_le}
-use Rattle.std.specs.Prelude.{◌&&◌, not, nat_lt}
-use Rattle.std.specs.Option.{option_or, option_map, is_none}
+use Rattle.std.proofs.Common.{◌≡◌, ℕ, zero, suc, ◌≤◌, Bool, true, false, cond, List, length, refl, sym, ap, ◌∙◌, subst, arith, Option, Some, None}
+use Rattle.std.specs.Prelude.{nat_lt}
+use Rattle.std.specs.Option.{option_or, option_map}
 use Rattle.std.specs.List.Sorted.{IsPermutation}
 use Rattle.gp_grammar.specs.Syntax as y
 use Rattle.gp_algebra.proofs.Bags.{SameBag, as_long}
 use Rattle.gp_algebra.proofs.Permutations.{permuted}
 use Rattle.gp_algebra.specs.Answers.{Element, answer}
-use Rattle.gp_algebra.specs.Effects.{made}
 use Rattle.gp_algebra.specs.Statements.{Select}
 use Rattle.gp_base.specs.Annotated.{Annotated, Annotations, plain}
 use Rattle.gp_base.specs.declared.refusal.Refusal.{Refusal}
-use Rattle.gp_base.specs.declared.refusal.Refusal.TheVariants.{E20, E21, E22, E23, E24, E27}
+use Rattle.gp_base.specs.declared.refusal.Refusal.TheVariants.{E24, E27}
+use Rattle.gp_machine.proofs.AskedLemmas.{asked}
 use Rattle.gp_machine.proofs.HeldPoints.{committed_stops, never_stops, simulated, version_is}
 use Rattle.gp_machine.proofs.LogLemmas.{begun_le}
 use Rattle.gp_machine.proofs.ReachedLemmas.{all_reached}
 use Rattle.gp_machine.proofs.Simulation.{consistent}
-use Rattle.gp_machine.proofs.SpanRows.{le_from}
 use Rattle.gp_machine.specs.Annotating.{annotated_versions, computed, identified}
-use Rattle.gp_machine.specs.Entries.{Entry, committer_of, fate_of, log_of, statement_count, version_of, versions_in}
+use Rattle.gp_machine.specs.Entries.{committer_of, log_of, statement_count, versions_in}
 use Rattle.gp_machine.specs.Event.{Line, after, name_at}
 use Rattle.gp_machine.specs.HistorySpans.{as_of, state_spans}
 use Rattle.gp_machine.specs.Limits.{Limits}
 use Rattle.gp_machine.specs.Points.{IsAsked, at_point, held_at, to_commit, to_statement, to_version, version_before}
-use Rattle.gp_machine.specs.Questions.{AreAlike, annotated_answer, annotation_stop, answer_refusal, difference, given, held_answer, is_known, log_refusal, needed_version, own_stop, rows_answer, statement_refusal, stop_refusal, transaction_refusal}
+use Rattle.gp_machine.specs.Questions.{AreAlike, annotated_answer, annotation_stop, answer_refusal, difference, given, held_answer, log_refusal, needed_version, own_stop, rows_answer, stop_refusal}
 use Rattle.gp_machine.specs.State.{State, start}
 use Rattle.gp_versions.specs.declared.span.Span.{Span}
-
-some_none : {A : Type 0} (a : A) → Some a ≡ None → ⊥
-some_none a e = cc
-
-none_parts : {A : Type 0} (a b : Option A) → option_or a b ≡ None → (a ≡ None) × (b ≡ None)
-none_parts None b e = (refl, e)
-none_parts (Some a) b e = absurd (some_none a e)
-
--- a transaction that the log does not refuse made a version
-made_version : (t : ℕ) (entries : List Entry) → transaction_refusal t entries ≡ None → (version : ℕ) × (version_of t entries ≡ Some version)
-made_version t entries e = go (not (is_known t entries)) (version_of t entries) refl e
-  where
-    go : (a : Bool) (v : Option ℕ) → version_of t entries ≡ v → cond a (Some (E20 t)) (cond (is_none v) (Some (E21 t (fate_of t entries))) None) ≡ None → (version : ℕ) × (version_of t entries ≡ Some version)
-    go true v made e = absurd (some_none _ e)
-    go false None made e = absurd (some_none _ e)
-    go false (Some version) made e = (version, made)
-
-has_statement : (t k : ℕ) (entries : List Entry) → statement_refusal t k entries ≡ None → k ≤ statement_count t entries
-has_statement t k entries e = go (nat_lt 0 k) (nat_le k (statement_count t entries)) refl e
-  where
-    go : (a b : Bool) → nat_le k (statement_count t entries) ≡ b → cond (a && b) None (Some (E22 t (statement_count t entries))) ≡ None → k ≤ statement_count t entries
-    go true true is e = le_from k (statement_count t entries) is
-    go true false is e = absurd (some_none _ e)
-    go false b is e = absurd (some_none _ e)
-
--- a point that the log does not refuse is one that may be asked about
-asked : (entries : List Entry) (point : y.State) → log_refusal entries point ≡ None → IsAsked entries point
-asked entries (y.as_of version) e = go (nat_le version (versions_in entries)) refl e
-  where
-    go : (b : Bool) → nat_le version (versions_in entries) ≡ b → cond b None (Some (E23 (versions_in entries))) ≡ None → IsAsked entries (y.as_of version)
-    go true is e = to_version (le_from version (versions_in entries) is)
-    go false is e = absurd (some_none _ e)
-asked entries (y.after t k) e =
-    let parts = none_parts (transaction_refusal t entries) (statement_refusal t k entries) e in
-    let made = made_version t entries parts.0 in
-    to_statement {version = made.0} made.1 (has_statement t k entries parts.1)
-asked entries (y.State.commit t) e = let made = made_version t entries e in to_commit {version = made.0} made.1
 
 pub finish : {M : Type 0} (kind : Annotations M) (limits : Limits) (xs ys : List (Element M)) → SameBag xs ys
     → AreAlike (given (cond (nat_lt limits.answer (length ys)) (Some E27) None) xs) (given (cond (nat_lt limits.answer (length ys)) (Some E27) None) ys)

@@ -1,0 +1,50 @@
+-- What the log does not refuse may be asked about.
+use Rattle.std.proofs.Common.{◌≡◌, ℕ, ◌≤◌, Bool, true, false, cond, List, refl, arith, Option, Some, None, nat_le}
+use Rattle.std.specs.Prelude.{◌&&◌, not, nat_lt}
+use Rattle.std.specs.Option.{option_or, is_none}
+use Rattle.std.proofs.lemmas.Bool.Decides.{nat_tests}
+use Rattle.gp_grammar.specs.Syntax as y
+use Rattle.gp_base.specs.declared.refusal.Refusal.TheVariants.{E20, E21, E22, E23}
+use Rattle.gp_machine.specs.Entries.{Entry, fate_of, statement_count, version_of, versions_in}
+use Rattle.gp_machine.specs.Points.{IsAsked, to_commit, to_statement, to_version}
+use Rattle.gp_machine.specs.Questions.{is_known, log_refusal, statement_refusal, transaction_refusal}
+
+within_from : (a b : ℕ) → nat_le a b ≡ true → a ≤ b
+within_from a b e = grind (arith, nat_tests)
+
+some_none : {A : Type 0} (a : A) → Some a ≡ None → ⊥
+some_none a e = cc
+
+none_parts : {A : Type 0} (a b : Option A) → option_or a b ≡ None → (a ≡ None) × (b ≡ None)
+none_parts None b e = (refl, e)
+none_parts (Some a) b e = absurd (some_none a e)
+
+-- a transaction that the log does not refuse made a version
+made_version : (t : ℕ) (entries : List Entry) → transaction_refusal t entries ≡ None → (version : ℕ) × (version_of t entries ≡ Some version)
+made_version t entries e = go (not (is_known t entries)) (version_of t entries) refl e
+  where
+    go : (a : Bool) (v : Option ℕ) → version_of t entries ≡ v → cond a (Some (E20 t)) (cond (is_none v) (Some (E21 t (fate_of t entries))) None) ≡ None → (version : ℕ) × (version_of t entries ≡ Some version)
+    go true v made e = absurd (some_none _ e)
+    go false None made e = absurd (some_none _ e)
+    go false (Some version) made e = (version, made)
+
+has_statement : (t k : ℕ) (entries : List Entry) → statement_refusal t k entries ≡ None → k ≤ statement_count t entries
+has_statement t k entries e = go (nat_lt 0 k) (nat_le k (statement_count t entries)) refl e
+  where
+    go : (a b : Bool) → nat_le k (statement_count t entries) ≡ b → cond (a && b) None (Some (E22 t (statement_count t entries))) ≡ None → k ≤ statement_count t entries
+    go true true is e = within_from k (statement_count t entries) is
+    go true false is e = absurd (some_none _ e)
+    go false b is e = absurd (some_none _ e)
+
+-- a point that the log does not refuse is one that may be asked about
+pub asked : (entries : List Entry) (point : y.State) → log_refusal entries point ≡ None → IsAsked entries point
+asked entries (y.as_of version) e = go (nat_le version (versions_in entries)) refl e
+  where
+    go : (b : Bool) → nat_le version (versions_in entries) ≡ b → cond b None (Some (E23 (versions_in entries))) ≡ None → IsAsked entries (y.as_of version)
+    go true is e = to_version (within_from version (versions_in entries) is)
+    go false is e = absurd (some_none _ e)
+asked entries (y.after t k) e =
+    let parts = none_parts (transaction_refusal t entries) (statement_refusal t k entries) e in
+    let made = made_version t entries parts.0 in
+    to_statement {version = made.0} made.1 (has_statement t k entries parts.1)
+asked entries (y.State.commit t) e = let made = made_version t entries e in to_commit {version = made.0} made.1

@@ -1,0 +1,89 @@
+-- A homomorphism of annotations commutes with runs, with commits, with the states that questions ask about, and with where a run stops.
+use Rattle.std.proofs.Common.{◌≡◌, ℕ, zero, suc, Bool, cond, List, [], ◌∷◌, ◌++◌, refl, sym, ap, ◌∙◌, map, Option, Some, None}
+use Rattle.std.specs.Prelude.{◌&&◌, not}
+use Rattle.std.specs.List.{filter}
+use Rattle.std.specs.Option.{option_or}
+use Rattle.std.proofs.lemmas.List.{map-append}
+use Rattle.gp_base.specs.Annotated.{Annotations, Annotated, Database, Environment}
+use Rattle.gp_base.specs.Identities.{Identity, same_identity}
+use Rattle.gp_grammar.specs.Syntax as y
+use Rattle.gp_algebra.specs.Answers.{answer, cells_of}
+use Rattle.gp_algebra.specs.Reannotation.{IsHomomorphism, element_reannotated, reannotated}
+use Rattle.gp_algebra.specs.Statements.{Select, Statement}
+use Rattle.gp_algebra.proofs.Erasure.{Reannotates, answer_reannotated, is_over_nodes_reannotated, is_over_rows_reannotated, step_reannotated}
+use Rattle.gp_algebra.proofs.Lists.{any-map, filter-map, map-map}
+use Rattle.gp_machine.specs.Committed.{cleared, unmarked}
+use Rattle.gp_machine.specs.Entries.{Entry, Log, log_of, version_of}
+use Rattle.gp_machine.specs.Limits.{Limits}
+use Rattle.gp_machine.specs.Points.{OverRows, OverNodes, at_point, run_stop, statement_stop, version_before}
+use Rattle.gp_machine.specs.Publishing.{at_commit, holds, publish, was_written}
+use Rattle.gp_machine.specs.Runs.{run, stepped}
+
+module _ {M N : Type 0} (h : M → N) where
+  -- each version is the other one's with other annotations
+  abbrev pub VersionsReannotate : Environment M → Environment N → Type 0
+  VersionsReannotate a b = (version : ℕ) → Reannotates h (a version) (b version)
+
+  holds_reannotated : (id : Identity) (rows : List (Annotated M)) → holds id (map (reannotated h) rows) ≡ holds id rows
+  holds_reannotated id rows = any-map (λ row. same_identity row.identity id) (reannotated h) rows
+
+  written_reannotated : (base mine : List (Annotated M)) (id : Identity) → was_written (map (reannotated h) base) (map (reannotated h) mine) id ≡ was_written base mine id
+  written_reannotated base mine id =
+      rw (any-map (λ row. row.mark && same_identity row.identity id) (reannotated h) mine, holds_reannotated id base, holds_reannotated id mine) refl
+
+  filtered_alike : (p q : Annotated M → Bool) → ((row : Annotated M) → p row ≡ q row) → (rows : List (Annotated M)) → filter p rows ≡ filter q rows
+  filtered_alike p q same [] = refl
+  filtered_alike p q same (row ∷ rows) = λ i. cond (same row i) (row ∷ filtered_alike p q same rows i) (filtered_alike p q same rows i)
+
+  publish_reannotated : (a b c : Database M) (d e f : Database N) → Reannotates h a d → Reannotates h b e → Reannotates h c f → Reannotates h (publish a b c) (publish d e f)
+  publish_reannotated a b c d e f base mine later table =
+      rw (base table, mine table, later table, filter-map (λ row. not (was_written (map (reannotated h) (a table)) (map (reannotated h) (b table)) row.identity)) (reannotated h) (c table), filter-map (λ row. row.mark) (reannotated h) (b table))
+      (ap (λ rows. map (reannotated h) rows ++ map (reannotated h) (filter (λ row. row.mark) (b table)))
+      (filtered_alike _ _ (λ row. ap not (written_reannotated (a table) (b table) row.identity)) (c table))
+      ∙ sym (map-append (reannotated h) (filter (λ row. not (was_written (a table) (b table) row.identity)) (c table)) (filter (λ row. row.mark) (b table))))
+
+  pub cleared_reannotated : (a : Database M) (b : Database N) → Reannotates h a b → Reannotates h (cleared a) (cleared b)
+  cleared_reannotated a b same table = ap (map unmarked) (same table) ∙ map-map unmarked (reannotated h) (a table) ∙ sym (map-map (reannotated h) unmarked (a table))
+
+module _ {M N : Type 0} (kind : Annotations M) (other : Annotations N) (h : M → N) (keeps : IsHomomorphism kind other h) (a : Environment M) (b : Environment N) (are : VersionsReannotate h a b) where
+  stepped_reannotated : (t k : ℕ) (statement : Option Statement) (c : Database M) (d : Database N) → Reannotates h c d → Reannotates h (stepped kind t k statement c) (stepped other t k statement d)
+  stepped_reannotated t k None c d same = same
+  stepped_reannotated t k (Some statement) c d same = step_reannotated kind other h keeps t k statement c d same
+
+  pub run_reannotated : (log : Log) (t k : ℕ) → Reannotates h (run kind log t k a) (run other log t k b)
+  run_reannotated log t zero = are (log.begin_version t)
+  run_reannotated log t (suc k) = stepped_reannotated t (suc k) (log.statement t (suc k)) (run kind log t k a) (run other log t k b) (run_reannotated log t k)
+
+  pub at_commit_reannotated : (log : Log) (t before : ℕ) → Reannotates h (at_commit kind log t before a) (at_commit other log t before b)
+  at_commit_reannotated log t before =
+      publish_reannotated h (a (log.begin_version t)) (run kind log t (log.statement_count t) a) (a before)
+      (b (log.begin_version t)) (run other log t (log.statement_count t) b) (b before)
+      (are (log.begin_version t)) (run_reannotated log t (log.statement_count t)) (are before)
+
+  pub at_point_reannotated : (entries : List Entry) (point : y.State) → Reannotates h (at_point kind entries point a) (at_point other entries point b)
+  at_point_reannotated entries (y.as_of version) = are version
+  at_point_reannotated entries (y.after t k) = run_reannotated (log_of entries) t k
+  at_point_reannotated entries (y.State.commit t) = at_commit_reannotated (log_of entries) t (version_before (version_of t entries))
+
+  -- the rows of an answer
+  pub cells_reannotated : (entries : List Entry) (point : y.State) (select : Select)
+      → cells_of (answer other select (at_point other entries point b)) ≡ cells_of (answer kind select (at_point kind entries point a))
+  cells_reannotated entries point select =
+      ap cells_of (answer_reannotated kind other h keeps select (at_point kind entries point a) (at_point other entries point b) (at_point_reannotated entries point))
+      ∙ map-map (λ element. element.cells) (element_reannotated h) (answer kind select (at_point kind entries point a))
+
+  module _ (limits : Limits) (log : Log) (t : ℕ) where
+    statement_stop_reannotated : (k : ℕ) (statement : Option Statement) (c : Database M) (d : Database N) → Reannotates h c d
+        → statement_stop other limits t k statement d ≡ statement_stop kind limits t k statement c
+    statement_stop_reannotated k None c d same = refl
+    statement_stop_reannotated k (Some statement) c d same =
+        let rows = is_over_rows_reannotated kind other h keeps limits.rows t k statement c d same in
+        let nodes = is_over_nodes_reannotated kind other h keeps limits.nodes t k statement c d same in
+        λ i. cond (rows i) (Some (OverRows t k)) (cond (nodes i) (Some (OverNodes t k)) None)
+
+    pub run_stop_reannotated : (k : ℕ) → run_stop other limits log t k b ≡ run_stop kind limits log t k a
+    run_stop_reannotated zero = refl
+    run_stop_reannotated (suc k) =
+        let earlier = run_stop_reannotated k in
+        let now = statement_stop_reannotated (suc k) (log.statement t (suc k)) (run kind log t k a) (run other log t k b) (run_reannotated log t k) in
+        λ i. option_or (earlier i) (now i)
