@@ -1,3 +1,3 @@
-pub mod ForgettingLemmas
+pub mod BackendLemmas
 pub mod ReplayLemmas
 pub mod StopLemmas

@@ -53,8 +53,12 @@ use Rattle.gp_travel.specs.Encoding as travel
 use Rattle.gp_travel.specs.Travel as travels
 use Rattle.gp_travel.specs.Travel.{no_table}
 use Rattle.gp_travel.proofs.EncodingLemmas.{rows-plain}
-use Rattle.gp_reenact.specs.Reenacting.{Reenacts, RunsOver, spans_of, stopped, transaction_at}
-use Rattle.gp_reenact.proofs.ForgettingLemmas.{VersionsReannotate, cells_reannotated, run_stop_reannotated}
+use Rattle.gp_merge.proofs.BuiltLemmas.{merged_built}
+use Rattle.gp_merge.proofs.Orders.{program_ordered}
+use Rattle.gp_merge.proofs.RebuildingLemmas.{merged_is}
+use Rattle.gp_merge.proofs.StepLemmas.{merged_stop}
+use Rattle.gp_reenact.specs.Reenacting.{Reenacts, RunsOver, merged_at, spans_of, stopped, transaction_at}
+use Rattle.gp_machine.proofs.PointReannotation.{VersionsReannotate, cells_reannotated, run_stop_reannotated}
 use Rattle.gp_reenact.proofs.StopLemmas.{gives_run, held_rows, program_stops, step_stop, wide_rows}
 
 -- ---- stops
@@ -188,6 +192,18 @@ monoid = record { right_one = times-one; associative = times-associative }
 forgetting : IsHomomorphism monomials plain forgotten
 forgetting = record { one = refl; times = λ a b. refl; token = λ token. refl }
 
+-- the plain program of a state is well built, and so is the merged one
+module _ (entries : List Entry) (select : Select) (fit : statements_fit (tables_in entries) entries ≡ true) (fits : select_fits (tables_in entries) select ≡ true) (point : y.State)
+    (known : log_refusal entries point ≡ None) (prov : Bool) where
+  pub plain_is_built : is_well_built (plain_program (width_of (tables_in entries)) prov (program_at (width_of (tables_in entries)) entries point select)) ≡ true
+  plain_is_built =
+      let columns = width_of (tables_in entries) in
+      let is_built = asked_program_is_built (tables_in entries) entries fit point known select fits in
+      program_built columns prov (program_at columns entries point select) is_built.steps (inl is_built.answer)
+
+  pub planned_is_built : is_well_built (merged_at prov entries point select) ≡ true
+  planned_is_built = merged_built (plain_program (width_of (tables_in entries)) prov (program_at (width_of (tables_in entries)) entries point select)) plain_is_built
+
 module _ (entries : List Entry) (versions : List Versions) (select : Select) (fit : statements_fit (tables_in entries) entries ≡ true)
     (spans_fit : SpansFit (tables_in entries) (spans_of versions)) (fits : select_fits (tables_in entries) select ≡ true) where
   abbrev columns : ℕ → ℕ
@@ -227,9 +243,9 @@ module _ (entries : List Entry) (versions : List Versions) (select : Select) (fi
   steps_stop_is t k last has =
       let steps : List q.QueryStep = composed columns (log_of entries) t k in
       ap (λ env. program_stop MAX_TABLE_ROWS MAX_NODES env (plain_program columns false (record { steps = steps; last = last }))) (env_is versions)
-      ∙ program_stops limits (tables_in entries) entries t k past last fit
+      ∙ program_stops false limits (tables_in entries) entries t k past last fit
       (held_rows monomials (tables_in entries) (spans_of versions) spans_fit (begin_version t entries))
-      (gives_run columns (step_table steps) (log_of entries) t past k
+      (gives_run false columns (step_table steps) (log_of entries) t past k
       (λ j table statement within is writes_it. composed_step_is monomials monoid (tables_in entries) entries fit past wide t k j table statement within is writes_it)
       (λ j. rows_between false (columns (step_table steps j)) (steps_are columns false past widths (record { steps = steps; last = last }) has j)))
       ∙ ap (option_map step_stop) (sym (run_stop_reannotated monomials plain forgotten forgetting past plain_past (forgets versions) limits (log_of entries) t k))
@@ -245,11 +261,16 @@ module _ (entries : List Entry) (versions : List Versions) (select : Select) (fi
       run_refused plain limits (log_of entries) t plain_past (statement_count t entries)
       ∙ ap (option_map (refusal_at t)) (sym (steps_stop_is t (statement_count t entries) (program (y.State.commit t)).last (built (y.State.commit t) known).steps))
 
-  -- what was planned is well built, and replays the state
-  pub planned_is_built : (point : y.State) → log_refusal entries point ≡ None → is_well_built (plain_program columns false (program point)) ≡ true
-  planned_is_built point known = program_built columns false (program point) (built point known).steps (inl (built point known).answer)
-
-  pub planned_replays : (point : y.State) (planned : p.PlainProgram) → planned ≡ plain_program columns false (program point) → log_refusal entries point ≡ None
+  -- the merged program replays the state
+  pub planned_replays : (point : y.State) (planned : p.PlainProgram) → planned ≡ merged_at false entries point select → log_refusal entries point ≡ None
       → Replays entries versions point select planned
   planned_replays point planned is known =
-      subst (λ (planned : p.PlainProgram). Replays entries versions point select planned) (sym is) (record { known = known; gives = gives point known; stops = stops point known })
+      let whole = plain_program columns false (program point) in
+      let is_built = plain_is_built entries select fit fits point known false in
+      let past = travel.encoded (travels.as_of plain versions) in
+      subst (λ (planned : p.PlainProgram). Replays entries versions point select planned) (sym is)
+      (record {
+        known = known;
+        gives = merged_is past whole (program_ordered whole is_built) ∙ gives point known;
+        stops = stops point known ∙ ap (option_map (refusal_at (transaction_at point))) (sym (merged_stop MAX_TABLE_ROWS MAX_NODES past whole (program_ordered whole is_built)));
+      })

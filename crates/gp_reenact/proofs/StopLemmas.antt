@@ -39,7 +39,7 @@ use Rattle.gp_log.specs.LogFitting.{SpanFits, SpansFit, statements_fit}
 use Rattle.gp_rewrite.specs.Meaning.{AreAsWide}
 use Rattle.gp_rewrite.specs.Rewriting.{rewritten, target}
 use Rattle.gp_compose.specs.Composed.{composed, current, is_target, step_of, steps_of, writes}
-use Rattle.gp_prov.specs.Encoding.{encoded, encoded_row}
+use Rattle.gp_prov.specs.Encoding.{encoded, encoded_row, noted}
 use Rattle.gp_prov.specs.ToPlain.{plain, plain_program, plain_step}
 
 -- the stop of a program for that of a run
@@ -307,17 +307,22 @@ or_nothing true b none = absurd (true≢false none)
 or_nothing false true none = refl
 or_nothing false false none = refl
 
-module _ (limits : Limits) where
+module _ (prov : Bool) (limits : Limits) where
   abbrev over : Annotated Monomial → Bool
   over row = nat_lt limits.nodes (nodes row.identity)
 
-  row_large : (row : Annotated Monomial) → list_all is_user_cell row.cells ≡ true → list_any (is_large limits.nodes) (encoded_row false row) ≡ over row
+  row_large : (row : Annotated Monomial) → list_all is_user_cell row.cells ≡ true → list_any (is_large limits.nodes) (encoded_row prov row) ≡ over row
   row_large row all =
-      list_any-append (is_large limits.nodes) row.cells (cell.Id row.identity ∷ cell.Mark row.mark ∷ [])
+      list_any-append (is_large limits.nodes) row.cells (cell.Id row.identity ∷ cell.Mark row.mark ∷ noted prov (cell.Mono row.annotation))
+      ∙ ap (λ b. list_any (is_large limits.nodes) row.cells || (over row || b)) (none_noted prov)
       ∙ or_nothing _ (over row) (no_large limits.nodes row.cells all)
+    where
+      none_noted : (prov : Bool) → list_any (is_large limits.nodes) (noted prov (cell.Mono row.annotation)) ≡ false
+      none_noted true = refl
+      none_noted false = refl
 
   rows_large : (all : List (Annotated Monomial)) → AllByRecursion (HasUserCells monomials limits.nodes) all
-      → list_any (list_any (is_large limits.nodes)) (map (encoded_row false) all) ≡ list_any over all
+      → list_any (list_any (is_large limits.nodes)) (map (encoded_row prov) all) ≡ list_any over all
   rows_large [] each = refl
   rows_large (row ∷ all) each = (λ i. row_large row each.0 i || rows_large all each.1 i)
 
@@ -326,7 +331,7 @@ module _ (limits : Limits) where
   none_over (row ∷ all) each = rw (not_less limits.nodes (nodes row.identity) each.0.small) (none_over all each.1)
 
   -- rows that an INSERT appends to those of its table
-  appended : (t k : ℕ) (old new after : List (Annotated Monomial)) (contents : List (List Cell)) → after ≡ old ++ new → contents ≡ map (encoded_row false) after
+  appended : (t k : ℕ) (old new after : List (Annotated Monomial)) (contents : List (List Cell)) → after ≡ old ++ new → contents ≡ map (encoded_row prov) after
       → AllByRecursion (IsHeld limits.nodes) old → AllByRecursion (HasUserCells monomials limits.nodes) new
       → first_stop
       (if nat_lt limits.rows (length contents) then Some (rows k) else if list_any (list_any (is_large limits.nodes)) contents then Some (ancestry k) else None) None
@@ -336,11 +341,11 @@ module _ (limits : Limits) where
       ∙ split (nat_lt limits.rows (length after)) (list_any over new)
     where
       count : nat_lt limits.rows (length contents) ≡ nat_lt limits.rows (length after)
-      count = ap (λ (rows : List (List Cell)). nat_lt limits.rows (length rows)) encodes ∙ ap (nat_lt limits.rows) (length-map after (encoded_row false))
+      count = ap (λ (rows : List (List Cell)). nat_lt limits.rows (length rows)) encodes ∙ ap (nat_lt limits.rows) (length-map after (encoded_row prov))
 
       large : list_any (list_any (is_large limits.nodes)) contents ≡ list_any over new
       large =
-          ap (list_any (list_any (is_large limits.nodes))) (encodes ∙ ap (map (encoded_row false)) is)
+          ap (list_any (list_any (is_large limits.nodes))) (encodes ∙ ap (map (encoded_row prov)) is)
           ∙ rows_large (old ++ new) (each_append _ old new (each_weaker _ (IsHeld limits.nodes) (λ row own. own.cells) old held) user)
           ∙ list_any-append over old new ∙ ap (λ b. b || list_any over new) (none_over old held)
 
@@ -372,43 +377,43 @@ stop_after most_rows most_nodes env (first ∷ some) others steps =
 
 -- ---- the steps of a transaction
 
-module _ (columns of_step : ℕ → ℕ) (log : Log) (t : ℕ) (env : Environment Monomial) where
+module _ (prov : Bool) (columns of_step : ℕ → ℕ) (log : Log) (t : ℕ) (env : Environment Monomial) where
   abbrev pub plain_steps : ℕ → List PlainStep
-  plain_steps k = map (plain_step columns of_step false) (composed columns log t k)
+  plain_steps k = map (plain_step columns of_step prov) (composed columns log t k)
 
   abbrev pub after_steps : ℕ → StepRows
-  after_steps k = steps_meaning (encoded false env) (plain_steps k) no_steps
+  after_steps k = steps_meaning (encoded prov env) (plain_steps k) no_steps
 
   -- the plain step of each of the first statements, this many, gives the rows that the run has in its table then
   abbrev pub GivesRun : ℕ → Type 0
   GivesRun count = (j table : ℕ) → j < count → writes (log.statement t (suc j)) table ≡ true
-      → after_steps count (suc j) ≡ map (encoded_row false) (run monomials log t (suc j) env table)
+      → after_steps count (suc j) ≡ map (encoded_row prov) (run monomials log t (suc j) env table)
 
   abbrev next_steps : ℕ → Option Statement → List PlainStep
-  next_steps k found = map (plain_step columns of_step false) (step_of columns t (suc k) (current log t k) found)
+  next_steps k found = map (plain_step columns of_step prov) (step_of columns t (suc k) (current log t k) found)
 
   -- the step of a statement, by the table that it writes
   abbrev step_on : ℕ → Statement → Option ℕ → List PlainStep
-  step_on k statement own = map (plain_step columns of_step false) (steps_of columns t (suc k) (current log t k) statement own)
+  step_on k statement own = map (plain_step columns of_step prov) (steps_of columns t (suc k) (current log t k) statement own)
 
   -- its rows, given those of the steps before
   abbrev rows_by : ℕ → Statement → List (List Cell)
-  rows_by k statement = meaning (after_steps k) (encoded false env) (plain columns of_step false (rewritten columns t (suc k) statement (current log t k)))
+  rows_by k statement = meaning (after_steps k) (encoded prov env) (plain columns of_step prov (rewritten columns t (suc k) statement (current log t k)))
 
   more_steps : (k : ℕ) → plain_steps (suc k) ≡ plain_steps k ++ next_steps k (log.statement t (suc k))
-  more_steps k = map-append (plain_step columns of_step false) (composed columns log t k) (step_of columns t (suc k) (current log t k) (log.statement t (suc k)))
+  more_steps k = map-append (plain_step columns of_step prov) (composed columns log t k) (step_of columns t (suc k) (current log t k) (log.statement t (suc k)))
 
-  more_rows : (k j : ℕ) → after_steps (suc k) j ≡ steps_meaning (encoded false env) (next_steps k (log.statement t (suc k))) (after_steps k) j
+  more_rows : (k j : ℕ) → after_steps (suc k) j ≡ steps_meaning (encoded prov env) (next_steps k (log.statement t (suc k))) (after_steps k) j
   more_rows k j =
-      ap (λ steps. steps_meaning (encoded false env) steps no_steps j) (more_steps k)
-      ∙ ap (λ (given : StepRows). given j) (steps_after (encoded false env) (plain_steps k) (next_steps k (log.statement t (suc k))) no_steps)
+      ap (λ steps. steps_meaning (encoded prov env) steps no_steps j) (more_steps k)
+      ∙ ap (λ (given : StepRows). given j) (steps_after (encoded prov env) (plain_steps k) (next_steps k (log.statement t (suc k))) no_steps)
 
   -- a step leaves the rows of those before
-  earlier_kept : (k j : ℕ) (found : Option Statement) (steps : StepRows) → j ≤ k → steps_meaning (encoded false env) (next_steps k found) steps j ≡ steps j
+  earlier_kept : (k j : ℕ) (found : Option Statement) (steps : StepRows) → j ≤ k → steps_meaning (encoded prov env) (next_steps k found) steps j ≡ steps j
   earlier_kept k j None steps before = refl
   earlier_kept k j (Some statement) steps before = go (target statement)
     where
-      go : (own : Option ℕ) → steps_meaning (encoded false env) (step_on k statement own) steps j ≡ steps j
+      go : (own : Option ℕ) → steps_meaning (encoded prov env) (step_on k statement own) steps j ≡ steps j
       go None = refl
       go (Some table) = let other = ne_eqb j (suc k) (λ same. omega (arith, before, same)) in rw other refl
 
@@ -426,23 +431,23 @@ module _ (columns of_step : ℕ → ℕ) (log : Log) (t : ℕ) (env : Environmen
       → after_steps (suc k) (suc k) ≡ rows_by k statement
   own_rows k statement table is writes_it =
       more_rows k (suc k)
-      ∙ ap (λ found. steps_meaning (encoded false env) (next_steps k found) (after_steps k) (suc k)) is
-      ∙ ap (λ own. steps_meaning (encoded false env) (step_on k statement own) (after_steps k) (suc k)) writes_it
+      ∙ ap (λ found. steps_meaning (encoded prov env) (next_steps k found) (after_steps k) (suc k)) is
+      ∙ ap (λ own. steps_meaning (encoded prov env) (step_on k statement own) (after_steps k) (suc k)) writes_it
       ∙ ap (λ b. if b then rows_by k statement else after_steps k (suc k)) (same_number (suc k))
 
   module _ (count : ℕ) (gives : GivesRun count) where
     written : (k : ℕ) (statement : Statement) (table : ℕ) → k < count → log.statement t (suc k) ≡ Some statement → target statement ≡ Some table
-        → rows_by k statement ≡ map (encoded_row false) (step monomials t (suc k) statement (run monomials log t k env) table)
+        → rows_by k statement ≡ map (encoded_row prov) (step monomials t (suc k) statement (run monomials log t k env) table)
     written k statement table before is writes_it =
         sym (own_rows k statement table is writes_it)
         ∙ sym (kept (suc k) count before)
         ∙ gives k table before (ap (λ found. writes found table) is ∙ ap (λ own. is_target own table) writes_it ∙ same_number table)
-        ∙ ap (λ found. map (encoded_row false) (stepped monomials t (suc k) found (run monomials log t k env) table)) is
+        ∙ ap (λ found. map (encoded_row prov) (stepped monomials t (suc k) found (run monomials log t k env) table)) is
 
     module _ (limits : Limits) (catalogue : List Table) (fits : (k : ℕ) → FitsIfSome catalogue (log.statement t k))
         (held : AreHeld limits.nodes (env (log.begin_version t))) where
       abbrev stop_in : List PlainStep → StepRows → Option Stop
-      stop_in steps before = steps_stop limits.rows limits.nodes (encoded false env) steps before
+      stop_in steps before = steps_stop limits.rows limits.nodes (encoded prov env) steps before
 
       one_stop : (k : ℕ) → k < count → AreHeld limits.nodes (run monomials log t k env)
           → (found : Option Statement) → log.statement t (suc k) ≡ found → FitsIfSome catalogue found
@@ -453,14 +458,14 @@ module _ (columns of_step : ℕ → ℕ) (log : Log) (t : ℕ) (env : Environmen
           let are = both (is_there catalogue table) _ fit in
           let db : Database Monomial = run monomials log t k env in
           let new : List (Annotated Monomial) = given_from monomials t (suc k) 1 all in
-          appended limits t (suc k) (db table) new (with_rows table (db table ++ new) db table) _
+          appended prov limits t (suc k) (db table) new (with_rows table (db table ++ new) db table) _
           (ap (λ b. if b then db table ++ new else db table) (same_number table)) (written k (insert table all) table before is refl)
           (held table) (user_given monomials limits.nodes (width_of catalogue table) t (suc k) 1 all (both _ _ are.1).1)
       one_stop k before held (Some (insert_select table select)) is fit =
           let are = both (is_there catalogue table) _ fit in
           let db : Database Monomial = run monomials log t k env in
           let new : List (Annotated Monomial) = map (made monomials t (suc k)) (answer monomials select db) in
-          appended limits t (suc k) (db table) new (with_rows table (db table ++ new) db table) _
+          appended prov limits t (suc k) (db table) new (with_rows table (db table ++ new) db table) _
           (ap (λ b. if b then db table ++ new else db table) (same_number table)) (written k (insert_select table select) table before is refl)
           (held table) (user_made monomials limits catalogue t (suc k) select db held (width_of catalogue table) (both (is_countable select) _ are.1).1)
       one_stop k before held (Some (update table sets c)) is fit = refl
@@ -485,7 +490,7 @@ module _ (columns of_step : ℕ → ℕ) (log : Log) (t : ℕ) (env : Environmen
               ≡ first_stop (option_map step_stop (run_stop monomials limits log t k env)) (stop_in (next_steps k found) (after_steps k))
           sooner =
               ap (λ steps. stop_in steps no_steps) (more_steps k)
-              ∙ stop_after limits.rows limits.nodes (encoded false env) (plain_steps k) (next_steps k found) no_steps
+              ∙ stop_after limits.rows limits.nodes (encoded prov env) (plain_steps k) (next_steps k found) no_steps
               ∙ ap (λ stop. first_stop stop (stop_in (next_steps k found) (after_steps k))) earlier.stop
 
           go : (stop : Option RunStop) → run_stop monomials limits log t k env ≡ stop → Agrees (suc k)
@@ -527,43 +532,44 @@ unscanned_again : {M : Type 0} (kind : Annotations M) (all : List (Annotated M))
 unscanned_again kind [] = refl
 unscanned_again kind (row ∷ all) = ap (λ rest. row ∷ rest) (unscanned_again kind all)
 
-module _ (columns of_step : ℕ → ℕ) (log : Log) (t : ℕ) (env : Environment Monomial) (count : ℕ) where
+-- rows are known by what scans of them are
+pub scanned_once : {M : Type 0} (kind : Annotations M) (one other : List (Annotated M)) → map (scanned kind) one ≡ map (scanned kind) other → one ≡ other
+scanned_once kind one other same = sym (unscanned_again kind one) ∙ ap (map unscanned) same ∙ unscanned_again kind other
+
+module _ (prov : Bool) (columns of_step : ℕ → ℕ) (log : Log) (t : ℕ) (env : Environment Monomial) (count : ℕ) where
   -- the annotated steps give the tables of the run, and the plain steps their rows
   pub gives_run : ((j table : ℕ) (statement : Statement) → j ≤ count → log.statement t j ≡ Some statement → target statement ≡ Some table
       → q.steps_meaning monomials env (composed columns log t count) no_steps j ≡ map (scanned monomials) (run monomials log t j env table))
-      → ((j : ℕ) → (all : List (Annotated Monomial)) × (after_steps columns of_step log t env count j ≡ map (encoded_row false) all)
+      → ((j : ℕ) → (all : List (Annotated Monomial)) × (after_steps prov columns of_step log t env count j ≡ map (encoded_row prov) all)
       × (q.steps_meaning monomials env (composed columns log t count) no_steps j ≡ map (scanned monomials) all))
-      → GivesRun columns of_step log t env count
+      → GivesRun prov columns of_step log t env count
   gives_run means encodes j table before written = by_statement (log.statement t (suc j)) refl written
     where
-      same_rows : (one other : List (Annotated Monomial)) → map (scanned monomials) one ≡ map (scanned monomials) other → one ≡ other
-      same_rows one other same = sym (unscanned_again monomials one) ∙ ap (map unscanned) same ∙ unscanned_again monomials other
-
       in_table : (statement : Statement) → log.statement t (suc j) ≡ Some statement → target statement ≡ Some table
-          → after_steps columns of_step log t env count (suc j) ≡ map (encoded_row false) (run monomials log t (suc j) env table)
+          → after_steps prov columns of_step log t env count (suc j) ≡ map (encoded_row prov) (run monomials log t (suc j) env table)
       in_table statement is writes_it =
           let given = encodes (suc j) in
-          given.1 ∙ ap (map (encoded_row false)) (same_rows given.0 _ (sym given.2 ∙ means (suc j) table statement before is writes_it))
+          given.1 ∙ ap (map (encoded_row prov)) (scanned_once monomials given.0 _ (sym given.2 ∙ means (suc j) table statement before is writes_it))
 
       by_target : (statement : Statement) → log.statement t (suc j) ≡ Some statement → (own : Option ℕ) → target statement ≡ own → is_target own table ≡ true
-          → after_steps columns of_step log t env count (suc j) ≡ map (encoded_row false) (run monomials log t (suc j) env table)
+          → after_steps prov columns of_step log t env count (suc j) ≡ map (encoded_row prov) (run monomials log t (suc j) env table)
       by_target statement is None at hit = absurd (true≢false (sym hit))
       by_target statement is (Some own) at hit = in_table statement is (at ∙ ap (λ n. Some n) (sym (eqb-true table own hit)))
 
       by_statement : (found : Option Statement) → log.statement t (suc j) ≡ found → writes found table ≡ true
-          → after_steps columns of_step log t env count (suc j) ≡ map (encoded_row false) (run monomials log t (suc j) env table)
+          → after_steps prov columns of_step log t env count (suc j) ≡ map (encoded_row prov) (run monomials log t (suc j) env table)
       by_statement None is hit = absurd (true≢false (sym hit))
       by_statement (Some statement) is hit = by_target statement is (target statement) refl hit
 
 -- ---- programs
 
 -- a program with the steps of the first k statements stops where their run does, if its steps give the rows of the run
-pub program_stops : (limits : Limits) (catalogue : List Table) (entries : List Entry) (t k : ℕ) (env : Environment Monomial) (last : Query)
+pub program_stops : (prov : Bool) (limits : Limits) (catalogue : List Table) (entries : List Entry) (t k : ℕ) (env : Environment Monomial) (last : Query)
     → statements_fit catalogue entries ≡ true → AreHeld limits.nodes (env (begin_version t entries))
-    → GivesRun (width_of catalogue) (step_table (composed (width_of catalogue) (log_of entries) t k)) (log_of entries) t env k
-    → program_stop limits.rows limits.nodes (encoded false env)
-    (plain_program (width_of catalogue) false (record { steps = composed (width_of catalogue) (log_of entries) t k; last = last }))
+    → GivesRun prov (width_of catalogue) (step_table (composed (width_of catalogue) (log_of entries) t k)) (log_of entries) t env k
+    → program_stop limits.rows limits.nodes (encoded prov env)
+    (plain_program (width_of catalogue) prov (record { steps = composed (width_of catalogue) (log_of entries) t k; last = last }))
     ≡ option_map step_stop (run_stop monomials limits (log_of entries) t k env)
-program_stops limits catalogue entries t k env last fit held gives =
-    (agrees (width_of catalogue) (step_table (composed (width_of catalogue) (log_of entries) t k)) (log_of entries) t env k gives limits catalogue
+program_stops prov limits catalogue entries t k env last fit held gives =
+    (agrees prov (width_of catalogue) (step_table (composed (width_of catalogue) (log_of entries) t k)) (log_of entries) t env k gives limits catalogue
     (λ j. logged_fits catalogue t j entries fit) held k (omega arith)).stop

@@ -1,1 +1,2 @@
+pub mod Backends
 pub mod Reenacting

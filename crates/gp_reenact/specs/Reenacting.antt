@@ -1,6 +1,6 @@
 -- Part of the statement: what reenactment answers: the rows of the database of a state, in any order, or the refusal that is due. Running out of memory
 -- says nothing.
-use Rattle.std.specs.Prelude.{◌≡◌, ◌<◌, ◌≤◌, ℕ, zero, List, length, Option, Some, None, Result, Ok, Err, slice_index_or}
+use Rattle.std.specs.Prelude.{◌≡◌, ◌<◌, ◌≤◌, ℕ, zero, Bool, List, length, Option, Some, None, Result, Ok, Err, slice_index_or}
 use Rattle.std.specs.List.Sorted.{IsPermutation}
 use Rattle.gp_base.specs.declared.cell.Cell.{Cell}
 use Rattle.gp_base.specs.declared.refusal.Refusal.{Refusal}
@@ -8,13 +8,20 @@ use Rattle.gp_base.specs.declared.refusal.Refusal.TheVariants.{E20, E21, E22, E2
 use Rattle.gp_base.specs.declared.row_id.TheConstants.{MAX_NODES}
 use Rattle.gp_grammar.specs.Syntax as y
 use Rattle.gp_algebra.specs.Answers.{Element, cells_of}
+use Rattle.gp_algebra.specs.Fitting.{width_of}
 use Rattle.gp_algebra.specs.Plain.{PlainEnvironment, PlainProgram, program_meaning}
+use Rattle.gp_algebra.specs.Statements.{Select}
 use Rattle.gp_algebra.specs.Stops.{rows, ancestry, program_stop}
 use Rattle.gp_exec.specs.declared.error.ExecStop.{ExecStop}
 use Rattle.gp_exec.specs.declared.error.ExecStop.TheVariants as exec
 use Rattle.gp_exec.specs.declared.limit.TheConstants.{MAX_TABLE_ROWS, MAX_ANSWER_ROWS}
+use Rattle.gp_compose.specs.Composed.{program_at}
 use Rattle.gp_compose.specs.declared.error.ComposeStop.{ComposeStop}
 use Rattle.gp_compose.specs.declared.error.ComposeStop.TheVariants as compose
+use Rattle.gp_log.specs.LogFacts.{tables_in}
+use Rattle.gp_machine.specs.Entries.{Entry}
+use Rattle.gp_merge.specs.Merging.{merged}
+use Rattle.gp_prov.specs.ToPlain.{plain_program}
 use Rattle.gp_travel.specs.Travel.{no_table}
 use Rattle.gp_versions.specs.declared.span.Span.{Span}
 use Rattle.gp_versions.specs.Spans.{Versions}
@@ -32,7 +39,11 @@ Reenacts view (Err (Refused refusal)) (Ok elements) = ⊥
 Reenacts view (Err (Refused refusal)) (Err due) = refusal ≡ due
 Reenacts view (Err NoMemory) due = Unit {0}
 
--- the plain program of a state, or the refusal that the log gives
+-- the program of a query over a state; with provenance, its rows end in their monomials
+abbrev pub merged_at : Bool → List Entry → y.State → Select → PlainProgram
+merged_at prov entries point select = merged (plain_program (width_of (tables_in entries)) prov (program_at (width_of (tables_in entries)) entries point select))
+
+-- it is that of a state, or the log gives the refusal
 abbrev pub Plans : {X : Type 0} → (X → PlainProgram) → Result X ReenactStop → Option Refusal → PlainProgram → Type 0
 Plans view (Ok found) due program = (due ≡ None) × (view found ≡ program)
 Plans view (Err (Refused refusal)) due program = due ≡ Some refusal

@@ -2,9 +2,9 @@
 //! and Glavic, *Reenactment for Read-Committed Snapshot Isolation*, 2016).
 //!
 //! In reading order: [`log_refusal`] says whether a log has a state, and [`reenact`] gives the rows of a query over it: a version,
-//! what a transaction saw after one of its statements, or what its commit published. It composes the statements of the
-//! transaction into a program ([`gp_compose`]), makes that a plain one ([`gp_prov`]), and runs it over the rows of past versions
-//! ([`gp_travel`], [`gp_exec`]). In `specs/`, `Reenacting` says what it answers, in terms of the run of the transaction, in which
+//! what a transaction saw after one of its statements, or what its commit published. [`planned`] composes the statements of the
+//! transaction into a program ([`gp_compose`]), makes that a plain one ([`gp_prov`]) and merges it ([`gp_merge`]); a backend
+//! ([`reenact_by`]), as the executor ([`gp_exec`]), runs it over the rows of past versions ([`gp_travel`]). In `specs/`, `Reenacting` says what it answers, in terms of the run of the transaction, in which
 //! neither programs nor their columns are seen.
 //!
 //! ```text
@@ -19,4 +19,4 @@ mod error;
 mod replay;
 
 pub use error::ReenactStop;
-pub use replay::{log_refusal, reenact};
+pub use replay::{log_refusal, planned, reenact, reenact_by};

@@ -14,22 +14,24 @@ ghost use Rattle.gp_log.specs.LogFitting.{SpansFit, statements_fit};
 ghost use Rattle.gp_log.specs.Logs.{log_view};
 ghost use Rattle.gp_machine.specs.Questions as m;
 ghost use Rattle.gp_machine.specs.Questions.{rows_answer};
-ghost use Rattle.gp_compose.specs.Composed.{program_at};
+ghost use Rattle.gp_merge.specs.Merging.{merged};
 ghost use Rattle.gp_prov.specs.ToPlain as to;
 ghost use Rattle.gp_travel.specs.Encoding.{encoded};
 ghost use Rattle.gp_travel.specs.Travel.{as_of};
+ghost use Rattle.gp_reenact.specs.Backends.{GivesOver, ReenactsBy};
 ghost use Rattle.gp_reenact.specs.Reenacting as r;
-ghost use Rattle.gp_reenact.specs.Reenacting.{Plans, Reenacts, RunsOver, spans_of};
+ghost use Rattle.gp_reenact.specs.Reenacting.{Plans, Reenacts, merged_at, spans_of};
 
 use crate::error::ReenactStop;
 use gp_algebra::{AProgram, PProgram, Select, scans};
 use gp_base::{Refusal, Row};
 use gp_compose::{ComposeStop, check_state, program};
-use gp_exec::{ExecStop, run};
+use gp_exec::{Backend, ExecStop, Plain};
 use gp_log::Log;
+use gp_merge::merge;
 use gp_prov::to_plain;
 use gp_syntax::State;
-use gp_travel::{asked_scans_suffice, env_at};
+use gp_travel::env_at;
 use gp_versions::VersionTable;
 use std::alloc::Global;
 
@@ -48,20 +50,20 @@ pub fn log_refusal(log: &Log, state: State) -> Option<Refusal>
     }
 }
 
-/// The rows of a program over past versions.
-fn rows_over(
+/// The rows of a program over past versions, as the backend gives them.
+fn rows_over<B: Backend>(
     alloc: Global,
     versions: &[VersionTable],
     program: &PProgram,
+    backend: &B,
 ) -> Result<Vec<Row>, ExecStop>
     requires { is_well_built (program_view program.now) ≡ true }
-    ensures { RunsOver (λ found. found.items) result
-        (encoded (as_of plain versions.now)) (program_view program.now) }
+    ensures { GivesOver (λ found. found.items) (B.gives backend.now) result
+        (program_view program.now) (encoded (as_of plain versions.now)) }
 {
-    asked_scans_suffice();
     let asked = scans(alloc, program)?;
     let env = env_at(alloc, versions, &asked)?;
-    run(alloc, program, &env)
+    backend.run(alloc, program, &env)
 }
 
 /// The transaction of a state that the log has, or 0 for a version.
@@ -102,30 +104,72 @@ fn uncomposed(stop: ComposeStop) -> ReenactStop
     }
 }
 
-/// A program without columns for provenance.
-fn plain_program(alloc: Global, log: &Log, program: &AProgram) -> Result<PProgram, ReenactStop>
-    ensures { Plans program_view result None (to.plain_program
-        (width_of (tables_in (log_view log.now.entries))) false
-        (annotated_program_view program.now)) }
+/// An annotated program as a plain one, merged.
+fn merged_program(
+    alloc: Global,
+    log: &Log,
+    program: &AProgram,
+    with_prov: bool,
+) -> Result<PProgram, ReenactStop>
+    requires { is_well_built (to.plain_program
+        (width_of (tables_in (log_view log.now.entries))) with_prov
+        (annotated_program_view program.now)) ≡ true }
+    ensures { Plans program_view result None (merged (to.plain_program
+        (width_of (tables_in (log_view log.now.entries))) with_prov
+        (annotated_program_view program.now))) }
 {
-    Ok(to_plain(alloc, program, log.catalog(), false)?)
+    let plain = to_plain(alloc, program, log.catalog(), with_prov)?;
+    Ok(merge(alloc, &plain)?)
 }
 
-/// The plain program of a query over a state, if the log has the state.
-fn planned(alloc: Global, log: &Log, state: State, select: &Select) -> Result<PProgram, ReenactStop>
+/// The merged program of a query over a state. With provenance, its rows end in their monomials. The log and the query have been
+/// checked. Refused as [`log_refusal`] refuses the state.
+pub fn planned(
+    alloc: Global,
+    log: &Log,
+    state: State,
+    select: &Select,
+    with_prov: bool,
+) -> Result<PProgram, ReenactStop>
     requires fits { select_fits (tables_in (log_view log.now.entries))
         (select_view select.now) ≡ true }
     requires statements { statements_fit (tables_in (log_view log.now.entries))
         (log_view log.now.entries) ≡ true }
     ensures { Plans program_view result (m.log_refusal (log_view log.now.entries) (state_view state))
-        (to.plain_program (width_of (tables_in (log_view log.now.entries))) false
-        (program_at (width_of (tables_in (log_view log.now.entries)))
-        (log_view log.now.entries) (state_view state) (select_view select.now))) }
+        (merged_at with_prov (log_view log.now.entries) (state_view state) (select_view select.now)) }
 {
     // What may fail borrows the program, which has many parts: each way out that owns it lets them all go.
     match program(alloc, log, state, select) {
-        Ok(program) => plain_program(alloc, log, &program),
+        Ok(program) => merged_program(alloc, log, &program, with_prov),
         Err(stop) => Err(uncomposed(stop)),
+    }
+}
+
+/// What a backend gives for a query over a state. The state is refused as [`log_refusal`] refuses it; else its program is merged, and
+/// the backend runs it over the rows of the past versions that it scans. The backend's answer alone decides: its rows, or the
+/// refusal of its stop.
+pub fn reenact_by<B: Backend>(
+    alloc: Global,
+    log: &Log,
+    versions: &[VersionTable],
+    state: State,
+    select: &Select,
+    backend: &B,
+) -> Result<Vec<Row>, ReenactStop>
+    requires fits { select_fits (tables_in (log_view log.now.entries))
+        (select_view select.now) ≡ true }
+    requires statements { statements_fit (tables_in (log_view log.now.entries))
+        (log_view log.now.entries) ≡ true }
+    ensures { ReenactsBy (λ rows. rows.items) (B.gives backend.now) result
+        (m.log_refusal (log_view log.now.entries) (state_view state))
+        (r.transaction_at (state_view state))
+        (merged_at false (log_view log.now.entries) (state_view state) (select_view select.now))
+        (encoded (as_of plain versions.now)) }
+{
+    let plain = planned(alloc, log, state, select, false)?;
+    match rows_over(alloc, versions, &plain, backend) {
+        Ok(rows) => Ok(rows),
+        Err(stop) => Err(stopped(transaction_at(log, state), stop)),
     }
 }
 
@@ -151,9 +195,5 @@ pub fn reenact(
         (rows_answer limits (log_view log.now.entries) (spans_of versions.now)
         (state_view state) (select_view select.now)) }
 {
-    let plain = planned(alloc, log, state, select)?;
-    match rows_over(alloc, versions, &plain) {
-        Ok(rows) => Ok(rows),
-        Err(stop) => Err(stopped(transaction_at(log, state), stop)),
-    }
+    reenact_by(alloc, log, versions, state, select, &Plain)
 }

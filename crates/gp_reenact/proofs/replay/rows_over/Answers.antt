@@ -1,21 +1,20 @@
-use Rattle.std.proofs.Common.{subst, sym, Contains}
+use Rattle.std.proofs.Common.{subst, sym, Contains, Global, Vec}
 use Rattle.gp_algebra.specs.declared.plain.ScanAt.{ScanAt}
 use Rattle.gp_algebra.specs.PlainViews.{program_view}
 use Rattle.gp_algebra.specs.Scans.{program_scans}
-use Rattle.gp_base.specs.declared.row_id.TheConstants.{MAX_NODES}
-use Rattle.gp_exec.specs.declared.limit.TheConstants.{MAX_TABLE_ROWS}
-use Rattle.gp_reenact.proofs.ReplayLemmas.{runs_over}
+use Rattle.gp_base.specs.declared.row.Row.{Row}
+use Rattle.gp_base.specs.Annotated.{plain}
+use Rattle.gp_exec.specs.Running.{environment_view}
+use Rattle.gp_travel.specs.Encoding.{encoded}
+use Rattle.gp_travel.specs.Travel.{as_of}
+use Rattle.gp_reenact.proofs.BackendLemmas.{gives_over}
 use Rattle.gp_reenact.proofs.replay.rows_over.Goals as goal
 
 pub returns : goal.returns
-returns c =
-    let versions = c.args.versions.now in
+returns g c =
     let scans = c.deref.result.now in
-    let env = c.in_ok-env.env in
     let program = program_view c.args.program.now in
     let asked : (scan : ScanAt) → Contains (program_scans program) scan → Contains scans scan =
     λ scan there. subst (λ scans. Contains scans scan) (sym c.deref.ensures.value) ((c.in_ok-asked.ensures.exact scan).1 there) in
-    runs_over (λ found. found.items) c.run.result env versions program
-    (c.asked_scans_suffice.ensures.meaning versions scans env program c.in_ok-env.ensures.scans asked)
-    (c.asked_scans_suffice.ensures.stop MAX_TABLE_ROWS MAX_NODES versions scans env program c.in_ok-env.ensures.scans asked)
-    c.run.ensures
+    gives_over (λ (found : Vec Row Global). found.items) (g.B.Backend.gives c.args.backend.now) program (environment_view c.in_ok-env.env) (encoded (as_of plain c.args.versions.now)) scans c.in_ok-env.ensures.agree asked
+    c.run.result c.run.ensures.given

@@ -1,0 +1,136 @@
+-- The programs of states are shaped, if all statements fit the tables, and these have names.
+use Rattle.std.proofs.Common.{◌≡◌, ◌<◌, ℕ, zero, suc, Bool, true, false, cond, List, refl, arith, Option, Some, None}
+use Rattle.std.specs.Prelude.{◌&&◌, nat_lt, nat_le, not, is_none}
+use Rattle.std.specs.List.{list_all}
+use Rattle.std.specs.Option.{option_or}
+use Rattle.std.proofs.lemmas.Bool.{and_from}
+use Rattle.std.proofs.lemmas.Bool.Decides.{nat_tests}
+use Rattle.gp_base.specs.declared.refusal.Refusal.{Refusal}
+use Rattle.gp_base.specs.declared.refusal.Refusal.TheVariants.{E20, E21}
+use Rattle.gp_base.specs.declared.table.Table.{Table}
+use Rattle.gp_grammar.specs.Syntax as y
+use Rattle.gp_algebra.specs.AnnotatedQueries as q
+use Rattle.gp_algebra.specs.AnnotatedQueries.{Query, QueryStep, Program}
+use Rattle.gp_algebra.specs.Fitting.{is_there, select_fits, statement_fits, width_of}
+use Rattle.gp_algebra.specs.Statements.{Select, Statement}
+use Rattle.gp_machine.specs.Entries.{Entry, Log, log_of, version_of, fate_of, transactions_in}
+use Rattle.gp_machine.specs.Points.{version_before}
+use Rattle.gp_machine.specs.Questions.{log_refusal, statement_refusal, transaction_refusal}
+use Rattle.gp_log.specs.LogFitting.{statements_fit}
+use Rattle.gp_log.specs.LogFacts.{tables_in}
+use Rattle.gp_rewrite.specs.Rewriting.{rewritten, target}
+use Rattle.gp_compose.specs.Composed.{after, as_of, commit, composed, contents, current, last_write, program_at, published, published_as, step_of, steps_of}
+use Rattle.gp_compose.proofs.FittingLogs.{statement_at_fits}
+use Rattle.gp_plantext.specs.Spellable.{table_is_spellable}
+use Rattle.gp_reenact.specs.Reenacting.{merged_at}
+use Rattle.gp_prov.specs.ToPlain.{plain_program}
+use Rattle.gp_explain.specs.Shapes.{annotated_is_shaped, annotated_step_is_shaped, has_tables, is_shaped}
+use Rattle.gp_explain.proofs.MergedShapes.{merged_shaped}
+use Rattle.gp_explain.proofs.PlainShapes.{all_joined, program_shaped}
+use Rattle.gp_explain.proofs.RewrittenShapes.{query_shaped, rewritten_shaped, target_there}
+
+module _ (catalogue : List Table) (named : (table : ℕ) → is_there catalogue table ≡ true → table_is_spellable catalogue table ≡ true) where
+  abbrev AreShaped : (ℕ → Query) → Type 0
+  AreShaped tables = (table : ℕ) → is_there catalogue table ≡ true → annotated_is_shaped catalogue (tables table) ≡ true
+
+  contents_shaped : (version table : ℕ) (write : Option ℕ) → is_there catalogue table ≡ true → annotated_is_shaped catalogue (contents version table write) ≡ true
+  contents_shaped version table None there = named table there
+  contents_shaped version table (Some j) there = refl
+
+  contents_have : (version table : ℕ) (write : Option ℕ) → has_tables (contents version table write) ≡ true
+  contents_have version table None = refl
+  contents_have version table (Some j) = refl
+
+  published_shaped : (begin before table : ℕ) (write : Option ℕ) → is_there catalogue table ≡ true → annotated_is_shaped catalogue (published_as begin before table write) ≡ true
+  published_shaped begin before table None there = named table there
+  published_shaped begin before table (Some j) there = and_from (table_is_spellable catalogue table) (table_is_spellable catalogue table) (named table there) (named table there)
+
+  published_have : (begin before table : ℕ) (write : Option ℕ) → has_tables (published_as begin before table write) ≡ true
+  published_have begin before table None = refl
+  published_have begin before table (Some j) = refl
+
+  module _ (log : Log) (t : ℕ) (some_transaction : 0 < t)
+      (fits : (k : ℕ) (statement : Statement) → log.statement t (suc k) ≡ Some statement → statement_fits catalogue statement ≡ true) where
+    abbrev columns : ℕ → ℕ
+    columns = width_of catalogue
+
+    current_shaped : (k : ℕ) → AreShaped (current log t k)
+    current_shaped k table there = contents_shaped (log.begin_version t) table (last_write log t k table) there
+
+    current_have : (k table : ℕ) → has_tables (current log t k table) ≡ true
+    current_have k table = contents_have (log.begin_version t) table (last_write log t k table)
+
+    composed_shaped : (k : ℕ) → list_all (annotated_step_is_shaped catalogue) (composed columns log t k) ≡ true
+    composed_shaped zero = refl
+    composed_shaped (suc k) =
+        all_joined (annotated_step_is_shaped catalogue) (composed columns log t k) (step_of columns t (suc k) (current log t k) (log.statement t (suc k))) (composed_shaped k)
+        (one (log.statement t (suc k)) refl)
+      where
+        one : (o : Option Statement) → log.statement t (suc k) ≡ o → list_all (annotated_step_is_shaped catalogue) (step_of columns t (suc k) (current log t k) o) ≡ true
+        one None e = refl
+        one (Some statement) e = two (target statement) refl
+          where
+            two : (own : Option ℕ) → target statement ≡ own → list_all (annotated_step_is_shaped catalogue) (steps_of columns t (suc k) (current log t k) statement own) ≡ true
+            two None is = refl
+            two (Some own) is =
+                let fit = fits k statement e in
+                let some : 0 < suc k = omega arith in
+                let table = named own (target_there catalogue own statement is fit) in
+                let query = rewritten_shaped catalogue (current log t k) (current_shaped k) (current_have k) t (suc k) some_transaction some own statement is fit in
+                and_from _ true (and_from (table_is_spellable catalogue own) (annotated_is_shaped catalogue (rewritten columns t (suc k) statement (current log t k))) table query) refl
+
+    pub after_shaped : (prov : Bool) (k : ℕ) (select : Select) → select_fits catalogue select ≡ true → is_shaped catalogue (plain_program columns prov (after columns log t k select)) ≡ true
+    after_shaped prov k select fit =
+        program_shaped catalogue columns prov (after columns log t k select) (composed_shaped k) (query_shaped catalogue (current log t k) (current_shaped k) (current_have k) select fit)
+
+    pub commit_shaped : (prov : Bool) (before : ℕ) (select : Select) → select_fits catalogue select ≡ true
+        → is_shaped catalogue (plain_program columns prov (commit columns log t before select)) ≡ true
+    commit_shaped prov before select fit =
+        program_shaped catalogue columns prov (commit columns log t before select) (composed_shaped (log.statement_count t))
+        (query_shaped catalogue (published log t before)
+        (λ table there. published_shaped (log.begin_version t) before table (last_write log t (log.statement_count t) table) there)
+        (λ table. published_have (log.begin_version t) before table (last_write log t (log.statement_count t) table)) select fit)
+
+  as_of_shaped : (prov : Bool) (version : ℕ) (select : Select) → select_fits catalogue select ≡ true
+      → is_shaped catalogue (plain_program (width_of catalogue) prov (as_of version select)) ≡ true
+  as_of_shaped prov version select fit =
+      program_shaped catalogue (width_of catalogue) prov (as_of version select) refl
+      (query_shaped catalogue (λ table. q.scan table version) named (λ table. refl) select fit)
+
+  -- a log that does not refuse a transaction has one of this number
+  known_counts : (entries : List Entry) (t : ℕ) → transaction_refusal t entries ≡ None → 0 < t
+  known_counts entries t e = go (nat_lt 0 t) refl e
+    where
+      some_none : (refusal : Refusal) → Some refusal ≡ None → ⊥
+      some_none refusal e = cc
+
+      above : (t : ℕ) → nat_lt 0 t ≡ true → 0 < t
+      above t e = grind (arith, nat_tests)
+
+      go : (b : Bool) → nat_lt 0 t ≡ b → cond (not (b && nat_le t (transactions_in entries))) (Some (E20 t)) (cond (is_none (version_of t entries)) (Some (E21 t (fate_of t entries))) None) ≡ None → 0 < t
+      go true is e = above t is
+      go false is e = absurd (some_none (E20 t) e)
+
+  module _ (entries : List Entry) (fit : statements_fit catalogue entries ≡ true) (prov : Bool) (select : Select) (fitting : select_fits catalogue select ≡ true) where
+    point_shaped : (point : y.State) → log_refusal entries point ≡ None
+        → is_shaped catalogue (plain_program (width_of catalogue) prov (program_at (width_of catalogue) entries point select)) ≡ true
+    point_shaped (y.as_of version) e = as_of_shaped prov version select fitting
+    point_shaped (y.after t k) e =
+        after_shaped (log_of entries) t (known_counts entries t (first (transaction_refusal t entries) e)) (λ k statement e. statement_at_fits catalogue entries fit t (suc k) statement e) prov k select fitting
+      where
+        some_none : (refusal : Refusal) → Some refusal ≡ None → ⊥
+        some_none refusal e = cc
+
+        first : (o : Option Refusal) → option_or o (statement_refusal t k entries) ≡ None → o ≡ None
+        first None e = refl
+        first (Some refusal) e = absurd (some_none refusal e)
+    point_shaped (y.State.commit t) e =
+        commit_shaped (log_of entries) t (known_counts entries t e) (λ k statement e. statement_at_fits catalogue entries fit t (suc k) statement e) prov (version_before (version_of t entries)) select fitting
+
+-- the merged program of a state
+pub merged_at_shaped : (entries : List Entry) → ((table : ℕ) → is_there (tables_in entries) table ≡ true → table_is_spellable (tables_in entries) table ≡ true)
+    → statements_fit (tables_in entries) entries ≡ true → (prov : Bool) (select : Select) → select_fits (tables_in entries) select ≡ true
+    → (point : y.State) → log_refusal entries point ≡ None → is_shaped (tables_in entries) (merged_at prov entries point select) ≡ true
+merged_at_shaped entries named fit prov select fitting point known =
+    merged_shaped (tables_in entries) (plain_program (width_of (tables_in entries)) prov (program_at (width_of (tables_in entries)) entries point select))
+    (point_shaped (tables_in entries) named entries fit prov select fitting point known)

@@ -1,0 +1,10 @@
+pub mod ExplainLemmas
+pub mod FittingShapes
+pub mod RewrittenShapes
+pub mod PlainShapes
+pub mod ComposedShapes
+pub mod LineLemmas
+pub mod MergedShapes
+pub mod RangeLemmas
+pub mod RangeLoops
+pub mod MeaningLemmas

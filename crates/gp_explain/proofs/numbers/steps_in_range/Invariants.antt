@@ -1,0 +1,10 @@
+use Rattle.std.proofs.Common.{drop}
+use Rattle.std.specs.List.{AllByRecursion}
+use Rattle.gp_algebra.specs.PlainViews.{step_view}
+use Rattle.gp_explain.specs.Numbers.{StepInRange}
+use Rattle.gp_explain.proofs.numbers.steps_in_range.Given as goal
+
+-- if those that remain are in range, all are
+abbrev pub invariant-loop-step : goal.invariant-loop-step
+invariant-loop-step l =
+    AllByRecursion (λ step. StepInRange (step_view step)) (drop l.step-index l.steps) → AllByRecursion (λ step. StepInRange (step_view step)) l.steps

@@ -1,0 +1,14 @@
+-- Part of the statement: what explaining a query over a state answers: the text of its merged program, or the refusal that the log gives. Running out of
+-- memory says nothing.
+use Rattle.std.specs.Prelude.{◌≡◌, ℕ, List, Option, Some, None, Result, Ok, Err}
+use Rattle.gp_base.specs.declared.refusal.Refusal.{Refusal}
+use Rattle.gp_base.specs.declared.table.Table.{Table}
+use Rattle.gp_algebra.specs.Plain.{PlainProgram}
+use Rattle.gp_plantext.specs.Outcomes.{Spells}
+use Rattle.gp_reenact.specs.declared.error.ReenactStop.{ReenactStop}
+use Rattle.gp_reenact.specs.declared.error.ReenactStop.TheVariants.{Refused, NoMemory}
+
+abbrev pub ExplainsBy : {X : Type 0} → (X → List ℕ) → Result X ReenactStop → Option Refusal → List Table → PlainProgram → Type 0
+ExplainsBy view (Ok text) due tables program = (due ≡ None) × Spells tables program (view text)
+ExplainsBy view (Err (Refused refusal)) due tables program = due ≡ Some refusal
+ExplainsBy view (Err NoMemory) due tables program = Unit {0}

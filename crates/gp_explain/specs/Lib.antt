@@ -1,0 +1,5 @@
+pub mod Explained
+pub mod ExplainedLines
+pub mod Explaining
+pub mod Numbers
+pub mod Shapes

@@ -1,0 +1,62 @@
+//! The text of the program of a state.
+
+ghost use Rattle.std.specs.Prelude.{◌≡◌, true, None, IfOk};
+ghost use Rattle.gp_syntax.specs.Views.{state_view};
+ghost use Rattle.gp_algebra.specs.Fitting.{select_fits};
+ghost use Rattle.gp_algebra.specs.PlainViews.{program_view};
+ghost use Rattle.gp_algebra.specs.Views.{select_view};
+ghost use Rattle.gp_log.specs.LogFacts.{tables_in};
+ghost use Rattle.gp_log.specs.LogFitting.{statements_fit};
+ghost use Rattle.gp_log.specs.Logs.{log_view};
+ghost use Rattle.gp_machine.specs.Questions.{log_refusal};
+ghost use Rattle.gp_reenact.specs.Reenacting.{merged_at};
+ghost use Rattle.gp_explain.specs.Explained.{Explains};
+ghost use Rattle.gp_explain.specs.Explaining.{ExplainsBy};
+ghost use Rattle.gp_explain.specs.Shapes.{IsShaped};
+
+use crate::names::tables_are_named;
+use crate::numbers::program_in_range;
+use gp_algebra::{PProgram, Select};
+use gp_log::Log;
+use gp_plantext::write;
+use gp_reenact::{ReenactStop, planned};
+use gp_syntax::State;
+use std::alloc::Global;
+
+/// The text of a program over the tables of a log.
+fn written(alloc: Global, log: &Log, program: &PProgram) -> Result<Vec<u8>, ReenactStop>
+    requires { IsShaped (tables_in (log_view log.now.entries)) (program_view program.now) }
+    ensures { ExplainsBy (λ text. text.items) result None
+        (tables_in (log_view log.now.entries)) (program_view program.now) }
+{
+    let catalog = log.catalog();
+    tables_are_named(catalog);
+    program_in_range(program);
+    Ok(write(alloc, program, catalog)?)
+}
+
+/// The text of the program that gives a query over a state: a version, what a transaction saw after one of its statements, or what
+/// its commit published. With provenance, its rows end in their monomials. The log and the query have been checked. A state that the
+/// log does not have is refused, as [`log_refusal`](gp_reenact::log_refusal) says; no limit on rows or identities is reached, since
+/// nothing is run.
+pub fn explain(
+    alloc: Global,
+    log: &Log,
+    state: State,
+    select: &Select,
+    with_prov: bool,
+) -> Result<Vec<u8>, ReenactStop>
+    requires fits { select_fits (tables_in (log_view log.now.entries))
+        (select_view select.now) ≡ true }
+    requires statements { statements_fit (tables_in (log_view log.now.entries))
+        (log_view log.now.entries) ≡ true }
+    ensures text { ExplainsBy (λ text. text.items) result
+        (log_refusal (log_view log.now.entries) (state_view state))
+        (tables_in (log_view log.now.entries))
+        (merged_at with_prov (log_view log.now.entries) (state_view state) (select_view select.now)) }
+    ensures meaning { IfOk result (λ text. Explains (log_view log.now.entries)
+        (state_view state) (select_view select.now) with_prov text.items) }
+{
+    let program = planned(alloc, log, state, select, with_prov)?;
+    written(alloc, log, &program)
+}
