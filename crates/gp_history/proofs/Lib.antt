@@ -1,0 +1,14 @@
+mod AgreementLemmas
+mod ChangeLemmas
+mod CommitLemmas
+mod EncodedLemmas
+mod FoundLemmas
+mod HistoryLemmas
+mod MakerLemmas
+mod MatchingLemmas
+mod ProvenanceLemmas
+mod ProvingLemmas
+mod RunLemmas
+mod SpanLemmas
+mod StartLemmas
+mod TableLemmas

@@ -1,0 +1,169 @@
+-- The program of a table that a transaction published, over annotated versions, gives the table as its commit published it, and stops where the run of the
+-- transaction does.
+use Rattle.std.proofs.Common.{◌≡◌, ℕ, zero, suc, ◌<◌, ◌==◌, Bool, true, false, true≢false, cond, List, length, map, refl, sym, ap, ◌∙◌, arith, inr, Option, Some, None}
+use Rattle.std.specs.Prelude.{◌&&◌}
+use Rattle.std.specs.List.{AllByRecursion}
+use Rattle.std.specs.Option.{option_map, option_or}
+use Rattle.std.proofs.lemmas.Bool.{eq-eqb, eqb-true, ltb-true}
+use Rattle.std.proofs.lemmas.Bool.Decides.{nat_tests}
+use Rattle.gp_base.specs.declared.row_id.TheConstants.{MAX_NODES}
+use Rattle.gp_base.specs.declared.table.Table.{Table}
+use Rattle.gp_base.specs.Annotated.{Annotated, Environment, monomials}
+use Rattle.gp_base.specs.Tokens.{Monomial}
+use Rattle.gp_base.proofs.ProductLaws.{times-associative, times-one}
+use Rattle.gp_algebra.specs.AnnotatedQueries as q
+use Rattle.gp_algebra.specs.AnnotatedQueries.{Query, QueryStep}
+use Rattle.gp_algebra.specs.Fitting.{is_there, statement_fits, width_of}
+use Rattle.gp_algebra.specs.Plain as p
+use Rattle.gp_algebra.specs.QueryForms.{IsTableProgram, step_table}
+use Rattle.gp_algebra.specs.Statements.{Statement, delete, insert, insert_select, read, update}
+use Rattle.gp_algebra.specs.Stops.{program_stop}
+use Rattle.gp_algebra.specs.WellBuilt.{is_well_built}
+use Rattle.gp_compose.specs.Composed.{composed, last_write, published_as, published_table, writes}
+use Rattle.gp_compose.proofs.ProgramLemmas.{composed_step_is, published_table_gives, table_program_is_built}
+use Rattle.gp_exec.specs.declared.limit.TheConstants.{MAX_TABLE_ROWS}
+use Rattle.gp_log.specs.Limits.{limits}
+use Rattle.gp_log.specs.LogFacts.{tables_in}
+use Rattle.gp_log.specs.LogFitting.{SpanFits, SpansFit, statements_fit}
+use Rattle.gp_machine.specs.Annotating.{annotated, annotated_row}
+use Rattle.gp_machine.specs.Entries.{Entry, Log, begin_version, log_of, statement_count}
+use Rattle.gp_machine.specs.Points.{run_stop, statement_stop}
+use Rattle.gp_machine.specs.Publishing.{at_commit}
+use Rattle.gp_machine.specs.Runs.{run}
+use Rattle.gp_machine.proofs.Distinct.{each_filter, each_map}
+use Rattle.gp_prov.specs.Encoding.{encoded, encoded_row}
+use Rattle.gp_prov.specs.ToPlain.{plain_program}
+use Rattle.gp_prov.proofs.BuiltLemmas.{program_built}
+use Rattle.gp_prov.proofs.MeaningLemmas.{HaveWidths, rows_between, steps_are, tables_are}
+use Rattle.gp_reenact.proofs.StopLemmas.{AreHeld, IsHeld, gives_run, program_stops, scanned_once, step_stop}
+use Rattle.gp_rewrite.specs.Meaning.{AreAsWide, IsMonoid}
+use Rattle.gp_versions.specs.declared.span.Span.{Span}
+use Rattle.gp_versions.specs.Spans.{holds_at, spans_at}
+use Rattle.gp_history.specs.Changes.{is_scan}
+
+pub both : (a b : Bool) → a && b ≡ true → (a ≡ true) × (b ≡ true)
+both true b e = (refl, e)
+both false b e = absurd (true≢false (sym e))
+
+pub monoid : IsMonoid monomials
+monoid = record { right_one = times-one; associative = times-associative }
+
+-- ---- annotated versions
+
+module _ (catalogue : List Table) (spans : ℕ → List Span) (fit : SpansFit catalogue spans) (versions : Environment Monomial) where
+  abbrev env : Environment Monomial
+  env = annotated monomials spans versions
+
+  each_row : (P : Annotated Monomial → Type 0) (table : ℕ) → ((span : Span) → SpanFits (width_of catalogue table) span → P (annotated_row monomials versions table span))
+      → (version : ℕ) → AllByRecursion P (env version table)
+  each_row P table holds version =
+      each_map P (SpanFits (width_of catalogue table)) (annotated_row monomials versions table) holds (spans_at version (spans table))
+      (each_filter (SpanFits (width_of catalogue table)) (SpanFits (width_of catalogue table)) (holds_at version) (λ span at is. is) (spans table) (fit table))
+
+  pub held_rows : (version : ℕ) → AreHeld MAX_NODES (env version)
+  held_rows version table = each_row (IsHeld MAX_NODES) table (λ span is. record { cells = (both _ _ is.cells).1; small = is.small }) version
+
+  pub wide_rows : (version : ℕ) → AreAsWide (width_of catalogue) (env version)
+  wide_rows version table =
+      each_row (λ row. length row.cells ≡ width_of catalogue table) table (λ span is. eqb-true (length span.row) (width_of catalogue table) (both _ _ is.cells).0) version
+
+  pub none_marked : (version table : ℕ) → AllByRecursion (λ row. row.mark ≡ false) (env version table)
+  none_marked version table = each_row (λ row. row.mark ≡ false) table (λ span is. refl) version
+
+-- ---- the program of a table
+
+module _ (entries : List Entry) (spans : ℕ → List Span) (fit : statements_fit (tables_in entries) entries ≡ true) (spans_fit : SpansFit (tables_in entries) spans)
+    (versions : Environment Monomial) (t before table : ℕ) (some : zero < t) where
+  abbrev columns : ℕ → ℕ
+  columns = width_of (tables_in entries)
+
+  abbrev past : Environment Monomial
+  past = annotated monomials spans versions
+
+  abbrev count : ℕ
+  count = statement_count t entries
+
+  abbrev pub program : q.Program
+  program = published_table columns (log_of entries) t before table
+
+  wide : (version : ℕ) → AreAsWide columns (past version)
+  wide = wide_rows (tables_in entries) spans spans_fit versions
+
+  widths : HaveWidths columns past
+  widths version table = wide version table
+
+  built : IsTableProgram columns table program
+  built = table_program_is_built (tables_in entries) entries fit t before table some
+
+  pub plain_is_built : is_well_built (plain_program columns true program) ≡ true
+  plain_is_built = program_built columns true program built.steps (inr (table, built.contents))
+
+  means : q.program_meaning monomials past program ≡ map (q.scanned monomials) (at_commit monomials (log_of entries) t before past table)
+  means = published_table_gives monomials monoid (tables_in entries) entries fit past wide (none_marked (tables_in entries) spans spans_fit versions) t before table
+
+  -- its rows, with identities, marks and monomials
+  pub rows_are : p.program_meaning (encoded true past) (plain_program columns true program) ≡ map (encoded_row true) (at_commit monomials (log_of entries) t before past table)
+  rows_are =
+      let given = rows_between true (columns table) (tables_are columns true past widths table program built) in
+      given.1 ∙ ap (map (encoded_row true)) (scanned_once monomials given.0 (at_commit monomials (log_of entries) t before past table) (sym given.2 ∙ means))
+
+  -- it stops where the run does
+  pub stop_is : program_stop MAX_TABLE_ROWS MAX_NODES (encoded true past) (plain_program columns true program)
+      ≡ option_map step_stop (run_stop monomials limits (log_of entries) t count past)
+  stop_is =
+      let steps : List QueryStep = composed columns (log_of entries) t count in
+      program_stops true limits (tables_in entries) entries t count past program.last fit
+      (held_rows (tables_in entries) spans spans_fit versions (begin_version t entries))
+      (gives_run true columns (step_table steps) (log_of entries) t past count
+      (λ j own statement within is writes_it. composed_step_is monomials monoid (tables_in entries) entries fit past wide t count j own statement within is writes_it)
+      (λ j. rows_between true (columns (step_table steps j)) (steps_are columns true past widths program built.steps j)))
+
+  scan_of : (o : Option ℕ) → last_write (log_of entries) t count table ≡ o → is_scan (published_as (begin_version t entries) before table o) ≡ true → o ≡ None
+  scan_of None is scans = refl
+  scan_of (Some j) is scans = absurd (true≢false (sym scans))
+
+  -- a table whose program is a scan has no statement on it
+  pub scan_is : is_scan program.last ≡ true → last_write (log_of entries) t count table ≡ None
+  scan_is scans = scan_of (last_write (log_of entries) t count table) refl scans
+
+  -- and is as in the version before
+  pub kept_is : last_write (log_of entries) t count table ≡ None → at_commit monomials (log_of entries) t before past table ≡ past before table
+  kept_is none =
+      scanned_once monomials (at_commit monomials (log_of entries) t before past table) (past before table)
+      (sym means ∙ ap (λ o. q.meaning monomials (q.steps_meaning monomials past program.steps p.no_steps) past (published_as (begin_version t entries) before table o)) none)
+
+-- ---- a transaction that writes nothing
+
+module _ (catalogue : List Table) (log : Log) (t : ℕ) (versions : Environment Monomial)
+    (fits : (k : ℕ) (statement : Statement) → log.statement t k ≡ Some statement → statement_fits catalogue statement ≡ true) where
+  -- if a statement that writes a table writes none of these, there is no statement
+  none_there : (table : ℕ) → is_there catalogue table ≡ true → ((own : ℕ) → own < length catalogue → (table == own) ≡ false) → ⊥
+  none_there table there none = true≢false (sym (same_number table) ∙ none table (ltb-true table (length catalogue) there))
+    where
+      same_number : (n : ℕ) → (n == n) ≡ true
+      same_number n = eq-eqb n n refl
+
+  turned : (a b : ℕ) → (a == b) ≡ false → (b == a) ≡ false
+  turned a b e = grind (arith, nat_tests)
+
+  one_stop : (k : ℕ) (found : Option Statement) → log.statement t (suc k) ≡ found → ((table : ℕ) → table < length catalogue → writes found table ≡ false)
+      → statement_stop monomials limits t (suc k) found (run monomials log t k versions) ≡ None
+  one_stop k None is none = refl
+  one_stop k (Some (insert table rows)) is none =
+      absurd (none_there table (both _ _ (fits (suc k) (insert table rows) is)).0 (λ own less. turned own table (none own less)))
+  one_stop k (Some (insert_select table select)) is none =
+      absurd (none_there table (both _ _ (fits (suc k) (insert_select table select) is)).0 (λ own less. turned own table (none own less)))
+  one_stop k (Some (update table sets c)) is none = refl
+  one_stop k (Some (delete table c)) is none = refl
+  one_stop k (Some (read select)) is none = refl
+
+  parts : (b : Bool) (j : ℕ) (o : Option ℕ) → cond b (Some j) o ≡ None → (b ≡ false) × (o ≡ None)
+  parts true j o e = absurd (cc)
+  parts false j o e = (refl, e)
+
+  -- a transaction that has no statement on any table never stops
+  pub never_stops : (k : ℕ) → ((table : ℕ) → table < length catalogue → last_write log t k table ≡ None) → run_stop monomials limits log t k versions ≡ None
+  never_stops zero none = refl
+  never_stops (suc k) none =
+      let each = λ (table : ℕ) (less : table < length catalogue). parts (writes (log.statement t (suc k)) table) (suc k) (last_write log t k table) (none table less) in
+      λ i. option_or (never_stops k (λ table less. (each table less).1) i) (one_stop k (log.statement t (suc k)) refl (λ table less. (each table less).0) i)

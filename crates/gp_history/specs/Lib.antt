@@ -1,0 +1,9 @@
+pub mod Agreement
+pub mod Annotating
+pub mod Changes
+pub mod Encoded
+pub mod Matching
+pub mod Provenance
+pub mod Scanning
+pub mod Sound
+pub mod SpanAnnotations

@@ -1,0 +1,132 @@
+//! What a commit changes, table by table.
+
+ghost use Rattle.std.specs.Prelude.{◌≡◌, ◌<◌, true, length};
+ghost use Rattle.gp_algebra.specs.Fitting.{is_there};
+ghost use Rattle.gp_log.specs.LogFacts.{tables_in};
+ghost use Rattle.gp_log.specs.Logs.{log_view};
+ghost use Rattle.gp_machine.specs.Entries as m;
+ghost use Rattle.gp_base.specs.Annotated.{monomials};
+ghost use Rattle.gp_reenact.specs.Reenacting.{spans_of};
+ghost use Rattle.gp_history.specs.Changes.{AreChanges, ChangesTable, FindsRows, commit_stop, maker, stopped};
+ghost use Rattle.gp_history.specs.Annotating.{Annotates};
+ghost use Rattle.gp_history.specs.Sound.{IsSound};
+ghost use Rattle.gp_history.specs.SpanAnnotations.{AreAnnotated};
+
+use crate::agreement::agree;
+use crate::annotated::Annotated;
+use crate::error::HistoryStop;
+use crate::found::notes_of;
+use crate::published::{is_scan, published_program, table_rows};
+use crate::spans::{are_touched, spans_in};
+use gp_algebra::AProgram;
+use gp_base::{Monomial, Row, RowId};
+use gp_exec::ExecStop;
+use gp_log::Log;
+use gp_versions::{Span, VersionTable};
+use std::alloc::Global;
+use std::collections::BTreeMap;
+
+/// The stop of a history whose transaction t has a program that stops.
+fn stopped(t: u32, stop: ExecStop) -> HistoryStop
+    ensures { result ≡ stopped t stop }
+{
+    match stop {
+        ExecStop::Rows { j } => HistoryStop::Rows { t, k: j },
+        ExecStop::Ancestry { j } => HistoryStop::Ancestry { t, k: j },
+        ExecStop::Answer | ExecStop::NoMemory => HistoryStop::NoMemory,
+    }
+}
+
+/// What becomes of a table whose published rows are these, with system columns.
+fn rows_change(
+    alloc: Global,
+    rows: &[Row],
+    spans: &[Span],
+    version: u32,
+    table: u32,
+) -> Result<Option<BTreeMap<RowId, Monomial>>, HistoryStop>
+    ensures { FindsRows rows.now spans.now version table result }
+{
+    if !agree(alloc, rows, spans, version)? {
+        return Err(HistoryStop::Inconsistent { version, table });
+    }
+    Ok(Some(notes_of(alloc, rows, spans, version)?))
+}
+
+/// What the commit after a version does to a table: nothing, if the transaction has no statement on it and no span begins or
+/// ends there; else the rows that it published are computed and compared.
+fn table_change(
+    alloc: Global,
+    log: &Log,
+    versions: &[VersionTable],
+    known: &Annotated,
+    before: u32,
+    t: u32,
+    table: u32,
+) -> Result<Option<BTreeMap<RowId, Monomial>>, HistoryStop>
+    requires sound { IsSound (log_view log.now.entries) versions.now }
+    requires within { before < m.versions_in (log_view log.now.entries) }
+    requires maker { t ≡ maker (m.log_of (log_view log.now.entries)) before }
+    requires there { is_there (tables_in (log_view log.now.entries)) table ≡ true }
+    requires known { AreAnnotated monomials (m.log_of (log_view log.now.entries))
+        (spans_of versions.now) before known.now }
+    ensures { ChangesTable (m.log_of (log_view log.now.entries))
+        (spans_of versions.now) before table result }
+{
+    // The number of commits has 32 bits.
+    let _commits = log.commits();
+    let program = published_program(alloc, log, t, table)?;
+    let spans = spans_in(versions, table as usize);
+    if is_scan(&program.last) && !are_touched(spans, before + 1) {
+        return Ok(None);
+    }
+    match table_rows(alloc, log, versions, known, &program) {
+        Ok(rows) => rows_change(alloc, &rows, spans, before + 1, table),
+        Err(stop) => Err(stopped(t, stop)),
+    }
+}
+
+/// The transaction that made the version after this one.
+fn maker_after(log: &Log, before: u32) -> u32
+    requires { before < m.versions_in (log_view log.now.entries) }
+    ensures { result ≡ maker (m.log_of (log_view log.now.entries)) before }
+{
+    // The number of commits has 32 bits.
+    let _commits = log.commits();
+    match log.committer(before + 1) {
+        Some(t) => t,
+        None => unreachable!(),
+    }
+}
+
+/// What the commit after a version does to each table, or the first stop: of its transaction's run, or else of the first table
+/// whose rows are not those of the spans.
+pub fn changes_of(
+    alloc: Global,
+    log: &Log,
+    versions: &[VersionTable],
+    known: &Annotated,
+    before: u32,
+) -> Result<Vec<Option<BTreeMap<RowId, Monomial>>>, HistoryStop>
+    requires sound { IsSound (log_view log.now.entries) versions.now }
+    requires within { before < m.versions_in (log_view log.now.entries) }
+    requires known { AreAnnotated monomials (m.log_of (log_view log.now.entries))
+        (spans_of versions.now) before known.now }
+    ensures { Annotates (λ changes. AreChanges (m.log_of (log_view log.now.entries))
+        (spans_of versions.now) before
+        (length (tables_in (log_view log.now.entries))) changes.items)
+        (tables_in (log_view log.now.entries)) result
+        (commit_stop (m.log_of (log_view log.now.entries)) (spans_of versions.now) before
+        (tables_in (log_view log.now.entries))) }
+{
+    let t = maker_after(log, before);
+    let mut changes = Vec::new(alloc);
+    for table in 0..log.catalog().len() {
+        let change = match table_change(alloc, log, versions, known, before, t, table) {
+            Ok(change) => change,
+            Err(stop) => return Err(stop),
+        };
+        changes.push(change)?;
+    }
+    Ok(changes)
+}
