@@ -1,0 +1,11 @@
+pub mod AnnotatedStops
+pub mod Choices
+pub mod Evaluating
+pub mod Forms
+pub mod Grouping
+pub mod InSemiring
+pub mod Joins
+pub mod Publishing
+pub mod Rows
+pub mod Running
+pub mod Valuing

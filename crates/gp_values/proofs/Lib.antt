@@ -1,0 +1,13 @@
+mod AnswerCounts
+mod Bounds
+mod DistinctLemmas
+mod HeldLemmas
+pub mod IgnoringLemmas
+mod MakerBounds
+mod OrderLemmas
+pub mod RoomLemmas
+mod RunBounds
+mod SmallLemmas
+mod StatementBounds
+mod ValueLemmas
+mod VersionReannotation

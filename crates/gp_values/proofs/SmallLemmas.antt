@@ -1,0 +1,126 @@
+-- Identities of rows are small where those of the spans are and no run makes a larger one.
+use Rattle.std.proofs.Common.{◌≡◌, ◌≤◌, ℕ, zero, suc, ◌+◌, ◌*◌, cond, refl, arith, Bool, true, false, List, [], ◌∷◌, ◌++◌, length, map, Option, Some, None, nat_lt}
+use Rattle.std.specs.Prelude.{◌==◌, not}
+use Rattle.std.specs.List.{AllByRecursion, filter, list_any}
+use Rattle.std.specs.Option.{option_or, option_map}
+use Rattle.std.proofs.lemmas.Bool.Decides.{nat_tests}
+use Rattle.gp_base.specs.Annotated.{Annotated, Annotations, Database, Environment}
+use Rattle.gp_base.specs.declared.token.Token.TheVariants.{Updated}
+use Rattle.gp_base.specs.Identities.{nodes, nodes_in}
+use Rattle.gp_grammar.specs.Syntax as y
+use Rattle.gp_versions.specs.declared.span.Span.{Span}
+use Rattle.gp_versions.specs.Spans.{holds_at, spans_at}
+use Rattle.gp_expr.specs.Values.{passes}
+use Rattle.gp_algebra.specs.Answers.{Element, answer, choices, joined}
+use Rattle.gp_algebra.specs.Effects.{assigned, changed, given_from, is_over_nodes, is_over_rows, made, step, with_rows}
+use Rattle.gp_algebra.specs.Statements.{Statement, delete, insert, insert_select, read, update}
+use Rattle.gp_machine.specs.Annotating.{annotated, annotated_row, annotated_versions, computed}
+use Rattle.gp_machine.specs.Entries.{Entry, Log, log_of, statement_count, version_of, versions_in}
+use Rattle.gp_machine.specs.Limits.{Limits}
+use Rattle.gp_machine.specs.Points.{OverNodes, OverRows, RunStop, at_point, run_stop, statement_stop, version_before}
+use Rattle.gp_machine.specs.Publishing.{at_commit, was_written}
+use Rattle.gp_machine.specs.Questions.{own_stop, stop_refusal}
+use Rattle.gp_machine.specs.Runs.{run, stepped}
+use Rattle.gp_machine.proofs.Distinct.{each_append, each_filter, each_map, each_weaker, none_each}
+use Rattle.gp_values.proofs.Bounds.{each_flat_map, next_within, nothing}
+
+abbrev pub IsSmall : {M : Type 0} → ℕ → Annotated M → Type 0
+IsSmall most row = nodes row.identity ≤ most
+
+abbrev pub AreSmall : {M : Type 0} → ℕ → Database M → Type 0
+AreSmall most db = (table : ℕ) → AllByRecursion (IsSmall most) (db table)
+
+some_none : {A : Type 0} (a : A) → Some a ≡ None → ⊥
+some_none a e = cc
+
+none_parts : {A : Type 0} (a b : Option A) → option_or a b ≡ None → (a ≡ None) × (b ≡ None)
+none_parts None b e = (refl, e)
+none_parts (Some a) b e = absurd (some_none a e)
+
+not_above : (most n : ℕ) → nat_lt most n ≡ false → n ≤ most
+not_above most n e = grind (arith, nat_tests)
+
+module _ {M : Type 0} (kind : Annotations M) (most : ℕ) where
+  -- a choice has at most the nodes of one row for each table
+  pub choices_small : (db : Database M) → AreSmall most db → (number : ℕ) (tables : List ℕ) → AllByRecursion (λ (e : Element M). nodes_in e.sources ≤ most * length tables) (choices kind number tables db)
+  choices_small db small number [] = (nothing (most * 0), tt)
+  choices_small db small number (table ∷ tables) = over (choices_small db small number tables)
+    where
+      over : AllByRecursion (λ (e : Element M). nodes_in e.sources ≤ most * length tables) (choices kind number tables db)
+          → AllByRecursion (λ (e : Element M). nodes_in e.sources ≤ most * suc (length tables)) (choices kind number (table ∷ tables) db)
+      over rest =
+          each_flat_map (λ (e : Element M). nodes_in e.sources ≤ most * suc (length tables)) (IsSmall most) (λ row. map (joined kind number row) (choices kind number tables db))
+          (λ row is. each_map (λ (e : Element M). nodes_in e.sources ≤ most * suc (length tables)) (λ (e : Element M). nodes_in e.sources ≤ most * length tables) (joined kind number row)
+          (λ e inside. next_within most (length tables) (nodes row.identity) (nodes_in e.sources) is inside) (choices kind number tables db) rest)
+          (db table) (small table)
+
+  -- the rows that an INSERT appends
+  new_small : (rows : List (Annotated M)) → list_any (λ (row : Annotated M). nat_lt most (nodes row.identity)) rows ≡ false → AllByRecursion (IsSmall most) rows
+  new_small rows none = each_weaker (IsSmall most) (λ (row : Annotated M). nat_lt most (nodes row.identity) ≡ false) (λ row e. not_above most (nodes row.identity) e) rows (none_each (λ (row : Annotated M). nat_lt most (nodes row.identity)) rows none)
+
+  step_small : (t k : ℕ) (statement : Statement) (db : Database M) → AreSmall most db → is_over_nodes kind most t k statement db ≡ false → AreSmall most (step kind t k statement db)
+  step_small t k statement db small within = over statement within
+    where
+      placed : (place : ℕ) (rows : List (Annotated M)) → AllByRecursion (IsSmall most) rows → AreSmall most (with_rows place rows db)
+      placed place rows here table = elim (table == place) as (λ b. AllByRecursion (IsSmall most) (cond b rows (db table))) [ true ↦ here | false ↦ small table ]
+
+      over : (statement : Statement) → is_over_nodes kind most t k statement db ≡ false → AreSmall most (step kind t k statement db)
+      over (insert place rows) within = placed place (db place ++ given_from kind t k 1 rows) (each_append (IsSmall most) (db place) (given_from kind t k 1 rows) (small place) (new_small (given_from kind t k 1 rows) within))
+      over (insert_select place select) within =
+          placed place (db place ++ map (made kind t k) (answer kind select db)) (each_append (IsSmall most) (db place) (map (made kind t k) (answer kind select db)) (small place) (new_small (map (made kind t k) (answer kind select db)) within))
+      over (update place sets c) within = placed place (map (changed kind t k sets c) (db place)) (each_map (IsSmall most) (IsSmall most) (changed kind t k sets c) keeps (db place) (small place))
+        where
+          keeps : (row : Annotated M) → IsSmall most row → IsSmall most (changed kind t k sets c row)
+          keeps row is =
+              elim (passes c row.cells) as (λ b. IsSmall most (cond b (record { identity = row.identity; cells = assigned sets row.cells; mark = true; annotation = kind.times row.annotation (kind.token (Updated t k)) }) row)) [ true ↦ is | false ↦ is ]
+      over (delete place c) within = placed place (filter (λ row. not (passes c row.cells)) (db place)) (each_filter (IsSmall most) (IsSmall most) (λ row. not (passes c row.cells)) (λ row t is. is) (db place) (small place))
+      over (read select) within = small
+
+module _ {M : Type 0} (kind : Annotations M) (limits : Limits) where
+  module _ (log : Log) (t : ℕ) (versions : Environment M) (begins : AreSmall limits.nodes (versions (log.begin_version t))) where
+    stepped_small : (k : ℕ) (statement : Option Statement) (db : Database M) → AreSmall limits.nodes db → statement_stop kind limits t k statement db ≡ None → AreSmall limits.nodes (stepped kind t k statement db)
+    stepped_small k None db small stop = small
+    stepped_small k (Some statement) db small stop = go (is_over_rows kind limits.rows t k statement db) (is_over_nodes kind limits.nodes t k statement db) refl stop
+      where
+        go : (a b : Bool) → is_over_nodes kind limits.nodes t k statement db ≡ b → cond a (Some (OverRows t k)) (cond b (Some (OverNodes t k)) None) ≡ None → AreSmall limits.nodes (step kind t k statement db)
+        go true b is e = absurd (some_none (OverRows t k) e)
+        go false true is e = absurd (some_none (OverNodes t k) e)
+        go false false is e = step_small kind limits.nodes t k statement db small is
+
+    pub run_small : (k : ℕ) → run_stop kind limits log t k versions ≡ None → AreSmall limits.nodes (run kind log t k versions)
+    run_small zero stop = begins
+    run_small (suc k) stop =
+        let parts = none_parts (run_stop kind limits log t k versions) (statement_stop kind limits t (suc k) (log.statement t (suc k)) (run kind log t k versions)) stop in
+        stepped_small (suc k) (log.statement t (suc k)) (run kind log t k versions) (run_small k parts.0) parts.1
+
+    pub commit_small : (before : ℕ) → AreSmall limits.nodes (versions before) → run_stop kind limits log t (log.statement_count t) versions ≡ None → AreSmall limits.nodes (at_commit kind log t before versions)
+    commit_small before small stop table =
+        let base = versions (log.begin_version t) table in
+        let mine = run kind log t (log.statement_count t) versions table in
+        each_append (IsSmall limits.nodes) (filter (λ row. not (was_written base mine row.identity)) (versions before table)) (filter (λ row. row.mark) mine)
+        (each_filter (IsSmall limits.nodes) (IsSmall limits.nodes) (λ row. not (was_written base mine row.identity)) (λ row e is. is) (versions before table) (small table))
+        (each_filter (IsSmall limits.nodes) (IsSmall limits.nodes) (λ row. row.mark) (λ row e is. is) mine (run_small (log.statement_count t) stop table))
+
+  module _ (spans : ℕ → List Span) (small : (table : ℕ) → AllByRecursion (λ span. nodes span.id ≤ limits.nodes) (spans table)) where
+    annotated_small : (versions : Environment M) (version : ℕ) → AreSmall limits.nodes (annotated kind spans versions version)
+    annotated_small versions version table =
+        each_map (IsSmall limits.nodes) (λ span. nodes span.id ≤ limits.nodes) (annotated_row kind versions table) (λ span is. is) (spans_at version (spans table))
+        (each_filter (λ span. nodes span.id ≤ limits.nodes) (λ span. nodes span.id ≤ limits.nodes) (holds_at version) (λ span e is. is) (spans table) (small table))
+
+    -- the state that a question asks about, if its run does not stop
+    pub point_small : (entries : List Entry) (point : y.State) → own_stop kind limits entries point (annotated_versions kind entries spans) ≡ None → AreSmall limits.nodes (at_point kind entries point (annotated_versions kind entries spans))
+    point_small entries point stop = over point stop
+      where
+        known : (version : ℕ) → AreSmall limits.nodes (annotated_versions kind entries spans version)
+        known version = annotated_small (computed kind (log_of entries) spans (versions_in entries)) version
+
+        no_stop : (o : Option RunStop) → option_map stop_refusal o ≡ None → o ≡ None
+        no_stop None e = refl
+        no_stop (Some stop) e = absurd (some_none (stop_refusal stop) e)
+
+        over : (point : y.State) → own_stop kind limits entries point (annotated_versions kind entries spans) ≡ None → AreSmall limits.nodes (at_point kind entries point (annotated_versions kind entries spans))
+        over (y.as_of version) stop = known version
+        over (y.after t k) stop = run_small (log_of entries) t (annotated_versions kind entries spans) (known ((log_of entries).begin_version t)) k (no_stop (run_stop kind limits (log_of entries) t k (annotated_versions kind entries spans)) stop)
+        over (y.State.commit t) stop =
+            commit_small (log_of entries) t (annotated_versions kind entries spans) (known ((log_of entries).begin_version t)) (version_before (version_of t entries)) (known (version_before (version_of t entries)))
+            (no_stop (run_stop kind limits (log_of entries) t (statement_count t entries) (annotated_versions kind entries spans)) stop)

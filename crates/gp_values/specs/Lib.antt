@@ -1,0 +1,3 @@
+pub mod DistinctRows
+pub mod Room
+pub mod ValueAnswers
