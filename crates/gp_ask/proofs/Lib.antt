@@ -1,5 +1,7 @@
+mod BackendLemmas
 mod HeldLemmas
 mod LogLemmas
+mod ProvenanceLemmas
 mod ReadLemmas
 mod ReenactedLemmas
 mod SpanLemmas

@@ -7,7 +7,9 @@ use Rattle.gp_syntax.specs.Refusals.{refusal_in, refusal_of}
 use Rattle.gp_check.proofs.ValidLemmas.{question-read}
 use Rattle.gp_ask.specs.declared.answered.Answered.{Answered}
 use Rattle.gp_ask.specs.declared.answered.Answered.TheVariants.{Refused}
+use Rattle.gp_machine.specs.Entries.{Entry}
 use Rattle.gp_ask.specs.Answerable.{question_is_valid}
+use Rattle.gp_ask.specs.Explained.{ExplainsRead}
 use Rattle.gp_ask.specs.Questions.{answered}
 
 pub read-valid : (text : List ℕ) (question : y.Question) → question_of text ≡ Ok question → question_is_valid question ≡ true
@@ -19,3 +21,8 @@ pub refused-text : (answers : y.Question → Answered) (reading : Result y.Quest
     → Refused refusal ≡ answered answers reading
 refused-text answers (Ok question) refusal is = absurd cc
 refused-text answers (Err fault) refusal is = let same : refusal ≡ refusal_of fault = cc in ap Refused same
+
+-- nothing is explained in a line that is no question
+pub unread-explains : (entries : List Entry) (reading : Result y.Question Fault) (refusal : Refusal) → refusal_in reading ≡ Some refusal → ExplainsRead entries reading
+unread-explains entries (Ok question) refusal is = absurd cc
+unread-explains entries (Err fault) refusal is = tt

@@ -20,7 +20,7 @@ use Rattle.gp_ask.specs.Answers.{of_elements, spans_at}
 pub dump-spans : (versions : List Versions) → spans_of versions ≡ spans_at (tables_view versions)
 dump-spans versions = λ i place. sym (get_or-map (λ (table : Versions). table.spans) versions place no_table) i
 
-same-order : (rows others : List (List Cell)) → IsPermutation rows others → sorted_by row_cmp rows ≡ sorted_by row_cmp others
+pub same-order : (rows others : List (List Cell)) → IsPermutation rows others → sorted_by row_cmp rows ≡ sorted_by row_cmp others
 same-order rows others moved =
     sorted_rows_unique others (sorted_by row_cmp rows) (IsPermutation-trans others rows (sorted_by row_cmp rows) (IsPermutation-sym rows others moved) (rows_permuted rows))
     (rows_sorted rows)

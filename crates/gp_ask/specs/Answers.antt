@@ -1,27 +1,32 @@
 -- Part of the statement: the answer to a question, from a dump alone, and the answer that the history of a script held. A question is refused by the
--- first that applies: its version, transaction or statement is not in the log, the check of its query, a limit that the statements of its transaction
--- pass, the number of its rows.
+-- first that applies: its version, transaction or statement is not in the log, the check of its query, for provenance a version that the log does not
+-- give, a limit that the statements of a transaction pass, the number of its rows.
 use Rattle.std.specs.Prelude.{ℕ, Bool, false, List, [], map, filter, reverse, Option, Some, None, Result, Ok, Err, if◌then◌else◌, ◌==◌, slice_index_or}
 use Rattle.gp_base.specs.declared.refusal.Refusal.{Refusal}
-use Rattle.gp_base.specs.declared.refusal.Refusal.TheVariants.{E04, E20, NotBuilt}
-use Rattle.gp_base.specs.Annotated.{plain}
+use Rattle.gp_base.specs.declared.refusal.Refusal.TheVariants.{E04, E20}
+use Rattle.gp_base.specs.Annotated.{monomials}
 use Rattle.gp_base.specs.Catalogs.{place_of}
 use Rattle.gp_base.specs.Order.{row_cmp, sorted_by}
+use Rattle.gp_base.specs.Tokens.{Monomial}
 use Rattle.gp_grammar.specs.Syntax as y
 use Rattle.gp_versions.specs.declared.span.Span.{Span}
 use Rattle.gp_algebra.specs.Answers.{Element, cells_of}
 use Rattle.gp_algebra.specs.Statements.{Select}
 use Rattle.gp_check.specs.Checking.{checked_query}
 use Rattle.gp_machine.specs.Entries.{Entry}
-use Rattle.gp_machine.specs.Questions.{is_known, log_refusal, rows_answer, held_answer}
+use Rattle.gp_machine.specs.Questions.{annotated_answer, held_answer, is_known, log_refusal, rows_answer}
 use Rattle.gp_machine.specs.State.{State}
 use Rattle.gp_log.specs.Discipline.{transaction_of}
 use Rattle.gp_log.specs.Limits.{limits}
 use Rattle.gp_log.specs.LogFacts.{tables_in}
 use Rattle.gp_dump.specs.Dumps.{Dump, dump_of}
 use Rattle.gp_dumpline.specs.Texts.{entry_text, span_text}
+use Rattle.gp_history.specs.Agreement.{agree}
+use Rattle.gp_history.specs.Provenance.{occurrence}
+use Rattle.gp_monomials.specs.Listing.{listed}
 use Rattle.gp_ask.specs.declared.answered.Answered.{Answered}
-use Rattle.gp_ask.specs.declared.answered.Answered.TheVariants.{Rows, Log, Versions, Refused}
+use Rattle.gp_ask.specs.declared.answered.Answered.TheVariants.{Rows, Listed, Log, Versions, Program, Refused, NotBuilt}
+use Rattle.gp_ask.specs.Programs.{program_lines}
 
 -- ---- the log of a transaction
 
@@ -47,33 +52,69 @@ versions_answer name tables (Some place) = Versions (map span_text (spans_at tab
 
 -- ---- queries
 
--- the rows are in row order, each as often as it occurs
+-- the rows, in row order, each as often as it occurs
 abbrev pub of_elements : {M : Type 0} → Result (List (Element M)) Refusal → Answered
 of_elements (Ok elements) = Rows (sorted_by row_cmp (cells_of elements))
 of_elements (Err refusal) = Refused refusal
 
--- a query that was checked, given what answers it
-abbrev pub checked_answer : {M : Type 0} → (Select → Result (List (Element M)) Refusal) → Result Select Refusal → Answered
-checked_answer answer (Err refusal) = Refused refusal
-checked_answer answer (Ok select) = of_elements (answer select)
+-- each distinct row in row order, with the monomials of all its occurrences in order
+abbrev pub with_monomials : Result (List (Element Monomial)) Refusal → Answered
+with_monomials (Ok elements) = Listed (listed (map occurrence elements))
+with_monomials (Err refusal) = Refused refusal
 
--- a query, by the refusal of its version or transaction
-abbrev pub query_answer : {M : Type 0} → (Select → Result (List (Element M)) Refusal) → Option Refusal → Result Select Refusal → Answered
-query_answer answer (Some refusal) checked = Refused refusal
-query_answer answer None checked = checked_answer answer checked
+-- a query that was checked, given what answers it
+abbrev pub checked_answer : (Select → Answered) → Result Select Refusal → Answered
+checked_answer answer (Err refusal) = Refused refusal
+checked_answer answer (Ok select) = answer select
+
+-- the check of a query comes after the refusal of its version or transaction
+abbrev pub asked : Option Refusal → Result Select Refusal → Result Select Refusal
+asked (Some refusal) checked = Err refusal
+asked None checked = checked
+
+abbrev pub query_answer : (Select → Answered) → Option Refusal → Result Select Refusal → Answered
+query_answer answer refusal checked = checked_answer answer (asked refusal checked)
 
 -- ---- the answer to a question
+
+-- rows are those of the dump's own versions; their provenance is that of the versions as the log's transactions annotate them
+abbrev pub dump_rows : Dump → y.State → Select → Answered
+dump_rows dump point select = of_elements (rows_answer limits dump.entries (spans_at dump.tables) point select)
+
+abbrev pub dump_provenance : Dump → y.State → Select → Answered
+dump_provenance dump point select =
+    with_monomials (annotated_answer monomials limits agree (tables_in dump.entries) dump.entries (spans_at dump.tables) point select)
+
+-- an explained query is its program, whatever the rows are
+abbrev pub dump_program : Dump → Bool → y.State → Select → Answered
+dump_program dump prov point select = Program (program_lines dump.entries prov point select)
+
+-- a query over a state, given what answers it once it is checked
+abbrev pub dump_query : Dump → (Select → Answered) → y.State → y.Query → Answered
+dump_query dump answer point query = query_answer answer (log_refusal dump.entries point) (checked_query (tables_in dump.entries) query)
 
 abbrev pub answer_to : Dump → y.Question → Answered
 answer_to dump (y.log t) = log_answer t dump.entries
 answer_to dump (y.versions name) = versions_answer name dump.tables (place_of name (tables_in dump.entries))
-answer_to dump (y.ask y.rows point query) =
-    query_answer (rows_answer limits dump.entries (spans_at dump.tables) point) (log_refusal dump.entries point) (checked_query (tables_in dump.entries) query)
-answer_to dump (y.ask how point query) = Refused NotBuilt
+answer_to dump (y.ask y.rows point query) = dump_query dump (dump_rows dump point) point query
+answer_to dump (y.ask y.provenance point query) = dump_query dump (dump_provenance dump point) point query
+answer_to dump (y.ask (y.explain prov) point query) = dump_query dump (dump_program dump prov point) point query
+answer_to dump (y.ask how point query) = NotBuilt
 
--- The answer that a history held: its log and its row versions are those of its dump, its rows those that a commit published, or that a transaction saw
--- after one of its statements.
-abbrev pub held_to : State (Unit {0}) → y.Question → Answered
-held_to state (y.ask y.rows point query) =
-    query_answer (held_answer plain limits state point) (log_refusal state.entries point) (checked_query state.catalogue query)
+-- ---- the answer that a history held
+
+-- the rows that a commit published, or that a transaction saw after one of its statements, and their provenance
+abbrev pub held_rows : State Monomial → y.State → Select → Answered
+held_rows state point select = of_elements (held_answer monomials limits state point select)
+
+abbrev pub held_provenance : State Monomial → y.State → Select → Answered
+held_provenance state point select = with_monomials (held_answer monomials limits state point select)
+
+abbrev pub held_query : State Monomial → (Select → Answered) → y.State → y.Query → Answered
+held_query state answer point query = query_answer answer (log_refusal state.entries point) (checked_query state.catalogue query)
+
+-- the log and the row versions are those of the history's dump, and programs are made of the log alone
+abbrev pub held_to : State Monomial → y.Question → Answered
+held_to state (y.ask y.rows point query) = held_query state (held_rows state point) point query
+held_to state (y.ask y.provenance point query) = held_query state (held_provenance state point) point query
 held_to state question = answer_to (dump_of state) question

@@ -3,18 +3,36 @@
 ghost use Rattle.std.specs.Prelude.{◌≡◌};
 
 use gp_base::{Refusal, Row, Sequence, Text};
+use gp_monomials::Listed;
+
+/// A row with its value in a semiring.
+#[derive(Drop)]
+pub struct Valued {
+    /// The row.
+    pub row: Row,
+    /// The text of the value.
+    pub text: Text,
+}
 
 /// The answer to a question.
 #[derive(Drop)]
 pub enum Answered {
     /// The rows of a query, in row order, each as often as it occurs.
     Rows(Sequence<Row>),
+    /// The distinct rows of a query, in row order, each with the monomials of all its occurrences, in order and with repetitions.
+    Listed(Sequence<Listed>),
+    /// The distinct rows of a query, in row order, each with its value in a semiring.
+    Values(Sequence<Valued>),
     /// The lines of a log, in order.
     Log(Sequence<Text>),
     /// The lines of a table's row versions, in the order of the dump.
     Versions(Sequence<Text>),
+    /// The lines of the program that a query over a past state is.
+    Program(Sequence<Text>),
     /// The question was refused.
     Refused(Refusal),
+    /// This version does not support the question.
+    NotBuilt,
 }
 
 impl Answered {
@@ -24,6 +42,6 @@ impl Answered {
     pub fn is_refused(&self) -> bool
         ensures { result ≡ is_refused self.now }
     {
-        matches!(self, Answered::Refused(_))
+        matches!(self, Answered::Refused(_) | Answered::NotBuilt)
     }
 }

@@ -10,18 +10,23 @@ ghost use Rattle.gp_dump.specs.Dumps.{IsDump};
 ghost use Rattle.gp_dump.specs.Views.{dump_view};
 ghost use Rattle.gp_ask.specs.Answerable.{question_is_valid};
 ghost use Rattle.gp_ask.specs.Answers.{answer_to};
+ghost use Rattle.gp_ask.specs.Backends.{AnswersBy, asks_rows};
+ghost use Rattle.gp_ask.specs.Explained.{ExplainsQuestion, ExplainsRead};
 ghost use Rattle.gp_ask.specs.Questions.{answered};
 
 use crate::answered::Answered;
 use crate::logs::log_answer;
-use crate::queries::query_answer;
+use crate::programs::program_answer;
+use crate::provenance::provenance_answer;
+use crate::queries::{query_answer, query_answer_by};
 use crate::row_versions::versions_answer;
-use gp_base::{NoMemory, Refusal};
+use gp_base::NoMemory;
 use gp_dump::Dump;
+use gp_exec::Backend;
 use gp_syntax::{How, Query, Question, ReadStop, State, read_question};
 use std::alloc::Global;
 
-/// Answers a query, if only its rows are asked.
+/// Answers a query over a state.
 fn ask_answer(
     alloc: Global,
     dump: &Dump,
@@ -32,12 +37,16 @@ fn ask_answer(
     requires rules { IsDump (dump_view dump.now) }
     requires valid { tables_are_valid (tables_in (dump_view dump.now).entries) ≡ true }
     requires query { query_is_valid (query_view query.now) ≡ true }
-    ensures { IfOk result (λ answered. answered ≡ answer_to (dump_view dump.now)
+    ensures answered { IfOk result (λ answered. answered ≡ answer_to (dump_view dump.now)
+        (y.ask (how_view how.now) (state_view state) (query_view query.now))) }
+    ensures explained { IfOk result (λ answered. ExplainsQuestion (dump_view dump.now).entries
         (y.ask (how_view how.now) (state_view state) (query_view query.now))) }
 {
     match how {
         How::Rows => query_answer(alloc, dump, state, query),
-        _ => Ok(Answered::Refused(Refusal::NotBuilt)),
+        How::Provenance => provenance_answer(alloc, dump, state, query),
+        How::Explain { prov } => program_answer(alloc, dump, *prov, state, query),
+        _ => Ok(Answered::NotBuilt),
     }
 }
 
@@ -46,16 +55,20 @@ fn ask_answer(
 ///
 /// LOG is refused if no transaction has the number (E20), VERSIONS if no table has the name (E04). AS OF is refused if there is no
 /// such version (E23), REENACT if there is no such transaction (E20), it did not commit (E21) or has no such statement (E22).
-/// Both are then refused by the check of their query (E04 to E07, E15), REENACT also if a statement of the transaction leaves
-/// more rows in its table than a statement may (E25) or makes an identity of too many nodes (E26), which no dump of a history
-/// does, and both if the answer has more than [`MAX_ANSWER_ROWS`](gp_exec::MAX_ANSWER_ROWS) rows (E27), in this order. All other
-/// questions are refused as not supported. Running out of memory is the only error.
+/// Both are then refused by the check of their query (E04 to E07, E15). PROVENANCE OF is then refused by the versions that it needs,
+/// one after another: if the transaction that made a version does not run (E25, E26), or does not make the rows that the dump has in a
+/// table (E24). REENACT is refused also if a statement of the transaction leaves more rows in its table than a statement may (E25) or
+/// makes an identity of too many nodes (E26), and both if the answer has more than [`MAX_ANSWER_ROWS`](gp_exec::MAX_ANSWER_ROWS)
+/// rows, each as often as it occurs (E27), in this order. E24, E25 and E26 never come for the dump of a history. All other questions
+/// are refused as not supported. Running out of memory is the only error.
 pub fn answer(alloc: Global, dump: &Dump, question: &Question) -> Result<Answered, NoMemory>
     requires rules { IsDump (dump_view dump.now) }
     requires valid { tables_are_valid (tables_in (dump_view dump.now).entries) ≡ true }
     requires question { question_is_valid (question_view question.now) ≡ true }
-    ensures { IfOk result (λ answered. answered
+    ensures answered { IfOk result (λ answered. answered
         ≡ answer_to (dump_view dump.now) (question_view question.now)) }
+    ensures explained { IfOk result (λ answered.
+        ExplainsQuestion (dump_view dump.now).entries (question_view question.now)) }
 {
     match question {
         Question::Log { t } => log_answer(alloc, &dump.log, *t),
@@ -64,13 +77,63 @@ pub fn answer(alloc: Global, dump: &Dump, question: &Question) -> Result<Answere
     }
 }
 
+/// What a backend gives for a query whose rows are asked.
+fn ask_answer_by<B: Backend>(
+    alloc: Global,
+    dump: &Dump,
+    how: &How,
+    state: State,
+    query: &Query,
+    backend: &B,
+) -> Result<Answered, NoMemory>
+    requires rules { IsDump (dump_view dump.now) }
+    requires valid { tables_are_valid (tables_in (dump_view dump.now).entries) ≡ true }
+    requires query { query_is_valid (query_view query.now) ≡ true }
+    requires rows { asks_rows (y.ask (how_view how.now) (state_view state) (query_view query.now))
+        ≡ true }
+    ensures { IfOk result (λ answered. AnswersBy (B.gives backend.now) (dump_view dump.now)
+        (y.ask (how_view how.now) (state_view state) (query_view query.now)) answered) }
+{
+    match how {
+        How::Rows => query_answer_by(alloc, dump, state, query, backend),
+        _ => unreachable!(),
+    }
+}
+
+/// Answers a plain AS OF or REENACT from a dump by what a backend gives. It is refused first as [`answer`] refuses it, but for its
+/// rows: its state if the log has it not (E20 to E23), or its query by the check. Then the program of the question, merged, is run by
+/// the backend over the rows of the past versions, and the answer is what the backend gives: its rows in row order, E25 or E26 with
+/// the question's transaction and the step of a stop, or E27. Running out of memory is the only error.
+pub fn answer_by<B: Backend>(
+    alloc: Global,
+    dump: &Dump,
+    question: &Question,
+    backend: &B,
+) -> Result<Answered, NoMemory>
+    requires rules { IsDump (dump_view dump.now) }
+    requires valid { tables_are_valid (tables_in (dump_view dump.now).entries) ≡ true }
+    requires question { question_is_valid (question_view question.now) ≡ true }
+    requires rows { asks_rows (question_view question.now) ≡ true }
+    ensures { IfOk result (λ answered. AnswersBy (B.gives backend.now) (dump_view dump.now)
+        (question_view question.now) answered) }
+{
+    match question {
+        Question::Ask { how, state, query } => {
+            ask_answer_by(alloc, dump, how, *state, query, backend)
+        }
+        _ => unreachable!(),
+    }
+}
+
 /// Answers a line of a file of questions from a dump. A line that is no question is refused as
 /// [`read_question`](gp_syntax::read_question) refuses it, any other as [`answer`] does. Running out of memory is the only error.
 pub fn answer_line(alloc: Global, dump: &Dump, line: &[u8]) -> Result<Answered, NoMemory>
     requires rules { IsDump (dump_view dump.now) }
     requires valid { tables_are_valid (tables_in (dump_view dump.now).entries) ≡ true }
-    ensures { IfOk result (λ found. found
+    ensures answered { IfOk result (λ found. found
         ≡ answered (answer_to (dump_view dump.now)) (question_of line.now)) }
+    ensures explained { IfOk result (λ found.
+        ExplainsRead (dump_view dump.now).entries (question_of line.now)) }
 {
     match read_question(alloc, line) {
         Ok(question) => answer(alloc, dump, &question),

@@ -1,12 +1,19 @@
 //! The texts of answers.
 
-ghost use Rattle.std.specs.Prelude.{◌≡◌, ◌++◌, IfOk, OnErr, OnOk, length};
+ghost use Rattle.std.specs.Prelude.{◌≡◌, ◌++◌, IfOk, OnErr, OnOk, codes, length, map};
 ghost use Rattle.std.specs.List.{concat, flat_map};
+ghost use Rattle.gp_base.specs.Tokens.{monomial_text};
+ghost use Rattle.gp_ask.specs.declared.answered.Answered.TheVariants.{NotBuilt};
 ghost use Rattle.gp_ask.specs.Texts.{answer_text, listed_line, listed_text};
+ghost use Rattle.gp_ask.specs.Texts as t;
 
-use crate::answered::Answered;
-use gp_base::{Catalog, NoMemory, Sequence, Text, append_all, text_of_pieces};
+use crate::answered::{Answered, Valued};
+use gp_base::{
+    Catalog, Monomial, NoMemory, Sequence, Text, TextFormat, append_all, text_of_pieces,
+    write_joined, write_monomial, write_row,
+};
 use gp_machine::Reply;
+use gp_monomials::Listed;
 use gp_script::write_reply;
 use std::alloc::Global;
 
@@ -51,6 +58,110 @@ fn write_listed(
     Ok(())
 }
 
+/// Appends that a question is not supported. If memory runs out, `out` is unchanged.
+fn write_not_built(alloc: Global, number: u32, out: &mut Vec<u8>) -> Result<(), NoMemory>
+    ensures ok { OnOk result (out.new.items ≡ out.old.items ++ answer_text number NotBuilt) }
+    ensures err { OnErr result (out.new.items ≡ out.old.items) }
+{
+    let number = number.to_string(alloc)?;
+    let text = text_of_pieces(alloc, &[number.as_bytes(), b" E29 not built\n"])?;
+    out.extend_from_slice(&text)?;
+    Ok(())
+}
+
+/// Prints a monomial.
+pub struct MonomialFormat;
+
+impl TextFormat<Monomial> for MonomialFormat {
+    ghost text = { monomial_text };
+
+    fn write(&self, alloc: Global, monomial: &Monomial, out: &mut Vec<u8>) -> Result<(), NoMemory> {
+        let mut text = Vec::new(alloc);
+        write_monomial(alloc, monomial, &mut text)?;
+        append_all(out, &[&text])
+    }
+}
+
+/// A row with its polynomial.
+fn provenance_text(alloc: Global, listed: &Listed) -> Result<Text, NoMemory>
+    ensures { IfOk result (λ text. text ≡ t.provenance_text listed.now) }
+{
+    let mut row = Vec::new(alloc);
+    write_row(alloc, &listed.row, &mut row)?;
+    let mut sum = Vec::new(alloc);
+    write_joined(
+        alloc,
+        listed.monomials.as_slice(),
+        &MonomialFormat,
+        b" + ",
+        &mut sum,
+    )?;
+    let text = text_of_pieces(alloc, &[&row, b" : ", &sum])?;
+    Text::from_bytes(alloc, &text)
+}
+
+/// Rows with their polynomials.
+fn provenance_texts(alloc: Global, rows: &[Listed]) -> Result<Sequence<Text>, NoMemory>
+    ensures { IfOk result (λ texts. texts ≡ map t.provenance_text rows.now) }
+{
+    let mut texts = Sequence::new(alloc);
+    for listed in rows {
+        texts.push(provenance_text(alloc, listed)?)?;
+    }
+    Ok(texts)
+}
+
+/// A row with its value.
+fn value_text(alloc: Global, valued: &Valued) -> Result<Text, NoMemory>
+    ensures { IfOk result (λ text. text ≡ t.value_text valued.now) }
+{
+    let mut row = Vec::new(alloc);
+    write_row(alloc, &valued.row, &mut row)?;
+    let text = text_of_pieces(alloc, &[&row, b" : ", valued.text.as_bytes()])?;
+    Text::from_bytes(alloc, &text)
+}
+
+/// Rows with their values.
+fn value_texts(alloc: Global, rows: &[Valued]) -> Result<Sequence<Text>, NoMemory>
+    ensures { IfOk result (λ texts. texts ≡ map t.value_text rows.now) }
+{
+    let mut texts = Sequence::new(alloc);
+    for valued in rows {
+        texts.push(value_text(alloc, valued)?)?;
+    }
+    Ok(texts)
+}
+
+/// Appends an answer of rows with their values. If memory runs out, `out` is unchanged.
+fn write_values(
+    alloc: Global,
+    number: u32,
+    rows: &[Valued],
+    out: &mut Vec<u8>,
+) -> Result<(), NoMemory>
+    ensures ok { OnOk result (out.new.items
+        ≡ out.old.items ++ listed_text number (codes "rows") (map t.value_text rows.now)) }
+    ensures err { OnErr result (out.new.items ≡ out.old.items) }
+{
+    let texts = value_texts(alloc, rows)?;
+    write_listed(alloc, number, b"rows", texts.as_slice(), out)
+}
+
+/// Appends an answer of rows with their polynomials. If memory runs out, `out` is unchanged.
+fn write_provenance(
+    alloc: Global,
+    number: u32,
+    rows: &[Listed],
+    out: &mut Vec<u8>,
+) -> Result<(), NoMemory>
+    ensures ok { OnOk result (out.new.items
+        ≡ out.old.items ++ listed_text number (codes "rows") (map t.provenance_text rows.now)) }
+    ensures err { OnErr result (out.new.items ≡ out.old.items) }
+{
+    let texts = provenance_texts(alloc, rows)?;
+    write_listed(alloc, number, b"rows", texts.as_slice(), out)
+}
+
 /// Appends the answer to a question: the number of its line, a space and the answer's text. Rows are in row order, each as often as
 /// it occurs. If memory runs out, `out` is unchanged.
 pub fn write_answer(
@@ -65,6 +176,8 @@ pub fn write_answer(
     let catalog = Catalog::new(alloc);
     match answered {
         Answered::Rows(rows) => write_reply(alloc, number, &catalog, Reply::Rows(rows), out),
+        Answered::Listed(rows) => write_provenance(alloc, number, rows.as_slice(), out),
+        Answered::Values(rows) => write_values(alloc, number, rows.as_slice(), out),
         Answered::Log(texts) => write_listed(alloc, number, b"log", texts.as_slice(), out),
         Answered::Versions(texts) => write_listed(
             alloc,
@@ -73,8 +186,12 @@ pub fn write_answer(
             texts.as_slice(),
             out,
         ),
+        Answered::Program(texts) => {
+            write_listed(alloc, number, b"program", texts.as_slice(), out)
+        }
         Answered::Refused(refusal) => {
             write_reply(alloc, number, &catalog, Reply::Refused(refusal), out)
         }
+        Answered::NotBuilt => write_not_built(alloc, number, out),
     }
 }

@@ -1,6 +1,6 @@
 //! Queries over past states.
 
-ghost use Rattle.std.specs.Prelude.{◌≡◌, true, IfOk};
+ghost use Rattle.std.specs.Prelude.{◌≡◌, true, false, None, IfOk};
 ghost use Rattle.gp_base.specs.Order.{row_cmp, sorted_by};
 ghost use Rattle.gp_grammar.specs.Syntax as y;
 ghost use Rattle.gp_syntax.specs.Views.{query_view, state_view};
@@ -8,22 +8,45 @@ ghost use Rattle.gp_algebra.specs.Fitting.{select_fits};
 ghost use Rattle.gp_algebra.specs.Views.{select_view};
 ghost use Rattle.gp_check.specs.Checking.{checked_query};
 ghost use Rattle.gp_check.specs.Valid.{query_is_valid, tables_are_valid};
-ghost use Rattle.gp_log.specs.Limits.{limits};
+ghost use Rattle.gp_check.specs.Views.{Checks};
 ghost use Rattle.gp_log.specs.LogFacts.{tables_in};
-ghost use Rattle.gp_machine.specs.Questions.{rows_answer};
+ghost use Rattle.gp_machine.specs.Questions as m;
+ghost use Rattle.gp_reenact.specs.Reenacting.{merged_at, transaction_at};
 ghost use Rattle.gp_dump.specs.Dumps.{IsDump};
 ghost use Rattle.gp_dump.specs.Views.{dump_view};
 ghost use Rattle.gp_ask.specs.declared.answered.Answered.TheVariants.{Rows};
-ghost use Rattle.gp_ask.specs.Answers.{answer_to, checked_answer, of_elements, spans_at};
+ghost use Rattle.gp_ask.specs.Answers as a;
+ghost use Rattle.gp_ask.specs.Answers.{answer_to};
+ghost use Rattle.gp_ask.specs.Backends.{AnswersBy, AnswersChecked, IsAnswered, past_of};
 
 use crate::answered::Answered;
 use gp_algebra::Select;
 use gp_base::{NoMemory, Row, Sequence, sort_rows};
 use gp_check::{CheckStop, check_query};
 use gp_dump::Dump;
-use gp_reenact::{ReenactStop, log_refusal, reenact};
+use gp_exec::{Backend, Plain};
+use gp_reenact::{ReenactStop, log_refusal, reenact_by};
 use gp_syntax::{Query, State};
 use std::alloc::Global;
+
+/// A query over a state, checked. It is refused by the log, which has no such state (E20 to E23), or else by the check of names and
+/// types.
+pub fn asked(alloc: Global, dump: &Dump, state: State, query: &Query) -> Result<Select, CheckStop>
+    ensures checked { Checks select_view result
+        (a.asked (m.log_refusal (dump_view dump.now).entries (state_view state))
+        (checked_query (tables_in (dump_view dump.now).entries) (query_view query.now))) }
+    ensures known { IfOk result
+        (λ select. m.log_refusal (dump_view dump.now).entries (state_view state) ≡ None) }
+    ensures fits { IfOk result (λ select.
+        tables_are_valid (tables_in (dump_view dump.now).entries) ≡ true
+        → query_is_valid (query_view query.now) ≡ true
+        → select_fits (tables_in (dump_view dump.now).entries) (select_view select) ≡ true) }
+{
+    match log_refusal(&dump.log, state) {
+        None => check_query(alloc, dump.log.catalog(), query),
+        Some(refusal) => Err(CheckStop::Refused(refusal)),
+    }
+}
 
 /// The rows in row order.
 fn sorted_answer(rows: Vec<Row>) -> Result<Answered, NoMemory>
@@ -34,46 +57,78 @@ fn sorted_answer(rows: Vec<Row>) -> Result<Answered, NoMemory>
     Ok(Answered::Rows(Sequence::from_vec(rows)))
 }
 
-/// The rows of a checked query over a state.
-fn selected_answer(
+/// What the backend gives for a checked query over a state that the log has.
+fn selected_answer<B: Backend>(
     alloc: Global,
     dump: &Dump,
     state: State,
     select: &Select,
+    backend: &B,
 ) -> Result<Answered, NoMemory>
     requires rules { IsDump (dump_view dump.now) }
+    requires known { m.log_refusal (dump_view dump.now).entries (state_view state) ≡ None }
     requires fits { select_fits (tables_in (dump_view dump.now).entries) (select_view select.now)
         ≡ true }
-    ensures { IfOk result (λ answered. answered ≡ of_elements
-        (rows_answer limits (dump_view dump.now).entries
-        (spans_at (dump_view dump.now).tables) (state_view state) (select_view select.now))) }
+    ensures { IfOk result (λ answered. IsAnswered (B.gives backend.now)
+        (transaction_at (state_view state))
+        (merged_at false (dump_view dump.now).entries (state_view state) (select_view select.now))
+        (past_of (dump_view dump.now)) answered) }
 {
-    match reenact(alloc, &dump.log, dump.versions.as_slice(), state, select) {
+    match reenact_by(
+        alloc,
+        &dump.log,
+        dump.versions.as_slice(),
+        state,
+        select,
+        backend,
+    ) {
         Ok(rows) => sorted_answer(rows),
         Err(ReenactStop::Refused(refusal)) => Ok(Answered::Refused(refusal)),
         Err(ReenactStop::NoMemory) => Err(NoMemory),
     }
 }
 
-/// The answer of a query over a state that the log has: refused by the check of names and types, or as its rows are.
-fn state_answer(
+/// The answer of a query over a state that the log has: refused by the check of names and types, or what the backend gives.
+fn state_answer<B: Backend>(
     alloc: Global,
     dump: &Dump,
     state: State,
     query: &Query,
+    backend: &B,
+) -> Result<Answered, NoMemory>
+    requires rules { IsDump (dump_view dump.now) }
+    requires known { m.log_refusal (dump_view dump.now).entries (state_view state) ≡ None }
+    requires valid { tables_are_valid (tables_in (dump_view dump.now).entries) ≡ true }
+    requires query { query_is_valid (query_view query.now) ≡ true }
+    ensures { IfOk result (λ answered. AnswersChecked (B.gives backend.now)
+        (tables_in (dump_view dump.now).entries) (transaction_at (state_view state))
+        (merged_at false (dump_view dump.now).entries (state_view state)) (past_of (dump_view dump.now))
+        (checked_query (tables_in (dump_view dump.now).entries) (query_view query.now)) answered) }
+{
+    match check_query(alloc, dump.log.catalog(), query) {
+        Ok(select) => selected_answer(alloc, dump, state, &select, backend),
+        Err(CheckStop::Refused(refusal)) => Ok(Answered::Refused(refusal)),
+        Err(CheckStop::NoMemory) => Err(NoMemory),
+    }
+}
+
+/// What the backend gives for a query over a state. E20 to E23 if the log has no such state, tested before the query is checked.
+pub fn query_answer_by<B: Backend>(
+    alloc: Global,
+    dump: &Dump,
+    state: State,
+    query: &Query,
+    backend: &B,
 ) -> Result<Answered, NoMemory>
     requires rules { IsDump (dump_view dump.now) }
     requires valid { tables_are_valid (tables_in (dump_view dump.now).entries) ≡ true }
     requires query { query_is_valid (query_view query.now) ≡ true }
-    ensures { IfOk result (λ answered. answered ≡ checked_answer
-        (rows_answer limits (dump_view dump.now).entries
-        (spans_at (dump_view dump.now).tables) (state_view state))
-        (checked_query (tables_in (dump_view dump.now).entries) (query_view query.now))) }
+    ensures { IfOk result (λ answered. AnswersBy (B.gives backend.now) (dump_view dump.now)
+        (y.ask y.rows (state_view state) (query_view query.now)) answered) }
 {
-    match check_query(alloc, dump.log.catalog(), query) {
-        Ok(select) => selected_answer(alloc, dump, state, &select),
-        Err(CheckStop::Refused(refusal)) => Ok(Answered::Refused(refusal)),
-        Err(CheckStop::NoMemory) => Err(NoMemory),
+    match log_refusal(&dump.log, state) {
+        None => state_answer(alloc, dump, state, query, backend),
+        Some(refusal) => Ok(Answered::Refused(refusal)),
     }
 }
 
@@ -90,8 +145,5 @@ pub fn query_answer(
     ensures { IfOk result (λ answered. answered
         ≡ answer_to (dump_view dump.now) (y.ask y.rows (state_view state) (query_view query.now))) }
 {
-    match log_refusal(&dump.log, state) {
-        None => state_answer(alloc, dump, state, query),
-        Some(refusal) => Ok(Answered::Refused(refusal)),
-    }
+    query_answer_by(alloc, dump, state, query, &Plain)
 }

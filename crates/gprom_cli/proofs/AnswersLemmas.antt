@@ -1,6 +1,6 @@
 -- Answers that are written one after another.
 use Rattle.std.proofs.Common.{◌≡◌, ℕ, Bool, true, false, ◌||◌, List, [], ◌∷◌, ◌++◌, Result, Ok, Err, refl, sym, ap, ◌∙◌, subst, append_assoc}
-use Rattle.std.specs.List.{flat_map, list_any}
+use Rattle.std.specs.List.{AllByRecursion, flat_map, list_any}
 use Rattle.std.specs.Result.{IsErrAnd}
 use Rattle.std.proofs.lemmas.List.{append-nil}
 use Rattle.gp_io.specs.declared.error.SinkStop.{SinkStop}
@@ -10,6 +10,8 @@ use Rattle.gp_syntax.specs.Lines.{script_lines}
 use Rattle.gp_grammar.specs.LineReading.{Fault, question_of}
 use Rattle.gp_grammar.specs.Syntax as y
 use Rattle.gp_ask.specs.declared.answered.Answered.{Answered}
+use Rattle.gp_ask.specs.Explained.{ExplainsQuestions, ExplainsRead}
+use Rattle.gp_machine.specs.Entries.{Entry}
 use Rattle.gp_ask.specs.Questions.{answered, answers_text, has_refused, is_refused, line_answer, line_answer_text}
 use Rattle.gp_ask.specs.Texts.{answer_text}
 use Rattle.gprom_cli.specs.Steps.{WritesAnswers}
@@ -17,13 +19,18 @@ use Rattle.gprom_cli.specs.Steps.{WritesAnswers}
 abbrev pub is_line_refused : (y.Question → Answered) → ℕ × List ℕ → Bool
 is_line_refused answers line = is_refused (line_answer answers line)
 
+-- each line is explained
+abbrev AreExplained : List Entry → List (ℕ × List ℕ) → Type 0
+AreExplained entries lines = AllByRecursion (λ (line : ℕ × List ℕ). ExplainsRead entries (question_of line.1)) lines
+
 -- the answers to the lines before were written, and the remaining ones decide the rest
-pub record IsProgress (answers : y.Question → Answered) (questions : List ℕ) (lines : List (ℕ × List ℕ)) (refused : Bool) (old new : SinkState) : Type 0 where
+pub record IsProgress (answers : y.Question → Answered) (entries : List Entry) (questions : List ℕ) (lines : List (ℕ × List ℕ)) (refused : Bool) (old new : SinkState) : Type 0 where
   pub text : List ℕ
   pub taken : new.taken ≡ appended old.taken text
   pub faults : new.faults ≡ old.faults
   pub all : text ++ flat_map (line_answer_text answers) lines ≡ answers_text answers questions
   pub refusals : (refused || list_any (is_line_refused answers) lines) ≡ has_refused answers questions
+  pub explained : AreExplained entries lines → ExplainsQuestions entries questions
 
 or-nothing : (a : Bool) → (a || false) ≡ a
 or-nothing true = refl
@@ -33,19 +40,20 @@ or-again : (a b c : Bool) → ((a || b) || c) ≡ (a || (b || c))
 or-again true b c = refl
 or-again false b c = refl
 
-module _ (answers : y.Question → Answered) (questions : List ℕ) (old new : SinkState) where
+module _ (answers : y.Question → Answered) (entries : List Entry) (questions : List ℕ) (old new : SinkState) where
   -- before the first line
-  pub starts : (lines : List (ℕ × List ℕ)) → lines ≡ script_lines questions → IsProgress answers questions lines false old old
+  pub starts : (lines : List (ℕ × List ℕ)) → lines ≡ script_lines questions → IsProgress answers entries questions lines false old old
   starts lines whole = record {
     text = [];
     taken = sym (appended-nothing old.taken);
     faults = refl;
     all = ap (flat_map (line_answer_text answers)) whole;
     refusals = ap (list_any (is_line_refused answers)) whole;
+    explained = λ are. subst (AreExplained entries) whole are;
   }
 
   -- after the last line
-  pub ends : (refused : Bool) → IsProgress answers questions [] refused old new → WritesAnswers (answers_text answers questions) (has_refused answers questions) old new (Ok refused)
+  pub ends : (refused : Bool) → IsProgress answers entries questions [] refused old new → WritesAnswers (answers_text answers questions) (has_refused answers questions) old new (Ok refused)
   ends refused way =
       let whole : way.text ≡ answers_text answers questions = sym (append-nil way.text) ∙ way.all in
       let taken : new.taken ≡ appended old.taken (answers_text answers questions) = way.taken ∙ ap (appended old.taken) whole in
@@ -56,6 +64,9 @@ module _ (answers : y.Question → Answered) (questions : List ℕ) (old new : S
         faults = way.faults;
       }
 
+  pub ends-explained : (refused : Bool) → IsProgress answers entries questions [] refused old new → ExplainsQuestions entries questions
+  ends-explained refused way = way.explained tt
+
   module _ (line : ℕ × List ℕ) (lines : List (ℕ × List ℕ)) (refused : Bool) (newest : SinkState) where
     abbrev line_text : List ℕ
     line_text = line_answer_text answers line
@@ -64,9 +75,9 @@ module _ (answers : y.Question → Answered) (questions : List ℕ) (old new : S
     later_text = flat_map (line_answer_text answers) lines
 
     -- one more line was answered
-    pub goes_on : (one : Bool) → IsProgress answers questions (line ∷ lines) refused old new → WritesAnswers line_text (is_line_refused answers line) new newest (Ok one)
-        → IsProgress answers questions lines (refused || one) old newest
-    goes_on one way wrote = record {
+    pub goes_on : (one : Bool) → IsProgress answers entries questions (line ∷ lines) refused old new → WritesAnswers line_text (is_line_refused answers line) new newest (Ok one)
+        → ExplainsRead entries (question_of line.1) → IsProgress answers entries questions lines (refused || one) old newest
+    goes_on one way wrote explains = record {
       text = way.text ++ line_text;
       taken = wrote.complete ∙ ap (λ t. appended t line_text) way.taken ∙ appended-append old.taken way.text line_text;
       faults = wrote.faults ∙ way.faults;
@@ -74,10 +85,11 @@ module _ (answers : y.Question → Answered) (questions : List ℕ) (old new : S
       refusals =
           or-again refused one (list_any (is_line_refused answers) lines)
           ∙ ap (λ (b : Bool). refused || (b || list_any (is_line_refused answers) lines)) wrote.refused ∙ way.refusals;
+      explained = λ later. way.explained (explains, later);
     }
 
     -- the answer to a line was not written
-    pub stops : (stop : SinkStop) → IsProgress answers questions (line ∷ lines) refused old new → WritesAnswers line_text (is_line_refused answers line) new newest (Err stop)
+    pub stops : (stop : SinkStop) → IsProgress answers entries questions (line ∷ lines) refused old new → WritesAnswers line_text (is_line_refused answers line) new newest (Err stop)
         → WritesAnswers (answers_text answers questions) (has_refused answers questions) old newest (Err stop)
     stops stop way wrote = record {
       refused = tt;
@@ -90,7 +102,7 @@ module _ (answers : y.Question → Answered) (questions : List ℕ) (old new : S
     }
 
     -- the same, where the error is handed on
-    pub stops_with : (result : Result Bool SinkStop) (stop : SinkStop) → IsErrAnd result (λ other. other ≡ stop) → IsProgress answers questions (line ∷ lines) refused old new
+    pub stops_with : (result : Result Bool SinkStop) (stop : SinkStop) → IsErrAnd result (λ other. other ≡ stop) → IsProgress answers entries questions (line ∷ lines) refused old new
         → WritesAnswers line_text (is_line_refused answers line) new newest (Err stop) → WritesAnswers (answers_text answers questions) (has_refused answers questions) old newest result
     stops_with (Ok value) stop same way wrote = absurd same
     stops_with (Err other) stop same way wrote =

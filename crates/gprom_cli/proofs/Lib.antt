@@ -1,4 +1,6 @@
 pub mod ReadingLemmas
+pub mod WordsLemmas
+pub mod GeneratedLemmas
 pub mod WritesLemmas
 pub mod AnswersLemmas
 pub mod StepsLemmas

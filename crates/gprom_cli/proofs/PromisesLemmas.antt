@@ -1,21 +1,22 @@
 -- Each promise follows from the outcome of a call.
 use Rattle.std.proofs.Common.{◌≡◌, ℕ, ◌≤◌, ◌⊎◌, inl, inr, Bool, List, length, Option, Some, None, refl, sym, ap, ◌∙◌, subst, ⊎_elim}
 use Rattle.std.specs.Prelude.{IsSomeAnd}
-use Rattle.gp_base.specs.Annotated.{plain}
+use Rattle.gp_base.specs.Annotated.{monomials, plain}
 use Rattle.gp_io.specs.Shelf.{ShelfState, Files, FilesRelate, OthersStay, Replaced, Reports, content}
 use Rattle.gp_io.specs.Sink.{SinkState, Increased}
 use Rattle.gp_script.specs.History.{final_state, replies_of, replies_text, has_refusal}
 use Rattle.gp_script.specs.declared.script.TheConstants.{MAX_SCRIPT_LENGTH}
 use Rattle.gp_dump.specs.declared.dump.TheConstants.{MAX_DUMP_LENGTH}
-use Rattle.gp_dump.specs.Dumps.{IsDump, dump_of}
+use Rattle.gp_dump.specs.Dumps.{Dump, IsDump, WellFormed, dump_of}
 use Rattle.gp_dump.specs.Rules.{Holds, verdict_on}
 use Rattle.gp_ask.specs.Answers.{answer_to, held_to}
+use Rattle.gp_ask.specs.Explained.{ExplainsQuestions}
 use Rattle.gp_ask.specs.Questions.{answers_text, has_refused}
 use Rattle.gprom_cli.specs.declared.status.Status.{Status}
 use Rattle.gprom_cli.specs.declared.status.Status.TheVariants as exit
 use Rattle.gprom_cli.specs.Args.{Command, Run, Ask}
 use Rattle.gprom_cli.specs.Status.{number_of, status_of}
-use Rattle.gprom_cli.specs.Call.{Call, Outcome, Usage, Absent, Unreadable, TooLong, NotReplaced, Replied, Damaged, Answered, OutOfMemory, HasOutcome, Writes, WritesOutcome, WritesOutput, IsOrFails, IsOutcomeOf, RunEnds, AskEnds, exit_status, answered_status, outcome_by, script_dump}
+use Rattle.gprom_cli.specs.Call.{Call, Outcome, Usage, Absent, Unreadable, TooLong, NotReplaced, Replied, Damaged, Answered, OutOfMemory, ExplainsOutcome, HasOutcome, Writes, WritesOutcome, WritesOutput, IsAnswered, IsOrFails, IsOutcomeOf, RunEnds, AskEnds, exit_status, answered_status, outcome_by, script_dump}
 use Rattle.gprom_cli.specs.Promises.{Promises, IsClean, LeavesOthers, NoFault, ReportsNothing, ReportsNotReplaced, ReportsOne, files_read, files_replaced}
 use Rattle.gprom_cli.proofs.WritesLemmas.{IsWritten, absent-is, expected-is, no-fault, nothing-of, status-of, unreadable-is, unwritten-is, usage-is}
 use Rattle.gprom_cli.proofs.FilesLemmas.{Determines, ReadsWellFormed, ask-outcome, outcome-determined, replaced-others, run-outcome, same-others}
@@ -37,8 +38,8 @@ status_of-number_of exit.OutOfMemory = refl
 pub record DumpLaws : Type 0 where
   pub reads : ReadsWellFormed
   pub formed : (script : List ℕ) → length script ≤ MAX_SCRIPT_LENGTH → IsDump (dump_of (final_state plain script))
-  pub texts : (script questions : List ℕ) → answers_text (answer_to (dump_of (final_state plain script))) questions ≡ answers_text (held_to (final_state plain script)) questions
-  pub refusals : (script questions : List ℕ) → has_refused (answer_to (dump_of (final_state plain script))) questions ≡ has_refused (held_to (final_state plain script)) questions
+  pub texts : (script questions : List ℕ) → answers_text (answer_to (dump_of (final_state plain script))) questions ≡ answers_text (held_to (final_state monomials script)) questions
+  pub refusals : (script questions : List ℕ) → has_refused (answer_to (dump_of (final_state plain script))) questions ≡ has_refused (held_to (final_state monomials script)) questions
 
 -- ---- a status and its outcome
 
@@ -208,8 +209,8 @@ module _ (laws : DumpLaws) (call : Call) (has : HasOutcome call) where
   held : (files : Files) (dump name script questions : List ℕ) → call.command ≡ Some (Ask dump name) → call.shelf.holds ≡ Some files → NoFault call
       → length script ≤ MAX_SCRIPT_LENGTH → content dump files ≡ Some (script_dump script) → length (script_dump script) ≤ MAX_DUMP_LENGTH
       → content name files ≡ Some questions → length questions ≤ MAX_SCRIPT_LENGTH
-      → WritesOutput (answers_text (held_to (final_state plain script)) questions)
-      (answered_status (has_refused (held_to (final_state plain script)) questions)) call.sink call.sink_after call.status
+      → WritesOutput (answers_text (held_to (final_state monomials script)) questions)
+      (answered_status (has_refused (held_to (final_state monomials script)) questions)) call.sink call.sink_after call.status
   held files dump name script questions ask is quiet brief found small asked short =
       let contents = dump_of (final_state plain script) in
       let holds : verdict_on (script_dump script) ≡ Holds contents = laws.reads (script_dump script) contents (record { text = refl; rules = laws.formed script brief }) in
@@ -217,8 +218,30 @@ module _ (laws : DumpLaws) (call : Call) (has : HasOutcome call) where
       ap (λ (c : Option Command). outcome_by c files) ask ∙ ask-outcome files dump name (script_dump script) questions contents found small asked short holds in
       let answered : WritesOutput (answers_text (answer_to contents) questions) (answered_status (has_refused (answer_to contents) questions)) call.sink call.sink_after call.status =
       writes-as (Answered contents questions) (subst (λ (o : Outcome). Determines has.outcome o) expected (determined-at files is quiet)) in
-      subst (λ (text : List ℕ). WritesOutput text (answered_status (has_refused (held_to (final_state plain script)) questions)) call.sink call.sink_after call.status) (laws.texts script questions)
+      subst (λ (text : List ℕ). WritesOutput text (answered_status (has_refused (held_to (final_state monomials script)) questions)) call.sink call.sink_after call.status) (laws.texts script questions)
       (subst (λ (refused : Bool). WritesOutput (answers_text (answer_to contents) questions) (answered_status refused) call.sink call.sink_after call.status) (laws.refusals script questions) answered)
+
+  -- the outcome that is known, with what it explains
+  explains-as : (contents : Dump) (questions : List ℕ) → Determines has.outcome (Answered contents questions) → IsAnswered call.status → ExplainsQuestions contents.entries questions
+  explains-as contents questions which answered =
+      ⊎_elim
+      (λ (e : has.outcome ≡ Answered contents questions).
+      let explains : ExplainsOutcome call.status (Answered contents questions) = subst (λ (o : Outcome). ExplainsOutcome call.status o) e has.explains in
+      explains answered)
+      (λ (e : has.outcome ≡ OutOfMemory).
+      let none : Writes OutOfMemory call.sink call.sink_after call.status = subst (λ (o : Outcome). Writes o call.sink call.sink_after call.status) e has.writes in
+      let no : IsAnswered exit.OutOfMemory = subst (λ (s : Status). IsAnswered s) none.1 answered in
+      absurd no)
+      which
+
+  explained : (files : Files) (dump name bytes questions : List ℕ) (contents : Dump) → call.command ≡ Some (Ask dump name) → call.shelf.holds ≡ Some files → NoFault call
+      → content dump files ≡ Some bytes → length bytes ≤ MAX_DUMP_LENGTH → WellFormed bytes contents
+      → content name files ≡ Some questions → length questions ≤ MAX_SCRIPT_LENGTH
+      → IsAnswered call.status → ExplainsQuestions contents.entries questions
+  explained files dump name bytes questions contents ask is quiet found small formed asked short =
+      let expected : outcome_by call.command files ≡ Answered contents questions =
+      ap (λ (c : Option Command). outcome_by c files) ask ∙ ask-outcome files dump name bytes questions contents found small asked short (laws.reads bytes contents formed) in
+      explains-as contents questions (subst (λ (o : Outcome). Determines has.outcome o) expected (determined-at files is quiet))
 
   invalid : call.command ≡ None → IsOrFails exit.Usage call.status
   invalid none =
@@ -256,6 +279,7 @@ module _ (laws : DumpLaws) (call : Call) (has : HasOutcome call) where
     determined = λ files is quiet. writes-as (outcome_by call.command files) (determined-at files is quiet);
     replied = replied;
     held = held;
+    explained = explained;
     usage = λ at. usage-at call.shelf call.shelf_after call.command has.outcome has.is (expected-at exit.Usage at usage-written);
     invalid = invalid;
     absent = λ at. absent-at call.shelf call.shelf_after call.command has.outcome has.is (expected-at exit.Absent at absent-written);

@@ -1,14 +1,16 @@
 -- How the steps of a call make its outcome.
-use Rattle.std.proofs.Common.{◌≡◌, ℕ, ◌≤◌, inl, inr, List, length, Option, Some, sym, subst}
+use Rattle.std.proofs.Common.{◌≡◌, ℕ, ◌≤◌, inl, inr, List, length, Option, Some, None, refl, sym, subst}
 use Rattle.gp_io.specs.Shelf.{ShelfState, ReportsMiss, ReportsReadFault}
 use Rattle.gp_io.specs.Sink.{SinkState}
 use Rattle.gp_script.specs.declared.script.TheConstants.{MAX_SCRIPT_LENGTH}
 use Rattle.gp_dump.specs.declared.dump.TheConstants.{MAX_DUMP_LENGTH}
 use Rattle.gprom_cli.specs.declared.status.Status.{Status}
+use Rattle.gprom_cli.specs.declared.status.Status.TheVariants as exit
 use Rattle.gprom_cli.specs.Args.{Command, Run, Ask}
-use Rattle.gprom_cli.specs.Call.{Outcome, Usage, Absent, Unreadable, TooLong, NotReplaced, Replied, Damaged, Answered, OutOfMemory, HasContent, HasOutcome, IsRead, RunEnds, AskEnds}
+use Rattle.gprom_cli.specs.Call.{Outcome, Usage, Absent, Unreadable, TooLong, NotReplaced, Replied, Damaged, Answered, OutOfMemory, ExplainsOutcome, HasContent, HasOutcome, IsRead, RunEnds, AskEnds}
 use Rattle.gprom_cli.specs.Steps.{AnswerEnds, Answers, ReadEnds, StopsReading}
 use Rattle.gprom_cli.proofs.ReadingLemmas.{read-length}
+use Rattle.gprom_cli.proofs.WritesLemmas.{nothing-of}
 
 -- the script was not read
 run-stops : (script dump : List ℕ) (before after : ShelfState) (o : Outcome) → ReadEnds script MAX_SCRIPT_LENGTH before after o → RunEnds script dump before after o
@@ -61,15 +63,28 @@ both-read dump questions bytes asked before after (TooLong name) same found few 
 both-read dump questions bytes asked before after (NotReplaced name) same found few there short is = is
 both-read dump questions bytes asked before after (Replied script) same found few there short is = is
 
+-- a file that was not read has no questions
+module _ (file : List ℕ) (most : ℕ) (before after : ShelfState) (s : Status) where
+  pub unread-explains : (o : Outcome) → ReadEnds file most before after o → ExplainsOutcome s o
+  unread-explains (Absent name) is = tt
+  unread-explains (Unreadable name) is = tt
+  unread-explains (TooLong name) is = tt
+  unread-explains OutOfMemory is = tt
+  unread-explains Usage is = tt
+  unread-explains (NotReplaced name) is = tt
+  unread-explains (Replied script) is = tt
+  unread-explains (Damaged f line) is = tt
+  unread-explains (Answered contents questions) is = absurd is
+
 -- the calls of these steps
 module _ (before after : ShelfState) (sink sink' : SinkState) (s : Status) where
   pub run-stopped : (script dump : List ℕ) → StopsReading script MAX_SCRIPT_LENGTH before after sink sink' s
       → HasOutcome (record { command = Some (Run script dump); shelf = before; shelf_after = after; sink = sink; sink_after = sink'; status = s })
-  run-stopped script dump stopped = record { outcome = stopped.outcome; is = run-stops script dump before after stopped.outcome stopped.is; writes = stopped.writes }
+  run-stopped script dump stopped = record { outcome = stopped.outcome; is = run-stops script dump before after stopped.outcome stopped.is; writes = stopped.writes; explains = unread-explains script MAX_SCRIPT_LENGTH before after s stopped.outcome stopped.is }
 
   pub ask-stopped : (dump questions : List ℕ) → StopsReading dump MAX_DUMP_LENGTH before after sink sink' s
       → HasOutcome (record { command = Some (Ask dump questions); shelf = before; shelf_after = after; sink = sink; sink_after = sink'; status = s })
-  ask-stopped dump questions stopped = record { outcome = stopped.outcome; is = dump-stops dump questions before after stopped.outcome stopped.is; writes = stopped.writes }
+  ask-stopped dump questions stopped = record { outcome = stopped.outcome; is = dump-stops dump questions before after stopped.outcome stopped.is; writes = stopped.writes; explains = unread-explains dump MAX_DUMP_LENGTH before after s stopped.outcome stopped.is }
 
   pub questions-stopped : (dump questions bytes : List ℕ) → HasContent dump before bytes → length bytes ≤ MAX_DUMP_LENGTH → StopsReading questions MAX_SCRIPT_LENGTH before after sink sink' s
       → HasOutcome (record { command = Some (Ask dump questions); shelf = before; shelf_after = after; sink = sink; sink_after = sink'; status = s })
@@ -77,6 +92,7 @@ module _ (before after : ShelfState) (sink sink' : SinkState) (s : Status) where
     outcome = stopped.outcome;
     is = questions-stop dump questions before after stopped.outcome (read-length before.holds dump MAX_DUMP_LENGTH bytes found few) stopped.is;
     writes = stopped.writes;
+    explains = unread-explains questions MAX_SCRIPT_LENGTH before after s stopped.outcome stopped.is;
   }
 
   pub ask-answered : (dump questions bytes asked : List ℕ) → after ≡ before → HasContent dump before bytes → length bytes ≤ MAX_DUMP_LENGTH
@@ -86,6 +102,7 @@ module _ (before after : ShelfState) (sink sink' : SinkState) (s : Status) where
     outcome = answers.outcome;
     is = both-read dump questions bytes asked before after answers.outcome same found few there short answers.is;
     writes = answers.writes;
+    explains = answers.explains;
   }
 
 -- a call that goes on where the files and the output are as before
@@ -95,3 +112,10 @@ pub goes-on : (command : Option Command) (before middle after : ShelfState) (sin
 goes-on command before middle after sink sink' sink'' s same quiet has =
     subst (λ (h : ShelfState). HasOutcome (record { command = command; shelf = h; shelf_after = after; sink = sink; sink_after = sink''; status = s })) same
     (subst (λ (k : SinkState). HasOutcome (record { command = command; shelf = middle; shelf_after = after; sink = k; sink_after = sink''; status = s })) quiet has)
+
+-- memory ran out before anything was read or written
+pub out-of-memory : (command : Option Command) (shelf : ShelfState) (sink : SinkState)
+    → HasOutcome (record { command = command; shelf = shelf; shelf_after = shelf; sink = sink; sink_after = sink; status = exit.OutOfMemory })
+out-of-memory None shelf sink = record { outcome = Usage; is = (refl, refl); writes = nothing-of Usage sink sink exit.OutOfMemory refl refl; explains = tt }
+out-of-memory (Some (Run script dump)) shelf sink = record { outcome = OutOfMemory; is = refl; writes = (refl, refl); explains = tt }
+out-of-memory (Some (Ask dump questions)) shelf sink = record { outcome = OutOfMemory; is = refl; writes = (refl, refl); explains = tt }

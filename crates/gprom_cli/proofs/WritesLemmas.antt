@@ -7,7 +7,7 @@ use Rattle.gp_io.specs.Sink.{SinkState, appended, CountsFault, Increased, Writes
 use Rattle.gp_io.proofs.SinkLemmas.{WritesPrefix-none}
 use Rattle.gprom_cli.specs.declared.status.Status.{Status}
 use Rattle.gprom_cli.specs.declared.status.Status.TheVariants as exit
-use Rattle.gprom_cli.specs.Call.{Outcome, Usage, Absent, Unreadable, TooLong, NotReplaced, Replied, Damaged, Answered, OutOfMemory, WritesAll, WritesOutput, Writes, IsOrFails, expected_output, exit_status}
+use Rattle.gprom_cli.specs.Call.{Outcome, Usage, Absent, Unreadable, TooLong, NotReplaced, Replied, Damaged, Answered, OutOfMemory, WritesAll, WritesOutput, Writes, IsAnswered, IsOrFails, expected_output, exit_status}
 use Rattle.gprom_cli.specs.Steps.{stop_status}
 
 -- the status of a write, by its result
@@ -42,6 +42,11 @@ written (Err NoMemory) text expected old new taken prefix counts = record {
   unwritten = λ e other. cc;
   out_of_memory = λ e. counts;
 }
+
+-- a write that stops is no status of lines that were answered
+pub unanswered : (stop : SinkStop) → IsAnswered (stop_status stop) → ⊥
+unanswered Failed is = is
+unanswered NoMemory is = is
 
 -- nothing was written, since memory ran out
 pub nothing-written : (text : List ℕ) (expected : Status) (old new : SinkState) (actual : Status) → new ≡ old → actual ≡ exit.OutOfMemory → WritesOutput text expected old new actual

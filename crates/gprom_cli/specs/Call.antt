@@ -11,6 +11,7 @@ use Rattle.gp_dump.specs.declared.dump.TheConstants.{MAX_DUMP_LENGTH}
 use Rattle.gp_dump.specs.Dumps.{Dump, WellFormed, dump_of, dump_text}
 use Rattle.gp_dump.specs.Rules.{Verdict, Holds, Fails, verdict_on, first_fault}
 use Rattle.gp_ask.specs.Answers.{answer_to}
+use Rattle.gp_ask.specs.Explained.{ExplainsQuestions}
 use Rattle.gp_ask.specs.Questions.{answers_text, has_refused}
 use Rattle.gprom_cli.specs.declared.status.Status.{Status}
 use Rattle.gprom_cli.specs.declared.status.Status.TheVariants as exit
@@ -177,11 +178,36 @@ Writes outcome before after status = WritesOutput (expected_output outcome) (exi
 abbrev pub WritesOutcome : Call → Outcome → Type 0
 WritesOutcome call outcome = Writes outcome call.sink call.sink_after call.status
 
+-- every line was answered
+abbrev pub IsAnswered : Status → Type 0
+IsAnswered exit.Done = Unit {0}
+IsAnswered exit.Refused = Unit {0}
+IsAnswered exit.Usage = ⊥
+IsAnswered exit.Absent = ⊥
+IsAnswered exit.Unreadable = ⊥
+IsAnswered exit.Unwritten = ⊥
+IsAnswered exit.TooLong = ⊥
+IsAnswered exit.Damaged = ⊥
+IsAnswered exit.OutOfMemory = ⊥
+
+-- where questions were all answered, each program that was printed explains its query
+abbrev pub ExplainsOutcome : Status → Outcome → Type 0
+ExplainsOutcome status (Answered dump questions) = IsAnswered status → ExplainsQuestions dump.entries questions
+ExplainsOutcome status Usage = Unit {0}
+ExplainsOutcome status (Absent name) = Unit {0}
+ExplainsOutcome status (Unreadable name) = Unit {0}
+ExplainsOutcome status (TooLong name) = Unit {0}
+ExplainsOutcome status (NotReplaced name) = Unit {0}
+ExplainsOutcome status (Replied script) = Unit {0}
+ExplainsOutcome status (Damaged f line) = Unit {0}
+ExplainsOutcome status OutOfMemory = Unit {0}
+
 -- the arguments, the files and what the shelf reported determine the outcome, and the outcome what is written
 pub record HasOutcome (call : Call) : Type 0 where
   pub outcome : Outcome
   pub is : IsOutcomeOf call.command call.shelf call.shelf_after outcome
   pub writes : WritesOutcome call outcome
+  pub explains : ExplainsOutcome call.status outcome
 
 -- ---- the outcome by the files
 

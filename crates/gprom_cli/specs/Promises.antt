@@ -2,18 +2,20 @@
 -- their own contracts. A promise about the content of a file holds where the shelf knows its files, one about the bytes of the output where the
 -- sink knows them; the real files and the real output know neither.
 use Rattle.std.specs.Prelude.{◌≡◌, ◌⊎◌, ℕ, ◌≤◌, List, [], ◌∷◌, length, Option, Some, None, IsSomeAnd}
-use Rattle.gp_base.specs.Annotated.{plain}
+use Rattle.gp_base.specs.Annotated.{monomials}
 use Rattle.gp_io.specs.Shelf.{Files, FilesRelate, OthersStay, Replaced, Reports, content}
 use Rattle.gp_io.specs.Sink.{Increased}
 use Rattle.gp_script.specs.History.{final_state, replies_of, replies_text, has_refusal}
 use Rattle.gp_script.specs.declared.script.TheConstants.{MAX_SCRIPT_LENGTH}
 use Rattle.gp_dump.specs.declared.dump.TheConstants.{MAX_DUMP_LENGTH}
+use Rattle.gp_dump.specs.Dumps.{Dump, WellFormed}
 use Rattle.gp_ask.specs.Answers.{held_to}
+use Rattle.gp_ask.specs.Explained.{ExplainsQuestions}
 use Rattle.gp_ask.specs.Questions.{answers_text, has_refused}
 use Rattle.gprom_cli.specs.declared.status.Status.{Status}
 use Rattle.gprom_cli.specs.declared.status.Status.TheVariants.{Done, Refused, Usage, Absent, Unreadable, Unwritten, TooLong, Damaged, OutOfMemory}
 use Rattle.gprom_cli.specs.Args.{Command, Run, Ask}
-use Rattle.gprom_cli.specs.Call.{Call, HasOutcome, WritesOutput, WritesOutcome, IsOrFails, answered_status, outcome_by, script_dump}
+use Rattle.gprom_cli.specs.Call.{Call, HasOutcome, WritesOutput, WritesOutcome, IsAnswered, IsOrFails, answered_status, outcome_by, script_dump}
 
 -- no file was reported unreadable or not replaced during the call
 abbrev pub NoFault : Call → Type 0
@@ -80,12 +82,19 @@ pub record Promises (call : Call) : Type 0 where
       → WritesOutput (replies_text (replies_of script)) (answered_status (has_refusal (replies_of script))) call.sink call.sink_after call.status
       × (FilesRelate (Replaced dump (script_dump script)) call.shelf.holds call.shelf_after.holds
       ⊎ ((call.status ≡ OutOfMemory) × (call.shelf_after.holds ≡ call.shelf.holds)))
-  -- `ask` answers from the dump of a script, whichever script made it, as the history of the script held it.
+  -- `ask` answers from the dump of a script, whichever script made it, as the history of the script held it, with the provenance of each row there,
+  -- though the dump has none.
   pub held : (files : Files) (dump name script questions : List ℕ) → call.command ≡ Some (Ask dump name) → call.shelf.holds ≡ Some files → NoFault call
       → length script ≤ MAX_SCRIPT_LENGTH → content dump files ≡ Some (script_dump script) → length (script_dump script) ≤ MAX_DUMP_LENGTH
       → content name files ≡ Some questions → length questions ≤ MAX_SCRIPT_LENGTH
-      → WritesOutput (answers_text (held_to (final_state plain script)) questions)
-      (answered_status (has_refused (held_to (final_state plain script)) questions)) call.sink call.sink_after call.status
+      → WritesOutput (answers_text (held_to (final_state monomials script)) questions)
+      (answered_status (has_refused (held_to (final_state monomials script)) questions)) call.sink call.sink_after call.status
+  -- Where `ask` answers all questions, each program that it prints is one program in normal form that, on every database of past versions, gives the
+  -- answer of the query over the state that the logged statements lead to. The dump is any that is well formed.
+  pub explained : (files : Files) (dump name bytes questions : List ℕ) (contents : Dump) → call.command ≡ Some (Ask dump name) → call.shelf.holds ≡ Some files → NoFault call
+      → content dump files ≡ Some bytes → length bytes ≤ MAX_DUMP_LENGTH → WellFormed bytes contents
+      → content name files ≡ Some questions → length questions ≤ MAX_SCRIPT_LENGTH
+      → IsAnswered call.status → ExplainsQuestions contents.entries questions
   -- Each status has its cause: invalid arguments and no others give the usage line,
   pub usage : call.status ≡ Usage → call.command ≡ None
   pub invalid : call.command ≡ None → IsOrFails Usage call.status

@@ -8,7 +8,7 @@ use Rattle.gp_dump.specs.Dumps.{WellFormed}
 use Rattle.gp_dump.specs.Rules.{first_fault}
 use Rattle.gprom_cli.specs.declared.status.Status.{Status}
 use Rattle.gprom_cli.specs.declared.status.Status.TheVariants as exit
-use Rattle.gprom_cli.specs.Call.{Outcome, Usage, Absent, Unreadable, TooLong, NotReplaced, Replied, Damaged, Answered, OutOfMemory, HasContent, IsLonger, Writes}
+use Rattle.gprom_cli.specs.Call.{Outcome, Usage, Absent, Unreadable, TooLong, NotReplaced, Replied, Damaged, Answered, OutOfMemory, ExplainsOutcome, HasContent, IsLonger, Writes}
 
 -- ---- writing
 
@@ -68,3 +68,4 @@ pub record Answers (bytes asked : List ℕ) (sink sink_after : SinkState) (statu
   pub outcome : Outcome
   pub is : AnswerEnds bytes asked outcome
   pub writes : Writes outcome sink sink_after status
+  pub explains : ExplainsOutcome status outcome

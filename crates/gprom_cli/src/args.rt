@@ -1,10 +1,16 @@
 //! The arguments of the program.
 
-ghost use Rattle.std.specs.Prelude.{◌≡◌, map, string_bytes, codes};
+ghost use Rattle.std.specs.Prelude.{◌≡◌, IfOk, map, string_bytes};
+ghost use Rattle.std.specs.List.{list_all};
 ghost use Rattle.std.specs.Option.{option_map};
 ghost use Rattle.std.specs.Str.{bytes_eq};
-ghost use Rattle.gprom_cli.specs.Args.{command_of, command_of_words, is_file_name};
+ghost use Rattle.gprom_cli.specs.Args.{command_of, command_of_names, is_word};
 ghost use Rattle.gprom_cli.specs.Views.{command_view};
+ghost use Rattle.gprom_cli.specs.Words.{command_of_parts, command_of_triple, words_view};
+
+use crate::words::{Words, read_words};
+use gp_base::NoMemory;
+use std::alloc::Global;
 
 /// What the arguments ask for, with the names of the files.
 #[derive(Clone, Copy)]
@@ -25,9 +31,9 @@ pub enum Command<'a> {
     },
 }
 
-/// Whether the argument can name a file: it is not empty, and no option.
-fn is_file_name(argument: &str) -> bool
-    ensures { result ≡ is_file_name argument.now }
+/// Whether the argument is a word: it is not empty, and no option.
+fn is_word(argument: &str) -> bool
+    ensures { result ≡ is_word argument.now }
 {
     match argument.as_bytes() {
         [] => false,
@@ -35,23 +41,37 @@ fn is_file_name(argument: &str) -> bool
     }
 }
 
+/// Whether all arguments are words.
+fn are_words(args: &[String]) -> bool
+    ensures { result ≡ list_all is_word (map string_bytes args.now) }
+{
+    let mut rest = args;
+    while let [first, others @ ..] = rest {
+        if !is_word(first.as_str()) {
+            return false;
+        }
+        rest = others;
+    }
+    true
+}
+
 /// Whether the two texts are the same.
-fn is_word(argument: &str, word: &str) -> bool
+fn is_same(argument: &str, word: &str) -> bool
     ensures { result ≡ bytes_eq argument.now word.now }
 {
     argument == word
 }
 
 /// The command of a word, if it is one, and two names.
-fn command_of_words<'a>(word: &str, first: &'a str, second: &'a str) -> Option<Command<'a>>
-    ensures { option_map command_view result ≡ command_of_words word.now first.now second.now }
+fn command_of_names<'a>(word: &str, first: &'a str, second: &'a str) -> Option<Command<'a>>
+    ensures { option_map command_view result ≡ command_of_names word.now first.now second.now }
 {
-    if is_word(word, "run") {
+    if is_same(word, "run") {
         Some(Command::Run {
             script: first,
             dump: second,
         })
-    } else if is_word(word, "ask") {
+    } else if is_same(word, "ask") {
         Some(Command::Ask {
             dump: first,
             questions: second,
@@ -61,19 +81,37 @@ fn command_of_words<'a>(word: &str, first: &'a str, second: &'a str) -> Option<C
     }
 }
 
-/// The command that the arguments ask for, or `None` where they are invalid: `run` or `ask`, then two names that are not empty and do not
-/// begin with a hyphen.
-pub(crate) fn parse(args: &[String]) -> Option<Command<'_>>
-    ensures { option_map command_view result ≡ command_of (map string_bytes args.now) }
+/// The command of two or three words.
+fn command_of_parts<'a>(word: &str, first: &'a str, second: Option<&'a str>) -> Option<Command<'a>>
+    ensures { option_map command_view result
+        ≡ command_of_parts word.now first.now (option_map (λ s. s.now) second.entry) }
 {
-    match args {
-        [word, first, second] => {
-            if is_file_name(first.as_str()) && is_file_name(second.as_str()) {
-                command_of_words(word.as_str(), first.as_str(), second.as_str())
-            } else {
-                None
-            }
-        }
-        _ => None,
+    match second {
+        Some(second) => command_of_names(word, first, second),
+        None => None,
+    }
+}
+
+/// The command of the words, if they were read.
+fn command_of_triple(words: Option<Words<'_>>) -> Option<Command<'_>>
+    ensures { option_map command_view result ≡ command_of_triple (option_map words_view words.entry) }
+{
+    match words {
+        Some(words) => command_of_parts(words.word, words.first, words.second),
+        None => None,
+    }
+}
+
+/// The command that the arguments ask for, or `None` where they are invalid: `run` or `ask`, then two names that are not empty and do not
+/// begin with a hyphen. Running out of memory is the only error.
+#[tactic(auto, using(crate::proofs::WordsLemmas::words_command))]
+pub(crate) fn parse(alloc: Global, args: &[String]) -> Result<Option<Command<'_>>, NoMemory>
+    ensures { IfOk result (λ command. option_map command_view command
+        ≡ command_of (map string_bytes args.now)) }
+{
+    if are_words(args) {
+        Ok(command_of_triple(read_words(alloc, args)?))
+    } else {
+        Ok(None)
     }
 }

@@ -3,12 +3,14 @@
 ghost use Rattle.std.specs.Prelude.{◌≡◌, ◌≤◌, ℕ, List, IfOk, length, Some, true};
 ghost use Rattle.gp_check.specs.Valid.{tables_are_valid};
 ghost use Rattle.gp_log.specs.LogFacts.{tables_in};
+ghost use Rattle.gp_grammar.specs.LineReading.{question_of};
 ghost use Rattle.gp_ask.specs.Answers.{answer_to};
+ghost use Rattle.gp_ask.specs.Explained.{ExplainsQuestions, ExplainsRead};
 ghost use Rattle.gp_ask.specs.Questions.{answers_text, has_refused, is_refused, line_answer, line_answer_text};
 ghost use Rattle.gp_dump.specs.Dumps.{IsDump};
 ghost use Rattle.gp_dump.specs.Views.{dump_view};
 ghost use Rattle.gprom_cli.specs.Args.{Ask};
-ghost use Rattle.gprom_cli.specs.Call.{HasContent, HasOutcome, WritesOutput, answered_status};
+ghost use Rattle.gprom_cli.specs.Call.{HasContent, HasOutcome, IsAnswered, WritesOutput, answered_status};
 ghost use Rattle.gprom_cli.specs.Steps.{Answers, WritesAnswers};
 
 use crate::output::{stop_status, write_damage};
@@ -37,6 +39,8 @@ fn answered(alloc: Global, dump: &Dump, number: u32, bytes: &[u8]) -> Result<Lin
         ≡ line_answer_text (answer_to (dump_view dump.now)) (number, bytes.now)) }
     ensures refused { IfOk result (λ answer. answer.refused
         ≡ is_refused (line_answer (answer_to (dump_view dump.now)) (number, bytes.now))) }
+    ensures explained { IfOk result (λ answer.
+        ExplainsRead (dump_view dump.now).entries (question_of bytes.now)) }
 {
     let answer = answer_line(alloc, dump, bytes)?;
     let refused = answer.is_refused();
@@ -55,9 +59,12 @@ fn write_line<K: Sink>(
 ) -> Result<bool, SinkStop>
     requires rules { IsDump (dump_view dump.now) }
     requires valid { tables_are_valid (tables_in (dump_view dump.now).entries) ≡ true }
-    ensures { WritesAnswers (line_answer_text (answer_to (dump_view dump.now)) (number, bytes.now))
+    ensures written { WritesAnswers
+        (line_answer_text (answer_to (dump_view dump.now)) (number, bytes.now))
         (is_refused (line_answer (answer_to (dump_view dump.now)) (number, bytes.now)))
         (K.state out.old) (K.state out.new) result }
+    ensures explained { IfOk result (λ refused.
+        ExplainsRead (dump_view dump.now).entries (question_of bytes.now)) }
 {
     match answered(alloc, dump, number, bytes) {
         Ok(answer) => match out.write_all(&answer.text) {
@@ -78,9 +85,11 @@ fn write_lines<K: Sink>(
     requires rules { IsDump (dump_view dump.now) }
     requires valid { tables_are_valid (tables_in (dump_view dump.now).entries) ≡ true }
     requires short { length questions.now ≤ MAX_SCRIPT_LENGTH }
-    ensures { WritesAnswers (answers_text (answer_to (dump_view dump.now)) questions.now)
+    ensures written { WritesAnswers (answers_text (answer_to (dump_view dump.now)) questions.now)
         (has_refused (answer_to (dump_view dump.now)) questions.now)
         (K.state out.old) (K.state out.new) result }
+    ensures explained { IfOk result (λ refused.
+        ExplainsQuestions (dump_view dump.now).entries questions.now) }
 {
     let mut refused = false;
     let mut rest = lines(questions);
@@ -95,9 +104,11 @@ fn write_answers<K: Sink>(alloc: Global, dump: &Dump, questions: &[u8], out: &mu
     requires rules { IsDump (dump_view dump.now) }
     requires valid { tables_are_valid (tables_in (dump_view dump.now).entries) ≡ true }
     requires short { length questions.now ≤ MAX_SCRIPT_LENGTH }
-    ensures { WritesOutput (answers_text (answer_to (dump_view dump.now)) questions.now)
+    ensures written { WritesOutput (answers_text (answer_to (dump_view dump.now)) questions.now)
         (answered_status (has_refused (answer_to (dump_view dump.now)) questions.now))
         (K.state out.old) (K.state out.new) result }
+    ensures explained { IsAnswered result
+        → ExplainsQuestions (dump_view dump.now).entries questions.now }
 {
     match write_lines(alloc, dump, questions, out) {
         Ok(refused) => Status::answered(refused),

@@ -4,14 +4,18 @@ use Rattle.gp_syntax.specs.Views.{question_view}
 use Rattle.gp_dump.specs.Views.{dump_view}
 use Rattle.gp_ask.specs.declared.answered.Answered.TheVariants.{Refused}
 use Rattle.gp_ask.specs.Answers.{answer_to}
-use Rattle.gp_ask.proofs.ReadLemmas.{read-valid, refused-text}
+use Rattle.gp_ask.proofs.ReadLemmas.{read-valid, refused-text, unread-explains}
 use Rattle.gp_ask.proofs.answering.answer_line.Goals as goal
 
 pub answer-requires-clause-question : goal.answer-requires-clause-question
 answer-requires-clause-question c = read-valid c.args.line.now (question_view c.in-Ok.question) c.in-Ok.ensures.exact
 
-pub returns-in-Err-Refused : goal.returns-in-Err-Refused
-returns-in-Err-Refused c =
+pub returns-in-Err-Refused-clause-answered : goal.returns-in-Err-Refused-clause-answered
+returns-in-Err-Refused-clause-answered c =
     ap Refused c.in-Err-Refused.refusal-is
     ∙ refused-text (answer_to (dump_view c.args.dump.now)) (question_of c.args.line.now) c.in-Err-Refused.refusal
     (rw c.in-Err-Refused.field-0-is at c.in-Err-Refused.ensures.exact)
+
+pub returns-in-Err-Refused-clause-explained : goal.returns-in-Err-Refused-clause-explained
+returns-in-Err-Refused-clause-explained c =
+    unread-explains (dump_view c.args.dump.now).entries (question_of c.args.line.now) c.in-Err-Refused.refusal (rw c.in-Err-Refused.field-0-is at c.in-Err-Refused.ensures.exact)

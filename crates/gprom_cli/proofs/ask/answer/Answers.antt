@@ -9,7 +9,8 @@ pub returns-in-Ok : goal.returns-in-Ok
 returns-in-Ok g c = record {
   outcome = Answered (dump_view c.in-Ok.dump) c.args.questions.now;
   is = (refl, only c.args.bytes.now (dump_view c.in-Ok.dump) c.in-Ok.ensures.exact);
-  writes = c.write_answers.ensures;
+  writes = c.write_answers.ensures.written;
+  explains = c.write_answers.ensures.explained;
 }
 
 pub returns-in-Err-Fault : goal.returns-in-Err-Fault
@@ -19,7 +20,8 @@ returns-in-Err-Fault g c =
       outcome = Damaged c.in-Err-Fault.f c.in-Err-Fault.line;
       is = ap fault_in (rw is at c.read_dump.ensures.exact);
       writes = c.write_damage.ensures;
+      explains = tt;
     }
 
 pub returns-in-Err-NoMemory : goal.returns-in-Err-NoMemory
-returns-in-Err-NoMemory g c = record { outcome = OutOfMemory; is = tt; writes = (refl, refl) }
+returns-in-Err-NoMemory g c = record { outcome = OutOfMemory; is = tt; writes = (refl, refl); explains = tt }

@@ -3,28 +3,31 @@ use Rattle.gp_ask.specs.Answers.{answer_to}
 use Rattle.gp_ask.specs.Questions.{answers_text, has_refused}
 use Rattle.gp_dump.specs.Views.{dump_view}
 use Rattle.gprom_cli.specs.declared.status.Status.{Status}
-use Rattle.gprom_cli.specs.Call.{WritesOutput, answered_status}
-use Rattle.gprom_cli.proofs.WritesLemmas.{written}
+use Rattle.gprom_cli.specs.Call.{IsAnswered, WritesOutput, answered_status}
+use Rattle.gprom_cli.proofs.WritesLemmas.{unanswered, written}
 use Rattle.gprom_cli.proofs.ask.write_answers.Goals as goal
 
-pub returns-in-Ok : goal.returns-in-Ok
-returns-in-Ok g c =
+pub returns-in-Ok-clause-written : goal.returns-in-Ok-clause-written
+returns-in-Ok-clause-written g c =
     let answers = answer_to (dump_view c.args.dump.now) in
     let text = answers_text answers c.args.questions.now in
     let status = answered_status (has_refused answers c.args.questions.now) in
     let old = g.K.Sink.state c.args.out.now in
     let new = g.K.Sink.state c.write_lines.new.out in
-    let wrote = c.in-Ok.ensures in
+    let wrote = c.in-Ok.ensures.written in
     subst (λ (s : Status). WritesOutput text status old new s) (sym (c.answered.ensures ∙ ap answered_status wrote.refused))
     (written (Ok c.in-Ok.refused) text status old new wrote.complete wrote.prefix wrote.faults)
 
-pub returns-in-Err : goal.returns-in-Err
-returns-in-Err g c =
+pub returns-in-Err-clause-written : goal.returns-in-Err-clause-written
+returns-in-Err-clause-written g c =
     let answers = answer_to (dump_view c.args.dump.now) in
     let text = answers_text answers c.args.questions.now in
     let status = answered_status (has_refused answers c.args.questions.now) in
     let old = g.K.Sink.state c.args.out.now in
     let new = g.K.Sink.state c.write_lines.new.out in
-    let wrote = c.in-Err.ensures in
+    let wrote = c.in-Err.ensures.written in
     subst (λ (s : Status). WritesOutput text status old new s) (sym c.stop_status.ensures)
     (written {T = Bool} (Err c.in-Err.stop) text status old new wrote.complete wrote.prefix wrote.faults)
+
+pub returns-in-Err-clause-explained : goal.returns-in-Err-clause-explained
+returns-in-Err-clause-explained g c = λ answered. absurd (unanswered c.in-Err.stop (subst IsAnswered c.stop_status.ensures answered))

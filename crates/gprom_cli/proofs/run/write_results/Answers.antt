@@ -13,6 +13,7 @@ returns-then-len-gt-MAX_DUMP_LENGTH g c = λ name found.
       outcome = TooLong c.args.dump.now;
       is = (refl, inr (refl, (c.args.script.now, c.requires.short, long, found)));
       writes = c.write_message.ensures;
+      explains = tt;
     }
 
 pub returns-in-Ok : goal.returns-in-Ok
@@ -36,6 +37,7 @@ returns-in-Ok g c = λ name found.
         found,
       );
       writes = subst (λ (s : Status). WritesOutput (replies_text replies) s sink sink_after c.write_output.result) status written;
+      explains = tt;
     }
 
 pub returns-in-Err-Failed : goal.returns-in-Err-Failed
@@ -46,9 +48,10 @@ returns-in-Err-Failed g c = λ name found.
       outcome = NotReplaced c.args.dump.now;
       is = (refl, rw is at c.replace.ensures.stopped, (c.args.script.now, c.requires.short, short, found));
       writes = c.write_message-in-Err-Failed.ensures;
+      explains = tt;
     }
 
 pub returns-in-Err-NoMemory : goal.returns-in-Err-NoMemory
 returns-in-Err-NoMemory g c = λ name found.
     let is = c.in-Err-NoMemory.is ∙ ap Err c.in-Err-NoMemory.field-0-is in
-    record { outcome = OutOfMemory; is = rw is at c.replace.ensures.stopped; writes = (refl, refl) }
+    record { outcome = OutOfMemory; is = rw is at c.replace.ensures.stopped; writes = (refl, refl); explains = tt }

@@ -1,0 +1,87 @@
+-- The rows that provenance finds, listed, are the answer; and a well-formed dump has a log and row versions that go together.
+use Rattle.std.proofs.Common.{◌≡◌, ℕ, suc, List, [], ◌∷◌, length, map, Result, Ok, Err, sym, refl, ap, ◌∙◌, subst}
+use Rattle.std.specs.List.Sorted.{IsPermutation}
+use Rattle.std.proofs.lemmas.List.{length-map}
+use Rattle.gp_base.specs.declared.cell.Cell.{Cell}
+use Rattle.gp_base.specs.declared.refusal.Refusal.{Refusal}
+use Rattle.gp_base.specs.declared.table.Table.{Table}
+use Rattle.gp_base.specs.Annotated.{monomials}
+use Rattle.gp_base.specs.Tokens.{Monomial}
+use Rattle.gp_grammar.specs.Syntax as y
+use Rattle.gp_algebra.specs.Answers.{Element}
+use Rattle.gp_algebra.specs.Statements.{Select}
+use Rattle.gp_log.specs.Limits.{limits}
+use Rattle.gp_log.specs.LogFacts.{tables_in}
+use Rattle.gp_log.specs.LogFitting.{SpansFit}
+use Rattle.gp_log.specs.Logs.{log_view}
+use Rattle.gp_machine.specs.Entries.{Entry, versions_in}
+use Rattle.gp_machine.specs.Questions.{annotated_answer}
+use Rattle.gp_versions.specs.declared.span.Span.{Span}
+use Rattle.gp_versions.specs.Spans.{Versions}
+use Rattle.gp_reenact.specs.declared.error.ReenactStop.TheVariants as stop
+use Rattle.gp_reenact.specs.Reenacting.{spans_of}
+use Rattle.gp_dump.specs.declared.dump.Dump as code
+use Rattle.gp_dump.specs.Dumps.{AreOfTables, IsDump}
+use Rattle.gp_dump.specs.Views.{dump_view, tables_view}
+use Rattle.gp_dump.proofs.FittingTables.{spans_of_dumps, statements_of_dumps}
+use Rattle.gp_history.specs.Agreement.{agree}
+use Rattle.gp_history.specs.Provenance.{Proves, occurrence}
+use Rattle.gp_history.specs.Sound.{IsSound}
+use Rattle.gp_monomials.specs.Listing.{grouped, listed}
+use Rattle.gp_ask.specs.declared.answered.Answered.TheVariants.{Listed, Refused}
+use Rattle.gp_ask.specs.Answers.{dump_provenance, spans_at, with_monomials}
+use Rattle.gp_ask.proofs.ReenactedLemmas.{dump-spans, same-order}
+
+-- occurrences in any order are listed alike
+pub same-list : (rows others : List (List Cell)) → IsPermutation rows others → listed rows ≡ listed others
+same-list rows others moved = ap grouped (same-order rows others moved)
+
+pub in-list : {X : Type 0} (view : X → List (List Cell)) (found : X) (due : Result (List (Element Monomial)) Refusal) → Proves view (Ok found) due
+    → Listed (listed (view found)) ≡ with_monomials due
+in-list view found (Ok elements) moved = ap Listed (same-list (view found) (map occurrence elements) moved)
+in-list view found (Err refusal) none = absurd none
+
+pub unproven : {X : Type 0} (view : X → List (List Cell)) (refusal : Refusal) (due : Result (List (Element Monomial)) Refusal) → Proves view (Err (stop.Refused refusal)) due
+    → Refused refusal ≡ with_monomials due
+unproven view refusal (Ok elements) none = absurd none
+unproven view refusal (Err due) same = ap Refused same
+
+as-many : (tables : List Table) (versions : ℕ) (spans : List (List Span)) → AreOfTables tables versions spans → length spans ≡ length tables
+as-many [] versions [] are = refl
+as-many [] versions (own ∷ others) are = absurd are
+as-many (table ∷ tables) versions [] are = absurd are
+as-many (table ∷ tables) versions (own ∷ others) are = ap suc (as-many tables versions others are.1)
+
+pub sound : (dump : code.Dump) → IsDump (dump_view dump) → IsSound (log_view dump.log.entries) dump.versions
+sound dump rules =
+    let tables = tables_in (log_view dump.log.entries) in
+    record {
+      log = rules.log;
+      tables = sym (length-map dump.versions (λ (table : Versions). table.spans)) ∙ as-many tables (versions_in (log_view dump.log.entries)) (tables_view dump.versions) rules.spans;
+      statements = statements_of_dumps (dump_view dump) rules;
+      spans = subst (λ (spans : ℕ → List Span). SpansFit tables spans) (sym (dump-spans dump.versions)) (spans_of_dumps (dump_view dump) rules);
+    }
+
+-- ---- what provenance answers, over the row versions of a dump
+
+module _ (dump : code.Dump) (versions : List Versions) (same : versions ≡ dump.versions) (point : y.State) (select : Select) where
+  abbrev entries : List Entry
+  entries = log_view dump.log.entries
+
+  abbrev due : (ℕ → List Span) → Result (List (Element Monomial)) Refusal
+  due spans = annotated_answer monomials limits agree (tables_in entries) entries spans point select
+
+  spans-are : spans_of versions ≡ spans_at (tables_view dump.versions)
+  spans-are = ap spans_of same ∙ dump-spans dump.versions
+
+  pub sound-versions : IsDump (dump_view dump) → IsSound entries versions
+  sound-versions rules = subst (λ (own : List Versions). IsSound entries own) (sym same) (sound dump rules)
+
+  pub is-listed : {X : Type 0} (view : X → List (List Cell)) (found : X) → Proves view (Ok found) (due (spans_of versions)) → Listed (listed (view found)) ≡ dump_provenance (dump_view dump) point select
+  is-listed view found proves =
+      in-list view found (due (spans_at (tables_view dump.versions))) (subst (λ (spans : ℕ → List Span). Proves view (Ok found) (due spans)) spans-are proves)
+
+  pub is-refused : {X : Type 0} (view : X → List (List Cell)) (refusal : Refusal) → Proves view (Err (stop.Refused refusal)) (due (spans_of versions))
+      → Refused refusal ≡ dump_provenance (dump_view dump) point select
+  is-refused view refusal proves =
+      unproven view refusal (due (spans_at (tables_view dump.versions))) (subst (λ (spans : ℕ → List Span). Proves view (Err (stop.Refused refusal)) (due spans)) spans-are proves)

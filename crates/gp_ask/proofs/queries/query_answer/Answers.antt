@@ -1,0 +1,43 @@
+use Rattle.std.proofs.Common.{false, List, Option, Result, ap, subst, sym, refl, ℕ, ◌∙◌, ◌≡◌}
+use Rattle.std.proofs.lemmas.Result.{IfOk-weaker}
+use Rattle.gp_base.specs.declared.refusal.Refusal.{Refusal}
+use Rattle.gp_base.specs.Annotated.{plain}
+use Rattle.gp_grammar.specs.Syntax as y
+use Rattle.gp_syntax.specs.Views.{query_view, state_view}
+use Rattle.gp_algebra.specs.Plain.{PlainEnvironment}
+use Rattle.gp_check.specs.Checking.{checked_query}
+use Rattle.gp_exec.specs.Backends.{Executes}
+use Rattle.gp_log.specs.Limits.{limits}
+use Rattle.gp_log.specs.LogFacts.{tables_in}
+use Rattle.gp_log.specs.LogFitting.{SpansFit}
+use Rattle.gp_log.specs.Logs.{log_view}
+use Rattle.gp_machine.specs.Questions.{log_refusal, rows_answer}
+use Rattle.gp_reenact.specs.Reenacting.{merged_at, spans_of, transaction_at}
+use Rattle.gp_travel.specs.Encoding.{encoded}
+use Rattle.gp_travel.specs.Travel.{as_of}
+use Rattle.gp_versions.specs.declared.span.Span.{Span}
+use Rattle.gp_dump.specs.Views.{dump_view, tables_view}
+use Rattle.gp_dump.proofs.FittingTables.{spans_of_dumps, statements_of_dumps}
+use Rattle.gp_ask.specs.declared.answered.Answered.{Answered}
+use Rattle.gp_ask.specs.Answers.{answer_to, of_elements, query_answer, spans_at}
+use Rattle.gp_ask.specs.Backends.{AnswersBy, AnswersQuery}
+use Rattle.gp_ask.proofs.BackendLemmas.{executed_answers, past_is}
+use Rattle.gp_ask.proofs.ReenactedLemmas.{dump-spans}
+use Rattle.gp_ask.proofs.queries.query_answer.Goals as goal
+
+pub returns : goal.returns
+returns c =
+    let dump = c.args.dump.now in
+    let entries = log_view dump.log.entries in
+    let point = state_view c.args.state in
+    let question = y.ask y.rows point (query_view c.args.query.now) in
+    let due = log_refusal entries point in
+    let checked = checked_query (tables_in entries) (query_view c.args.query.now) in
+    let spans_fit = subst (λ (spans : ℕ → List Span). SpansFit (tables_in entries) spans) (sym (dump-spans dump.versions)) (spans_of_dumps (dump_view dump) c.requires.rules) in
+    let moved = ap (λ (spans : ℕ → List Span). query_answer (λ select. of_elements (rows_answer limits entries spans point select)) due checked) (dump-spans dump.versions) in
+    IfOk-weaker c.query_answer_by.result (λ (a : Answered). AnswersBy Executes (dump_view dump) question a) (λ (a : Answered). a ≡ answer_to (dump_view dump) question)
+    (λ a by.
+    executed_answers entries dump.versions point (statements_of_dumps (dump_view dump) c.requires.rules) spans_fit due checked a refl
+    (subst (λ (past : PlainEnvironment). AnswersQuery Executes (tables_in entries) (transaction_at point) (merged_at false entries point) past due checked a) (sym (past_is dump.versions)) by)
+    ∙ moved)
+    c.query_answer_by.ensures

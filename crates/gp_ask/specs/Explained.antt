@@ -1,0 +1,34 @@
+-- Part of the statement: what an explained question says, unless it is refused: its lines are the text of one program, in normal form, which on every
+-- database of past versions gives the answer of the query over the state.
+use Rattle.std.specs.Prelude.{ℕ, Bool, List, Result, Ok, Err}
+use Rattle.std.specs.List.{AllByRecursion}
+use Rattle.gp_base.specs.declared.refusal.Refusal.{Refusal}
+use Rattle.gp_grammar.specs.LineReading.{Fault, question_of}
+use Rattle.gp_grammar.specs.Syntax as y
+use Rattle.gp_syntax.specs.Lines.{script_lines}
+use Rattle.gp_algebra.specs.Statements.{Select}
+use Rattle.gp_check.specs.Checking.{checked_query}
+use Rattle.gp_explain.specs.Explained.{Explains}
+use Rattle.gp_log.specs.LogFacts.{tables_in}
+use Rattle.gp_machine.specs.Entries.{Entry}
+use Rattle.gp_machine.specs.Questions.{log_refusal}
+use Rattle.gp_ask.specs.Answers.{asked}
+use Rattle.gp_ask.specs.Programs.{explained_text}
+
+module _ (entries : List Entry) where
+  abbrev pub ExplainsQuery : Bool → y.State → Result Select Refusal → Type 0
+  ExplainsQuery prov point (Ok select) = Explains entries point select prov (explained_text entries prov point select)
+  ExplainsQuery prov point (Err refusal) = Unit {0}
+
+  abbrev pub ExplainsQuestion : y.Question → Type 0
+  ExplainsQuestion (y.ask (y.explain prov) point query) = ExplainsQuery prov point (asked (log_refusal entries point) (checked_query (tables_in entries) query))
+  ExplainsQuestion question = Unit {0}
+
+  -- a line that is read as this
+  abbrev pub ExplainsRead : Result y.Question Fault → Type 0
+  ExplainsRead (Ok question) = ExplainsQuestion question
+  ExplainsRead (Err fault) = Unit {0}
+
+  -- each line of a file of questions
+  abbrev pub ExplainsQuestions : List ℕ → Type 0
+  ExplainsQuestions questions = AllByRecursion (λ (line : ℕ × List ℕ). ExplainsRead (question_of line.1)) (script_lines questions)
