@@ -58,9 +58,14 @@ const INVALID_ARGUMENTS: &[&[&str]] = &[
     &["run", "S", "D", "D"],
     &["ask", "S"],
     &["gen", "5"],
+    &["RUN", "S", "D"],
     &["run", "-S", "D"],
     &["run", "S", ""],
+    &["", "S", "D"],
+    &["--"],
+    &["-h"],
     &["--help"],
+    &["--version"],
 ];
 
 #[test]
