@@ -8,6 +8,7 @@ mod OrderLemmas
 pub mod RoomLemmas
 mod RunBounds
 mod SmallLemmas
+mod SpanValues
 mod StatementBounds
 mod ValueLemmas
-mod VersionReannotation
+pub mod VersionReannotation

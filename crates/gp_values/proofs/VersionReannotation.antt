@@ -37,7 +37,7 @@ module _ {M N : Type 0} (kind : Annotations M) (other : Annotations N) (h : M �
       ]
 
   module _ (spans : ℕ → List Span) where
-    annotated_reannotated : (a : Environment M) (b : Environment N) → VersionsReannotate h a b → VersionsReannotate h (annotated kind spans a) (annotated other spans b)
+    pub annotated_reannotated : (a : Environment M) (b : Environment N) → VersionsReannotate h a b → VersionsReannotate h (annotated kind spans a) (annotated other spans b)
     annotated_reannotated a b are version table =
         map_agree (annotated_row other b table) (λ span. reannotated h (annotated_row kind a table span)) each (spans_at version (spans table))
         ∙ sym (map-map (reannotated h) (annotated_row kind a table) (spans_at version (spans table)))
@@ -85,7 +85,7 @@ module _ {M N : Type 0} (kind : Annotations M) (other : Annotations N) (h : M �
           here : alike (db' table) (past' table) ≡ agree (db table) (past table)
           here = ap (λ rows. alike rows (past' table)) (same table) ∙ ap (alike (map (reannotated h) (db table))) (same' table) ∙ natural (db table) (past table)
 
-      annotation_stop_reannotated : (log : Log) (u : ℕ) → annotation_stop other limits alike catalogue log spans u ≡ annotation_stop kind limits agree catalogue log spans u
+      pub annotation_stop_reannotated : (log : Log) (u : ℕ) → annotation_stop other limits alike catalogue log spans u ≡ annotation_stop kind limits agree catalogue log spans u
       annotation_stop_reannotated log zero = refl
       annotation_stop_reannotated log (suc u) =
           let before = annotation_stop_reannotated log u in

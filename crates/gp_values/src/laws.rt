@@ -1,14 +1,15 @@
 //! Laws of the definitions that contracts cite. Each function does nothing: its postconditions are the laws, and one cites laws of
 //! the history machine.
 
-ghost use Rattle.std.specs.Prelude.{◌≡◌, ℕ, ◌<◌, ◌≤◌, suc, Bool, true, List, map, Some};
+ghost use Rattle.std.specs.Prelude.{◌≡◌, ℕ, ◌*◌, ◌<◌, ◌≤◌, suc, Bool, true, List, map, Some};
 ghost use Rattle.std.specs.List.{AllByRecursion};
 ghost use Rattle.std.specs.List.Sorted.{IsPermutation};
 ghost use Rattle.gp_base.specs.declared.cell.Cell.{Cell};
 ghost use Rattle.gp_base.specs.declared.table.Table.{Table};
 ghost use Rattle.gp_base.specs.declared.token.Token.{Token};
 ghost use Rattle.gp_base.specs.Annotated.{Annotations, Annotated, monomials};
-ghost use Rattle.gp_base.specs.Tokens.{Monomial};
+ghost use Rattle.gp_base.specs.Identities.{nodes};
+ghost use Rattle.gp_base.specs.Tokens.{Monomial, greatest_count};
 ghost use Rattle.gp_grammar.specs.Syntax as y;
 ghost use Rattle.gp_versions.specs.declared.span.Span.{Span};
 ghost use Rattle.gp_algebra.specs.Reannotation.{IsHomomorphism, reannotated};
@@ -19,7 +20,7 @@ ghost use Rattle.gp_machine.specs.Event.{Line, after};
 ghost use Rattle.gp_machine.specs.HistorySpans.{state_spans};
 ghost use Rattle.gp_machine.specs.Limits.{Limits};
 ghost use Rattle.gp_machine.specs.State.{start};
-ghost use Rattle.gp_valuation.specs.Values.{values_as_annotations};
+ghost use Rattle.gp_valuation.specs.Values.{monomial_value, values_as_annotations};
 ghost use Rattle.gp_kexec.specs.InSemiring.{words};
 ghost use Rattle.gp_values.specs.DistinctRows.{AreAscending, distinct_rows, occurs_in};
 ghost use Rattle.gp_values.specs.Room.{HasRoom, IsWithinNodes, for_each_node, made_by};
@@ -71,6 +72,19 @@ pub fn tokens_are_within_nodes()
         → version_of (committer_of (suc u) entries) entries ≡ Some (suc u))
         → (t version : ℕ) → version ≤ versions_in entries
         → made_by (log_of entries) version t ≤ 1 }
+{}
+
+/// A row of an annotated version has in a semiring the value of its monomial, if identities have few enough nodes, and there are few
+/// enough versions, that no count is stopped: what annotates versions with elements never makes a monomial.
+pub fn versions_have_the_values_of_their_monomials<K: Semiring>()
+    ensures versions { (value : Token → K) → ((token : Token) → K.is_element (value token))
+        → (log : Log) (spans : ℕ → List Span) (newest version table most : ℕ)
+        → AllByRecursion (λ (span : Span). nodes span.id ≤ most) (spans table)
+        → suc newest * most ≤ greatest_count
+        → annotated (values_as_annotations K.one_of K.times_of value) spans
+        (computed (values_as_annotations K.one_of K.times_of value) log spans newest) version table
+        ≡ map (reannotated (monomial_value K.one_of K.times_of value))
+        (annotated monomials spans (computed monomials log spans newest) version table) }
 {}
 
 /// What is computed with the elements of a semiring as annotations, the elements of a row added up, is the answer: the distinct

@@ -10,4 +10,5 @@ mod laws;
 pub use laws::{
     annotated_answers_are_carried, distinct_rows_are_each_once, tokens_are_within_nodes,
     values_are_sums_over_the_history, values_are_those_of_the_history,
+    versions_have_the_values_of_their_monomials,
 };
