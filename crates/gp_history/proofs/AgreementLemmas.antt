@@ -89,7 +89,7 @@ module _ {M : Type 0} where
   parts_of [] = refl
   parts_of (row ∷ rows) = λ i. parts_are row.cells row.identity i ∷ parts_of rows i
 
-  key_from : (rows : List (Annotated M)) → map (λ (p : Identity × List Cell). p.1 ++ cell.Id p.0 ∷ []) (identified rows) ≡ map key_of rows
+  pub key_from : (rows : List (Annotated M)) → map (λ (p : Identity × List Cell). p.1 ++ cell.Id p.0 ∷ []) (identified rows) ≡ map key_of rows
   key_from [] = refl
   key_from (row ∷ rows) = ap (λ (keys : List (List Cell)). key_of row ∷ keys) (key_from rows)
 

@@ -1,4 +1,4 @@
--- The monomials of computed rows, as they are added one by one.
+-- The annotations of computed rows, as they are added one by one.
 use Rattle.std.proofs.Common.{◌≡◌, Bool, true, false, true≢false, cond, refl, sym, ap, ◌∙◌, Option, Some, None}
 use Rattle.std.specs.BTreeMap.{BTreeMap, Updates, get}
 use Rattle.std.specs.Option.{option_or}
@@ -8,54 +8,54 @@ use Rattle.std.specs.declared.cmp.Ordering.{Ordering}
 use Rattle.std.specs.declared.cmp.Ordering.TheVariants.{Less, Equal, Greater}
 use Rattle.gp_base.specs.Identities.{Identity, identity_cmp}
 use Rattle.gp_base.specs.IdentityOrder.{identity_cmp-exact}
-use Rattle.gp_base.specs.Tokens.{Monomial}
-use Rattle.gp_history.specs.Encoded.{noted}
+use Rattle.gp_history.specs.Noted.{noted}
 
 tied : (o : Ordering) → is_eq o ≡ true → o ≡ Equal
 tied Less e = absurd (true≢false (sym e))
 tied Equal e = refl
 tied Greater e = absurd (true≢false (sym e))
 
-absent : (o : Option Monomial) → is_some o ≡ false → o ≡ None
-absent None e = refl
-absent (Some m) e = absurd (true≢false e)
+module _ {M : Type 0} where
+  absent : (o : Option M) → is_some o ≡ false → o ≡ None
+  absent None e = refl
+  absent (Some m) e = absurd (true≢false e)
 
--- an identity that has none yet gets a monomial
-pub added : (old new : BTreeMap Identity Monomial) (id : Identity) (monomial : Monomial) → is_some (get identity_cmp old id) ≡ false → Updates identity_cmp old new id (Some monomial)
-    → (other : Identity) → get identity_cmp new other ≡ option_or (get identity_cmp old other) (noted other (Some id) (Some monomial))
-added old new id monomial none updates other = updates.0 other ∙ by (is_eq (identity_cmp id other)) refl
-  where
-    by : (b : Bool) → is_eq (identity_cmp id other) ≡ b → cond b (Some monomial) (get identity_cmp old other) ≡ option_or (get identity_cmp old other) (cond b (Some monomial) None)
-    by true is =
-        let same : id ≡ other = identity_cmp-exact id other (tied (identity_cmp id other) is) in
-        sym (ap (λ o. option_or o (Some monomial)) (ap (get identity_cmp old) (sym same) ∙ absent (get identity_cmp old id) none))
-    by false is = keep (get identity_cmp old other)
-      where
-        keep : (o : Option Monomial) → o ≡ option_or o None
-        keep None = refl
-        keep (Some m) = refl
+  -- an identity that has none yet gets an annotation
+  pub added : (old new : BTreeMap Identity M) (id : Identity) (annotation : M) → is_some (get identity_cmp old id) ≡ false → Updates identity_cmp old new id (Some annotation)
+      → (other : Identity) → get identity_cmp new other ≡ option_or (get identity_cmp old other) (noted other id annotation)
+  added old new id annotation none updates other = updates.0 other ∙ by (is_eq (identity_cmp id other)) refl
+    where
+      by : (b : Bool) → is_eq (identity_cmp id other) ≡ b → cond b (Some annotation) (get identity_cmp old other) ≡ option_or (get identity_cmp old other) (cond b (Some annotation) None)
+      by true is =
+          let same : id ≡ other = identity_cmp-exact id other (tied (identity_cmp id other) is) in
+          sym (ap (λ o. option_or o (Some annotation)) (ap (get identity_cmp old) (sym same) ∙ absent (get identity_cmp old id) none))
+      by false is = keep (get identity_cmp old other)
+        where
+          keep : (o : Option M) → o ≡ option_or o None
+          keep None = refl
+          keep (Some m) = refl
 
--- one that has a monomial keeps it
-pub kept : (old : BTreeMap Identity Monomial) (id : Identity) (monomial : Monomial) → is_some (get identity_cmp old id) ≡ true
-    → (other : Identity) → get identity_cmp old other ≡ option_or (get identity_cmp old other) (noted other (Some id) (Some monomial))
-kept old id monomial some other = by (is_eq (identity_cmp id other)) refl
-  where
-    whole : (o : Option Monomial) (b : Bool) → (b ≡ true → is_some o ≡ true) → o ≡ option_or o (cond b (Some monomial) None)
-    whole None true there = absurd (true≢false (sym (there refl)))
-    whole None false there = refl
-    whole (Some m) b there = refl
+  -- one that has an annotation keeps it
+  pub kept : (old : BTreeMap Identity M) (id : Identity) (annotation : M) → is_some (get identity_cmp old id) ≡ true
+      → (other : Identity) → get identity_cmp old other ≡ option_or (get identity_cmp old other) (noted other id annotation)
+  kept old id annotation some other = by (is_eq (identity_cmp id other)) refl
+    where
+      whole : (o : Option M) (b : Bool) → (b ≡ true → is_some o ≡ true) → o ≡ option_or o (cond b (Some annotation) None)
+      whole None true there = absurd (true≢false (sym (there refl)))
+      whole None false there = refl
+      whole (Some m) b there = refl
 
-    by : (b : Bool) → is_eq (identity_cmp id other) ≡ b → get identity_cmp old other ≡ option_or (get identity_cmp old other) (cond b (Some monomial) None)
-    by true is =
-        whole (get identity_cmp old other) true
-        (λ yes. ap (λ (key : Identity). is_some (get identity_cmp old key)) (sym (identity_cmp-exact id other (tied (identity_cmp id other) is))) ∙ some)
-    by false is = whole (get identity_cmp old other) false (λ no. absurd (true≢false (sym no)))
+      by : (b : Bool) → is_eq (identity_cmp id other) ≡ b → get identity_cmp old other ≡ option_or (get identity_cmp old other) (cond b (Some annotation) None)
+      by true is =
+          whole (get identity_cmp old other) true
+          (λ yes. ap (λ (key : Identity). is_some (get identity_cmp old key)) (sym (identity_cmp-exact id other (tied (identity_cmp id other) is))) ∙ some)
+      by false is = whole (get identity_cmp old other) false (λ no. absurd (true≢false (sym no)))
 
--- a row without an identity or a monomial adds none
-pub no_more : (o : Option Monomial) → option_or o None ≡ o
-no_more None = refl
-no_more (Some m) = refl
+  -- a row without an identity or an annotation adds none
+  pub no_more : (o : Option M) → option_or o None ≡ o
+  no_more None = refl
+  no_more (Some m) = refl
 
-pub first_then : (a b c : Option Monomial) → option_or (option_or a b) c ≡ option_or a (option_or b c)
-first_then None b c = refl
-first_then (Some m) b c = refl
+  pub first_then : (a b c : Option M) → option_or (option_or a b) c ≡ option_or a (option_or b c)
+  first_then None b c = refl
+  first_then (Some m) b c = refl

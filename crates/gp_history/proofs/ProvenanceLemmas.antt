@@ -5,7 +5,7 @@ use Rattle.std.proofs.Math.Nat.{eq-or-lt_of_le}
 use Rattle.std.proofs.lemmas.Bool.Decides.{nat_tests}
 use Rattle.gp_base.specs.declared.cell.Cell.TheVariants as cell
 use Rattle.gp_base.specs.declared.row_id.TheConstants.{MAX_NODES}
-use Rattle.gp_base.specs.Annotated.{Annotated, Database, Environment, monomials}
+use Rattle.gp_base.specs.Annotated.{Annotated, Annotations, Database, Environment, monomials}
 use Rattle.gp_base.specs.Tokens.{Monomial}
 use Rattle.gp_grammar.specs.Syntax as y
 use Rattle.gp_algebra.specs.AnnotatedQueries as q
@@ -51,23 +51,23 @@ use Rattle.gp_history.proofs.TableLemmas.{both, held_rows, monoid, none_marked, 
 below : (a b : ℕ) → a < b → (a == b) ≡ false
 below a b l = grind (arith, nat_tests)
 
-module _ (log : Log) (spans : ℕ → List Span) where
-  pub computed_stays : (w n v : ℕ) → v ≤ w → w ≤ n → computed monomials log spans n v ≡ computed monomials log spans w v
-  computed_stays w zero v l m = let same : w ≡ zero = omega arith in ap (λ u. computed monomials log spans u v) (sym same)
+module _ {M : Type 0} (kind : Annotations M) (log : Log) (spans : ℕ → List Span) where
+  pub computed_stays : (w n v : ℕ) → v ≤ w → w ≤ n → computed kind log spans n v ≡ computed kind log spans w v
+  computed_stays w zero v l m = let same : w ≡ zero = omega arith in ap (λ u. computed kind log spans u v) (sym same)
   computed_stays w (suc n) v l m = by (eq-or-lt_of_le m) (λ less. computed_stays w n v l less)
     where
-      later : (db : Database Monomial) (b : Bool) → b ≡ false → cond b db (computed monomials log spans n v) ≡ computed monomials log spans n v
+      later : (db : Database M) (b : Bool) → b ≡ false → cond b db (computed kind log spans n v) ≡ computed kind log spans n v
       later db true is = absurd (cc)
       later db false is = refl
 
-      by : (w ≡ suc n) ⊎ (w < suc n) → (w ≤ n → computed monomials log spans n v ≡ computed monomials log spans w v) → computed monomials log spans (suc n) v ≡ computed monomials log spans w v
-      by (inl same) earlier = ap (λ u. computed monomials log spans u v) (sym same)
+      by : (w ≡ suc n) ⊎ (w < suc n) → (w ≤ n → computed kind log spans n v ≡ computed kind log spans w v) → computed kind log spans (suc n) v ≡ computed kind log spans w v
+      by (inl same) earlier = ap (λ u. computed kind log spans u v) (sym same)
       by (inr less) earlier =
-          later (cleared (at_commit monomials log (log.committer (suc n)) n (annotated monomials spans (computed monomials log spans n)))) (v == suc n) (below v (suc n) (omega arith))
+          later (cleared (at_commit kind log (log.committer (suc n)) n (annotated kind spans (computed kind log spans n)))) (v == suc n) (below v (suc n) (omega arith))
           ∙ earlier (omega arith)
 
   -- the rows of a version are annotated once its version is computed
-  rows_stay : (w n version table : ℕ) → version ≤ w → w ≤ n → annotated monomials spans (computed monomials log spans n) version table ≡ annotated monomials spans (computed monomials log spans w) version table
+  pub rows_stay : (w n version table : ℕ) → version ≤ w → w ≤ n → annotated kind spans (computed kind log spans n) version table ≡ annotated kind spans (computed kind log spans w) version table
   rows_stay w n version table l m = go (spans table)
     where
       begun : (span : Span) → holds_at version span ≡ true → span.from ≤ version
@@ -76,8 +76,8 @@ module _ (log : Log) (spans : ℕ → List Span) where
           within : (a b : ℕ) → nat_le a b ≡ true → a ≤ b
           within a b e = grind (arith, nat_tests)
 
-      row : ℕ → Span → Annotated Monomial
-      row u span = record { identity = span.id; cells = span.row; mark = false; annotation = annotation_of monomials span.id (computed monomials log spans u span.from table) }
+      row : ℕ → Span → Annotated M
+      row u span = record { identity = span.id; cells = span.row; mark = false; annotation = annotation_of kind span.id (computed kind log spans u span.from table) }
 
       go : (all : List Span) → map (row n) (spans_at version all) ≡ map (row w) (spans_at version all)
       go [] = refl
@@ -87,7 +87,7 @@ module _ (log : Log) (spans : ℕ → List Span) where
               → map (row n) (cond b (span ∷ spans_at version all) (spans_at version all)) ≡ map (row w) (cond b (span ∷ spans_at version all) (spans_at version all))
           by true holds others =
               let from = begun span holds in
-              (λ i. record { identity = span.id; cells = span.row; mark = false; annotation = annotation_of monomials span.id (computed_stays w n span.from (omega arith) m i table) } ∷ others i)
+              (λ i. record { identity = span.id; cells = span.row; mark = false; annotation = annotation_of kind span.id (computed_stays w n span.from (omega arith) m i table) } ∷ others i)
           by false holds others = others
 
 -- ---- the scans of a program with system columns
@@ -158,7 +158,7 @@ module _ (entries : List Entry) (versions : List Versions) (sound : IsSound entr
     env = annotated monomials spans (computed monomials (log_of entries) spans n)
 
     wide : (version : ℕ) → AreAsWide columns (env version)
-    wide = wide_rows (tables_in entries) spans sound.spans (computed monomials (log_of entries) spans n)
+    wide = wide_rows monomials (tables_in entries) spans sound.spans (computed monomials (log_of entries) spans n)
 
     widths : HaveWidths columns env
     widths version table = wide version table
@@ -174,7 +174,7 @@ module _ (entries : List Entry) (versions : List Versions) (sound : IsSound entr
     gives =
         answers_are columns true env widths program built
         ∙ occurrences (q.program_meaning monomials env program) (answer monomials select (at_point monomials entries point env))
-        (program_is monomials monoid (tables_in entries) entries sound.statements env wide (none_marked (tables_in entries) spans sound.spans (computed monomials (log_of entries) spans n)) point select fits)
+        (program_is monomials monoid (tables_in entries) entries sound.statements env wide (none_marked monomials (tables_in entries) spans sound.spans (computed monomials (log_of entries) spans n)) point select fits)
 
     steps_stop_is : (t k : ℕ) (last : Query) → HasSteps columns (record { steps = composed columns (log_of entries) t k; last = last })
         → program_stop MAX_TABLE_ROWS MAX_NODES (encoded true env) (plain_program columns true (record { steps = composed columns (log_of entries) t k; last = last }))
@@ -182,7 +182,7 @@ module _ (entries : List Entry) (versions : List Versions) (sound : IsSound entr
     steps_stop_is t k last has =
         let steps : List QueryStep = composed columns (log_of entries) t k in
         program_stops true limits (tables_in entries) entries t k env last sound.statements
-        (held_rows (tables_in entries) spans sound.spans (computed monomials (log_of entries) spans n) (begin_version t entries))
+        (held_rows monomials (tables_in entries) spans sound.spans (computed monomials (log_of entries) spans n) (begin_version t entries))
         (gives_run true columns (step_table steps) (log_of entries) t env k
         (λ j table statement within is writes_it. composed_step_is monomials monoid (tables_in entries) entries sound.statements env wide t k j table statement within is writes_it)
         (λ j. rows_between true (columns (step_table steps j)) (steps_are columns true env widths (record { steps = steps; last = last }) has j)))
@@ -214,4 +214,4 @@ needed_suffice entries versions sound select point known most scan among =
     let program = program_at columns entries point select in
     let there = subst (λ (scans : List ScanAt). Contains scans scan) (program_kept columns true program) among in
     let few : scan.version ≤ needed_version entries point = scans_are_needed limits columns entries sound.log point known select scan there in
-    sym (ap (map (encoded_row true)) (rows_stay (log_of entries) (spans_of versions) (needed_version entries point) (versions_in entries) scan.version scan.table few most))
+    sym (ap (map (encoded_row true)) (rows_stay monomials (log_of entries) (spans_of versions) (needed_version entries point) (versions_in entries) scan.version scan.table few most))

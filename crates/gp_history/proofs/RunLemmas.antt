@@ -13,7 +13,7 @@ use Rattle.gp_exec.specs.declared.error.ExecStop.TheVariants.{Ancestry, Answer, 
 use Rattle.gp_exec.specs.declared.limit.TheConstants.{MAX_TABLE_ROWS}
 use Rattle.gp_algebra.specs.Scans.{AgreeOn}
 use Rattle.gp_algebra.specs.declared.plain.ScanAt.{ScanAt}
-use Rattle.gp_history.specs.Changes.{RunsTableOver}
+use Rattle.gp_history.specs.Running.{RunsTableOver}
 use Rattle.gp_history.specs.Scanning.{scans_at}
 
 pub runs_over : {X : Type 0} (view : X → List (List Cell)) (result : Result X ExecStop) (scanned : Env) (env : PlainEnvironment) (program meant : PlainProgram)

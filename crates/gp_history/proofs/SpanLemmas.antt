@@ -1,13 +1,12 @@
--- Spans with their monomials.
+-- Spans with their annotations.
 use Rattle.std.proofs.Common.{◌≡◌, ◌≢◌, ℕ, zero, suc, ◌<◌, ◌≤◌, ◌==◌, ◌&&◌, Bool, true, false, true≢false, cond, List, [], ◌∷◌, length, get_or, set, take, map, refl, sym, ap, ◌∙◌, subst, arith, Option, Some, None, unwrap_or, nat_le, slice_get}
 use Rattle.std.specs.Prelude.{slice_index_or}
 use Rattle.std.specs.BTreeMap.{BTreeMap, get}
 use Rattle.std.specs.List.{list_any}
 use Rattle.std.proofs.lemmas.Bool.Decides.{nat_tests}
 use Rattle.std.proofs.lemmas.List.{get_or_past}
-use Rattle.gp_base.specs.Annotated.{Annotated, Annotations, monomials}
+use Rattle.gp_base.specs.Annotated.{Annotated, Annotations}
 use Rattle.gp_base.specs.Identities.{Identity, identity_cmp}
-use Rattle.gp_base.specs.Tokens.{Monomial, one}
 use Rattle.gp_machine.specs.Annotating.{annotated, annotation_of, computed}
 use Rattle.gp_machine.specs.Entries.{Log}
 use Rattle.gp_machine.proofs.Distinct.{or_false}
@@ -52,40 +51,41 @@ untouched_spans version (span ∷ spans) none =
     let same : holds_at (suc version) span ≡ holds_at version span = λ i. begins_same version span.from own.0 i && ends_same version span.to own.1 i in
     λ i. cond (same i) (span ∷ untouched_spans version spans parts.1 i) (untouched_spans version spans parts.1 i)
 
--- ---- monomials after a commit
+-- ---- annotations after a commit
 
-pub renewed_more : (version : ℕ) (found : BTreeMap Identity Monomial) (spans : List Span) (before : List Monomial) (i : ℕ) (d : Span) → i < length spans
-    → renewed version found (take (suc i) spans) before ≡ renewed_span version found (get_or spans i d) i (renewed version found (take i spans) before)
-renewed_more version found [] before i d l = absurd (omega arith)
-renewed_more version found (span ∷ spans) [] zero d l = by (span.from == version)
-  where
-    by : (b : Bool) → [] ≡ cond b (set [] zero (unwrap_or (get identity_cmp found span.id) one)) []
-    by true = refl
-    by false = refl
-renewed_more version found (span ∷ spans) [] (suc i) d l = by ((get_or spans i d).from == version)
-  where
-    by : (b : Bool) → [] ≡ cond b (set [] (suc i) (unwrap_or (get identity_cmp found (get_or spans i d).id) one)) []
-    by true = refl
-    by false = refl
-renewed_more version found (span ∷ spans) (monomial ∷ before) zero d l = by (span.from == version)
-  where
-    by : (b : Bool) → cond b (unwrap_or (get identity_cmp found span.id) one) monomial ∷ before ≡ cond b (set (monomial ∷ before) zero (unwrap_or (get identity_cmp found span.id) one)) (monomial ∷ before)
-    by true = refl
-    by false = refl
-renewed_more version found (span ∷ spans) (monomial ∷ before) (suc i) d l =
-    ap (λ (rest : List Monomial). first ∷ rest) (renewed_more version found spans before i d (omega arith))
-    ∙ by ((get_or spans i d).from == version)
-  where
-    first : Monomial
-    first = cond (span.from == version) (unwrap_or (get identity_cmp found span.id) one) monomial
+module _ {M : Type 0} (one : M) where
+  pub renewed_more : (version : ℕ) (found : BTreeMap Identity M) (spans : List Span) (before : List M) (i : ℕ) (d : Span) → i < length spans
+      → renewed one version found (take (suc i) spans) before ≡ renewed_span one version found (get_or spans i d) i (renewed one version found (take i spans) before)
+  renewed_more version found [] before i d l = absurd (omega arith)
+  renewed_more version found (span ∷ spans) [] zero d l = by (span.from == version)
+    where
+      by : (b : Bool) → [] ≡ cond b (set [] zero (unwrap_or (get identity_cmp found span.id) one)) []
+      by true = refl
+      by false = refl
+  renewed_more version found (span ∷ spans) [] (suc i) d l = by ((get_or spans i d).from == version)
+    where
+      by : (b : Bool) → [] ≡ cond b (set [] (suc i) (unwrap_or (get identity_cmp found (get_or spans i d).id) one)) []
+      by true = refl
+      by false = refl
+  renewed_more version found (span ∷ spans) (annotation ∷ before) zero d l = by (span.from == version)
+    where
+      by : (b : Bool) → cond b (unwrap_or (get identity_cmp found span.id) one) annotation ∷ before ≡ cond b (set (annotation ∷ before) zero (unwrap_or (get identity_cmp found span.id) one)) (annotation ∷ before)
+      by true = refl
+      by false = refl
+  renewed_more version found (span ∷ spans) (annotation ∷ before) (suc i) d l =
+      ap (λ (rest : List M). first ∷ rest) (renewed_more version found spans before i d (omega arith))
+      ∙ by ((get_or spans i d).from == version)
+    where
+      first : M
+      first = cond (span.from == version) (unwrap_or (get identity_cmp found span.id) one) annotation
 
-    rest : List Monomial
-    rest = renewed version found (take i spans) before
+      rest : List M
+      rest = renewed one version found (take i spans) before
 
-    by : (b : Bool) → first ∷ cond b (set rest i (unwrap_or (get identity_cmp found (get_or spans i d).id) one)) rest
-        ≡ cond b (set (first ∷ rest) (suc i) (unwrap_or (get identity_cmp found (get_or spans i d).id) one)) (first ∷ rest)
-    by true = refl
-    by false = refl
+      by : (b : Bool) → first ∷ cond b (set rest i (unwrap_or (get identity_cmp found (get_or spans i d).id) one)) rest
+          ≡ cond b (set (first ∷ rest) (suc i) (unwrap_or (get identity_cmp found (get_or spans i d).id) one)) (first ∷ rest)
+      by true = refl
+      by false = refl
 
 differ : (a b : ℕ) → a ≢ b → (a == b) ≡ false
 differ a b e = grind (arith, nat_tests)
@@ -94,31 +94,31 @@ same_suc : (a b : ℕ) → (a == b) ≡ (suc a == suc b)
 same_suc a b = grind (arith, nat_tests)
 
 -- the table at one place is renewed
-pub renewed_table : (old : List (List Monomial)) (at table : ℕ) (new : List Monomial) → at < length old
+pub renewed_table : {M : Type 0} (old : List (List M)) (at table : ℕ) (new : List M) → at < length old
     → get_or (set (set old at []) at new) table [] ≡ cond (table == at) new (get_or old table [])
 renewed_table [] at table new l = absurd (omega arith)
-renewed_table (one ∷ old) zero zero new l = refl
-renewed_table (one ∷ old) zero (suc table) new l = ap (λ b. cond b new (get_or old table [])) (sym (differ (suc table) zero (omega arith)))
-renewed_table (one ∷ old) (suc at) zero new l = ap (λ b. cond b new one) (sym (differ zero (suc at) (omega arith)))
-renewed_table (one ∷ old) (suc at) (suc table) new l = renewed_table old at table new (omega arith) ∙ ap (λ b. cond b new (get_or old table [])) (same_suc table at)
+renewed_table (first ∷ old) zero zero new l = refl
+renewed_table (first ∷ old) zero (suc table) new l = ap (λ b. cond b new (get_or old table [])) (sym (differ (suc table) zero (omega arith)))
+renewed_table (first ∷ old) (suc at) zero new l = ap (λ b. cond b new first) (sym (differ zero (suc at) (omega arith)))
+renewed_table (first ∷ old) (suc at) (suc table) new l = renewed_table old at table new (omega arith) ∙ ap (λ b. cond b new (get_or old table [])) (same_suc table at)
 
-pub renewed_nothing : (version : ℕ) (found : BTreeMap Identity Monomial) (spans : List Span) → renewed version found spans [] ≡ []
-renewed_nothing version found [] = refl
-renewed_nothing version found (span ∷ spans) = refl
+pub renewed_nothing : {M : Type 0} (one : M) (version : ℕ) (found : BTreeMap Identity M) (spans : List Span) → renewed one version found spans [] ≡ []
+renewed_nothing one version found [] = refl
+renewed_nothing one version found (span ∷ spans) = refl
 
 -- a table that is not there has nothing to renew
-pub renewed_past : (version at : ℕ) (found : BTreeMap Identity Monomial) (spans : List Span) (old : List (List Monomial)) → length old ≤ at
-    → (table : ℕ) → get_or old table [] ≡ renewed_at version at found spans (get_or old table []) table
-renewed_past version at found spans old past table = by (table == at) refl
+pub renewed_past : {M : Type 0} (one : M) (version at : ℕ) (found : BTreeMap Identity M) (spans : List Span) (old : List (List M)) → length old ≤ at
+    → (table : ℕ) → get_or old table [] ≡ renewed_at one version at found spans (get_or old table []) table
+renewed_past one version at found spans old past table = by (table == at) refl
   where
     equal : (a b : ℕ) → (a == b) ≡ true → a ≡ b
     equal a b e = grind (arith, nat_tests)
 
-    by : (b : Bool) → (table == at) ≡ b → get_or old table [] ≡ cond b (renewed version found spans (get_or old table [])) (get_or old table [])
+    by : (b : Bool) → (table == at) ≡ b → get_or old table [] ≡ cond b (renewed one version found spans (get_or old table [])) (get_or old table [])
     by true is =
         let same : table ≡ at = equal table at is in
         let none : get_or old table [] ≡ [] = get_or_past old table [] (omega arith) in
-        none ∙ sym (renewed_nothing version found spans) ∙ ap (renewed version found spans) (sym none)
+        none ∙ sym (renewed_nothing one version found spans) ∙ ap (renewed one version found spans) (sym none)
     by false is = refl
 
 get_taken : {X : Type 0} (xs : List X) (at table : ℕ) → (table == at) ≡ false → slice_get (take (suc at) xs) table ≡ slice_get (take at xs) table
@@ -141,38 +141,38 @@ get_none (x ∷ xs) zero = refl
 get_none (x ∷ xs) (suc at) = get_none xs at
 
 -- one more change
-pub renewed_step : (version : ℕ) (spans : ℕ → List Span) (changes : List (Option (BTreeMap Identity Monomial))) (at : ℕ) (change : Option (BTreeMap Identity Monomial)) → at < length changes → change ≡ get_or changes at change
-    → (table : ℕ) (monomials : List Monomial)
-    → changed_at version at change (spans at) (renewed_by version (slice_get (take at changes) table) (spans table) monomials) table
-    ≡ renewed_by version (slice_get (take (suc at) changes) table) (spans table) monomials
-renewed_step version spans changes at change less is table monomials = by (table == at) refl
+pub renewed_step : {M : Type 0} (one : M) (version : ℕ) (spans : ℕ → List Span) (changes : List (Option (BTreeMap Identity M))) (at : ℕ) (change : Option (BTreeMap Identity M)) → at < length changes → change ≡ get_or changes at change
+    → (table : ℕ) (annotations : List M)
+    → changed_at one version at change (spans at) (renewed_by one version (slice_get (take at changes) table) (spans table) annotations) table
+    ≡ renewed_by one version (slice_get (take (suc at) changes) table) (spans table) annotations
+renewed_step one version spans changes at change less is table annotations = by (table == at) refl
   where
     equal : (a b : ℕ) → (a == b) ≡ true → a ≡ b
     equal a b e = grind (arith, nat_tests)
 
-    here : (table : ℕ) → table ≡ at → renewed_by version (Some change) (spans at) (renewed_by version (slice_get (take at changes) table) (spans table) monomials)
-        ≡ renewed_by version (slice_get (take (suc at) changes) table) (spans table) monomials
+    here : (table : ℕ) → table ≡ at → renewed_by one version (Some change) (spans at) (renewed_by one version (slice_get (take at changes) table) (spans table) annotations)
+        ≡ renewed_by one version (slice_get (take (suc at) changes) table) (spans table) annotations
     here table same =
-        subst (λ n. renewed_by version (Some change) (spans at) (renewed_by version (slice_get (take at changes) n) (spans n) monomials) ≡ renewed_by version (slice_get (take (suc at) changes) n) (spans n) monomials) (sym same)
-        (ap (λ o. renewed_by version (Some change) (spans at) (renewed_by version o (spans at) monomials)) (get_none changes at)
-        ∙ ap (λ o. renewed_by version o (spans at) monomials) (sym (get_last changes at change less is)))
+        subst (λ n. renewed_by one version (Some change) (spans at) (renewed_by one version (slice_get (take at changes) n) (spans n) annotations) ≡ renewed_by one version (slice_get (take (suc at) changes) n) (spans n) annotations) (sym same)
+        (ap (λ o. renewed_by one version (Some change) (spans at) (renewed_by one version o (spans at) annotations)) (get_none changes at)
+        ∙ ap (λ o. renewed_by one version o (spans at) annotations) (sym (get_last changes at change less is)))
 
-    by : (b : Bool) → (table == at) ≡ b → cond b (renewed_by version (Some change) (spans at) (renewed_by version (slice_get (take at changes) table) (spans table) monomials)) (renewed_by version (slice_get (take at changes) table) (spans table) monomials)
-        ≡ renewed_by version (slice_get (take (suc at) changes) table) (spans table) monomials
+    by : (b : Bool) → (table == at) ≡ b → cond b (renewed_by one version (Some change) (spans at) (renewed_by one version (slice_get (take at changes) table) (spans table) annotations)) (renewed_by one version (slice_get (take at changes) table) (spans table) annotations)
+        ≡ renewed_by one version (slice_get (take (suc at) changes) table) (spans table) annotations
     by true same = here table (equal table at same)
-    by false other = ap (λ o. renewed_by version o (spans table) monomials) (sym (get_taken changes at table other))
+    by false other = ap (λ o. renewed_by one version o (spans table) annotations) (sym (get_taken changes at table other))
 
-module _ (log : Log) (spans : ℕ → List Span) (before : ℕ) where
-  abbrev noted : ℕ → ℕ → Span → Monomial
-  noted version table span = annotation_of monomials span.id (computed monomials log spans version span.from table)
+module _ {M : Type 0} (kind : Annotations M) (log : Log) (spans : ℕ → List Span) (before : ℕ) where
+  abbrev noted : ℕ → ℕ → Span → M
+  noted version table span = annotation_of kind span.id (computed kind log spans version span.from table)
 
-  -- a span that begins with another version keeps its monomial
+  -- a span that begins with another version keeps its annotation
   kept_span : (table : ℕ) (span : Span) → (span.from == suc before) ≡ false → noted (suc before) table span ≡ noted before table span
-  kept_span table span not = ap (λ b. annotation_of monomials span.id (cond b (made log spans before) (computed monomials log spans before span.from) table)) not
+  kept_span table span not = ap (λ b. annotation_of kind span.id (cond b (made kind log spans before) (computed kind log spans before span.from) table)) not
 
   -- one that begins with it has that of the rows that are made
-  new_span : (table : ℕ) (span : Span) → (span.from == suc before) ≡ true → noted (suc before) table span ≡ annotation_of monomials span.id (made log spans before table)
-  new_span table span is = ap (λ b. annotation_of monomials span.id (cond b (made log spans before) (computed monomials log spans before span.from) table)) is
+  new_span : (table : ℕ) (span : Span) → (span.from == suc before) ≡ true → noted (suc before) table span ≡ annotation_of kind span.id (made kind log spans before table)
+  new_span table span is = ap (λ b. annotation_of kind span.id (cond b (made kind log spans before) (computed kind log spans before span.from) table)) is
 
   kept_all : (table : ℕ) (all : List Span) → list_any (is_touched (suc before)) all ≡ false → map (noted before table) all ≡ map (noted (suc before) table) all
   kept_all table [] none = refl
@@ -181,28 +181,28 @@ module _ (log : Log) (spans : ℕ → List Span) (before : ℕ) where
       let own = or_false (span.from == suc before) (ends_at (suc before) span.to) parts.0 in
       λ i. sym (kept_span table span own.0) i ∷ kept_all table all parts.1 i
 
-  new_all : (table : ℕ) (found : BTreeMap Identity Monomial) (all : List Span) → Finds (suc before) found all (made log spans before table)
-      → renewed (suc before) found all (map (noted before table) all) ≡ map (noted (suc before) table) all
+  new_all : (table : ℕ) (found : BTreeMap Identity M) (all : List Span) → Finds kind (suc before) found all (made kind log spans before table)
+      → renewed kind.one (suc before) found all (map (noted before table) all) ≡ map (noted (suc before) table) all
   new_all table found [] finds = refl
   new_all table found (span ∷ all) finds = λ i. by (span.from == suc before) refl i ∷ new_all table found all finds.1 i
     where
-      by : (b : Bool) → (span.from == suc before) ≡ b → cond b (unwrap_or (get identity_cmp found span.id) one) (noted before table span) ≡ noted (suc before) table span
+      by : (b : Bool) → (span.from == suc before) ≡ b → cond b (unwrap_or (get identity_cmp found span.id) kind.one) (noted before table span) ≡ noted (suc before) table span
       by true is = finds.0 is ∙ sym (new_span table span is)
       by false is = sym (kept_span table span is)
 
   -- the changes of all tables that have spans annotate the next version
-  pub next_are : (changes : List (Option (BTreeMap Identity Monomial))) (old new : List (List Monomial))
-      → ((table : ℕ) → (change : Option (BTreeMap Identity Monomial)) → slice_get changes table ≡ Some change → IsChange log (maker log before) (suc before) table (spans table) (made log spans before table) change)
+  pub next_are : (changes : List (Option (BTreeMap Identity M))) (old new : List (List M))
+      → ((table : ℕ) → (change : Option (BTreeMap Identity M)) → slice_get changes table ≡ Some change → IsChange kind log (maker log before) (suc before) table (spans table) (made kind log spans before table) change)
       → ((table : ℕ) → slice_get changes table ≡ None → spans table ≡ [])
-      → AreAnnotated monomials log spans before old
-      → ((table : ℕ) → slice_index_or new table [] ≡ renewed_by (suc before) (slice_get changes table) (spans table) (slice_index_or old table []))
-      → AreAnnotated monomials log spans (suc before) new
+      → AreAnnotated kind log spans before old
+      → ((table : ℕ) → slice_index_or new table [] ≡ renewed_by kind.one (suc before) (slice_get changes table) (spans table) (slice_index_or old table []))
+      → AreAnnotated kind log spans (suc before) new
   next_are changes old new each beyond are renews = record { tables = λ table. renews table ∙ by table (slice_get changes table) refl }
     where
-      by : (table : ℕ) (change : Option (Option (BTreeMap Identity Monomial))) → slice_get changes table ≡ change
-          → renewed_by (suc before) change (spans table) (slice_index_or old table []) ≡ map (noted (suc before) table) (spans table)
+      by : (table : ℕ) (change : Option (Option (BTreeMap Identity M))) → slice_get changes table ≡ change
+          → renewed_by kind.one (suc before) change (spans table) (slice_index_or old table []) ≡ map (noted (suc before) table) (spans table)
       by table None is =
           let none = beyond table is in
           are.tables table ∙ subst (λ (all : List Span). map (noted before table) all ≡ map (noted (suc before) table) all) (sym none) refl
       by table (Some None) is = are.tables table ∙ kept_all table (spans table) (each table None is).untouched
-      by table (Some (Some found)) is = ap (renewed (suc before) found (spans table)) (are.tables table) ∙ new_all table found (spans table) (each table (Some found) is)
+      by table (Some (Some found)) is = ap (renewed kind.one (suc before) found (spans table)) (are.tables table) ∙ new_all table found (spans table) (each table (Some found) is)

@@ -3,8 +3,7 @@ use Rattle.std.proofs.Common.{◌≡◌, ℕ, zero, suc, ◌+◌, ◌<◌, ◌�
 use Rattle.std.specs.Prelude.{slice_get}
 use Rattle.std.proofs.Math.ListN.{get_or-map}
 use Rattle.std.proofs.lemmas.List.{get_or_past}
-use Rattle.gp_base.specs.Annotated.{monomials}
-use Rattle.gp_base.specs.Tokens.{Monomial, one}
+use Rattle.gp_base.specs.Annotated.{Annotations}
 use Rattle.gp_log.specs.LogFacts.{tables_in}
 use Rattle.gp_machine.specs.Entries.{Entry, Log}
 use Rattle.gp_reenact.specs.Reenacting.{spans_of}
@@ -27,8 +26,8 @@ ended (x ∷ xs) zero is = absurd (cc)
 ended (x ∷ xs) (suc k) is = let rest = ended xs k is in omega (arith, rest)
 
 -- before the first version each annotation is one
-pub none_annotated : (log : Log) (versions : List Versions) → AreAnnotated monomials log (spans_of versions) zero (ones versions)
-none_annotated log versions = record { tables = λ table. get_or-map (λ (t : Versions). map (λ (span : Span). one) t.spans) versions table no_table }
+pub none_annotated : {M : Type 0} (kind : Annotations M) (log : Log) (versions : List Versions) → AreAnnotated kind log (spans_of versions) zero (ones kind.one versions)
+none_annotated kind log versions = record { tables = λ table. get_or-map (λ (t : Versions). map (λ (span : Span). kind.one) t.spans) versions table no_table }
 
 -- one more item
 pub map_more : {X Y : Type 0} (f : X → Y) (xs : List X) (i : ℕ) (x : X) → i < length xs → x ≡ get_or xs i x → map f (take (i + 1) xs) ≡ map f (take i xs) ++ f x ∷ []
@@ -40,10 +39,10 @@ map_more f xs i x less is = rw add-one (go f xs i x less is)
     go f (y ∷ xs) (suc i) x less is = ap (λ rest. f y ∷ rest) (go f xs i x (omega arith) is)
 
 -- one more span
-pub ones_more : (spans : List Span) (i : ℕ) → i < length spans → map (λ (span : Span). one) (take (i + 1) spans) ≡ map (λ (span : Span). one) (take i spans) ++ one ∷ []
-ones_more spans i less = rw add-one (go spans i less)
+pub ones_more : {M : Type 0} (one : M) (spans : List Span) (i : ℕ) → i < length spans → map (λ (span : Span). one) (take (i + 1) spans) ≡ map (λ (span : Span). one) (take i spans) ++ one ∷ []
+ones_more one spans i less = rw add-one (go spans i less)
   where
     go : (spans : List Span) (i : ℕ) → i < length spans → map (λ (span : Span). one) (take (suc i) spans) ≡ map (λ (span : Span). one) (take i spans) ++ one ∷ []
     go [] i less = absurd (omega arith)
     go (span ∷ spans) zero less = refl
-    go (span ∷ spans) (suc i) less = ap (λ (rest : List Monomial). one ∷ rest) (go spans i (omega arith))
+    go (span ∷ spans) (suc i) less = ap (λ (rest : List _). one ∷ rest) (go spans i (omega arith))

@@ -8,7 +8,7 @@ use Rattle.std.proofs.lemmas.Bool.{eq-eqb, eqb-true, ltb-true}
 use Rattle.std.proofs.lemmas.Bool.Decides.{nat_tests}
 use Rattle.gp_base.specs.declared.row_id.TheConstants.{MAX_NODES}
 use Rattle.gp_base.specs.declared.table.Table.{Table}
-use Rattle.gp_base.specs.Annotated.{Annotated, Environment, monomials}
+use Rattle.gp_base.specs.Annotated.{Annotated, Annotations, Environment, monomials}
 use Rattle.gp_base.specs.Tokens.{Monomial}
 use Rattle.gp_base.proofs.ProductLaws.{times-associative, times-one}
 use Rattle.gp_algebra.specs.AnnotatedQueries as q
@@ -39,7 +39,6 @@ use Rattle.gp_reenact.proofs.StopLemmas.{AreHeld, IsHeld, gives_run, program_sto
 use Rattle.gp_rewrite.specs.Meaning.{AreAsWide, IsMonoid}
 use Rattle.gp_versions.specs.declared.span.Span.{Span}
 use Rattle.gp_versions.specs.Spans.{holds_at, spans_at}
-use Rattle.gp_history.specs.Changes.{is_scan}
 
 pub both : (a b : Bool) → a && b ≡ true → (a ≡ true) × (b ≡ true)
 both true b e = (refl, e)
@@ -50,14 +49,14 @@ monoid = record { right_one = times-one; associative = times-associative }
 
 -- ---- annotated versions
 
-module _ (catalogue : List Table) (spans : ℕ → List Span) (fit : SpansFit catalogue spans) (versions : Environment Monomial) where
-  abbrev env : Environment Monomial
-  env = annotated monomials spans versions
+module _ {M : Type 0} (kind : Annotations M) (catalogue : List Table) (spans : ℕ → List Span) (fit : SpansFit catalogue spans) (versions : Environment M) where
+  abbrev env : Environment M
+  env = annotated kind spans versions
 
-  each_row : (P : Annotated Monomial → Type 0) (table : ℕ) → ((span : Span) → SpanFits (width_of catalogue table) span → P (annotated_row monomials versions table span))
+  each_row : (P : Annotated M → Type 0) (table : ℕ) → ((span : Span) → SpanFits (width_of catalogue table) span → P (annotated_row kind versions table span))
       → (version : ℕ) → AllByRecursion P (env version table)
   each_row P table holds version =
-      each_map P (SpanFits (width_of catalogue table)) (annotated_row monomials versions table) holds (spans_at version (spans table))
+      each_map P (SpanFits (width_of catalogue table)) (annotated_row kind versions table) holds (spans_at version (spans table))
       (each_filter (SpanFits (width_of catalogue table)) (SpanFits (width_of catalogue table)) (holds_at version) (λ span at is. is) (spans table) (fit table))
 
   pub held_rows : (version : ℕ) → AreHeld MAX_NODES (env version)
@@ -87,7 +86,7 @@ module _ (entries : List Entry) (spans : ℕ → List Span) (fit : statements_fi
   program = published_table columns (log_of entries) t before table
 
   wide : (version : ℕ) → AreAsWide columns (past version)
-  wide = wide_rows (tables_in entries) spans spans_fit versions
+  wide = wide_rows monomials (tables_in entries) spans spans_fit versions
 
   widths : HaveWidths columns past
   widths version table = wide version table
@@ -99,7 +98,7 @@ module _ (entries : List Entry) (spans : ℕ → List Span) (fit : statements_fi
   plain_is_built = program_built columns true program built.steps (inr (table, built.contents))
 
   means : q.program_meaning monomials past program ≡ map (q.scanned monomials) (at_commit monomials (log_of entries) t before past table)
-  means = published_table_gives monomials monoid (tables_in entries) entries fit past wide (none_marked (tables_in entries) spans spans_fit versions) t before table
+  means = published_table_gives monomials monoid (tables_in entries) entries fit past wide (none_marked monomials (tables_in entries) spans spans_fit versions) t before table
 
   -- its rows, with identities, marks and monomials
   pub rows_are : p.program_meaning (encoded true past) (plain_program columns true program) ≡ map (encoded_row true) (at_commit monomials (log_of entries) t before past table)
@@ -113,28 +112,14 @@ module _ (entries : List Entry) (spans : ℕ → List Span) (fit : statements_fi
   stop_is =
       let steps : List QueryStep = composed columns (log_of entries) t count in
       program_stops true limits (tables_in entries) entries t count past program.last fit
-      (held_rows (tables_in entries) spans spans_fit versions (begin_version t entries))
+      (held_rows monomials (tables_in entries) spans spans_fit versions (begin_version t entries))
       (gives_run true columns (step_table steps) (log_of entries) t past count
       (λ j own statement within is writes_it. composed_step_is monomials monoid (tables_in entries) entries fit past wide t count j own statement within is writes_it)
       (λ j. rows_between true (columns (step_table steps j)) (steps_are columns true past widths program built.steps j)))
 
-  scan_of : (o : Option ℕ) → last_write (log_of entries) t count table ≡ o → is_scan (published_as (begin_version t entries) before table o) ≡ true → o ≡ None
-  scan_of None is scans = refl
-  scan_of (Some j) is scans = absurd (true≢false (sym scans))
-
-  -- a table whose program is a scan has no statement on it
-  pub scan_is : is_scan program.last ≡ true → last_write (log_of entries) t count table ≡ None
-  scan_is scans = scan_of (last_write (log_of entries) t count table) refl scans
-
-  -- and is as in the version before
-  pub kept_is : last_write (log_of entries) t count table ≡ None → at_commit monomials (log_of entries) t before past table ≡ past before table
-  kept_is none =
-      scanned_once monomials (at_commit monomials (log_of entries) t before past table) (past before table)
-      (sym means ∙ ap (λ o. q.meaning monomials (q.steps_meaning monomials past program.steps p.no_steps) past (published_as (begin_version t entries) before table o)) none)
-
 -- ---- a transaction that writes nothing
 
-module _ (catalogue : List Table) (log : Log) (t : ℕ) (versions : Environment Monomial)
+module _ {M : Type 0} (kind : Annotations M) (catalogue : List Table) (log : Log) (t : ℕ) (versions : Environment M)
     (fits : (k : ℕ) (statement : Statement) → log.statement t k ≡ Some statement → statement_fits catalogue statement ≡ true) where
   -- if a statement that writes a table writes none of these, there is no statement
   none_there : (table : ℕ) → is_there catalogue table ≡ true → ((own : ℕ) → own < length catalogue → (table == own) ≡ false) → ⊥
@@ -147,7 +132,7 @@ module _ (catalogue : List Table) (log : Log) (t : ℕ) (versions : Environment 
   turned a b e = grind (arith, nat_tests)
 
   one_stop : (k : ℕ) (found : Option Statement) → log.statement t (suc k) ≡ found → ((table : ℕ) → table < length catalogue → writes found table ≡ false)
-      → statement_stop monomials limits t (suc k) found (run monomials log t k versions) ≡ None
+      → statement_stop kind limits t (suc k) found (run kind log t k versions) ≡ None
   one_stop k None is none = refl
   one_stop k (Some (insert table rows)) is none =
       absurd (none_there table (both _ _ (fits (suc k) (insert table rows) is)).0 (λ own less. turned own table (none own less)))
@@ -162,7 +147,7 @@ module _ (catalogue : List Table) (log : Log) (t : ℕ) (versions : Environment 
   parts false j o e = (refl, e)
 
   -- a transaction that has no statement on any table never stops
-  pub never_stops : (k : ℕ) → ((table : ℕ) → table < length catalogue → last_write log t k table ≡ None) → run_stop monomials limits log t k versions ≡ None
+  pub never_stops : (k : ℕ) → ((table : ℕ) → table < length catalogue → last_write log t k table ≡ None) → run_stop kind limits log t k versions ≡ None
   never_stops zero none = refl
   never_stops (suc k) none =
       let each = λ (table : ℕ) (less : table < length catalogue). parts (writes (log.statement t (suc k)) table) (suc k) (last_write log t k table) (none table less) in

@@ -1,9 +1,13 @@
 pub mod Agreement
 pub mod Annotating
 pub mod Changes
-pub mod Encoded
+pub mod Decoded
+pub mod Images
 pub mod Matching
+pub mod Noted
 pub mod Provenance
+pub mod Running
 pub mod Scanning
 pub mod Sound
 pub mod SpanAnnotations
+pub mod Values

@@ -2,23 +2,28 @@
 use Rattle.std.specs.Prelude.{ℕ, List, ◌∷◌, ◌++◌, drop, map, Option, Some, None}
 use Rattle.std.specs.List.Sorted.{IsPermutation}
 use Rattle.gp_base.specs.declared.cell.Cell.{Cell}
-use Rattle.gp_base.specs.Annotated.{monomials}
+use Rattle.gp_base.specs.Annotated.{plain}
+use Rattle.gp_kexec.specs.declared.held.Held.{Held}
 use Rattle.gp_versions.specs.declared.span.Span.{Span}
-use Rattle.gp_versions.specs.Spans.{rows_at}
+use Rattle.gp_versions.specs.Spans.{row_of, rows_at}
 use Rattle.gp_history.specs.Agreement.{key_of}
-use Rattle.gp_history.specs.Encoded.{key_in}
+use Rattle.gp_history.specs.Noted.{held_key}
 use Rattle.gp_history.specs.declared.matching.Places.{Places}
 
 -- the keys of the rows from these places on
-abbrev pub keys_from : List (List Cell) → List (List Cell) → Places → List (List Cell)
-keys_from kept written at = map key_in (drop at.kept kept) ++ map key_in (drop at.written written)
+abbrev pub keys_from : {M : Type 0} → List (Held M) → List (Held M) → Places → List (List Cell)
+keys_from kept written at = map held_key (drop at.kept kept) ++ map held_key (drop at.written written)
+
+-- the key of the row of a span
+abbrev pub span_key : Span → List Cell
+span_key span = key_of (row_of plain span)
 
 -- the keys of the rows that a version has of these spans
 abbrev pub keys_of : ℕ → List Span → List (List Cell)
-keys_of version spans = map key_of (rows_at monomials version spans)
+keys_of version spans = map key_of (rows_at plain version spans)
 
 -- The row of a span was found: if the rows behind it are those of other spans, then with it they are those of all.
-abbrev pub TakesRow : List (List Cell) → List (List Cell) → Places → ℕ → Span → Option Places → Type 0
+abbrev pub TakesRow : {M : Type 0} → List (Held M) → List (Held M) → Places → ℕ → Span → Option Places → Type 0
 TakesRow kept written at version span None = Unit {0}
 TakesRow kept written at version span (Some next) = (others : List Span) → IsPermutation (keys_from kept written next) (keys_of version others)
     → IsPermutation (keys_from kept written at) (keys_of version (span ∷ others))

@@ -3,70 +3,57 @@
 ghost use Rattle.std.specs.Prelude.{◌≡◌, map, IfOk};
 ghost use Rattle.std.specs.Cmp.Lexicographic.{slice_cmp};
 ghost use Rattle.std.specs.Ordering.{is_eq};
-ghost use Rattle.gp_base.specs.Annotated.{monomials};
 ghost use Rattle.gp_base.specs.Order.{row_cmp};
-ghost use Rattle.gp_versions.specs.Spans.{row_of, rows_at};
-ghost use Rattle.gp_history.specs.Agreement.{key_of, keys_agree};
-ghost use Rattle.gp_history.specs.Encoded.{key_in};
+ghost use Rattle.gp_history.specs.Agreement.{keys_agree};
+ghost use Rattle.gp_history.specs.Matching.{keys_of, span_key};
+ghost use Rattle.gp_history.specs.Noted.{held_key};
 
-use crate::matching::{are_in_order, first_marked};
+use crate::matching::{are_in_order, first_marked, is_same};
 use gp_base::{Cell, NoMemory, Row, sort_rows};
+use gp_kexec::Held;
 use gp_versions::Span;
 use std::alloc::Global;
-use std::cmp::Ordering;
 
-/// The cells of a row and its identity, without its mark and its monomial.
-fn key_in(alloc: Global, row: &Row) -> Result<Row, NoMemory>
-    ensures { IfOk result (λ key. key ≡ key_in row.now) }
+/// The cells of a row and its identity, without its mark and its annotation.
+fn key_of_row<A>(row: &Held<A>) -> Result<Row, NoMemory>
+    ensures { IfOk result (λ key. key ≡ held_key row.now) }
 {
-    let cells = row.cells();
-    let count = cells.len().saturating_sub(2);
-    let mut key = Row::new(alloc);
-    for i in 0..count {
-        key.push(cells[i].clone()?)?;
-    }
+    let mut key = row.cells.clone()?;
+    key.push(Cell::Id(row.id.clone()?))?;
     Ok(key)
 }
 
 /// The cells of the row of a span and its identity.
-fn key_of(span: &Span) -> Result<Row, NoMemory>
-    ensures { IfOk result (λ key. key ≡ key_of (row_of monomials span.now)) }
+fn key_of_span(span: &Span) -> Result<Row, NoMemory>
+    ensures { IfOk result (λ key. key ≡ span_key span.now) }
 {
     let mut key = span.row.clone()?;
     key.push(Cell::Id(span.id.clone()?))?;
     Ok(key)
 }
 
-/// The keys of rows with system columns.
-fn keys_in(alloc: Global, rows: &[Row]) -> Result<Vec<Row>, NoMemory>
-    ensures { IfOk result (λ keys. keys.items ≡ map key_in rows.now) }
+/// The keys of rows.
+fn keys_in<A>(alloc: Global, rows: &[Held<A>]) -> Result<Vec<Row>, NoMemory>
+    ensures { IfOk result (λ keys. keys.items ≡ map held_key rows.now) }
 {
     let mut keys = Vec::new(alloc);
     for row in rows {
-        keys.push(key_in(alloc, row)?)?;
+        keys.push(key_of_row(row)?)?;
     }
     Ok(keys)
 }
 
 /// The keys of the rows of a version.
 fn keys_at(alloc: Global, spans: &[Span], version: u32) -> Result<Vec<Row>, NoMemory>
-    ensures { IfOk result (λ keys.
-        keys.items ≡ map key_of (rows_at monomials version spans.now)) }
+    ensures { IfOk result (λ keys. keys.items ≡ keys_of version spans.now) }
 {
     let mut keys = Vec::new(alloc);
     for span in spans {
         if span.holds(version) {
-            keys.push(key_of(span)?)?;
+            keys.push(key_of_span(span)?)?;
         }
     }
     Ok(keys)
-}
-
-/// Whether two keys are equal.
-fn is_same(key: &Row, other: &Row) -> bool
-    ensures { result ≡ is_eq (row_cmp key.now other.now) }
-{
-    key.cmp(other) == Ordering::Equal
 }
 
 /// Whether two lists of keys are equal.
@@ -84,10 +71,15 @@ fn are_equal(keys: &[Row], others: &[Row]) -> bool
     true
 }
 
-/// Whether these rows with system columns are those of the version, each as often.
-pub fn agree(alloc: Global, rows: &[Row], spans: &[Span], version: u32) -> Result<bool, NoMemory>
-    ensures { IfOk result (λ yes. yes ≡ keys_agree
-        (map key_in rows.now) (map key_of (rows_at monomials version spans.now))) }
+/// Whether these rows are those of the version, each as often.
+pub fn agree<A>(
+    alloc: Global,
+    rows: &[Held<A>],
+    spans: &[Span],
+    version: u32,
+) -> Result<bool, NoMemory>
+    ensures { IfOk result (λ yes.
+        yes ≡ keys_agree (map held_key rows.now) (keys_of version spans.now)) }
 {
     let parts = rows.split_at(first_marked(rows));
     if are_in_order(parts.0, parts.1, spans, version) {
@@ -97,9 +89,14 @@ pub fn agree(alloc: Global, rows: &[Row], spans: &[Span], version: u32) -> Resul
 }
 
 /// The same, by sorting both.
-fn sorted_agree(alloc: Global, rows: &[Row], spans: &[Span], version: u32) -> Result<bool, NoMemory>
-    ensures { IfOk result (λ yes. yes ≡ keys_agree
-        (map key_in rows.now) (map key_of (rows_at monomials version spans.now))) }
+fn sorted_agree<A>(
+    alloc: Global,
+    rows: &[Held<A>],
+    spans: &[Span],
+    version: u32,
+) -> Result<bool, NoMemory>
+    ensures { IfOk result (λ yes.
+        yes ≡ keys_agree (map held_key rows.now) (keys_of version spans.now)) }
 {
     let mut own = keys_in(alloc, rows)?;
     let mut due = keys_at(alloc, spans, version)?;

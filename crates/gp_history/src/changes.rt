@@ -1,26 +1,27 @@
 //! What a commit changes, table by table.
 
-ghost use Rattle.std.specs.Prelude.{◌≡◌, ◌<◌, true, length};
+ghost use Rattle.std.specs.Prelude.{◌≡◌, ◌<◌, true, length, map};
 ghost use Rattle.gp_algebra.specs.Fitting.{is_there};
 ghost use Rattle.gp_log.specs.LogFacts.{tables_in};
 ghost use Rattle.gp_log.specs.Logs.{log_view};
 ghost use Rattle.gp_machine.specs.Entries as m;
-ghost use Rattle.gp_base.specs.Annotated.{monomials};
 ghost use Rattle.gp_reenact.specs.Reenacting.{spans_of};
 ghost use Rattle.gp_history.specs.Changes.{AreChanges, ChangesTable, FindsRows, commit_stop, maker, stopped};
 ghost use Rattle.gp_history.specs.Annotating.{Annotates};
+ghost use Rattle.gp_history.specs.Noted.{row_view};
 ghost use Rattle.gp_history.specs.Sound.{IsSound};
 ghost use Rattle.gp_history.specs.SpanAnnotations.{AreAnnotated};
 
 use crate::agreement::agree;
 use crate::annotated::Annotated;
+use crate::annotator::{Annotator, Publication};
 use crate::error::HistoryStop;
 use crate::found::notes_of;
-use crate::published::{is_scan, published_program, table_rows};
+use crate::published::{is_scan, published_program};
 use crate::spans::{are_touched, spans_in};
-use gp_algebra::AProgram;
-use gp_base::{Monomial, Row, RowId};
+use gp_base::RowId;
 use gp_exec::ExecStop;
+use gp_kexec::Held;
 use gp_log::Log;
 use gp_versions::{Span, VersionTable};
 use std::alloc::Global;
@@ -37,51 +38,57 @@ fn stopped(t: u32, stop: ExecStop) -> HistoryStop
     }
 }
 
-/// What becomes of a table whose published rows are these, with system columns.
-fn rows_change(
+/// What becomes of a table whose published rows are these.
+fn rows_change<A: Drop, N: Annotator<A>>(
     alloc: Global,
-    rows: &[Row],
+    annotator: &N,
+    rows: &[Held<A>],
     spans: &[Span],
     version: u32,
     table: u32,
-) -> Result<Option<BTreeMap<RowId, Monomial>>, HistoryStop>
-    ensures { FindsRows rows.now spans.now version table result }
+) -> Result<Option<BTreeMap<RowId, A>>, HistoryStop>
+    ensures { FindsRows (map row_view rows.now) spans.now version table result }
 {
     if !agree(alloc, rows, spans, version)? {
         return Err(HistoryStop::Inconsistent { version, table });
     }
-    Ok(Some(notes_of(alloc, rows, spans, version)?))
+    Ok(Some(notes_of(alloc, annotator, rows, spans, version)?))
 }
 
 /// What the commit after a version does to a table: nothing, if the transaction has no statement on it and no span begins or
 /// ends there; else the rows that it published are computed and compared.
-fn table_change(
+fn table_change<A: Drop, N: Annotator<A>>(
     alloc: Global,
+    annotator: &N,
     log: &Log,
     versions: &[VersionTable],
-    known: &Annotated,
+    known: &Annotated<A>,
     before: u32,
     t: u32,
     table: u32,
-) -> Result<Option<BTreeMap<RowId, Monomial>>, HistoryStop>
+) -> Result<Option<BTreeMap<RowId, A>>, HistoryStop>
     requires sound { IsSound (log_view log.now.entries) versions.now }
     requires within { before < m.versions_in (log_view log.now.entries) }
     requires maker { t ≡ maker (m.log_of (log_view log.now.entries)) before }
     requires there { is_there (tables_in (log_view log.now.entries)) table ≡ true }
-    requires known { AreAnnotated monomials (m.log_of (log_view log.now.entries))
+    requires known { AreAnnotated (N.kind annotator.now) (m.log_of (log_view log.now.entries))
         (spans_of versions.now) before known.now }
-    ensures { ChangesTable (m.log_of (log_view log.now.entries))
+    ensures { ChangesTable (N.kind annotator.now) (m.log_of (log_view log.now.entries))
         (spans_of versions.now) before table result }
 {
     // The number of commits has 32 bits.
     let _commits = log.commits();
-    let program = published_program(alloc, log, t, table)?;
+    let of = Publication {
+        before,
+        table,
+        program: published_program(alloc, log, t, table)?,
+    };
     let spans = spans_in(versions, table as usize);
-    if is_scan(&program.last) && !are_touched(spans, before + 1) {
+    if is_scan(&of.program.last) && !are_touched(spans, before + 1) {
         return Ok(None);
     }
-    match table_rows(alloc, log, versions, known, &program) {
-        Ok(rows) => rows_change(alloc, &rows, spans, before + 1, table),
+    match annotator.rows(alloc, log, versions, known, &of) {
+        Ok(rows) => rows_change(alloc, annotator, &rows, spans, before + 1, table),
         Err(stop) => Err(stopped(t, stop)),
     }
 }
@@ -101,28 +108,29 @@ fn maker_after(log: &Log, before: u32) -> u32
 
 /// What the commit after a version does to each table, or the first stop: of its transaction's run, or else of the first table
 /// whose rows are not those of the spans.
-pub fn changes_of(
+pub fn changes_of<A: Drop, N: Annotator<A>>(
     alloc: Global,
+    annotator: &N,
     log: &Log,
     versions: &[VersionTable],
-    known: &Annotated,
+    known: &Annotated<A>,
     before: u32,
-) -> Result<Vec<Option<BTreeMap<RowId, Monomial>>>, HistoryStop>
+) -> Result<Vec<Option<BTreeMap<RowId, A>>>, HistoryStop>
     requires sound { IsSound (log_view log.now.entries) versions.now }
     requires within { before < m.versions_in (log_view log.now.entries) }
-    requires known { AreAnnotated monomials (m.log_of (log_view log.now.entries))
+    requires known { AreAnnotated (N.kind annotator.now) (m.log_of (log_view log.now.entries))
         (spans_of versions.now) before known.now }
-    ensures { Annotates (λ changes. AreChanges (m.log_of (log_view log.now.entries))
-        (spans_of versions.now) before
+    ensures { Annotates (λ changes. AreChanges (N.kind annotator.now)
+        (m.log_of (log_view log.now.entries)) (spans_of versions.now) before
         (length (tables_in (log_view log.now.entries))) changes.items)
         (tables_in (log_view log.now.entries)) result
-        (commit_stop (m.log_of (log_view log.now.entries)) (spans_of versions.now) before
-        (tables_in (log_view log.now.entries))) }
+        (commit_stop (N.kind annotator.now) (m.log_of (log_view log.now.entries))
+        (spans_of versions.now) before (tables_in (log_view log.now.entries))) }
 {
     let t = maker_after(log, before);
     let mut changes = Vec::new(alloc);
     for table in 0..log.catalog().len() {
-        let change = match table_change(alloc, log, versions, known, before, t, table) {
+        let change = match table_change(alloc, annotator, log, versions, known, before, t, table) {
             Ok(change) => change,
             Err(stop) => return Err(stop),
         };

@@ -3,33 +3,46 @@
 //! A row version is annotated with a monomial: which statements made the row, and from which rows (Green, Karvounarakis and Tannen,
 //! *Provenance semirings*, PODS 2007). [`annotate`] goes from commit to commit: it runs the program of each table that a transaction
 //! published over the versions before, as they are annotated by then, compares the rows with those of the spans, and gives each
-//! span that begins there the monomial of its row. [`Annotated::env`] then gives any program the rows of past versions with their
-//! monomials. In `specs/`, `Agreement` says when two tables have the same rows, `SpanAnnotations` what annotated spans hold, and
-//! `Annotating` what annotating answers.
+//! span that begins there the monomial of its row. [`annotate_in`] does the same with the elements of a semiring. Both are
+//! [`annotate_by`] over an [`Annotator`], which knows how programs are run over its annotations. [`provenance`] answers a query
+//! over a past state with monomials, [`values`] with elements.
+//!
+//! In `specs/`, `Agreement` says when two tables have the same rows, `SpanAnnotations` what annotated spans hold, `Annotating` what
+//! annotating answers, `Images` why elements may stand for monomials, and `Provenance` and `Values` what questions answer.
 //!
 //! ```text
-//! let annotated = annotate(alloc, &log, &versions, v)?;
-//! let env = annotated.env(alloc, &versions, &asked)?; // rows with identity, mark and monomial
+//! let known = annotate(alloc, &log, &versions, v)?; // a monomial for each row version
+//! let rows = provenance(alloc, &log, &versions, state, &select)?;
+//! let sums = values(alloc, &log, &versions, state, &select, &valuation)?;
 //! ```
 #![tactic(auto)]
 
 mod agreement;
 mod annotated;
 mod annotating;
+mod annotator;
+mod asking;
 mod changes;
+mod elements;
 mod error;
 mod found;
 mod laws;
 mod matching;
+mod monomials;
 mod proving;
 mod published;
 mod spans;
+mod valuing;
 
 pub use annotated::Annotated;
-pub use annotating::annotate;
+pub use annotating::{annotate, annotate_by, annotate_in};
+pub use annotator::{Annotator, Publication};
+pub use elements::k_env;
 pub use error::HistoryStop;
 pub use laws::{
     agreement_is_having_the_same_rows, annotated_versions_are_the_committed_ones,
     histories_are_annotated,
 };
+pub use monomials::{Monomials, env};
 pub use proving::provenance;
+pub use valuing::values;

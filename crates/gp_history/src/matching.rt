@@ -4,20 +4,17 @@
 //! in the order of their identities, as a dump has them, each of the two parts is so too, and each row version is that of the first
 //! row that is left of one of them. No row is copied then, and none is sorted. Where it is not so, nothing is known.
 
-ghost use Rattle.std.specs.Prelude.{◌≡◌, ◌<◌, ◌≤◌, ◌++◌, ◌∷◌, true, [], Some, drop, take, length, map, slice_get, suc};
-ghost use Rattle.gp_base.specs.declared.cell.Cell.TheVariants as cell;
+ghost use Rattle.std.specs.Prelude.{◌≡◌, ◌<◌, ◌≤◌, ◌++◌, ◌∷◌, true, drop, length, map, suc};
 ghost use Rattle.std.specs.List.Sorted.{IsPermutation};
 ghost use Rattle.std.specs.Ordering.{is_eq};
-ghost use Rattle.gp_base.specs.Annotated.{monomials};
 ghost use Rattle.gp_base.specs.Identities.{identity_cmp};
-ghost use Rattle.gp_base.specs.Order.{cell_cmp};
-ghost use Rattle.gp_versions.specs.Spans.{holds_at, row_of};
-ghost use Rattle.gp_history.specs.Agreement.{key_of};
-ghost use Rattle.gp_history.specs.Encoded.{key_in};
-ghost use Rattle.gp_history.specs.Matching.{TakesRow, keys_of};
+ghost use Rattle.gp_base.specs.Order.{row_cmp};
+ghost use Rattle.gp_versions.specs.Spans.{holds_at};
+ghost use Rattle.gp_history.specs.Matching.{TakesRow, keys_of, span_key};
+ghost use Rattle.gp_history.specs.Noted.{held_key};
 
-use crate::found::is_marked;
-use gp_base::{Cell, Row, RowId};
+use gp_base::{Row, RowId};
+use gp_kexec::Held;
 use gp_versions::Span;
 use std::cmp::Ordering;
 
@@ -30,11 +27,11 @@ pub struct Places {
     pub written: usize,
 }
 
-/// Whether two cells are equal.
-fn is_same_cell(cell: &Cell, other: &Cell) -> bool
-    ensures { result ≡ is_eq (cell_cmp cell.now other.now) }
+/// Whether two rows are equal.
+pub fn is_same(row: &Row, other: &Row) -> bool
+    ensures { result ≡ is_eq (row_cmp row.now other.now) }
 {
-    cell.cmp(other) == Ordering::Equal
+    row.cmp(other) == Ordering::Equal
 }
 
 /// Whether two identities are equal.
@@ -44,69 +41,22 @@ fn is_same_id(id: &RowId, other: &RowId) -> bool
     id.cmp(other) == Ordering::Equal
 }
 
-/// Whether a cell is the identity.
-fn is_id(own: &Cell, id: &RowId) -> bool
-    ensures { result ≡ true → own.now ≡ cell.Id id.now }
+/// Whether a row has the cells and the identity of the span.
+fn is_row_of<A>(row: &Held<A>, span: &Span) -> bool
+    ensures { result ≡ true → held_key row.now ≡ span_key span.now }
 {
-    match own {
-        Cell::Id(other) => is_same_id(other, id),
-        _ => false,
-    }
-}
-
-/// Whether the first cells are these.
-fn begins_with(cells: &[Cell], own: &[Cell]) -> bool
-    requires { length own.now ≤ length cells.now }
-    ensures { result ≡ true → take (length own.now) cells.now ≡ own.now }
-{
-    for (i, cell) in own.iter().enumerate() {
-        if !is_same_cell(&cells[i], cell) {
-            return false;
-        }
-    }
-    true
-}
-
-/// Whether the cell behind this many is the identity.
-fn has_id(cells: &[Cell], count: usize, id: &RowId) -> bool
-    ensures { result ≡ true → slice_get cells.now count ≡ Some (cell.Id id.now) }
-{
-    if count < cells.len() {
-        is_id(&cells[count], id)
+    if is_same_id(&row.id, &span.id) {
+        is_same(&row.cells, &span.row)
     } else {
         false
     }
-}
-
-/// Whether a row with these cells and system columns has these cells and this identity.
-fn is_key(cells: &[Cell], own: &[Cell], id: &RowId) -> bool
-    ensures { result ≡ true → key_in cells.now ≡ own.now ++ cell.Id id.now ∷ [] }
-{
-    if cells.len() < 3 {
-        return false;
-    }
-    if cells.len() - 3 != own.len() {
-        return false;
-    }
-    if has_id(cells, own.len(), id) {
-        begins_with(cells, own)
-    } else {
-        false
-    }
-}
-
-/// Whether a row with system columns is that of the span.
-fn is_row_of(row: &Row, span: &Span) -> bool
-    ensures { result ≡ true → key_in row.now ≡ key_of (row_of monomials span.now) }
-{
-    is_key(row.cells(), span.row.cells(), &span.id)
 }
 
 /// Whether the first row that is left is that of the span.
-fn is_next(rows: &[Row], at: usize, span: &Span) -> bool
+fn is_next<A>(rows: &[Held<A>], at: usize, span: &Span) -> bool
     ensures within { result ≡ true → at < length rows.now }
-    ensures row { result ≡ true → map key_in (drop at rows.now)
-        ≡ key_of (row_of monomials span.now) ∷ map key_in (drop (suc at) rows.now) }
+    ensures row { result ≡ true → map held_key (drop at rows.now)
+        ≡ span_key span.now ∷ map held_key (drop (suc at) rows.now) }
 {
     if at < rows.len() {
         is_row_of(&rows[at], span)
@@ -116,7 +66,13 @@ fn is_next(rows: &[Row], at: usize, span: &Span) -> bool
 }
 
 /// The places behind the row of a span that the version has, if it is the first row that is left of one of the parts.
-fn take_held(kept: &[Row], written: &[Row], at: Places, span: &Span, version: u32) -> Option<Places>
+fn take_held<A>(
+    kept: &[Held<A>],
+    written: &[Held<A>],
+    at: Places,
+    span: &Span,
+    version: u32,
+) -> Option<Places>
     requires { holds_at version span.now ≡ true }
     ensures { TakesRow kept.now written.now at version span.now result }
 {
@@ -136,7 +92,13 @@ fn take_held(kept: &[Row], written: &[Row], at: Places, span: &Span, version: u3
 }
 
 /// The places behind the row of the span, if the version has it.
-fn take_row(kept: &[Row], written: &[Row], at: Places, span: &Span, version: u32) -> Option<Places>
+fn take_row<A>(
+    kept: &[Held<A>],
+    written: &[Held<A>],
+    at: Places,
+    span: &Span,
+    version: u32,
+) -> Option<Places>
     ensures { TakesRow kept.now written.now at version span.now result }
 {
     if span.holds(version) {
@@ -146,9 +108,9 @@ fn take_row(kept: &[Row], written: &[Row], at: Places, span: &Span, version: u32
     }
 }
 
-/// Whether these rows with system columns, in two parts, are those of the version, as far as one pass shows it.
-pub fn are_in_order(kept: &[Row], written: &[Row], spans: &[Span], version: u32) -> bool
-    ensures { result ≡ true → IsPermutation (map key_in kept.now ++ map key_in written.now)
+/// Whether these rows, in two parts, are those of the version, as far as one pass shows it.
+pub fn are_in_order<A>(kept: &[Held<A>], written: &[Held<A>], spans: &[Span], version: u32) -> bool
+    ensures { result ≡ true → IsPermutation (map held_key kept.now ++ map held_key written.now)
         (keys_of version spans.now) }
 {
     let mut at = Places {
@@ -171,11 +133,11 @@ pub fn are_in_order(kept: &[Row], written: &[Row], spans: &[Span], version: u32)
 }
 
 /// The place of the first row that the transaction wrote, or behind the last row.
-pub fn first_marked(rows: &[Row]) -> usize
+pub fn first_marked<A>(rows: &[Held<A>]) -> usize
     ensures { result ≤ length rows.now }
 {
     for (i, row) in rows.iter().enumerate() {
-        if is_marked(row) {
+        if row.is_marked {
             return i;
         }
     }

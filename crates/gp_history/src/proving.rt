@@ -16,20 +16,20 @@ ghost use Rattle.gp_machine.specs.Questions as q;
 ghost use Rattle.gp_machine.specs.Questions.{annotated_answer, annotation_stop};
 ghost use Rattle.gp_prov.specs.Encoding.{encoded};
 ghost use Rattle.gp_prov.specs.ToPlain as to;
-ghost use Rattle.gp_reenact.specs.Reenacting as r;
 ghost use Rattle.gp_reenact.specs.Reenacting.{RunsOver, spans_of};
 ghost use Rattle.gp_syntax.specs.Views.{state_view};
 ghost use Rattle.gp_history.specs.Agreement.{agree};
-ghost use Rattle.gp_history.specs.Provenance.{AnnotatesOr, IsInTables, Proves, Refuses};
+ghost use Rattle.gp_history.specs.Provenance.{AnnotatesOr, Proves};
 ghost use Rattle.gp_history.specs.Sound.{IsSound};
 ghost use Rattle.gp_history.specs.SpanAnnotations.{AreAnnotated, versions_with};
 
 use crate::annotated::Annotated;
 use crate::annotating::annotate;
-use crate::error::HistoryStop;
+use crate::asking::{needed_version, refused, stopped, transaction_at};
+use crate::monomials::env;
 use gp_algebra::{PProgram, Select, programs_read_their_scans, scans};
-use gp_base::{NoMemory, Refusal, Row};
-use gp_compose::{ComposeStop, program, version_of};
+use gp_base::{Monomial, NoMemory, Row};
+use gp_compose::{ComposeStop, program};
 use gp_exec::{ExecStop, run};
 use gp_log::Log;
 use gp_merge::{merge, merged_programs_are_normal, merged_programs_mean_the_same};
@@ -39,76 +39,13 @@ use gp_syntax::State;
 use gp_versions::VersionTable;
 use std::alloc::Global;
 
-/// The last version whose monomials a state needs.
-fn needed_version(log: &Log, state: State) -> u32
-    requires { q.log_refusal (log_view log.now.entries) (state_view state) ≡ None }
-    ensures { result ≡ q.needed_version (log_view log.now.entries) (state_view state) }
-{
-    // Versions and transactions are numbered by 32 bits. That is known of a log where it is asked for their number.
-    let _commits = log.commits();
-    let _count = log.transactions();
-    match state {
-        State::AsOf { v } => v as u32,
-        State::After { t, .. } => match log.begin_version(t as u32) {
-            Some(version) => version,
-            None => unreachable!(),
-        },
-        State::Commit { t } => match version_of(log, t as u32) {
-            Some(version) => version.saturating_sub(1),
-            None => 0,
-        },
-    }
-}
-
-/// The transaction of a state, or 0 for a version.
-fn transaction_at(log: &Log, state: State) -> u32
-    requires { q.log_refusal (log_view log.now.entries) (state_view state) ≡ None }
-    ensures { result ≡ r.transaction_at (state_view state) }
-{
-    let _count = log.transactions();
-    match state {
-        State::AsOf { .. } => 0,
-        State::After { t, .. } | State::Commit { t } => t as u32,
-    }
-}
-
-/// The refusal of a state of this transaction whose program stops.
-fn stopped(t: u32, stop: ExecStop) -> ReenactStop
-    ensures { result ≡ r.stopped t stop }
-{
-    match stop {
-        ExecStop::Rows { j } => ReenactStop::Refused(Refusal::E25 { t, k: j }),
-        ExecStop::Ancestry { j } => ReenactStop::Refused(Refusal::E26 { t, k: j }),
-        ExecStop::Answer => ReenactStop::Refused(Refusal::E27),
-        ExecStop::NoMemory => ReenactStop::NoMemory,
-    }
-}
-
-/// The refusal of a question that needs versions which cannot be annotated.
-fn refused(log: &Log, stop: HistoryStop) -> ReenactStop
-    requires { IsInTables (tables_in (log_view log.now.entries)) stop }
-    ensures { Refuses (tables_in (log_view log.now.entries)) stop result }
-{
-    match stop {
-        HistoryStop::Inconsistent { version, table } => {
-            match log.catalog().table(table).name.clone() {
-                Ok(table) => ReenactStop::Refused(Refusal::E24 { version, table }),
-                Err(_) => ReenactStop::NoMemory,
-            }
-        }
-        HistoryStop::Rows { t, k } => ReenactStop::Refused(Refusal::E25 { t, k }),
-        HistoryStop::Ancestry { t, k } => ReenactStop::Refused(Refusal::E26 { t, k }),
-        HistoryStop::NoMemory => ReenactStop::NoMemory,
-    }
-}
-
 /// The monomials of the versions up to this one.
 fn annotated_to(
     alloc: Global,
     log: &Log,
     versions: &[VersionTable],
     v: u32,
-) -> Result<Annotated, ReenactStop>
+) -> Result<Annotated<Monomial>, ReenactStop>
     requires sound { IsSound (log_view log.now.entries) versions.now }
     requires within { v ≤ m.versions_in (log_view log.now.entries) }
     ensures { AnnotatesOr (AreAnnotated monomials (m.log_of (log_view log.now.entries))
@@ -145,7 +82,7 @@ fn planned(alloc: Global, log: &Log, state: State, select: &Select) -> Result<PP
 fn rows_over(
     alloc: Global,
     versions: &[VersionTable],
-    known: &Annotated,
+    known: &Annotated<Monomial>,
     program: &PProgram,
 ) -> Result<Vec<Row>, ExecStop>
     requires { is_well_built (program_view program.now) ≡ true }
@@ -158,7 +95,7 @@ fn rows_over(
     merged_programs_are_normal();
     let merged = merge(alloc, program)?;
     let asked = scans(alloc, &merged)?;
-    let env = known.env(alloc, versions, &asked)?;
+    let env = env(alloc, versions, known, &asked)?;
     run(alloc, &merged, &env)
 }
 

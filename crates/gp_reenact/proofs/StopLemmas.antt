@@ -234,11 +234,11 @@ module _ {M : Type 0} (kind : Annotations M) (most : ℕ) where
 
 -- ---- statements that do not stop
 
-abbrev FitsIfSome : List Table → Option Statement → Type 0
+abbrev pub FitsIfSome : List Table → Option Statement → Type 0
 FitsIfSome catalogue None = Unit {0}
 FitsIfSome catalogue (Some statement) = statement_fits catalogue statement ≡ true
 
-logged_fits : (catalogue : List Table) (t k : ℕ) (entries : List Entry) → statements_fit catalogue entries ≡ true
+pub logged_fits : (catalogue : List Table) (t k : ℕ) (entries : List Entry) → statements_fit catalogue entries ≡ true
     → FitsIfSome catalogue (statement_at t k entries)
 logged_fits catalogue t k [] fit = tt
 logged_fits catalogue t k (Created line session table ∷ older) fit = logged_fits catalogue t k older fit
@@ -267,7 +267,7 @@ module _ {M : Type 0} (kind : Annotations M) (limits : Limits) (catalogue : List
   few_nodes t k false false none = refl
 
   -- a statement that does not stop keeps what tables hold
-  held_step : (t k : ℕ) (found : Option Statement) (db : Database M) → FitsIfSome catalogue found → statement_stop kind limits t k found db ≡ None
+  pub held_step : (t k : ℕ) (found : Option Statement) (db : Database M) → FitsIfSome catalogue found → statement_stop kind limits t k found db ≡ None
       → AreHeld limits.nodes db → AreHeld limits.nodes (stepped kind t k found db)
   held_step t k None db fit none held = held
   held_step t k (Some (insert table all)) db fit none held =

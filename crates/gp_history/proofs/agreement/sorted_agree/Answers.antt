@@ -2,19 +2,17 @@ use Rattle.std.proofs.Common.{List, ap, map, ◌∙◌, ◌≡◌}
 use Rattle.std.specs.Cmp.Lexicographic.{slice_cmp}
 use Rattle.std.specs.Ordering.{is_eq}
 use Rattle.gp_base.specs.declared.cell.Cell.{Cell}
-use Rattle.gp_base.specs.Annotated.{monomials}
 use Rattle.gp_base.specs.Order.{row_cmp, sorted_by}
-use Rattle.gp_versions.specs.Spans.{rows_at}
-use Rattle.gp_history.specs.Agreement.{key_of}
-use Rattle.gp_history.specs.Encoded.{key_in}
+use Rattle.gp_history.specs.Matching.{keys_of}
+use Rattle.gp_history.specs.Noted.{held_key}
 use Rattle.gp_history.proofs.agreement.sorted_agree.Goals as goal
 
 pub returns : goal.returns
-returns c =
-    let own : c.as_slice.result.now ≡ sorted_by row_cmp (map key_in c.args.rows.now) =
+returns g c =
+    let own : c.as_slice.result.now ≡ sorted_by row_cmp (map held_key c.args.rows.now) =
     c.as_slice.ensures.value ∙ c.in_ok-sort_rows.ensures.unique ∙ ap (sorted_by row_cmp) c.in_ok-own.ensures in
-    let due : c.as_slice-2.result.now ≡ sorted_by row_cmp (map key_of (rows_at monomials c.args.version c.args.spans.now)) =
+    let due : c.as_slice-2.result.now ≡ sorted_by row_cmp (keys_of c.args.version c.args.spans.now) =
     c.as_slice-2.ensures.value ∙ c.in_ok-sort_rows-2.ensures.unique ∙ ap (sorted_by row_cmp) c.in_ok-due.ensures in
     c.are_equal.ensures
     ∙ ap (λ (keys : List (List Cell)). is_eq (slice_cmp row_cmp keys c.as_slice-2.result.now)) own
-    ∙ ap (λ (keys : List (List Cell)). is_eq (slice_cmp row_cmp (sorted_by row_cmp (map key_in c.args.rows.now)) keys)) due
+    ∙ ap (λ (keys : List (List Cell)). is_eq (slice_cmp row_cmp (sorted_by row_cmp (map held_key c.args.rows.now)) keys)) due

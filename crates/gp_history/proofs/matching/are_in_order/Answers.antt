@@ -8,10 +8,10 @@ use Rattle.gp_history.proofs.MatchingLemmas.{drop_more, drop_past, none_left}
 use Rattle.gp_history.proofs.matching.are_in_order.Goals as goal
 
 pub loop-span-init : goal.loop-span-init
-loop-span-init c = λ found. found
+loop-span-init g c = λ found. found
 
 pub loop-span-preserved : goal.loop-span-preserved
-loop-span-preserved c = λ found.
+loop-span-preserved g c = λ found.
     let spans = c.args.spans.now in
     let at = c.loop-span.span-index in
     c.loop-span.invariant
@@ -20,7 +20,7 @@ loop-span-preserved c = λ found.
     (c.in-Some.ensures (drop (at + 1) spans) found))
 
 pub returns : goal.returns
-returns c = λ yes.
+returns g c = λ yes.
     let kept = c.args.kept.now in
     let written = c.args.written.now in
     let version = c.args.version in

@@ -1,0 +1,8 @@
+use Rattle.std.proofs.Common.{◌≡◌, ◌++◌, drop, map}
+use Rattle.gp_kexec.specs.Rows.{stored_view}
+use Rattle.gp_history.specs.SpanAnnotations.{rows_with}
+use Rattle.gp_history.proofs.elements.stored_rows.Given as goal
+
+-- the spans that remain give the other rows
+abbrev pub invariant-loop-i : goal.invariant-loop-i
+invariant-loop-i g l = map stored_view l.rows ++ rows_with l.version (drop l.i l.spans) (drop l.i l.values) ≡ rows_with l.version l.spans l.values

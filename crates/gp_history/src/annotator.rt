@@ -1,0 +1,70 @@
+//! What row versions are annotated with.
+
+ghost use Rattle.std.specs.Prelude.{◌≡◌, ◌<◌, map, IfOk};
+ghost use Rattle.gp_algebra.specs.QueryViews.{annotated_program_view};
+ghost use Rattle.gp_base.specs.Annotated.{Annotations};
+ghost use Rattle.gp_log.specs.Logs.{log_view};
+ghost use Rattle.gp_machine.specs.Entries as m;
+ghost use Rattle.gp_reenact.specs.Reenacting.{spans_of};
+ghost use Rattle.gp_history.specs.Changes.{Publishes, maker_program};
+ghost use Rattle.gp_history.specs.Images.{IsImage};
+ghost use Rattle.gp_history.specs.Noted.{row_view};
+ghost use Rattle.gp_history.specs.Sound.{IsSound};
+ghost use Rattle.gp_history.specs.SpanAnnotations.{AreAnnotated};
+
+use crate::annotated::Annotated;
+use gp_algebra::AProgram;
+use gp_base::NoMemory;
+use gp_exec::ExecStop;
+use gp_kexec::Held;
+use gp_log::Log;
+use gp_versions::VersionTable;
+use std::alloc::Global;
+
+/// The program of a table that a transaction published.
+#[derive(Drop)]
+pub struct Publication {
+    /// The version before the one that the transaction made.
+    pub before: u32,
+    /// The place of the table.
+    pub table: u32,
+    /// Its program.
+    pub program: AProgram,
+}
+
+/// What annotates row versions with values of a type. Running out of memory says nothing.
+pub trait Annotator<A: Drop> {
+    /// Its one, its products and its tokens.
+    ghost kind: { Self → Annotations A };
+
+    /// The annotation of a row that nothing is known of.
+    fn one(&self, alloc: Global) -> Result<A, NoMemory>
+        ensures { IfOk result (λ one. one ≡ (kind self.now).one) };
+
+    /// A copy.
+    fn copy(&self, alloc: Global, annotation: &A) -> Result<A, NoMemory>
+        ensures { IfOk result (λ copy. copy ≡ annotation.now) };
+
+    /// The rows of a table that a transaction published, in any order, from the annotations of the versions before. Rows and Ancestry
+    /// as its run stops.
+    fn rows(
+        &self,
+        alloc: Global,
+        log: &Log,
+        versions: &[VersionTable],
+        known: &Annotated<A>,
+        of: &Publication,
+    ) -> Result<Vec<Held<A>>, ExecStop>
+        requires sound { IsSound (log_view log.now.entries) versions.now }
+        requires within { of.now.before < m.versions_in (log_view log.now.entries) }
+        requires program { annotated_program_view of.now.program
+            ≡ maker_program (log_view log.now.entries) of.now.before of.now.table }
+        requires known { AreAnnotated (kind self.now) (m.log_of (log_view log.now.entries))
+            (spans_of versions.now) of.now.before known.now }
+        ensures { Publishes (kind self.now) (m.log_of (log_view log.now.entries))
+            (spans_of versions.now) of.now.before (λ rows. map row_view rows.items)
+            of.now.table result };
+
+    /// Its annotations are what lists of tokens stand for.
+    ghost is_image: { (annotator : Self) → IsImage (kind annotator) };
+}

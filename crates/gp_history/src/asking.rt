@@ -1,0 +1,80 @@
+//! What questions about past states need, and how they are refused.
+
+ghost use Rattle.std.specs.Prelude.{◌≡◌, None};
+ghost use Rattle.gp_log.specs.LogFacts.{tables_in};
+ghost use Rattle.gp_log.specs.Logs.{log_view};
+ghost use Rattle.gp_machine.specs.Questions as q;
+ghost use Rattle.gp_reenact.specs.Reenacting as r;
+ghost use Rattle.gp_syntax.specs.Views.{state_view};
+ghost use Rattle.gp_history.specs.Provenance.{IsInTables, Refuses};
+
+use crate::error::HistoryStop;
+use gp_base::Refusal;
+use gp_compose::version_of;
+use gp_exec::ExecStop;
+use gp_log::Log;
+use gp_reenact::ReenactStop;
+use gp_syntax::State;
+
+/// The last version whose annotations a state needs.
+pub fn needed_version(log: &Log, state: State) -> u32
+    requires { q.log_refusal (log_view log.now.entries) (state_view state) ≡ None }
+    ensures { result ≡ q.needed_version (log_view log.now.entries) (state_view state) }
+{
+    // Versions and transactions are numbered by 32 bits. That is known of a log where it is asked for their number.
+    let _commits = log.commits();
+    let _count = log.transactions();
+    match state {
+        State::AsOf { v } => v as u32,
+        State::After { t, .. } => match log.begin_version(t as u32) {
+            Some(version) => version,
+            None => unreachable!(),
+        },
+        State::Commit { t } => match version_of(log, t as u32) {
+            Some(version) => version.saturating_sub(1),
+            None => 0,
+        },
+    }
+}
+
+/// The transaction of a state, or 0 for a version.
+pub fn transaction_at(log: &Log, state: State) -> u32
+    requires { q.log_refusal (log_view log.now.entries) (state_view state) ≡ None }
+    ensures { result ≡ r.transaction_at (state_view state) }
+{
+    let _count = log.transactions();
+    match state {
+        State::AsOf { .. } => 0,
+        State::After { t, .. } | State::Commit { t } => t as u32,
+    }
+}
+
+/// The refusal of a state of this transaction whose program stops.
+pub fn stopped(t: u32, stop: ExecStop) -> ReenactStop
+    ensures { result ≡ r.stopped t stop }
+{
+    match stop {
+        ExecStop::Rows { j } => ReenactStop::Refused(Refusal::E25 { t, k: j }),
+        ExecStop::Ancestry { j } => ReenactStop::Refused(Refusal::E26 { t, k: j }),
+        ExecStop::Answer => ReenactStop::Refused(Refusal::E27),
+        ExecStop::NoMemory => ReenactStop::NoMemory,
+    }
+}
+
+/// The refusal of a question that needs versions which cannot be annotated.
+pub fn refused(log: &Log, stop: HistoryStop) -> ReenactStop
+    requires { IsInTables (tables_in (log_view log.now.entries)) stop }
+    ensures { Refuses (tables_in (log_view log.now.entries)) stop result }
+{
+    match stop {
+        HistoryStop::Inconsistent { version, table } => {
+            match log.catalog().table(table).name.clone() {
+                Ok(table) => ReenactStop::Refused(Refusal::E24 { version, table }),
+                Err(_) => ReenactStop::NoMemory,
+            }
+        }
+        HistoryStop::Rows { t, k } => ReenactStop::Refused(Refusal::E25 { t, k }),
+        HistoryStop::Ancestry { t, k } => ReenactStop::Refused(Refusal::E26 { t, k }),
+        HistoryStop::NoMemory => ReenactStop::NoMemory,
+    }
+}

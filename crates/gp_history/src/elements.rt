@@ -1,0 +1,115 @@
+//! Elements of a semiring as annotations: programs run over them.
+
+ghost use Rattle.std.specs.Prelude.{◌≡◌, map, IfOk};
+ghost use Rattle.gp_kexec.specs.Rows.{environment_view, stored_view};
+ghost use Rattle.gp_kexec.specs.Valuing.{values_by};
+ghost use Rattle.gp_reenact.specs.Reenacting.{spans_of};
+ghost use Rattle.gp_history.specs.Images.{values_are_images};
+ghost use Rattle.gp_history.specs.Scanning.{AgreesOn, IsScanned};
+ghost use Rattle.gp_history.specs.SpanAnnotations.{row_with, rows_with, versions_with};
+
+use crate::annotated::Annotated;
+use crate::annotator::{Annotator, Publication};
+use crate::spans::spans_in;
+use gp_algebra::{ScanAt, scans_of};
+use gp_base::{NoMemory, Sequence};
+use gp_exec::ExecStop;
+use gp_kexec::{Held, KEnv, KScanned, KStored, run_k_table};
+use gp_log::Log;
+use gp_semiring::Semiring;
+use gp_valuation::{Answers, Valuation};
+use gp_versions::{Span, VersionTable};
+use std::alloc::Global;
+
+/// The row of a span with its value.
+fn stored<K: Semiring>(alloc: Global, span: &Span, value: &K) -> Result<KStored<K>, NoMemory>
+    ensures { IfOk result (λ stored. stored_view stored ≡ row_with value.now span.now) }
+{
+    let value = value.copy(alloc)?;
+    let id = span.id.clone()?;
+    let row = span.row.clone()?;
+    Ok(KStored { id, row, value })
+}
+
+/// The rows of a version, from spans with their values.
+fn stored_rows<K: Semiring>(
+    alloc: Global,
+    spans: &[Span],
+    values: &[K],
+    version: u32,
+) -> Result<Sequence<KStored<K>>, NoMemory>
+    ensures { IfOk result
+        (λ rows. map stored_view rows ≡ rows_with version spans.now values.now) }
+{
+    let mut rows = Sequence::new(alloc);
+    for (i, span) in spans.iter().enumerate() {
+        let Some(value) = values.get(i) else {
+            return Ok(rows);
+        };
+        if span.holds(version) {
+            rows.push(stored(alloc, span, value)?)?;
+        }
+    }
+    Ok(rows)
+}
+
+/// The rows of a table in a version.
+fn scanned<K: Semiring>(
+    alloc: Global,
+    versions: &[VersionTable],
+    known: &Annotated<K>,
+    at: &ScanAt,
+) -> Result<KScanned<K>, NoMemory>
+    ensures { IfOk result
+        (λ found. IsScanned (versions_with (spans_of versions.now) known.now) at.now found) }
+{
+    let spans = spans_in(versions, at.table as usize);
+    let rows = stored_rows(alloc, spans, known.annotations(at.table), at.version)?;
+    Ok(KScanned { at: *at, rows })
+}
+
+/// The rows of these tables in these versions with their values, one list for each scan. The row versions are those that were
+/// annotated. Running out of memory is the only error.
+pub fn k_env<K: Semiring>(
+    alloc: Global,
+    versions: &[VersionTable],
+    known: &Annotated<K>,
+    scans: &[ScanAt],
+) -> Result<KEnv<K>, NoMemory>
+    ensures { IfOk result (λ env. AgreesOn scans.now (environment_view env)
+        (versions_with (spans_of versions.now) known.now)) }
+{
+    let mut found = Sequence::new(alloc);
+    for at in scans {
+        found.push(scanned(alloc, versions, known, at)?)?;
+    }
+    Ok(KEnv { scans: found })
+}
+
+impl<K: Semiring, F: Answers<K>> Annotator<K> for Valuation<K, F> {
+    ghost kind = { λ valuation. values_by K.one_of K.times_of K.number_of K.itself_of valuation };
+
+    fn one(&self, alloc: Global) -> Result<K, NoMemory> {
+        K::one(alloc)
+    }
+
+    fn copy(&self, alloc: Global, annotation: &K) -> Result<K, NoMemory> {
+        annotation.copy(alloc)
+    }
+
+    fn rows(
+        &self,
+        alloc: Global,
+        _log: &Log,
+        versions: &[VersionTable],
+        known: &Annotated<K>,
+        of: &Publication,
+    ) -> Result<Vec<Held<K>>, ExecStop> {
+        let asked = scans_of(alloc, &of.program)?;
+        let env = k_env(alloc, versions, known, &asked)?;
+        run_k_table(alloc, &of.program, &env, self)
+    }
+
+    ghost is_image = { λ valuation.
+        values_are_images K.laws K.number_of K.itself_of K.number_in K.itself_in valuation };
+}

@@ -1,0 +1,166 @@
+//! Queries over past states, with values in a semiring.
+
+ghost use Rattle.std.specs.Prelude.{◌≡◌, ◌≤◌, true, map, IfOk, None};
+ghost use Rattle.gp_algebra.specs.Fitting.{select_fits, width_of};
+ghost use Rattle.gp_algebra.specs.QueryViews.{annotated_program_view};
+ghost use Rattle.gp_algebra.specs.Views.{select_view};
+ghost use Rattle.gp_base.specs.Annotated.{monomials};
+ghost use Rattle.gp_compose.specs.Composed.{program_at};
+ghost use Rattle.gp_kexec.specs.Rows.{pair_view};
+ghost use Rattle.gp_kexec.specs.Running.{IsSomeProgram};
+ghost use Rattle.gp_kexec.specs.Valuing.{values_by};
+ghost use Rattle.gp_log.specs.Limits.{limits};
+ghost use Rattle.gp_log.specs.LogFacts.{tables_in};
+ghost use Rattle.gp_log.specs.LogFitting.{statements_fit};
+ghost use Rattle.gp_log.specs.Logs.{log_view};
+ghost use Rattle.gp_machine.specs.Entries as m;
+ghost use Rattle.gp_machine.specs.Questions as q;
+ghost use Rattle.gp_machine.specs.Questions.{annotation_stop};
+ghost use Rattle.gp_reenact.specs.Reenacting.{spans_of};
+ghost use Rattle.gp_syntax.specs.Views.{state_view};
+ghost use Rattle.gp_valuation.specs.Values.{token_value};
+ghost use Rattle.gp_values.specs.ValueAnswers.{value_answer};
+ghost use Rattle.gp_history.specs.Agreement.{agree};
+ghost use Rattle.gp_history.specs.Provenance.{AnnotatesOr};
+ghost use Rattle.gp_history.specs.Running.{SumsOver};
+ghost use Rattle.gp_history.specs.Sound.{IsSound};
+ghost use Rattle.gp_history.specs.SpanAnnotations.{AreAnnotated, versions_with};
+ghost use Rattle.gp_history.specs.Values.{Gives, HasFewItems};
+
+use crate::annotated::Annotated;
+use crate::annotating::annotate_in;
+use crate::asking::{needed_version, refused, stopped, transaction_at};
+use crate::elements::k_env;
+use gp_algebra::{AProgram, Select, scans_of};
+use gp_base::NoMemory;
+use gp_compose::{ComposeStop, program};
+use gp_exec::ExecStop;
+use gp_kexec::{KRow, run_k};
+use gp_log::Log;
+use gp_reenact::{ReenactStop, log_refusal};
+use gp_semiring::Semiring;
+use gp_syntax::State;
+use gp_valuation::{Answers, Valuation};
+use gp_values::values_are_sums_over_the_history;
+use gp_versions::VersionTable;
+use std::alloc::Global;
+
+/// The values of the versions up to this one.
+fn annotated_to<K: Semiring, F: Answers<K>>(
+    alloc: Global,
+    log: &Log,
+    versions: &[VersionTable],
+    v: u32,
+    valuation: &Valuation<K, F>,
+) -> Result<Annotated<K>, ReenactStop>
+    requires sound { IsSound (log_view log.now.entries) versions.now }
+    requires within { v ≤ m.versions_in (log_view log.now.entries) }
+    ensures { AnnotatesOr (AreAnnotated
+        (values_by K.one_of K.times_of K.number_of K.itself_of valuation.now)
+        (m.log_of (log_view log.now.entries)) (spans_of versions.now) v) result
+        (annotation_stop monomials limits agree (tables_in (log_view log.now.entries))
+        (m.log_of (log_view log.now.entries)) (spans_of versions.now) v) }
+{
+    match annotate_in(alloc, log, versions, v, valuation) {
+        Ok(known) => Ok(known),
+        Err(stop) => Err(refused(log, stop)),
+    }
+}
+
+/// The program of a query over a state.
+fn planned(alloc: Global, log: &Log, state: State, select: &Select) -> Result<AProgram, NoMemory>
+    requires fits { select_fits (tables_in (log_view log.now.entries))
+        (select_view select.now) ≡ true }
+    requires statements { statements_fit (tables_in (log_view log.now.entries))
+        (log_view log.now.entries) ≡ true }
+    requires known { q.log_refusal (log_view log.now.entries) (state_view state) ≡ None }
+    ensures { IfOk result (λ program. annotated_program_view program
+        ≡ program_at (width_of (tables_in (log_view log.now.entries)))
+        (log_view log.now.entries) (state_view state) (select_view select.now)) }
+{
+    match program(alloc, log, state, select) {
+        Ok(program) => Ok(program),
+        Err(ComposeStop::NoMemory) => Err(NoMemory),
+        Err(_) => unreachable!(),
+    }
+}
+
+/// The sums of the rows of a program over versions with values.
+fn sums_over<K: Semiring, F: Answers<K>>(
+    alloc: Global,
+    versions: &[VersionTable],
+    known: &Annotated<K>,
+    program: &AProgram,
+    valuation: &Valuation<K, F>,
+) -> Result<Vec<KRow<K>>, ExecStop>
+    requires { IsSomeProgram (annotated_program_view program.now) }
+    ensures { SumsOver (values_by K.one_of K.times_of K.number_of K.itself_of valuation.now)
+        K.plus_of (λ rows. map pair_view rows.items) result
+        (versions_with (spans_of versions.now) known.now) (annotated_program_view program.now) }
+{
+    let asked = scans_of(alloc, program)?;
+    let env = k_env(alloc, versions, known, &asked)?;
+    run_k(alloc, program, &env, valuation)
+}
+
+/// The distinct rows of a query over a state in row order, each with its value in the semiring: the sum, over its occurrences, of
+/// the values of their monomials. No monomial is listed: the versions are annotated with elements of the semiring, and the query
+/// adds and multiplies elements. Refused as [`provenance`](crate::provenance) is, but that only distinct rows are counted: E27 if
+/// there are more than [`MAX_ANSWER_ROWS`](gp_exec::MAX_ANSWER_ROWS) of them.
+pub fn values<K: Semiring, F: Answers<K>>(
+    alloc: Global,
+    log: &Log,
+    versions: &[VersionTable],
+    state: State,
+    select: &Select,
+    valuation: &Valuation<K, F>,
+) -> Result<Vec<KRow<K>>, ReenactStop>
+    requires sound { IsSound (log_view log.now.entries) versions.now }
+    requires fits { select_fits (tables_in (log_view log.now.entries))
+        (select_view select.now) ≡ true }
+    requires few { HasFewItems (select_view select.now) }
+    ensures { Gives (λ rows. map pair_view rows.items) result
+        (value_answer limits K.plus_of K.zero_of K.one_of K.times_of
+        (token_value K.one_of K.number_of K.itself_of valuation.now) agree
+        (tables_in (log_view log.now.entries)) (log_view log.now.entries)
+        (spans_of versions.now) (state_view state) (select_view select.now)) }
+{
+    if let Some(refusal) = log_refusal(log, state) {
+        return Err(ReenactStop::Refused(refusal));
+    }
+    known_values(alloc, log, versions, state, select, valuation)
+}
+
+/// The same of a state that the log has.
+fn known_values<K: Semiring, F: Answers<K>>(
+    alloc: Global,
+    log: &Log,
+    versions: &[VersionTable],
+    state: State,
+    select: &Select,
+    valuation: &Valuation<K, F>,
+) -> Result<Vec<KRow<K>>, ReenactStop>
+    requires sound { IsSound (log_view log.now.entries) versions.now }
+    requires fits { select_fits (tables_in (log_view log.now.entries))
+        (select_view select.now) ≡ true }
+    requires few { HasFewItems (select_view select.now) }
+    requires known { q.log_refusal (log_view log.now.entries) (state_view state) ≡ None }
+    ensures { Gives (λ rows. map pair_view rows.items) result
+        (value_answer limits K.plus_of K.zero_of K.one_of K.times_of
+        (token_value K.one_of K.number_of K.itself_of valuation.now) agree
+        (tables_in (log_view log.now.entries)) (log_view log.now.entries)
+        (spans_of versions.now) (state_view state) (select_view select.now)) }
+{
+    values_are_sums_over_the_history::<K>();
+    // The number of commits has 32 bits.
+    let _commits = log.commits();
+    let known = match annotated_to(alloc, log, versions, needed_version(log, state), valuation) {
+        Ok(known) => known,
+        Err(stop) => return Err(stop),
+    };
+    let program = planned(alloc, log, state, select)?;
+    match sums_over(alloc, versions, &known, &program, valuation) {
+        Ok(rows) => Ok(rows),
+        Err(stop) => Err(stopped(transaction_at(log, state), stop)),
+    }
+}
