@@ -11,6 +11,7 @@ use Rattle.gp_base.specs.declared.table.Table.{Table}
 use Rattle.gp_base.specs.Annotated.{Database, monomials, plain}
 use Rattle.gp_base.specs.Order.{row_cmp, sorted_by}
 use Rattle.gp_base.specs.Tokens.{Monomial}
+use Rattle.gp_grammar.specs.declared.semiring_name.SemiringName.{SemiringName}
 use Rattle.gp_grammar.specs.Syntax as y
 use Rattle.gp_algebra.specs.Answers.{Element, answer, cells_of}
 use Rattle.gp_algebra.specs.Reannotation.{database_reannotated, element_reannotated, forgotten}
@@ -25,15 +26,18 @@ use Rattle.gp_machine.specs.Points.{at_version, held_at}
 use Rattle.gp_machine.specs.Questions.{AreAlike, annotated_answer, given, held_answer, log_refusal, rows_answer}
 use Rattle.gp_machine.specs.State.{State}
 use Rattle.gp_machine.specs.StateReannotation.{state_reannotated}
+use Rattle.gp_valuation.specs.declared.rules.Rule.{Rule}
 use Rattle.gp_versions.specs.declared.span.Span.{Span}
 use Rattle.gp_dump.specs.Dumps.{Dump, dump_of, dump_with, spans_in_order}
 use Rattle.gp_history.specs.Agreement.{agree}
 use Rattle.gp_history.specs.Provenance.{occurrence}
 use Rattle.gp_ask.specs.declared.answered.Answered.{Answered}
 use Rattle.gp_ask.specs.declared.answered.Answered.TheVariants.{Listed, Refused, Rows}
-use Rattle.gp_ask.specs.Answers.{answer_to, checked_answer, dump_provenance, dump_query, dump_rows, held_provenance, held_rows, held_to, of_elements, query_answer, spans_at, with_monomials}
+use Rattle.gp_ask.specs.Answers.{answer_to, checked_answer, dump_provenance, dump_query, dump_rows, dump_values, held_provenance, held_rows, held_to, held_values, of_elements, query_answer, spans_at, with_monomials}
+use Rattle.gp_ask.specs.Values.{evaluated, rules_of, semiring_of}
 use Rattle.gp_ask.proofs.ProvenanceLemmas.{same-list}
 use Rattle.gp_ask.proofs.ReenactedLemmas.{same-order}
+use Rattle.gp_ask.proofs.ValueLemmas.{AreHeld, found_in}
 
 -- ---- answers that are alike
 
@@ -120,7 +124,8 @@ module _ (forgets : Forgets) (state : State Monomial) where
 
       module _ (rows-alike : (point : y.State) (select : Select) → AreAlike (rows_answer limits state.entries spans point select) (held_answer plain limits (forgetting state) point select))
           (provenance-alike : (point : y.State) (select : Select)
-          → AreAlike (annotated_answer monomials limits agree state.catalogue state.entries spans point select) (held_answer monomials limits state point select)) where
+          → AreAlike (annotated_answer monomials limits agree state.catalogue state.entries spans point select) (held_answer monomials limits state point select))
+          (values-alike : (name : SemiringName) → AreHeld state spans name) where
         rows-held : (point : y.State) (select : Select) → dump_rows (dump_of (forgetting state)) point select ≡ held_rows state point select
         rows-held point select =
             alike (rows_answer limits state.entries spans point select) (held_answer plain limits (forgetting state) point select) (rows-alike point select)
@@ -130,6 +135,12 @@ module _ (forgets : Forgets) (state : State Monomial) where
         provenance-held point select =
             ap (λ (catalogue : List Table). with_monomials (annotated_answer monomials limits agree catalogue state.entries spans point select)) tables
             ∙ alike-monomials (annotated_answer monomials limits agree state.catalogue state.entries spans point select) (held_answer monomials limits state point select) (provenance-alike point select)
+
+        values-held : (name : SemiringName) (rules : List Rule × Option ℕ) (point : y.State) (select : Select)
+            → dump_values (semiring_of name) name rules (dump_of (forgetting state)) point select ≡ held_values (semiring_of name) name rules state point select
+        values-held name rules point select =
+            ap (λ (catalogue : List Table). evaluated (semiring_of name) rules name (found_in (semiring_of name) rules state.entries catalogue spans point select)) tables
+            ∙ ap (evaluated (semiring_of name) rules name) (values-alike name rules point select)
 
         query-held : (found held : Select → Answered) → ((select : Select) → found select ≡ held select) → (point : y.State) (query : y.Query)
             → dump_query (dump_of (forgetting state)) found point query ≡ query_answer held (log_refusal state.entries point) (checked_query state.catalogue query)
@@ -144,4 +155,6 @@ module _ (forgets : Forgets) (state : State Monomial) where
         held (y.ask y.provenance point query) =
             query-held (dump_provenance (dump_of (forgetting state)) point) (held_provenance state point) (provenance-held point) point query
         held (y.ask (y.explain prov) point query) = ap (λ (dump : Dump). answer_to dump (y.ask (y.explain prov) point query)) dump-same
-        held (y.ask (y.value semiring rules other) point query) = refl
+        held (y.ask (y.value name rules other) point query) =
+            query-held (dump_values (semiring_of name) name (rules_of rules other) (dump_of (forgetting state)) point) (held_values (semiring_of name) name (rules_of rules other) state point)
+            (values-held name (rules_of rules other) point) point query

@@ -1,4 +1,5 @@
 mod BackendLemmas
+mod FewLemmas
 mod HeldLemmas
 mod LogLemmas
 mod ProvenanceLemmas
@@ -7,3 +8,4 @@ mod ReenactedLemmas
 mod SpanLemmas
 mod TableLemmas
 mod TargetLemmas
+mod ValueLemmas

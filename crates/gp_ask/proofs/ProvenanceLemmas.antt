@@ -71,7 +71,7 @@ module _ (dump : code.Dump) (versions : List Versions) (same : versions ≡ dump
   abbrev due : (ℕ → List Span) → Result (List (Element Monomial)) Refusal
   due spans = annotated_answer monomials limits agree (tables_in entries) entries spans point select
 
-  spans-are : spans_of versions ≡ spans_at (tables_view dump.versions)
+  pub spans-are : spans_of versions ≡ spans_at (tables_view dump.versions)
   spans-are = ap spans_of same ∙ dump-spans dump.versions
 
   pub sound-versions : IsDump (dump_view dump) → IsSound entries versions

@@ -1,6 +1,6 @@
 -- Part of the statement: the answer to a question, from a dump alone, and the answer that the history of a script held. A question is refused by the
--- first that applies: its version, transaction or statement is not in the log, the check of its query, for provenance a version that the log does not
--- give, a limit that the statements of a transaction pass, the number of its rows.
+-- first that applies: its version, transaction or statement is not in the log, the check of its query, a number of its rules that is not in the
+-- semiring, for provenance and values a version that the log does not give, a limit that the statements of a transaction pass, the number of its rows.
 use Rattle.std.specs.Prelude.{ℕ, Bool, false, List, [], map, filter, reverse, Option, Some, None, Result, Ok, Err, if◌then◌else◌, ◌==◌, slice_index_or}
 use Rattle.gp_base.specs.declared.refusal.Refusal.{Refusal}
 use Rattle.gp_base.specs.declared.refusal.Refusal.TheVariants.{E04, E20}
@@ -8,6 +8,7 @@ use Rattle.gp_base.specs.Annotated.{monomials}
 use Rattle.gp_base.specs.Catalogs.{place_of}
 use Rattle.gp_base.specs.Order.{row_cmp, sorted_by}
 use Rattle.gp_base.specs.Tokens.{Monomial}
+use Rattle.gp_grammar.specs.declared.semiring_name.SemiringName.{SemiringName}
 use Rattle.gp_grammar.specs.Syntax as y
 use Rattle.gp_versions.specs.declared.span.Span.{Span}
 use Rattle.gp_algebra.specs.Answers.{Element, cells_of}
@@ -21,12 +22,15 @@ use Rattle.gp_log.specs.Limits.{limits}
 use Rattle.gp_log.specs.LogFacts.{tables_in}
 use Rattle.gp_dump.specs.Dumps.{Dump, dump_of}
 use Rattle.gp_dumpline.specs.Texts.{entry_text, span_text}
+use Rattle.gp_valuation.specs.declared.rules.Rule.{Rule}
+use Rattle.gp_values.specs.ValueAnswers.{held_value_answer, value_answer}
 use Rattle.gp_history.specs.Agreement.{agree}
 use Rattle.gp_history.specs.Provenance.{occurrence}
 use Rattle.gp_monomials.specs.Listing.{listed}
 use Rattle.gp_ask.specs.declared.answered.Answered.{Answered}
-use Rattle.gp_ask.specs.declared.answered.Answered.TheVariants.{Rows, Listed, Log, Versions, Program, Refused, NotBuilt}
+use Rattle.gp_ask.specs.declared.answered.Answered.TheVariants.{Rows, Listed, Log, Versions, Program, Refused}
 use Rattle.gp_ask.specs.Programs.{program_lines}
+use Rattle.gp_ask.specs.Values.{Semiring, evaluated, rules_of, semiring_of, value_of}
 
 -- ---- the log of a transaction
 
@@ -85,6 +89,12 @@ abbrev pub dump_provenance : Dump → y.State → Select → Answered
 dump_provenance dump point select =
     with_monomials (annotated_answer monomials limits agree (tables_in dump.entries) dump.entries (spans_at dump.tables) point select)
 
+-- the values of the rows, by the monomials of that provenance; distinct rows are counted
+abbrev pub dump_values : Semiring → SemiringName → List Rule × Option ℕ → Dump → y.State → Select → Answered
+dump_values semiring name rules dump point select =
+    evaluated semiring rules name
+    (value_answer limits semiring.plus_of semiring.zero_of semiring.one_of semiring.times_of (value_of semiring rules) agree (tables_in dump.entries) dump.entries (spans_at dump.tables) point select)
+
 -- an explained query is its program, whatever the rows are
 abbrev pub dump_program : Dump → Bool → y.State → Select → Answered
 dump_program dump prov point select = Program (program_lines dump.entries prov point select)
@@ -99,16 +109,20 @@ answer_to dump (y.versions name) = versions_answer name dump.tables (place_of na
 answer_to dump (y.ask y.rows point query) = dump_query dump (dump_rows dump point) point query
 answer_to dump (y.ask y.provenance point query) = dump_query dump (dump_provenance dump point) point query
 answer_to dump (y.ask (y.explain prov) point query) = dump_query dump (dump_program dump prov point) point query
-answer_to dump (y.ask how point query) = NotBuilt
+answer_to dump (y.ask (y.value name rules other) point query) = dump_query dump (dump_values (semiring_of name) name (rules_of rules other) dump point) point query
 
 -- ---- the answer that a history held
 
--- the rows that a commit published, or that a transaction saw after one of its statements, and their provenance
+-- the rows that a commit published, or that a transaction saw after one of its statements, their provenance and their values
 abbrev pub held_rows : State Monomial → y.State → Select → Answered
 held_rows state point select = of_elements (held_answer monomials limits state point select)
 
 abbrev pub held_provenance : State Monomial → y.State → Select → Answered
 held_provenance state point select = with_monomials (held_answer monomials limits state point select)
+
+abbrev pub held_values : Semiring → SemiringName → List Rule × Option ℕ → State Monomial → y.State → Select → Answered
+held_values semiring name rules state point select =
+    evaluated semiring rules name (held_value_answer limits semiring.plus_of semiring.zero_of semiring.one_of semiring.times_of (value_of semiring rules) state point select)
 
 abbrev pub held_query : State Monomial → (Select → Answered) → y.State → y.Query → Answered
 held_query state answer point query = query_answer answer (log_refusal state.entries point) (checked_query state.catalogue query)
@@ -117,4 +131,5 @@ held_query state answer point query = query_answer answer (log_refusal state.ent
 abbrev pub held_to : State Monomial → y.Question → Answered
 held_to state (y.ask y.rows point query) = held_query state (held_rows state point) point query
 held_to state (y.ask y.provenance point query) = held_query state (held_provenance state point) point query
+held_to state (y.ask (y.value name rules other) point query) = held_query state (held_values (semiring_of name) name (rules_of rules other) state point) point query
 held_to state question = answer_to (dump_of state) question

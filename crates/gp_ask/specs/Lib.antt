@@ -3,6 +3,8 @@ pub mod Answers
 pub mod Backends
 pub mod Explained
 pub mod Lines
+pub mod Operations
 pub mod Programs
 pub mod Questions
 pub mod Texts
+pub mod Values

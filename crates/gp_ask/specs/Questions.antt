@@ -6,7 +6,7 @@ use Rattle.gp_grammar.specs.LineReading.{Fault, question_of}
 use Rattle.gp_syntax.specs.Lines.{script_lines}
 use Rattle.gp_syntax.specs.Refusals.{refusal_of}
 use Rattle.gp_ask.specs.declared.answered.Answered.{Answered}
-use Rattle.gp_ask.specs.declared.answered.Answered.TheVariants.{Rows, Listed, Values, Log, Versions, Program, Refused, NotBuilt}
+use Rattle.gp_ask.specs.declared.answered.Answered.TheVariants.{Rows, Listed, Values, Log, Versions, Program, Refused}
 use Rattle.gp_ask.specs.Texts.{answer_text}
 
 abbrev pub is_refused : Answered → Bool
@@ -17,7 +17,6 @@ is_refused (Values rows) = false
 is_refused (Log texts) = false
 is_refused (Versions texts) = false
 is_refused (Program texts) = false
-is_refused NotBuilt = true
 
 -- the answers are a parameter: those of a dump, or those that a history held
 module _ (answers : y.Question → Answered) where

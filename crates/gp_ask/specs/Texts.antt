@@ -10,7 +10,7 @@ use Rattle.gp_monomials.specs.declared.listed.Listed as l
 use Rattle.gp_script.specs.Replies.{line_text, newline}
 use Rattle.gp_ask.specs.declared.answered.Answered.{Answered}
 use Rattle.gp_ask.specs.declared.answered.Valued.{Valued}
-use Rattle.gp_ask.specs.declared.answered.Answered.TheVariants.{Rows, Listed, Values, Log, Versions, Program, Refused, NotBuilt}
+use Rattle.gp_ask.specs.declared.answered.Answered.TheVariants.{Rows, Listed, Values, Log, Versions, Program, Refused}
 
 -- a line of an answer
 abbrev pub listed_line : List ℕ → List ℕ
@@ -38,4 +38,3 @@ answer_text number (Log texts) = listed_text number (codes "log") texts
 answer_text number (Versions texts) = listed_text number (codes "versions") texts
 answer_text number (Program texts) = listed_text number (codes "program") texts
 answer_text number (Refused refusal) = line_text number [] (reply.Refused refusal)
-answer_text number NotBuilt = concat (decimal number ∷ codes " E29 not built" ∷ newline ∷ [])

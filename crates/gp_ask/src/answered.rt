@@ -31,8 +31,6 @@ pub enum Answered {
     Program(Sequence<Text>),
     /// The question was refused.
     Refused(Refusal),
-    /// This version does not support the question.
-    NotBuilt,
 }
 
 impl Answered {
@@ -42,6 +40,6 @@ impl Answered {
     pub fn is_refused(&self) -> bool
         ensures { result ≡ is_refused self.now }
     {
-        matches!(self, Answered::Refused(_) | Answered::NotBuilt)
+        matches!(self, Answered::Refused(_))
     }
 }

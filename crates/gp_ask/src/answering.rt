@@ -8,7 +8,7 @@ ghost use Rattle.gp_check.specs.Valid.{query_is_valid, tables_are_valid};
 ghost use Rattle.gp_log.specs.LogFacts.{tables_in};
 ghost use Rattle.gp_dump.specs.Dumps.{IsDump};
 ghost use Rattle.gp_dump.specs.Views.{dump_view};
-ghost use Rattle.gp_ask.specs.Answerable.{question_is_valid};
+ghost use Rattle.gp_ask.specs.Answerable.{has_few_items, question_is_valid};
 ghost use Rattle.gp_ask.specs.Answers.{answer_to};
 ghost use Rattle.gp_ask.specs.Backends.{AnswersBy, asks_rows};
 ghost use Rattle.gp_ask.specs.Explained.{ExplainsQuestion, ExplainsRead};
@@ -20,6 +20,7 @@ use crate::programs::program_answer;
 use crate::provenance::provenance_answer;
 use crate::queries::{query_answer, query_answer_by};
 use crate::row_versions::versions_answer;
+use crate::values::value_answer;
 use gp_base::NoMemory;
 use gp_dump::Dump;
 use gp_exec::Backend;
@@ -37,6 +38,7 @@ fn ask_answer(
     requires rules { IsDump (dump_view dump.now) }
     requires valid { tables_are_valid (tables_in (dump_view dump.now).entries) ≡ true }
     requires query { query_is_valid (query_view query.now) ≡ true }
+    requires few { has_few_items (query_view query.now) ≡ true }
     ensures answered { IfOk result (λ answered. answered ≡ answer_to (dump_view dump.now)
         (y.ask (how_view how.now) (state_view state) (query_view query.now))) }
     ensures explained { IfOk result (λ answered. ExplainsQuestion (dump_view dump.now).entries
@@ -46,21 +48,34 @@ fn ask_answer(
         How::Rows => query_answer(alloc, dump, state, query),
         How::Provenance => provenance_answer(alloc, dump, state, query),
         How::Explain { prov } => program_answer(alloc, dump, *prov, state, query),
-        _ => Ok(Answered::NotBuilt),
+        How::Value {
+            semiring,
+            rules,
+            other,
+        } => value_answer(
+            alloc,
+            dump,
+            *semiring,
+            rules.as_slice(),
+            *other,
+            state,
+            query,
+        ),
     }
 }
 
-/// Answers a question that was read ([`gp_check::read_questions_are_valid`]) from a dump that was read: it keeps the rules of
-/// dumps, and its tables have columns.
+/// Answers a question that was read ([`read_questions_are_valid`](crate::read_questions_are_valid)) from a dump that was read: it
+/// keeps the rules of dumps, and its tables have columns.
 ///
 /// LOG is refused if no transaction has the number (E20), VERSIONS if no table has the name (E04). AS OF is refused if there is no
 /// such version (E23), REENACT if there is no such transaction (E20), it did not commit (E21) or has no such statement (E22).
-/// Both are then refused by the check of their query (E04 to E07, E15). PROVENANCE OF is then refused by the versions that it needs,
-/// one after another: if the transaction that made a version does not run (E25, E26), or does not make the rows that the dump has in a
-/// table (E24). REENACT is refused also if a statement of the transaction leaves more rows in its table than a statement may (E25) or
-/// makes an identity of too many nodes (E26), and both if the answer has more than [`MAX_ANSWER_ROWS`](gp_exec::MAX_ANSWER_ROWS)
-/// rows, each as often as it occurs (E27), in this order. E24, E25 and E26 never come for the dump of a history. All other questions
-/// are refused as not supported. Running out of memory is the only error.
+/// Both are then refused by the check of their query (E04 to E07, E15), and VALUE IN by the first number of its rules that stands for
+/// no element of the semiring (E28). PROVENANCE OF and VALUE IN are then refused by the versions that they need, one after another: if
+/// the transaction that made a version does not run (E25, E26), or does not make the rows that the dump has in a table (E24). REENACT
+/// is refused also if a statement of the transaction leaves more rows in its table than a statement may (E25) or makes an identity of
+/// too many nodes (E26), and both if the answer has more than [`MAX_ANSWER_ROWS`](gp_exec::MAX_ANSWER_ROWS) rows (E27), each as often
+/// as it occurs, or once for VALUE IN, in this order. EXPLAIN runs nothing, so none of these limits stops it. E24, E25 and E26 never
+/// come for the dump of a history. Running out of memory is the only error.
 pub fn answer(alloc: Global, dump: &Dump, question: &Question) -> Result<Answered, NoMemory>
     requires rules { IsDump (dump_view dump.now) }
     requires valid { tables_are_valid (tables_in (dump_view dump.now).entries) ≡ true }

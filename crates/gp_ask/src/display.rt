@@ -3,7 +3,6 @@
 ghost use Rattle.std.specs.Prelude.{◌≡◌, ◌++◌, IfOk, OnErr, OnOk, codes, length, map};
 ghost use Rattle.std.specs.List.{concat, flat_map};
 ghost use Rattle.gp_base.specs.Tokens.{monomial_text};
-ghost use Rattle.gp_ask.specs.declared.answered.Answered.TheVariants.{NotBuilt};
 ghost use Rattle.gp_ask.specs.Texts.{answer_text, listed_line, listed_text};
 ghost use Rattle.gp_ask.specs.Texts as t;
 
@@ -54,17 +53,6 @@ fn write_listed(
     ensures err { OnErr result (out.new.items ≡ out.old.items) }
 {
     let text = listed_text(alloc, number, word, texts)?;
-    out.extend_from_slice(&text)?;
-    Ok(())
-}
-
-/// Appends that a question is not supported. If memory runs out, `out` is unchanged.
-fn write_not_built(alloc: Global, number: u32, out: &mut Vec<u8>) -> Result<(), NoMemory>
-    ensures ok { OnOk result (out.new.items ≡ out.old.items ++ answer_text number NotBuilt) }
-    ensures err { OnErr result (out.new.items ≡ out.old.items) }
-{
-    let number = number.to_string(alloc)?;
-    let text = text_of_pieces(alloc, &[number.as_bytes(), b" E29 not built\n"])?;
     out.extend_from_slice(&text)?;
     Ok(())
 }
@@ -192,6 +180,5 @@ pub fn write_answer(
         Answered::Refused(refusal) => {
             write_reply(alloc, number, &catalog, Reply::Refused(refusal), out)
         }
-        Answered::NotBuilt => write_not_built(alloc, number, out),
     }
 }

@@ -3,14 +3,14 @@
 //! [`answer_line`] reads a question and answers it from a [`Dump`](gp_dump::Dump) alone: neither the script nor the engine
 //! that made the dump is needed. LOG and VERSIONS print lines of the dump, AS OF answers a query over the rows of a past
 //! version, and REENACT over those that a transaction saw after one of its statements, or that its commit published. PROVENANCE OF
-//! gives each of these rows with its provenance polynomial. All other questions are refused as not supported. The answers are those
-//! that the history itself would have given: so says the law [`histories_answer_as_their_dumps`].
+//! gives each of these rows with its provenance polynomial, and VALUE IN with the value of that polynomial in a semiring. The answers
+//! are those that the history itself would have given: so says the law [`histories_answer_as_their_dumps`].
 //!
 //! In reading order: [`Answered`] is the answer to a question, [`answer`] answers a question that was read, [`answer_line`]
 //! a line, [`answer_by`] a plain AS OF or REENACT by what a [`Backend`] gives, of which [`Plain`] is the executor, and
 //! [`write_answer`] writes the answer. In `specs/`, `Answers` says what the answer is, `Questions` which answers the lines of a file
-//! get, and `Texts` how they are written. Inside, `logs` answers LOG, `row_versions` VERSIONS, `queries` AS OF and REENACT, and
-//! `provenance` PROVENANCE OF.
+//! get, and `Texts` how they are written. `Values` has the semirings and the rules of VALUE IN. Inside, `logs` answers LOG,
+//! `row_versions` VERSIONS, `queries` AS OF and REENACT, `provenance` PROVENANCE OF, and `values` VALUE IN.
 //!
 //! ```text
 //! let answered = answer_line(alloc, &dump, b"as of 2 select * from acct")?;
@@ -28,9 +28,11 @@ mod programs;
 mod provenance;
 mod queries;
 mod row_versions;
+mod rules;
+mod values;
 
 pub use answered::{Answered, Valued};
 pub use answering::{answer, answer_by, answer_line};
 pub use display::write_answer;
 pub use gp_exec::{Backend, Plain};
-pub use laws::histories_answer_as_their_dumps;
+pub use laws::{histories_answer_as_their_dumps, read_questions_are_valid};

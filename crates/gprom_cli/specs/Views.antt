@@ -1,4 +1,4 @@
--- Machinery: the command of the code as that of the statement.
+-- Part of the statement: the command of the code as that of the statement.
 use Rattle.gprom_cli.specs.declared.args.Command as code
 use Rattle.gprom_cli.specs.declared.args.Command.TheVariants as command
 use Rattle.gprom_cli.specs.Args.{Command, Run, Ask}

@@ -2,6 +2,7 @@ use Rattle.std.proofs.Common.{◌≡◌, ◌≤◌, ℕ, List, [], length, refl,
 use Rattle.std.specs.List.Sorted.{IsPermutation}
 use Rattle.gp_base.specs.Annotated.{monomials, plain}
 use Rattle.gp_base.specs.Tokens.{Monomial}
+use Rattle.gp_grammar.specs.declared.semiring_name.SemiringName.{SemiringName}
 use Rattle.gp_grammar.specs.Syntax as y
 use Rattle.gp_algebra.specs.Reannotation.{forgotten}
 use Rattle.gp_algebra.specs.Statements.{Select}
@@ -17,6 +18,7 @@ use Rattle.gp_ask.proofs.HeldLemmas.{forgetting, held}
 use Rattle.gp_ask.proofs.SpanLemmas.{dumped}
 use Rattle.gp_ask.proofs.TableLemmas.{tables-kept}
 use Rattle.gp_ask.proofs.TargetLemmas.{targets-checked}
+use Rattle.gp_ask.proofs.ValueLemmas.{AreHeld, each-semiring}
 use Rattle.gp_ask.proofs.laws.histories_answer_as_their_dumps.Goals as goal
 
 pub returns : goal.returns
@@ -30,6 +32,14 @@ returns c = λ lines question.
     let rows : (point : y.State) (select : Select) → AreAlike (rows_answer limits state.entries spans point select) (held_answer plain limits (forgetting state) point select) =
     subst (λ (s : State (Unit {0})). ((table : ℕ) → IsPermutation (spans table) (state_spans s table)) → (point : y.State) (select : Select) → AreAlike (rows_answer limits s.entries spans point select) (held_answer plain limits s point select))
     same (c.questions_are_answered_by_the_history.ensures.rows limits lines spans) moved in
+    let own : (table : ℕ) → IsPermutation (spans table) (state_spans state table) = λ table. subst (λ (own : List Span). IsPermutation (spans table) own) (kept table) (moved table) in
+    let values : (name : SemiringName) → AreHeld state spans name =
+    each-semiring (AreHeld state spans)
+    (λ rules point select. c.rules_give_the_values_of_the_history.ensures rules lines spans own point select)
+    (λ rules point select. c.rules_give_the_values_of_the_history-2.ensures rules lines spans own point select)
+    (λ rules point select. c.rules_give_the_values_of_the_history-3.ensures rules lines spans own point select)
+    (λ rules point select. c.rules_give_the_values_of_the_history-4.ensures rules lines spans own point select)
+    (λ rules point select. c.rules_give_the_values_of_the_history-5.ensures rules lines spans own point select) in
     subst (λ (s : State (Unit {0})). answer_to (dump_of s) question ≡ held_to state question) (sym same)
     (held (c.annotations_commute.ensures.answers monomials plain forgotten (c.annotations_commute.ensures.forgetting monomials)) state kept (tables-kept monomials limits start lines refl) rows
-    (c.histories_are_annotated.ensures.answers lines spans (λ table. subst (λ (own : List Span). IsPermutation (spans table) own) (kept table) (moved table))) question)
+    (c.histories_are_annotated.ensures.answers lines spans own) values question)

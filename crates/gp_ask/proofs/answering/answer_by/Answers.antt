@@ -1,0 +1,6 @@
+use Rattle.gp_syntax.specs.Views.{how_view, query_view, state_view}
+use Rattle.gp_ask.proofs.ReadLemmas.{valid-parts}
+use Rattle.gp_ask.proofs.answering.answer_by.Goals as goal
+
+pub ask_answer_by-requires-clause-query : goal.ask_answer_by-requires-clause-query
+ask_answer_by-requires-clause-query g c = (valid-parts (how_view c.in-Ask.how) (state_view c.in-Ask.state) (query_view c.in-Ask.query) (rw c.in-Ask.is at c.requires.question)).0

@@ -1,0 +1,153 @@
+-- Part of the statement: the values of rows in a semiring. A question names the semiring and gives rules, which say which number each token has
+-- (Green, Karvounarakis and Tannen 2007).
+use Rattle.std.specs.Prelude.{ℕ, min, max, ◌||◌, ◌&&◌, Bool, true, false, List, [], map, codes, Option, Some, None, Result, Ok, Err}
+use Rattle.std.specs.Fmt.{decimal}
+use Rattle.gp_base.specs.declared.cell.Cell.{Cell}
+use Rattle.gp_base.specs.declared.refusal.Refusal.{Refusal}
+use Rattle.gp_base.specs.declared.refusal.Refusal.TheVariants.{E28}
+use Rattle.gp_base.specs.declared.token.Token.{Token}
+use Rattle.gp_grammar.specs.declared.semiring_name.SemiringName.{SemiringName}
+use Rattle.gp_grammar.specs.declared.semiring_name.SemiringName.TheVariants as named
+use Rattle.gp_grammar.specs.declared.token_kind.TokenKind as written
+use Rattle.gp_grammar.specs.declared.token_kind.TokenKind.TheVariants as w
+use Rattle.gp_grammar.specs.Syntax as y
+use Rattle.gp_semiring.specs.Elements.{cost_text, greatest, no_token, nobody, number_up_to, truth_of, truth_text}
+use Rattle.gp_semiring.specs.Polynomials.{Terms, poly_number, poly_one, poly_plus, poly_text, poly_times, poly_token}
+use Rattle.gp_semiring.specs.Sums.{plus_up_to, times_up_to}
+use Rattle.gp_valuation.specs.declared.rules.Rule.{Rule}
+use Rattle.gp_valuation.specs.declared.token_kind.TokenKind.{TokenKind}
+use Rattle.gp_valuation.specs.declared.token_kind.TokenKind.TheVariants.{I, Q, U}
+use Rattle.gp_valuation.specs.Rules.{first_outside}
+use Rattle.gp_valuation.specs.Values.{token_value}
+use Rattle.gp_ask.specs.declared.answered.Answered.{Answered}
+use Rattle.gp_ask.specs.declared.answered.Answered.TheVariants.{Values, Refused}
+use Rattle.gp_ask.specs.declared.answered.Valued.{Valued}
+
+-- ---- semirings
+
+-- a semiring: its operations, the elements that numbers and tokens stand for, and the texts of its elements
+pub record Semiring : Type 1 where
+  pub Element : Type 0
+  pub zero_of : Element
+  pub one_of : Element
+  pub plus_of : Element → Element → Element
+  pub times_of : Element → Element → Element
+  pub number_of : ℕ → Option Element
+  pub itself_of : Token → Option Element
+  pub text_of : Element → List ℕ
+
+-- how many ways there are
+abbrev pub count : Semiring
+count = record {
+  Element = ℕ;
+  zero_of = 0;
+  one_of = 1;
+  plus_of = plus_up_to greatest;
+  times_of = times_up_to greatest;
+  number_of = number_up_to greatest;
+  itself_of = no_token;
+  text_of = decimal;
+}
+
+-- whether there is a way
+abbrev pub truth : Semiring
+truth = record {
+  Element = Bool;
+  zero_of = false;
+  one_of = true;
+  plus_of = ◌||◌;
+  times_of = ◌&&◌;
+  number_of = truth_of;
+  itself_of = no_token;
+  text_of = truth_text;
+}
+
+-- what the cheapest way costs
+abbrev pub cost : Semiring
+cost = record {
+  Element = ℕ;
+  zero_of = greatest;
+  one_of = 0;
+  plus_of = min;
+  times_of = plus_up_to greatest;
+  number_of = number_up_to greatest;
+  itself_of = no_token;
+  text_of = cost_text;
+}
+
+-- the least level that sees all parts of a way
+abbrev pub level : Semiring
+level = record {
+  Element = ℕ;
+  zero_of = nobody;
+  one_of = 0;
+  plus_of = min;
+  times_of = max;
+  number_of = number_up_to nobody;
+  itself_of = no_token;
+  text_of = decimal;
+}
+
+-- all ways, as a polynomial over the tokens
+abbrev pub polynomial : Semiring
+polynomial = record {
+  Element = Terms;
+  zero_of = [];
+  one_of = poly_one;
+  plus_of = poly_plus;
+  times_of = poly_times;
+  number_of = poly_number;
+  itself_of = poly_token;
+  text_of = poly_text;
+}
+
+abbrev pub semiring_of : SemiringName → Semiring
+semiring_of named.Count = count
+semiring_of named.Bool = truth
+semiring_of named.Cost = cost
+semiring_of named.Level = level
+semiring_of named.Poly = polynomial
+
+abbrev pub name_text : SemiringName → List ℕ
+name_text named.Count = codes "COUNT"
+name_text named.Bool = codes "BOOL"
+name_text named.Cost = codes "COST"
+name_text named.Level = codes "LEVEL"
+name_text named.Poly = codes "POLY"
+
+-- ---- rules
+
+abbrev pub kind_of : written.TokenKind → TokenKind
+kind_of w.I = I
+kind_of w.Q = Q
+kind_of w.U = U
+
+abbrev pub rule_of : y.Rule → Rule
+rule_of rule = record { kind = kind_of rule.kind; t = rule.t; k = rule.k; n = rule.n; value = rule.value }
+
+-- the rules of a question, and the number of all other tokens
+abbrev pub rules_of : List y.Rule → Option ℕ → List Rule × Option ℕ
+rules_of rules other = (map rule_of rules, other)
+
+-- ---- answers
+
+abbrev pub valued : {K : Type 0} → (K → List ℕ) → List Cell × K → Valued
+valued text_of row = record { row = row.0; text = text_of row.1 }
+
+-- the distinct rows with the texts of their values
+abbrev pub with_values : {K : Type 0} → (K → List ℕ) → Result (List (List Cell × K)) Refusal → Answered
+with_values text_of (Ok rows) = Values (map (valued text_of) rows)
+with_values text_of (Err refusal) = Refused refusal
+
+-- a number that stands for no element is refused, whatever the rows are
+abbrev pub unless_outside : SemiringName → Option ℕ → Answered → Answered
+unless_outside name None answered = answered
+unless_outside name (Some number) answered = Refused (E28 number (name_text name))
+
+module _ (semiring : Semiring) (rules : List Rule × Option ℕ) where
+  -- the value of a token by the rules
+  abbrev pub value_of : Token → semiring.Element
+  value_of = token_value semiring.one_of semiring.number_of semiring.itself_of rules
+
+  abbrev pub evaluated : SemiringName → Result (List (List Cell × semiring.Element)) Refusal → Answered
+  evaluated name rows = unless_outside name (first_outside semiring.number_of rules.0 rules.1) (with_values semiring.text_of rows)

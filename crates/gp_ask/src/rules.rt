@@ -1,0 +1,57 @@
+//! The rules of a question, as valuations take them.
+
+ghost use Rattle.std.specs.Prelude.{◌≡◌, map, IfOk};
+ghost use Rattle.gp_syntax.specs.Views.{rule_view};
+ghost use Rattle.gp_ask.specs.Values as v;
+
+use gp_base::{NoMemory, Sequence};
+use gp_grammar::TokenKind as WrittenKind;
+use gp_syntax::Rule as WrittenRule;
+use gp_valuation::{Rule, Rules, TokenKind};
+use std::alloc::Global;
+
+/// The kind of tokens that a rule is on.
+fn kind_of(kind: WrittenKind) -> TokenKind
+    ensures { result ≡ v.kind_of kind }
+{
+    match kind {
+        WrittenKind::I => TokenKind::I,
+        WrittenKind::Q => TokenKind::Q,
+        WrittenKind::U => TokenKind::U,
+    }
+}
+
+/// A rule.
+fn rule_of(rule: &WrittenRule) -> Rule
+    ensures { result ≡ v.rule_of (rule_view rule.now) }
+{
+    Rule {
+        kind: kind_of(rule.kind),
+        t: rule.t,
+        k: rule.k,
+        n: rule.n,
+        value: rule.value,
+    }
+}
+
+/// The rules in order.
+fn in_order(alloc: Global, rules: &[WrittenRule]) -> Result<Sequence<Rule>, NoMemory>
+    ensures { IfOk result (λ found. found ≡ map v.rule_of (map rule_view rules.now)) }
+{
+    let mut found = Sequence::new(alloc);
+    for rule in rules {
+        found.push(rule_of(rule))?;
+    }
+    Ok(found)
+}
+
+/// The rules of a question, and the number of all other tokens.
+pub fn rules_of(alloc: Global, rules: &[WrittenRule], other: Option<u64>) -> Result<Rules, NoMemory>
+    ensures { IfOk result
+        (λ found. (found.rules, found.other) ≡ v.rules_of (map rule_view rules.now) other) }
+{
+    Ok(Rules {
+        rules: in_order(alloc, rules)?,
+        other,
+    })
+}

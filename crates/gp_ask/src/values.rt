@@ -1,0 +1,195 @@
+//! The values of queries over past states in a semiring.
+
+ghost use Rattle.std.specs.Prelude.{◌≡◌, map, true, IfOk};
+ghost use Rattle.gp_algebra.specs.Fitting.{select_fits};
+ghost use Rattle.gp_algebra.specs.Views.{select_view};
+ghost use Rattle.gp_base.specs.declared.refusal.Refusal.TheVariants.{E28};
+ghost use Rattle.gp_check.specs.Valid.{query_is_valid, tables_are_valid};
+ghost use Rattle.gp_dump.specs.Dumps.{IsDump};
+ghost use Rattle.gp_dump.specs.Views.{dump_view};
+ghost use Rattle.gp_grammar.specs.Syntax as y;
+ghost use Rattle.gp_history.specs.Agreement.{agree};
+ghost use Rattle.gp_history.specs.Values.{HasFewItems};
+ghost use Rattle.gp_kexec.specs.Rows.{pair_view};
+ghost use Rattle.gp_log.specs.Limits.{limits};
+ghost use Rattle.gp_log.specs.LogFacts.{tables_in};
+ghost use Rattle.gp_syntax.specs.Views.{query_view, rule_view, state_view};
+ghost use Rattle.gp_valuation.specs.Values.{token_value};
+ghost use Rattle.gp_values.specs.ValueAnswers as a;
+ghost use Rattle.gp_ask.specs.declared.answered.Answered.TheVariants.{Refused};
+ghost use Rattle.gp_ask.specs.Answerable.{has_few_items};
+ghost use Rattle.gp_ask.specs.Answers.{answer_to, dump_values, spans_at};
+ghost use Rattle.gp_ask.specs.Operations.{semiring_with};
+ghost use Rattle.gp_ask.specs.Values as v;
+
+use crate::answered::{Answered, Valued};
+use crate::queries::asked;
+use crate::rules::rules_of;
+use gp_algebra::Select;
+use gp_base::{NoMemory, Refusal, Sequence, Text};
+use gp_check::CheckStop;
+use gp_dump::Dump;
+use gp_grammar::SemiringName;
+use gp_history::values;
+use gp_kexec::KRow;
+use gp_reenact::ReenactStop;
+use gp_semiring::{Bool, Cost, Count, Level, Poly, Semiring};
+use gp_syntax::{Query, Rule, State};
+use gp_valuation::{Rules, by_rules, first_outside};
+use std::alloc::Global;
+
+/// The name of a semiring, as it is printed.
+fn name_text(name: SemiringName) -> &'static [u8]
+    ensures { result.now ≡ v.name_text name }
+{
+    match name {
+        SemiringName::Count => b"COUNT",
+        SemiringName::Bool => b"BOOL",
+        SemiringName::Cost => b"COST",
+        SemiringName::Level => b"LEVEL",
+        SemiringName::Poly => b"POLY",
+    }
+}
+
+/// The refusal of a number that stands for no element.
+fn outside(alloc: Global, number: u64, name: SemiringName) -> Result<Answered, NoMemory>
+    ensures { IfOk result (λ answered. answered ≡ Refused (E28 number (v.name_text name))) }
+{
+    let semiring = Text::from_bytes(alloc, name_text(name))?;
+    Ok(Answered::Refused(Refusal::E28 { number, semiring }))
+}
+
+/// A row with the text of its value.
+fn valued<K: Semiring>(alloc: Global, row: &KRow<K>) -> Result<Valued, NoMemory>
+    ensures { IfOk result (λ valued. valued ≡ v.valued K.text_of (pair_view row.now)) }
+{
+    let mut text = Vec::new(alloc);
+    row.value.write(&mut text)?;
+    let text = Text::from_bytes(alloc, &text)?;
+    Ok(Valued {
+        row: row.row.clone()?,
+        text,
+    })
+}
+
+/// The rows with the texts of their values.
+fn valued_rows<K: Semiring>(alloc: Global, rows: &[KRow<K>]) -> Result<Sequence<Valued>, NoMemory>
+    ensures { IfOk result
+        (λ found. found ≡ map (v.valued K.text_of) (map pair_view rows.now)) }
+{
+    let mut found = Sequence::new(alloc);
+    for row in rows {
+        found.push(valued(alloc, row)?)?;
+    }
+    Ok(found)
+}
+
+/// The distinct rows of a checked query with their values by rules, or the refusal of its annotation, of its run or of its answer.
+fn rows_by<K: Semiring>(
+    alloc: Global,
+    dump: &Dump,
+    state: State,
+    select: &Select,
+    rules: Rules,
+) -> Result<Answered, NoMemory>
+    requires rules { IsDump (dump_view dump.now) }
+    requires fits { select_fits (tables_in (dump_view dump.now).entries) (select_view select.now)
+        ≡ true }
+    requires few { HasFewItems (select_view select.now) }
+    ensures { IfOk result (λ answered. answered ≡ v.with_values K.text_of
+        (a.value_answer limits K.plus_of K.zero_of K.one_of K.times_of
+        (token_value K.one_of K.number_of K.itself_of (rules.rules, rules.other)) agree
+        (tables_in (dump_view dump.now).entries) (dump_view dump.now).entries
+        (spans_at (dump_view dump.now).tables) (state_view state) (select_view select.now))) }
+{
+    let valuation = by_rules::<K>(alloc, rules)?;
+    match values(
+        alloc,
+        &dump.log,
+        dump.versions.as_slice(),
+        state,
+        select,
+        &valuation,
+    ) {
+        Ok(rows) => Ok(Answered::Values(valued_rows(alloc, rows.as_slice())?)),
+        Err(ReenactStop::Refused(refusal)) => Ok(Answered::Refused(refusal)),
+        Err(ReenactStop::NoMemory) => Err(NoMemory),
+    }
+}
+
+/// The same, unless a number of the rules stands for no element: then nothing is run.
+fn values_in<K: Semiring>(
+    alloc: Global,
+    dump: &Dump,
+    state: State,
+    select: &Select,
+    name: SemiringName,
+    rules: Rules,
+) -> Result<Answered, NoMemory>
+    requires rules { IsDump (dump_view dump.now) }
+    requires fits { select_fits (tables_in (dump_view dump.now).entries) (select_view select.now)
+        ≡ true }
+    requires few { HasFewItems (select_view select.now) }
+    ensures { IfOk result (λ answered. answered ≡ dump_values (semiring_with K.zero_of K.one_of
+        K.plus_of K.times_of K.number_of K.itself_of K.text_of) name (rules.rules, rules.other)
+        (dump_view dump.now) (state_view state) (select_view select.now)) }
+{
+    match first_outside::<K>(alloc, &rules)? {
+        Some(number) => outside(alloc, number, name),
+        None => rows_by::<K>(alloc, dump, state, select, rules),
+    }
+}
+
+/// The values of a checked query in the semiring of this name.
+fn selected_values(
+    alloc: Global,
+    dump: &Dump,
+    state: State,
+    select: &Select,
+    name: SemiringName,
+    rules: Rules,
+) -> Result<Answered, NoMemory>
+    requires rules { IsDump (dump_view dump.now) }
+    requires fits { select_fits (tables_in (dump_view dump.now).entries) (select_view select.now)
+        ≡ true }
+    requires few { HasFewItems (select_view select.now) }
+    ensures { IfOk result (λ answered. answered ≡ dump_values (v.semiring_of name) name
+        (rules.rules, rules.other) (dump_view dump.now) (state_view state) (select_view select.now)) }
+{
+    match name {
+        SemiringName::Count => values_in::<Count>(alloc, dump, state, select, name, rules),
+        SemiringName::Bool => values_in::<Bool>(alloc, dump, state, select, name, rules),
+        SemiringName::Cost => values_in::<Cost>(alloc, dump, state, select, name, rules),
+        SemiringName::Level => values_in::<Level>(alloc, dump, state, select, name, rules),
+        SemiringName::Poly => values_in::<Poly>(alloc, dump, state, select, name, rules),
+    }
+}
+
+/// The distinct rows of a query over a state with their values in the semiring of this name, by rules and the number of all other
+/// tokens. E20 to E23 if the log has no such state, then the check of the query, then E28 for the first number that stands for no
+/// element, then E24 to E27.
+pub fn value_answer(
+    alloc: Global,
+    dump: &Dump,
+    name: SemiringName,
+    rules: &[Rule],
+    other: Option<u64>,
+    state: State,
+    query: &Query,
+) -> Result<Answered, NoMemory>
+    requires rules { IsDump (dump_view dump.now) }
+    requires valid { tables_are_valid (tables_in (dump_view dump.now).entries) ≡ true }
+    requires query { query_is_valid (query_view query.now) ≡ true }
+    requires few { has_few_items (query_view query.now) ≡ true }
+    ensures { IfOk result (λ answered. answered ≡ answer_to (dump_view dump.now) (y.ask
+        (y.value name (map rule_view rules.now) other) (state_view state) (query_view query.now))) }
+{
+    match asked(alloc, dump, state, query) {
+        Ok(select) => {
+            let rules = rules_of(alloc, rules, other)?;
+            selected_values(alloc, dump, state, &select, name, rules)
+        }
+        Err(CheckStop::Refused(refusal)) => Ok(Answered::Refused(refusal)),
+        Err(CheckStop::NoMemory) => Err(NoMemory),
+    }
+}
