@@ -12,7 +12,7 @@ ghost use Rattle.gp_ask.specs.Answerable.{question_is_valid};
 ghost use Rattle.gp_ask.specs.Backends.{asks_rows};
 
 use gp_algebra::PProgram;
-use gp_ask::{Answered, Backend, answer_by};
+use gp_ask::{Answered, Backend, answer_by, read_questions_are_valid};
 use gp_base::{Cell, NoMemory, Refusal, Row};
 use gp_dump::Dump;
 use gp_exec::{Env, ExecStop};
@@ -87,6 +87,7 @@ pub fn fixed_answer(alloc: Global, dump: &Dump, line: &[u8]) -> Result<Answered,
     requires rules { IsDump (dump_view dump.now) }
     requires valid { tables_are_valid (tables_in (dump_view dump.now).entries) ≡ true }
 {
+    read_questions_are_valid();
     match read_question(alloc, line) {
         Ok(question) => plain_answer(alloc, dump, &question),
         Err(ReadStop::Refused(refusal)) => Ok(Answered::Refused(refusal)),

@@ -1,4 +1,4 @@
-//! Answers that need the whole of a history: explained queries and provenance.
+//! Answers that need the whole of a history: explained queries, provenance and values.
 //!
 //! The answers are worked out by hand. An answer stands below its question, and its lines begin with `> `.
 //!
@@ -11,7 +11,7 @@
 //!
 //! Reading order: `call.rt` (calls and transcripts), `scripts.rt` and `large.rt` (the scripts that are asked about), `explaining.rt`
 //! (explained queries), `spelling.rt` (their texts, read again), `backend.rt` and `deciding.rt` (rows over another backend),
-//! `provenance.rt` (monomials).
+//! `provenance.rt` (monomials), `valuing.rt` (values in semirings).
 #![tactic(auto)]
 
 mod backend;
@@ -29,5 +29,7 @@ mod provenance;
 mod scripts;
 #[cfg(test)]
 mod spelling;
+#[cfg(test)]
+mod valuing;
 
 pub use backend::{Fixed, fixed_answer};

@@ -72,10 +72,10 @@ const ASKED: &[Asked] = &[
         b"AS OF 1 SELECT x.a FROM r x, r y\n> 1 E27 more than 50000 rows\nAS OF 1 SELECT x.a FROM r x, r y WHERE x.a = 3\n> 2 rows 0\nAS OF 2 SELECT x.a FROM r x, r y\n> 3 E23 versions end at 1\n",
         1,
     ),
-    // Provenance, and questions that come with later versions of the program.
+    // Provenance, a program and values, one of each.
     (
         LOST_UPDATE,
-        b"PROVENANCE OF REENACT 2 AFTER 1 SELECT * FROM r\n> 1 rows 2\n>   1, 11 : i1.1.1*u2.1\n>   2, 20 : i1.1.2\nEXPLAIN REENACT 9 COMMIT SELECT * FROM t\n> 2 E20 no transaction 9\nPROVENANCE OF AS OF 9 SELECT * FROM r\n> 3 E23 versions end at 2\nEXPLAIN AS OF 1 SELECT * FROM r\n> 4 program 1\n>   QUERY PROJECT(SCAN(r, 1), #1, #2)\nVALUE IN COUNT OF AS OF 1 SELECT * FROM r\n> 5 E29 not built\nAS OF 1 SELECT * FROM r, r, r, r, r\n> 6 E14 limit from\n",
+        b"PROVENANCE OF REENACT 2 AFTER 1 SELECT * FROM r\n> 1 rows 2\n>   1, 11 : i1.1.1*u2.1\n>   2, 20 : i1.1.2\nEXPLAIN REENACT 9 COMMIT SELECT * FROM t\n> 2 E20 no transaction 9\nPROVENANCE OF AS OF 9 SELECT * FROM r\n> 3 E23 versions end at 2\nEXPLAIN AS OF 1 SELECT * FROM r\n> 4 program 1\n>   QUERY PROJECT(SCAN(r, 1), #1, #2)\nVALUE IN COUNT OF AS OF 1 SELECT * FROM r\n> 5 rows 2\n>   1, 10 : 1\n>   2, 20 : 1\nAS OF 1 SELECT * FROM r, r, r, r, r\n> 6 E14 limit from\n",
         1,
     ),
 ];
