@@ -8,8 +8,8 @@ use Rattle.gp_script.specs.declared.script.TheConstants.{MAX_SCRIPT_LENGTH}
 use Rattle.gp_dump.specs.declared.dump.TheConstants.{MAX_DUMP_LENGTH}
 use Rattle.gp_dump.specs.Dumps.{Dump, WellFormed}
 use Rattle.gp_dump.specs.Rules.{Verdict, Holds, Fails, verdict_on, fault_in}
-use Rattle.gprom_cli.specs.Args.{Command, Run, Ask}
-use Rattle.gprom_cli.specs.Call.{Outcome, Usage, Absent, Unreadable, TooLong, NotReplaced, Replied, Damaged, Answered, OutOfMemory, IsOutcomeOf, RunEnds, AskEnds, script_dump, reading, asking, outcome_by}
+use Rattle.gprom_cli.specs.Args.{Command, Run, Ask, Generate}
+use Rattle.gprom_cli.specs.Call.{Outcome, Usage, Absent, Unreadable, TooLong, NotReplaced, Replied, Damaged, Answered, Summarized, OutOfMemory, IsOutcomeOf, RunEnds, AskEnds, script_dump, reading, asking, outcome_by}
 
 -- what holds of the files where they are known
 pub known : (holds : Option Files) (files : Files) (P : Files → Type 0) → holds ≡ Some files → IfSome holds P → P files
@@ -83,6 +83,7 @@ module _ (before after : ShelfState) (files : Files) (is : before.holds ≡ Some
   run-determined script dump Usage ends = absurd ends
   run-determined script dump (Damaged f line) ends = absurd ends
   run-determined script dump (Answered contents questions) ends = absurd ends
+  run-determined script dump (Summarized rounds) ends = absurd ends
 
   module _ (law : ReadsWellFormed) where
     abbrev asked_of : List ℕ → List ℕ → Outcome
@@ -119,11 +120,13 @@ module _ (before after : ShelfState) (files : Files) (is : before.holds ≡ Some
     ask-determined dump questions Usage ends = absurd ends
     ask-determined dump questions (NotReplaced name) ends = absurd ends
     ask-determined dump questions (Replied script) ends = absurd ends
+    ask-determined dump questions (Summarized rounds) ends = absurd ends
 
     pub outcome-determined : (command : Option Command) (o : Outcome) → IsOutcomeOf command before after o → Determines o (outcome_by command files)
     outcome-determined None o ends = inl ends.1
     outcome-determined (Some (Run script dump)) o ends = run-determined script dump o ends
     outcome-determined (Some (Ask dump questions)) o ends = ask-determined dump questions o ends
+    outcome-determined (Some (Generate rounds)) o ends = inl ends.1
 
 -- ---- the outcome of files that are there
 

@@ -1,9 +1,14 @@
 -- The texts that are generated.
-use Rattle.std.proofs.Common.{◌≡◌, ℕ, suc, ◌+◌, ◌≤◌, List, [], ◌∷◌, ◌++◌, length, map, take, refl, sym, ap, ◌∙◌, subst, arith, append_assoc}
-use Rattle.std.specs.List.{concat, flat_map}
-use Rattle.std.proofs.lemmas.List.{take_all}
+use Rattle.std.proofs.Common.{◌≡◌, ℕ, zero, suc, ◌+◌, ◌*◌, ◌<◌, ◌≤◌, List, [], ◌∷◌, ◌++◌, length, map, take, refl, sym, ap, ◌∙◌, subst, arith, append_assoc}
+use Rattle.std.specs.Fmt.{decimal}
+use Rattle.std.specs.List.{concat, flat_map, sum_by}
+use Rattle.std.proofs.lemmas.Fmt.{length-decimal-le}
+use Rattle.std.proofs.lemmas.List.{length-append, take_all}
 use Rattle.std.proofs.lemmas.List.Concat.{flat_map-append}
-use Rattle.gprom_cli.specs.Generated.{Pieces, closing_lines, generated_lines, line_feed, line_text, lines_text, opening_lines, question_lines, replay_line, round_lines, rounds_lines}
+use Rattle.std.proofs.lemmas.List.Sums.{sum_by-cons}
+use Rattle.gp_script.specs.declared.script.TheConstants.{MAX_SCRIPT_LENGTH}
+use Rattle.gprom_cli.specs.declared.generated.TheConstants.{MAX_ROUNDS}
+use Rattle.gprom_cli.specs.Generated.{Pieces, amount, closing_lines, destination, generated_lines, generated_script, line_feed, line_text, lines_text, opening_lines, question_lines, replay_line, round_lines, rounds_lines, source}
 
 -- ---- lines as pieces
 
@@ -50,3 +55,41 @@ pub questions-all : (committed : List ℕ) (last i : ℕ) (text : List ℕ) → 
 questions-all committed last i text all so_far =
     ap (λ (x : List ℕ). x ++ lines_text (closing_lines last)) (so_far ∙ ap (flat_map (λ (t : ℕ). line_text (replay_line t))) (take_all i committed all))
     ∙ questions-parts committed last
+
+-- ---- lengths
+
+abbrev size : List ℕ → ℕ
+size piece = length piece
+
+concat-length : (pieces : List (List ℕ)) → length (concat pieces) ≡ sum_by size pieces
+concat-length [] = refl
+concat-length (piece ∷ pieces) = length-append piece (concat pieces) ∙ ap (λ (n : ℕ). length piece + n) (concat-length pieces) ∙ sym (sum_by-cons size piece pieces)
+
+-- the lengths of all pieces
+pub lines-length : (lines : List Pieces) → length (lines_text lines) ≡ sum_by size (flat_map ended lines)
+lines-length lines = ap length (lines-pieces lines) ∙ concat-length (flat_map ended lines)
+
+small : (n : ℕ) → n < 100 → length (decimal n) ≤ 2
+small n below = length-decimal-le 2 n (omega arith) (omega (arith, below)) (omega (arith, below))
+
+pub wide : (n : ℕ) → n < 10000 → length (decimal n) ≤ 4
+wide n below = length-decimal-le 4 n (omega arith) (omega (arith, below)) (omega (arith, below))
+
+round-length : (round : ℕ) → length (lines_text (round_lines round)) ≤ 300
+round-length round =
+    let from = small (source round) (omega arith) in
+    let to = small (destination round) (omega arith) in
+    let much = small (amount round) (omega arith) in
+    omega (arith, lines-length (round_lines round), from, to, much)
+
+rounds-length : (rounds : ℕ) → length (lines_text (generated_lines rounds)) ≤ 400 + 300 * rounds
+rounds-length zero = omega (arith, lines-length opening_lines)
+rounds-length (suc rounds) =
+    let before = rounds-length rounds in
+    let round = round-length (suc rounds) in
+    let all = ap length (round-more rounds) ∙ length-append (lines_text (generated_lines rounds)) (lines_text (round_lines (suc rounds))) in
+    omega (arith, before, round, all)
+
+-- a generated script is short enough to be run
+pub short-script : (rounds : ℕ) → rounds ≤ MAX_ROUNDS → length (generated_script rounds) ≤ MAX_SCRIPT_LENGTH
+short-script rounds few = let length = rounds-length rounds in omega (arith, length, few)

@@ -1,6 +1,10 @@
 pub mod ReadingLemmas
 pub mod WordsLemmas
 pub mod GeneratedLemmas
+pub mod RoundsLemmas
+pub mod CountingLemmas
+pub mod RowCountLemmas
+pub mod SummaryLemmas
 pub mod WritesLemmas
 pub mod AnswersLemmas
 pub mod StepsLemmas

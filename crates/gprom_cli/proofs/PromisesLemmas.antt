@@ -14,9 +14,10 @@ use Rattle.gp_ask.specs.Explained.{ExplainsQuestions}
 use Rattle.gp_ask.specs.Questions.{answers_text, has_refused}
 use Rattle.gprom_cli.specs.declared.status.Status.{Status}
 use Rattle.gprom_cli.specs.declared.status.Status.TheVariants as exit
-use Rattle.gprom_cli.specs.Args.{Command, Run, Ask}
+use Rattle.gprom_cli.specs.Args.{Command, Run, Ask, Generate}
 use Rattle.gprom_cli.specs.Status.{number_of, status_of}
-use Rattle.gprom_cli.specs.Call.{Call, Outcome, Usage, Absent, Unreadable, TooLong, NotReplaced, Replied, Damaged, Answered, OutOfMemory, ExplainsOutcome, HasOutcome, Writes, WritesOutcome, WritesOutput, IsAnswered, IsOrFails, IsOutcomeOf, RunEnds, AskEnds, exit_status, answered_status, outcome_by, script_dump}
+use Rattle.gprom_cli.specs.Call.{Call, Outcome, Usage, Absent, Unreadable, TooLong, NotReplaced, Replied, Damaged, Answered, Summarized, OutOfMemory, ExplainsOutcome, HasOutcome, Writes, WritesOutcome, WritesOutput, IsAnswered, IsOrFails, IsOutcomeOf, RunEnds, AskEnds, exit_status, answered_status, outcome_by, script_dump}
+use Rattle.gprom_cli.specs.Summary.{summary_of, summary_text}
 use Rattle.gprom_cli.specs.Promises.{Promises, IsClean, LeavesOthers, NoFault, ReportsNothing, ReportsNotReplaced, ReportsOne, files_read, files_replaced}
 use Rattle.gprom_cli.proofs.WritesLemmas.{IsWritten, absent-is, expected-is, no-fault, nothing-of, status-of, unreadable-is, unwritten-is, usage-is}
 use Rattle.gprom_cli.proofs.FilesLemmas.{Determines, ReadsWellFormed, ask-outcome, outcome-determined, replaced-others, run-outcome, same-others}
@@ -60,6 +61,7 @@ module _ (before after : ShelfState) where
   usage-at None o ends at = refl
   usage-at (Some (Run script dump)) o ends at = absurd (subst (λ (u : Outcome). RunEnds script dump before after u) (usage-is o at) ends)
   usage-at (Some (Ask dump questions)) o ends at = absurd (subst (λ (u : Outcome). AskEnds dump questions before after u) (usage-is o at) ends)
+  usage-at (Some (Generate rounds)) o ends at = absurd (let impossible : exit.Done ≡ exit.Usage = sym (ap exit_status ends.1) ∙ at in cc)
 
   absent-at : (command : Option Command) (o : Outcome) → IsOutcomeOf command before after o → exit_status o ≡ exit.Absent
       → IsSomeAnd command (λ (c : Command). ReportsOne (files_read c) before.misses after.misses)
@@ -75,6 +77,7 @@ module _ (before after : ShelfState) where
       (λ e. inl (subst (λ (name : List ℕ). Reports name before.misses after.misses) e there.1.reported))
       (λ e. inr (inl (subst (λ (name : List ℕ). Reports name before.misses after.misses) e.0 there.1.reported)))
       there.0
+  absent-at (Some (Generate rounds)) o ends at = absurd (let impossible : exit.Done ≡ exit.Absent = sym (ap exit_status ends.1) ∙ at in cc)
 
   unreadable-at : (command : Option Command) (o : Outcome) → IsOutcomeOf command before after o → exit_status o ≡ exit.Unreadable
       → IsSomeAnd command (λ (c : Command). ReportsOne (files_read c) before.read_faults after.read_faults)
@@ -90,12 +93,14 @@ module _ (before after : ShelfState) where
       (λ e. inl (subst (λ (name : List ℕ). Reports name before.read_faults after.read_faults) e there.1.reported))
       (λ e. inr (inl (subst (λ (name : List ℕ). Reports name before.read_faults after.read_faults) e.0 there.1.reported)))
       there.0
+  unreadable-at (Some (Generate rounds)) o ends at = absurd (let impossible : exit.Done ≡ exit.Unreadable = sym (ap exit_status ends.1) ∙ at in cc)
 
   not-replaced-at : (command : Option Command) (name : List ℕ) → IsOutcomeOf command before after (NotReplaced name)
       → IsSomeAnd command (λ (c : Command). ReportsOne (files_replaced c) before.replace_faults after.replace_faults)
   not-replaced-at None name ends = absurd (let impossible : NotReplaced name ≡ Usage = ends.1 in cc)
   not-replaced-at (Some (Run script dump)) name ends = inl ends.1.reported
   not-replaced-at (Some (Ask dump questions)) name ends = absurd ends
+  not-replaced-at (Some (Generate rounds)) name ends = absurd (let impossible : NotReplaced name ≡ Summarized rounds = ends.1 in cc)
 
   -- the shelf reported nothing
   abbrev IsQuiet : Type 0
@@ -115,6 +120,7 @@ module _ (before after : ShelfState) where
   run-quiet script dump Usage ends clean = absurd ends
   run-quiet script dump (Damaged f line) ends clean = absurd ends
   run-quiet script dump (Answered contents questions) ends clean = absurd ends
+  run-quiet script dump (Summarized rounds) ends clean = absurd ends
 
   ask-quiet : (dump questions : List ℕ) (o : Outcome) → AskEnds dump questions before after o → IsClean (exit_status o) → IsQuiet
   ask-quiet dump questions (Absent name) ends clean = absurd clean
@@ -126,11 +132,13 @@ module _ (before after : ShelfState) where
   ask-quiet dump questions Usage ends clean = absurd ends
   ask-quiet dump questions (NotReplaced name) ends clean = absurd ends
   ask-quiet dump questions (Replied script) ends clean = absurd ends
+  ask-quiet dump questions (Summarized rounds) ends clean = absurd ends
 
   quiet-at : (command : Option Command) (o : Outcome) → IsOutcomeOf command before after o → IsClean (exit_status o) → IsQuiet
   quiet-at None o ends clean = quiet-unchanged ends.0
   quiet-at (Some (Run script dump)) o ends clean = run-quiet script dump o ends clean
   quiet-at (Some (Ask dump questions)) o ends clean = ask-quiet dump questions o ends clean
+  quiet-at (Some (Generate rounds)) o ends clean = quiet-unchanged ends.0
 
   -- ---- files
 
@@ -147,6 +155,7 @@ module _ (before after : ShelfState) where
   run-files script dump Usage ends = absurd ends
   run-files script dump (Damaged f line) ends = absurd ends
   run-files script dump (Answered contents questions) ends = absurd ends
+  run-files script dump (Summarized rounds) ends = absurd ends
 
   ask-files : (dump questions : List ℕ) (o : Outcome) → AskEnds dump questions before after o → after.holds ≡ before.holds
   ask-files dump questions (Absent name) ends = ap (λ (h : ShelfState). h.holds) ends.1.others
@@ -158,6 +167,7 @@ module _ (before after : ShelfState) where
   ask-files dump questions Usage ends = absurd ends
   ask-files dump questions (NotReplaced name) ends = absurd ends
   ask-files dump questions (Replied script) ends = absurd ends
+  ask-files dump questions (Summarized rounds) ends = absurd ends
 
   -- ---- one outcome
 
@@ -243,6 +253,11 @@ module _ (laws : DumpLaws) (call : Call) (has : HasOutcome call) where
       ap (λ (c : Option Command). outcome_by c files) ask ∙ ask-outcome files dump name bytes questions contents found small asked short (laws.reads bytes contents formed) in
       explains-as contents questions (subst (λ (o : Outcome). Determines has.outcome o) expected (determined-at files is quiet))
 
+  generated : (rounds : ℕ) → call.command ≡ Some (Generate rounds) → WritesOutput (summary_text (summary_of rounds)) exit.Done call.sink call.sink_after call.status
+  generated rounds generate =
+      let ends : IsOutcomeOf (Some (Generate rounds)) call.shelf call.shelf_after has.outcome = subst (λ (c : Option Command). IsOutcomeOf c call.shelf call.shelf_after has.outcome) generate has.is in
+      writes-as (Summarized rounds) (inl ends.1)
+
   invalid : call.command ≡ None → IsOrFails exit.Usage call.status
   invalid none =
       let ends : IsOutcomeOf None call.shelf call.shelf_after has.outcome = subst (λ (c : Option Command). IsOutcomeOf c call.shelf call.shelf_after has.outcome) none has.is in
@@ -272,6 +287,7 @@ module _ (laws : DumpLaws) (call : Call) (has : HasOutcome call) where
   files-at None ends = ap (λ (h : ShelfState). h.holds) ends.0
   files-at (Some (Run script dump)) ends = run-files call.shelf call.shelf_after script dump has.outcome ends
   files-at (Some (Ask dump questions)) ends = ask-files call.shelf call.shelf_after dump questions has.outcome ends
+  files-at (Some (Generate rounds)) ends = ap (λ (h : ShelfState). h.holds) ends.0
 
   pub promised : Promises call
   promised = record {
@@ -280,6 +296,7 @@ module _ (laws : DumpLaws) (call : Call) (has : HasOutcome call) where
     replied = replied;
     held = held;
     explained = explained;
+    generated = generated;
     usage = λ at. usage-at call.shelf call.shelf_after call.command has.outcome has.is (expected-at exit.Usage at usage-written);
     invalid = invalid;
     absent = λ at. absent-at call.shelf call.shelf_after call.command has.outcome has.is (expected-at exit.Absent at absent-written);

@@ -6,8 +6,8 @@ use Rattle.gp_script.specs.declared.script.TheConstants.{MAX_SCRIPT_LENGTH}
 use Rattle.gp_dump.specs.declared.dump.TheConstants.{MAX_DUMP_LENGTH}
 use Rattle.gprom_cli.specs.declared.status.Status.{Status}
 use Rattle.gprom_cli.specs.declared.status.Status.TheVariants as exit
-use Rattle.gprom_cli.specs.Args.{Command, Run, Ask}
-use Rattle.gprom_cli.specs.Call.{Outcome, Usage, Absent, Unreadable, TooLong, NotReplaced, Replied, Damaged, Answered, OutOfMemory, ExplainsOutcome, HasContent, HasOutcome, IsRead, RunEnds, AskEnds}
+use Rattle.gprom_cli.specs.Args.{Command, Run, Ask, Generate}
+use Rattle.gprom_cli.specs.Call.{Outcome, Usage, Absent, Unreadable, TooLong, NotReplaced, Replied, Damaged, Answered, Summarized, OutOfMemory, ExplainsOutcome, HasContent, HasOutcome, IsRead, RunEnds, AskEnds}
 use Rattle.gprom_cli.specs.Steps.{AnswerEnds, Answers, ReadEnds, StopsReading}
 use Rattle.gprom_cli.proofs.ReadingLemmas.{read-length}
 use Rattle.gprom_cli.proofs.WritesLemmas.{nothing-of}
@@ -23,6 +23,7 @@ run-stops script dump before after (NotReplaced name) is = absurd is
 run-stops script dump before after (Replied bytes) is = absurd is
 run-stops script dump before after (Damaged f line) is = is
 run-stops script dump before after (Answered contents questions) is = is
+run-stops script dump before after (Summarized rounds) is = is
 
 -- the dump was not read
 dump-stops : (dump questions : List ℕ) (before after : ShelfState) (o : Outcome) → ReadEnds dump MAX_DUMP_LENGTH before after o → AskEnds dump questions before after o
@@ -35,6 +36,7 @@ dump-stops dump questions before after (NotReplaced name) is = is
 dump-stops dump questions before after (Replied bytes) is = is
 dump-stops dump questions before after (Damaged f line) is = absurd is
 dump-stops dump questions before after (Answered contents asked) is = absurd is
+dump-stops dump questions before after (Summarized rounds) is = is
 
 -- the questions were not read, after the dump
 questions-stop : (dump questions : List ℕ) (before after : ShelfState) (o : Outcome) → IsRead dump MAX_DUMP_LENGTH before → ReadEnds questions MAX_SCRIPT_LENGTH before after o → AskEnds dump questions before after o
@@ -47,6 +49,7 @@ questions-stop dump questions before after (NotReplaced name) found is = is
 questions-stop dump questions before after (Replied bytes) found is = is
 questions-stop dump questions before after (Damaged f line) found is = absurd is
 questions-stop dump questions before after (Answered contents asked) found is = absurd is
+questions-stop dump questions before after (Summarized rounds) found is = is
 
 -- the dump and the questions were read
 both-read : (dump questions bytes asked : List ℕ) (before after : ShelfState) (o : Outcome) → after ≡ before → HasContent dump before bytes → length bytes ≤ MAX_DUMP_LENGTH
@@ -62,6 +65,7 @@ both-read dump questions bytes asked before after (Unreadable name) same found f
 both-read dump questions bytes asked before after (TooLong name) same found few there short is = absurd is
 both-read dump questions bytes asked before after (NotReplaced name) same found few there short is = is
 both-read dump questions bytes asked before after (Replied script) same found few there short is = is
+both-read dump questions bytes asked before after (Summarized rounds) same found few there short is = is
 
 -- a file that was not read has no questions
 module _ (file : List ℕ) (most : ℕ) (before after : ShelfState) (s : Status) where
@@ -75,6 +79,7 @@ module _ (file : List ℕ) (most : ℕ) (before after : ShelfState) (s : Status)
   unread-explains (Replied script) is = tt
   unread-explains (Damaged f line) is = tt
   unread-explains (Answered contents questions) is = absurd is
+  unread-explains (Summarized rounds) is = tt
 
 -- the calls of these steps
 module _ (before after : ShelfState) (sink sink' : SinkState) (s : Status) where
@@ -119,3 +124,9 @@ pub out-of-memory : (command : Option Command) (shelf : ShelfState) (sink : Sink
 out-of-memory None shelf sink = record { outcome = Usage; is = (refl, refl); writes = nothing-of Usage sink sink exit.OutOfMemory refl refl; explains = tt }
 out-of-memory (Some (Run script dump)) shelf sink = record { outcome = OutOfMemory; is = refl; writes = (refl, refl); explains = tt }
 out-of-memory (Some (Ask dump questions)) shelf sink = record { outcome = OutOfMemory; is = refl; writes = (refl, refl); explains = tt }
+out-of-memory (Some (Generate rounds)) shelf sink = record {
+  outcome = Summarized rounds;
+  is = (refl, refl);
+  writes = nothing-of (Summarized rounds) sink sink exit.OutOfMemory refl refl;
+  explains = tt;
+}

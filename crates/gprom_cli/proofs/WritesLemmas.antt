@@ -7,7 +7,7 @@ use Rattle.gp_io.specs.Sink.{SinkState, appended, CountsFault, Increased, Writes
 use Rattle.gp_io.proofs.SinkLemmas.{WritesPrefix-none}
 use Rattle.gprom_cli.specs.declared.status.Status.{Status}
 use Rattle.gprom_cli.specs.declared.status.Status.TheVariants as exit
-use Rattle.gprom_cli.specs.Call.{Outcome, Usage, Absent, Unreadable, TooLong, NotReplaced, Replied, Damaged, Answered, OutOfMemory, WritesAll, WritesOutput, Writes, IsAnswered, IsOrFails, expected_output, exit_status}
+use Rattle.gprom_cli.specs.Call.{Outcome, Usage, Absent, Unreadable, TooLong, NotReplaced, Replied, Damaged, Answered, Summarized, OutOfMemory, WritesAll, WritesOutput, Writes, IsAnswered, IsOrFails, expected_output, exit_status}
 use Rattle.gprom_cli.specs.Steps.{stop_status}
 
 -- the status of a write, by its result
@@ -69,6 +69,7 @@ nothing-of (Replied script) old new actual same memory = nothing-written (expect
 nothing-of (Damaged f line) old new actual same memory = nothing-written (expected_output (Damaged f line)) exit.Damaged old new actual same memory
 nothing-of (Answered dump questions) old new actual same memory =
     nothing-written (expected_output (Answered dump questions)) (exit_status (Answered dump questions)) old new actual same memory
+nothing-of (Summarized rounds) old new actual same memory = nothing-written (expected_output (Summarized rounds)) exit.Done old new actual same memory
 nothing-of OutOfMemory old new actual same memory = (same, memory)
 
 -- the status of an outcome, unless the write failed
@@ -81,6 +82,7 @@ status-of (NotReplaced name) old new actual w = w.status
 status-of (Replied script) old new actual w = w.status
 status-of (Damaged f line) old new actual w = w.status
 status-of (Answered dump questions) old new actual w = w.status
+status-of (Summarized rounds) old new actual w = w.status
 status-of OutOfMemory old new actual w = inl w.1
 
 -- lines that are answered end in Done or Refused
@@ -99,6 +101,7 @@ usage-is (NotReplaced name) at = cc
 usage-is (Replied script) at = absurd (answered_is_not _ exit.Usage at (λ e. cc) (λ e. cc))
 usage-is (Damaged f line) at = cc
 usage-is (Answered dump questions) at = absurd (answered_is_not _ exit.Usage at (λ e. cc) (λ e. cc))
+usage-is (Summarized rounds) at = cc
 usage-is OutOfMemory at = cc
 
 pub absent-is : (o : Outcome) → exit_status o ≡ exit.Absent → (name : List ℕ) × (o ≡ Absent name)
@@ -110,6 +113,7 @@ absent-is (NotReplaced name) at = absurd cc
 absent-is (Replied script) at = absurd (answered_is_not _ exit.Absent at (λ e. cc) (λ e. cc))
 absent-is (Damaged f line) at = absurd cc
 absent-is (Answered dump questions) at = absurd (answered_is_not _ exit.Absent at (λ e. cc) (λ e. cc))
+absent-is (Summarized rounds) at = absurd cc
 absent-is OutOfMemory at = absurd cc
 
 pub unreadable-is : (o : Outcome) → exit_status o ≡ exit.Unreadable → (name : List ℕ) × (o ≡ Unreadable name)
@@ -121,6 +125,7 @@ unreadable-is (NotReplaced name) at = absurd cc
 unreadable-is (Replied script) at = absurd (answered_is_not _ exit.Unreadable at (λ e. cc) (λ e. cc))
 unreadable-is (Damaged f line) at = absurd cc
 unreadable-is (Answered dump questions) at = absurd (answered_is_not _ exit.Unreadable at (λ e. cc) (λ e. cc))
+unreadable-is (Summarized rounds) at = absurd cc
 unreadable-is OutOfMemory at = absurd cc
 
 -- a write error is that of the dump, or was counted
@@ -134,6 +139,7 @@ unwritten-is (NotReplaced name) old new actual w at = inl (name, refl)
 unwritten-is (Replied script) old new actual w at = inr (w.unwritten at (λ e. answered_is_not _ exit.Unwritten e (λ d. cc) (λ d. cc)))
 unwritten-is (Damaged f line) old new actual w at = inr (w.unwritten at (λ e. cc))
 unwritten-is (Answered dump questions) old new actual w at = inr (w.unwritten at (λ e. answered_is_not _ exit.Unwritten e (λ d. cc) (λ d. cc)))
+unwritten-is (Summarized rounds) old new actual w at = inr (w.unwritten at (λ e. cc))
 unwritten-is OutOfMemory old new actual w at = absurd (let impossible : exit.Unwritten ≡ exit.OutOfMemory = sym at ∙ w.1 in cc)
 
 -- ---- statuses under which all was written
@@ -157,6 +163,7 @@ no-fault (NotReplaced name) old new actual w is = no-new-fault _ _ old new actua
 no-fault (Replied script) old new actual w is = no-new-fault _ _ old new actual w is
 no-fault (Damaged f line) old new actual w is = no-new-fault _ _ old new actual w is
 no-fault (Answered dump questions) old new actual w is = no-new-fault _ _ old new actual w is
+no-fault (Summarized rounds) old new actual w is = no-new-fault _ _ old new actual w is
 no-fault OutOfMemory old new actual w is = absurd (is.1 w.1)
 
 -- a status that is no failure to write is the expected one

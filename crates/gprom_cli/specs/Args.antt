@@ -1,14 +1,20 @@
 -- Part of the statement: what the arguments of the program ask for. An argument that begins with a hyphen is an option in the utility
 -- conventions of POSIX (IEEE Std 1003.1, Utility Syntax Guidelines), and gprom has no options.
-use Rattle.std.specs.Prelude.{ℕ, Bool, false, not, List, [], ◌∷◌, Option, Some, None, if◌then◌else◌, ◌==◌, codes}
+use Rattle.std.specs.Prelude.{ℕ, Bool, false, not, ◌&&◌, nat_le, List, [], ◌∷◌, Option, Some, None, if◌then◌else◌, ◌==◌, codes}
 use Rattle.std.specs.List.{list_all}
+use Rattle.std.specs.Option.{option_map}
 use Rattle.std.specs.Str.{bytes_eq}
+use Rattle.std.specs.Str.Parse.{digits_value}
+use Rattle.gp_grammar.specs.CommandGrammar.{is_number_without_zero}
+use Rattle.gprom_cli.specs.declared.generated.TheConstants.{MAX_ROUNDS}
 
 pub data Command : Type 0 where
   -- `run SCRIPT DUMP`: the names of the script, which is read, and of the dump, which is replaced
   Run : List ℕ → List ℕ → Command
   -- `ask DUMP QUESTIONS`: the names of the dump and of the questions, which are read
   Ask : List ℕ → List ℕ → Command
+  -- `gen N`: the number of rounds
+  Generate : ℕ → Command
 
 -- an argument that is no option, and not empty
 abbrev pub is_word : List ℕ → Bool
@@ -16,6 +22,14 @@ is_word [] = false
 is_word (byte ∷ bytes) = not (byte == 45)
 
 -- ---- the command
+
+-- the number of rounds that a word writes: digits of which the first is not 0, and a number that is not too great
+abbrev pub rounds_of : List ℕ → Option ℕ
+rounds_of word = if is_number_without_zero word && nat_le (digits_value 10 word) MAX_ROUNDS then Some (digits_value 10 word) else None
+
+-- the command of a word, if it is one, and a number
+abbrev pub command_of_number : List ℕ → List ℕ → Option Command
+command_of_number word number = if bytes_eq word (codes "gen") then option_map Generate (rounds_of number) else None
 
 -- the command of a word, if it is one, and two names
 abbrev pub command_of_names : List ℕ → List ℕ → List ℕ → Option Command
@@ -27,7 +41,7 @@ command_of_names word first second =
 abbrev pub command_of_words : List (List ℕ) → Option Command
 command_of_words [] = None
 command_of_words (word ∷ []) = None
-command_of_words (word ∷ first ∷ []) = None
+command_of_words (word ∷ first ∷ []) = command_of_number word first
 command_of_words (word ∷ first ∷ second ∷ []) = command_of_names word first second
 command_of_words (word ∷ first ∷ second ∷ other ∷ others) = None
 

@@ -15,7 +15,8 @@ use Rattle.gp_ask.specs.Explained.{ExplainsQuestions}
 use Rattle.gp_ask.specs.Questions.{answers_text, has_refused}
 use Rattle.gprom_cli.specs.declared.status.Status.{Status}
 use Rattle.gprom_cli.specs.declared.status.Status.TheVariants as exit
-use Rattle.gprom_cli.specs.Args.{Command, Run, Ask}
+use Rattle.gprom_cli.specs.Args.{Command, Run, Ask, Generate}
+use Rattle.gprom_cli.specs.Summary.{summary_of, summary_text}
 
 -- One call: what it was asked to do, and what it found and left. The shelf and the sink are as contracts see them.
 pub record Call : Type 0 where
@@ -73,6 +74,8 @@ pub data Outcome : Type 0 where
   Damaged : ℕ → ℕ → Outcome
   -- the questions, of which these are the bytes, are answered from this dump
   Answered : Dump → List ℕ → Outcome
+  -- the summary of this many generated rounds is made
+  Summarized : ℕ → Outcome
   -- memory ran out before anything was written
   OutOfMemory : Outcome
 
@@ -101,6 +104,7 @@ expected_output (NotReplaced name) = message (codes "cannot write") name
 expected_output (Replied script) = replies_text (replies_of script)
 expected_output (Damaged f line) = damage_message f line
 expected_output (Answered dump questions) = answers_text (answer_to dump) questions
+expected_output (Summarized rounds) = summary_text (summary_of rounds)
 expected_output OutOfMemory = []
 
 -- the status of lines that were all answered: whether one was refused
@@ -117,6 +121,7 @@ exit_status (NotReplaced name) = exit.Unwritten
 exit_status (Replied script) = answered_status (has_refusal (replies_of script))
 exit_status (Damaged f line) = exit.Damaged
 exit_status (Answered dump questions) = answered_status (has_refused (answer_to dump) questions)
+exit_status (Summarized rounds) = exit.Done
 exit_status OutOfMemory = exit.OutOfMemory
 
 -- ---- when an outcome is that of a call
@@ -147,6 +152,7 @@ RunEnds script dump before after OutOfMemory = after ≡ before
 RunEnds script dump before after Usage = ⊥
 RunEnds script dump before after (Damaged f line) = ⊥
 RunEnds script dump before after (Answered contents questions) = ⊥
+RunEnds script dump before after (Summarized rounds) = ⊥
 
 -- `ask`: the dump is read, then the questions; then the dump is tested against its rules, and the questions are answered
 abbrev pub AskEnds : List ℕ → List ℕ → ShelfState → ShelfState → Outcome → Type 0
@@ -164,11 +170,13 @@ AskEnds dump questions before after OutOfMemory = after ≡ before
 AskEnds dump questions before after Usage = ⊥
 AskEnds dump questions before after (NotReplaced name) = ⊥
 AskEnds dump questions before after (Replied script) = ⊥
+AskEnds dump questions before after (Summarized rounds) = ⊥
 
 abbrev pub IsOutcomeOf : Option Command → ShelfState → ShelfState → Outcome → Type 0
 IsOutcomeOf None before after outcome = (after ≡ before) × (outcome ≡ Usage)
 IsOutcomeOf (Some (Run script dump)) before after outcome = RunEnds script dump before after outcome
 IsOutcomeOf (Some (Ask dump questions)) before after outcome = AskEnds dump questions before after outcome
+IsOutcomeOf (Some (Generate rounds)) before after outcome = (after ≡ before) × (outcome ≡ Summarized rounds)
 
 -- how an outcome is written; where memory ran out before, nothing is
 abbrev pub Writes : Outcome → SinkState → SinkState → Status → Type 0
@@ -200,6 +208,7 @@ ExplainsOutcome status (TooLong name) = Unit {0}
 ExplainsOutcome status (NotReplaced name) = Unit {0}
 ExplainsOutcome status (Replied script) = Unit {0}
 ExplainsOutcome status (Damaged f line) = Unit {0}
+ExplainsOutcome status (Summarized rounds) = Unit {0}
 ExplainsOutcome status OutOfMemory = Unit {0}
 
 -- the arguments, the files and what the shelf reported determine the outcome, and the outcome what is written
@@ -227,3 +236,4 @@ outcome_by (Some (Run script dump)) files =
 outcome_by (Some (Ask dump questions)) files =
     reading dump MAX_DUMP_LENGTH (content dump files) (λ bytes.
     reading questions MAX_SCRIPT_LENGTH (content questions files) (λ asked. asking asked (verdict_on bytes)))
+outcome_by (Some (Generate rounds)) files = Summarized rounds

@@ -3,6 +3,7 @@ pub mod Words
 pub mod Views
 pub mod Status
 pub mod Generated
+pub mod Summary
 pub mod Call
 pub mod Steps
 pub mod Promises

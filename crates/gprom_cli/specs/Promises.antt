@@ -14,8 +14,9 @@ use Rattle.gp_ask.specs.Explained.{ExplainsQuestions}
 use Rattle.gp_ask.specs.Questions.{answers_text, has_refused}
 use Rattle.gprom_cli.specs.declared.status.Status.{Status}
 use Rattle.gprom_cli.specs.declared.status.Status.TheVariants.{Done, Refused, Usage, Absent, Unreadable, Unwritten, TooLong, Damaged, OutOfMemory}
-use Rattle.gprom_cli.specs.Args.{Command, Run, Ask}
+use Rattle.gprom_cli.specs.Args.{Command, Run, Ask, Generate}
 use Rattle.gprom_cli.specs.Call.{Call, HasOutcome, WritesOutput, WritesOutcome, IsAnswered, IsOrFails, answered_status, outcome_by, script_dump}
+use Rattle.gprom_cli.specs.Summary.{summary_of, summary_text}
 
 -- no file was reported unreadable or not replaced during the call
 abbrev pub NoFault : Call → Type 0
@@ -25,10 +26,12 @@ NoFault call = (call.shelf_after.read_faults ≡ call.shelf.read_faults) × (cal
 abbrev pub files_read : Command → List (List ℕ)
 files_read (Run script dump) = script ∷ []
 files_read (Ask dump questions) = dump ∷ questions ∷ []
+files_read (Generate rounds) = []
 
 abbrev pub files_replaced : Command → List (List ℕ)
 files_replaced (Run script dump) = dump ∷ []
 files_replaced (Ask dump questions) = []
+files_replaced (Generate rounds) = []
 
 -- one of these names was reported
 abbrev pub ReportsOne : List (List ℕ) → List (List ℕ) → List (List ℕ) → Type 0
@@ -68,6 +71,7 @@ abbrev pub LeavesOthers : Option Command → Call → Type 0
 LeavesOthers None call = call.shelf_after.holds ≡ call.shelf.holds
 LeavesOthers (Some (Run script dump)) call = FilesRelate (OthersStay dump) call.shelf.holds call.shelf_after.holds
 LeavesOthers (Some (Ask dump questions)) call = call.shelf_after.holds ≡ call.shelf.holds
+LeavesOthers (Some (Generate rounds)) call = call.shelf_after.holds ≡ call.shelf.holds
 
 pub record Promises (call : Call) : Type 0 where
   -- The arguments, the files and the reported I/O errors determine the output, the exit status and what becomes of the dump. The output is complete,
@@ -95,6 +99,9 @@ pub record Promises (call : Call) : Type 0 where
       → content dump files ≡ Some bytes → length bytes ≤ MAX_DUMP_LENGTH → WellFormed bytes contents
       → content name files ≡ Some questions → length questions ≤ MAX_SCRIPT_LENGTH
       → IsAnswered call.status → ExplainsQuestions contents.entries questions
+  -- `gen` writes the summary of the history of the generated script: its dump, and the rows with which that history, annotated, answered the generated
+  -- questions.
+  pub generated : (rounds : ℕ) → call.command ≡ Some (Generate rounds) → WritesOutput (summary_text (summary_of rounds)) Done call.sink call.sink_after call.status
   -- Each status has its cause: invalid arguments and no others give the usage line,
   pub usage : call.status ≡ Usage → call.command ≡ None
   pub invalid : call.command ≡ None → IsOrFails Usage call.status

@@ -8,7 +8,7 @@ use Rattle.gp_dump.specs.Dumps.{WellFormed}
 use Rattle.gp_dump.specs.Rules.{first_fault}
 use Rattle.gprom_cli.specs.declared.status.Status.{Status}
 use Rattle.gprom_cli.specs.declared.status.Status.TheVariants as exit
-use Rattle.gprom_cli.specs.Call.{Outcome, Usage, Absent, Unreadable, TooLong, NotReplaced, Replied, Damaged, Answered, OutOfMemory, ExplainsOutcome, HasContent, IsLonger, Writes}
+use Rattle.gprom_cli.specs.Call.{Outcome, Usage, Absent, Unreadable, TooLong, NotReplaced, Replied, Damaged, Answered, Summarized, OutOfMemory, ExplainsOutcome, HasContent, IsLonger, Writes}
 
 -- ---- writing
 
@@ -36,6 +36,7 @@ ReadEnds file most before after (NotReplaced name) = ⊥
 ReadEnds file most before after (Replied script) = ⊥
 ReadEnds file most before after (Damaged f line) = ⊥
 ReadEnds file most before after (Answered dump questions) = ⊥
+ReadEnds file most before after (Summarized rounds) = ⊥
 
 -- the file was not read, and this was written
 pub record StopsReading (file : List ℕ) (most : ℕ) (before after : ShelfState) (sink sink_after : SinkState) (status : Status) : Type 0 where
@@ -63,6 +64,7 @@ AnswerEnds bytes asked (Unreadable name) = ⊥
 AnswerEnds bytes asked (TooLong name) = ⊥
 AnswerEnds bytes asked (NotReplaced name) = ⊥
 AnswerEnds bytes asked (Replied script) = ⊥
+AnswerEnds bytes asked (Summarized rounds) = ⊥
 
 pub record Answers (bytes asked : List ℕ) (sink sink_after : SinkState) (status : Status) : Type 0 where
   pub outcome : Outcome

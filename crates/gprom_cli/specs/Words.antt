@@ -3,7 +3,7 @@ use Rattle.std.specs.Prelude.{ℕ, true, List, [], ◌∷◌, Option, Some, None
 use Rattle.std.specs.Option.{option_map}
 use Rattle.clap.specs.Words.{App, Rule, new_app, new_rule, with_rule}
 use Rattle.gprom_cli.specs.declared.words.Words as code
-use Rattle.gprom_cli.specs.Args.{Command, command_of_names}
+use Rattle.gprom_cli.specs.Args.{Command, command_of_names, command_of_number}
 
 -- two words, and a third that may be missing
 abbrev pub Triple : Type 0
@@ -22,7 +22,7 @@ words_of (word ∷ first ∷ second ∷ other ∷ others) = None
 
 -- their command
 abbrev pub command_of_parts : List ℕ → List ℕ → Option (List ℕ) → Option Command
-command_of_parts word first None = None
+command_of_parts word first None = command_of_number word first
 command_of_parts word first (Some second) = command_of_names word first second
 
 abbrev pub command_of_triple : Option Triple → Option Command

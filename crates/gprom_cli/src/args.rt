@@ -1,13 +1,14 @@
 //! The arguments of the program.
 
-ghost use Rattle.std.specs.Prelude.{◌≡◌, IfOk, map, string_bytes};
+ghost use Rattle.std.specs.Prelude.{◌≡◌, IfOk, map, nat_le, string_bytes};
 ghost use Rattle.std.specs.List.{list_all};
 ghost use Rattle.std.specs.Option.{option_map};
 ghost use Rattle.std.specs.Str.{bytes_eq};
-ghost use Rattle.gprom_cli.specs.Args.{command_of, command_of_names, is_word};
+ghost use Rattle.gprom_cli.specs.Args.{command_of, command_of_names, command_of_number, is_word, rounds_of};
 ghost use Rattle.gprom_cli.specs.Views.{command_view};
 ghost use Rattle.gprom_cli.specs.Words.{command_of_parts, command_of_triple, words_view};
 
+use crate::generated::MAX_ROUNDS;
 use crate::words::{Words, read_words};
 use gp_base::NoMemory;
 use std::alloc::Global;
@@ -28,6 +29,11 @@ pub enum Command<'a> {
         dump: &'a str,
         /// The name of the questions.
         questions: &'a str,
+    },
+    /// `gen N`: no file is read or replaced.
+    Generate {
+        /// The number of rounds, from 1 to [`MAX_ROUNDS`].
+        rounds: u32,
     },
 }
 
@@ -81,6 +87,42 @@ fn command_of_names<'a>(word: &str, first: &'a str, second: &'a str) -> Option<C
     }
 }
 
+/// Whether a script may have this many rounds.
+fn are_few(rounds: u32) -> bool
+    ensures { result ≡ nat_le rounds MAX_ROUNDS }
+{
+    rounds <= MAX_ROUNDS
+}
+
+/// The number of rounds that a word writes: digits of which the first is not 0, and a number of at most [`MAX_ROUNDS`].
+fn rounds_of(word: &str) -> Option<u32>
+    ensures { result ≡ rounds_of word.now }
+{
+    let [first, ..] = word.as_bytes() else {
+        return None;
+    };
+    if *first == b'0' || *first == b'+' {
+        return None;
+    }
+    match word.parse::<u32>() {
+        Ok(rounds) if are_few(rounds) => Some(rounds),
+        _ => None,
+    }
+}
+
+/// The command of a word, if it is one, and a number.
+fn command_of_number<'a>(word: &str, number: &str) -> Option<Command<'a>>
+    ensures { option_map command_view result ≡ command_of_number word.now number.now }
+{
+    if !is_same(word, "gen") {
+        return None;
+    }
+    match rounds_of(number) {
+        Some(rounds) => Some(Command::Generate { rounds }),
+        None => None,
+    }
+}
+
 /// The command of two or three words.
 fn command_of_parts<'a>(word: &str, first: &'a str, second: Option<&'a str>) -> Option<Command<'a>>
     ensures { option_map command_view result
@@ -88,7 +130,7 @@ fn command_of_parts<'a>(word: &str, first: &'a str, second: Option<&'a str>) -> 
 {
     match second {
         Some(second) => command_of_names(word, first, second),
-        None => None,
+        None => command_of_number(word, first),
     }
 }
 
@@ -102,8 +144,8 @@ fn command_of_triple(words: Option<Words<'_>>) -> Option<Command<'_>>
     }
 }
 
-/// The command that the arguments ask for, or `None` where they are invalid: `run` or `ask`, then two names that are not empty and do not
-/// begin with a hyphen. Running out of memory is the only error.
+/// The command that the arguments ask for, or `None` where they are invalid: `run` or `ask` and two names that are not empty and do not
+/// begin with a hyphen, or `gen` and a number from 1 to [`MAX_ROUNDS`]. Running out of memory is the only error.
 #[tactic(auto, using(crate::proofs::WordsLemmas::words_command))]
 pub(crate) fn parse(alloc: Global, args: &[String]) -> Result<Option<Command<'_>>, NoMemory>
     ensures { IfOk result (λ command. option_map command_view command

@@ -1,12 +1,12 @@
 //! The whole call: from the arguments of the program to the bytes written and the exit status.
 
-ghost use Rattle.std.specs.Prelude.{◌≡◌, map, string_bytes};
+ghost use Rattle.std.specs.Prelude.{◌≡◌, IfSome, map, string_bytes};
 ghost use Rattle.std.specs.Option.{option_map};
 ghost use Rattle.gprom_cli.specs.Args.{command_of};
 ghost use Rattle.gprom_cli.specs.Call.{HasOutcome};
 ghost use Rattle.gprom_cli.specs.Promises.{Promises};
 ghost use Rattle.gprom_cli.specs.Status.{number_of, status_of};
-ghost use Rattle.gprom_cli.specs.Views.{command_view};
+ghost use Rattle.gprom_cli.specs.Views.{HasFewRounds, command_view};
 
 use crate::args::{Command, parse};
 use crate::ask::ask;
@@ -14,6 +14,7 @@ use crate::laws::scripts_have_well_formed_dumps;
 use crate::output::write_output;
 use crate::run::run;
 use crate::status::Status;
+use crate::summary::generate;
 use gp_base::NoMemory;
 use gp_io::{Shelf, Sink};
 use std::alloc::Global;
@@ -28,6 +29,7 @@ fn execute_command<H: Shelf, K: Sink>(
     shelf: &mut H,
     out: &mut K,
 ) -> Status
+    requires { IfSome command HasFewRounds }
     ensures { HasOutcome (record {
       command = option_map command_view command.entry;
       shelf = H.state shelf.old;
@@ -40,6 +42,7 @@ fn execute_command<H: Shelf, K: Sink>(
     match command {
         Some(Command::Run { script, dump }) => run(alloc, script, dump, shelf, out),
         Some(Command::Ask { dump, questions }) => ask(alloc, dump, questions, shelf, out),
+        Some(Command::Generate { rounds }) => generate(alloc, rounds, out),
         None => write_output(out, USAGE, Status::Usage),
     }
 }
@@ -62,11 +65,11 @@ fn execute<H: Shelf, K: Sink>(alloc: Global, args: &[String], shelf: &mut H, out
 }
 
 /// Does all that the program does: parses the arguments (those after the program's name), reads files from `shelf`, replaces the dump of
-/// `run` there, writes replies, answers or a message to `out`, and returns the exit status. A step that fails ends the call.
+/// `run` there, writes replies, answers, a summary or a message to `out`, and returns the exit status. A step that fails ends the call.
 ///
 /// | Status | Meaning |
 /// |---|---|
-/// | 0 | every line was answered, none was refused |
+/// | 0 | every line was answered, none was refused; or the summary was made |
 /// | 1 | every line was answered, some were refused |
 /// | 2 | the arguments are invalid |
 /// | 3 | a file that is read does not exist |

@@ -6,6 +6,7 @@ ghost use Rattle.gp_script.specs.History.{final_state};
 ghost use Rattle.gp_dump.specs.Dumps.{IsDump, dump_of};
 ghost use Rattle.gp_ask.specs.Answers.{answer_to, held_to};
 ghost use Rattle.gp_ask.specs.Questions.{answers_text, has_refused};
+ghost use Rattle.gprom_cli.specs.Summary.{rows_in};
 
 use gp_ask::histories_answer_as_their_dumps;
 use gp_base::Monomial;
@@ -13,7 +14,7 @@ use gp_dump::dumps_of_histories_are_well_formed;
 use gp_script::{MAX_SCRIPT_LENGTH, lines_of_scripts_are_script_lines, scripts_lead_to_histories};
 
 /// The dump of every script is well formed, and answers every file of questions as the annotated history of the script held it: with the same
-/// text, and refusing a question where the history refuses one.
+/// text, as many rows, and refusing a question where the history refuses one.
 pub fn scripts_have_well_formed_dumps()
     ensures formed { (script : List ℕ) → length script ≤ MAX_SCRIPT_LENGTH
         → IsDump (dump_of (final_state plain script)) }
@@ -23,6 +24,9 @@ pub fn scripts_have_well_formed_dumps()
     ensures refusals { (script questions : List ℕ)
         → has_refused (answer_to (dump_of (final_state plain script))) questions
         ≡ has_refused (held_to (final_state monomials script)) questions }
+    ensures rows { (script questions : List ℕ)
+        → rows_in (answer_to (dump_of (final_state plain script))) questions
+        ≡ rows_in (held_to (final_state monomials script)) questions }
 {
     scripts_lead_to_histories::<()>();
     scripts_lead_to_histories::<Monomial>();

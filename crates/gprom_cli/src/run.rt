@@ -17,17 +17,17 @@ use std::alloc::Global;
 
 /// What a script comes to.
 #[derive(Drop)]
-struct Results {
+pub(crate) struct Results {
     /// The replies to its lines.
     replies: Vec<u8>,
     /// Whether a line was refused.
     refused: bool,
     /// The text of its dump.
-    dump: Vec<u8>,
+    pub(crate) dump: Vec<u8>,
 }
 
 /// Runs a script. All that it writes is made before any of it is written.
-fn run_all(alloc: Global, script: &[u8]) -> Result<Results, NoMemory>
+pub(crate) fn run_all(alloc: Global, script: &[u8]) -> Result<Results, NoMemory>
     requires { length script.now ≤ MAX_SCRIPT_LENGTH }
     ensures replies { IfOk result (λ made.
         made.replies.items ≡ replies_text (replies_of script.now)) }

@@ -2,6 +2,7 @@ use Rattle.std.proofs.Common.{Option, map, subst}
 use Rattle.std.specs.Prelude.{string_bytes}
 use Rattle.gprom_cli.specs.Args as spec
 use Rattle.gprom_cli.specs.Call.{HasOutcome}
+use Rattle.gprom_cli.proofs.RoundsLemmas.{few-rounds}
 use Rattle.gprom_cli.proofs.StepsLemmas.{out-of-memory}
 use Rattle.gprom_cli.proofs.call.execute.Goals as goal
 
@@ -13,3 +14,6 @@ returns-in-Ok g c =
 
 pub returns-in-Err : goal.returns-in-Err
 returns-in-Err g c = out-of-memory (spec.command_of (map string_bytes c.args.args.now)) (g.H.Shelf.state c.args.shelf.now) (g.K.Sink.state c.args.out.now)
+
+pub execute_command-requires : goal.execute_command-requires
+execute_command-requires g c = few-rounds c.in-Ok.command (map string_bytes c.args.args.now) c.in-Ok.ensures

@@ -2,7 +2,7 @@ use Rattle.std.proofs.Common.{Option, Some, refl, subst, ap, sym, ◌∙◌}
 use Rattle.std.specs.Option.{option_map}
 use Rattle.gprom_cli.specs.Args as spec
 use Rattle.gprom_cli.specs.Views.{command_view}
-use Rattle.gprom_cli.specs.Call.{HasOutcome, Usage}
+use Rattle.gprom_cli.specs.Call.{HasOutcome, Summarized, Usage}
 use Rattle.gprom_cli.proofs.call.execute_command.Goals as goal
 
 pub returns-in-Some-Run : goal.returns-in-Some-Run
@@ -27,3 +27,12 @@ returns-in-None g c =
     subst
     (λ (command : Option spec.Command). HasOutcome (record { command = command; shelf = shelf; shelf_after = shelf; sink = g.K.Sink.state c.args.out.now; sink_after = g.K.Sink.state c.write_output.new.out; status = c.write_output.result }))
     (ap (option_map command_view) (sym c.in-None.is)) (record { outcome = Usage; is = (refl, refl); writes = c.write_output.ensures; explains = tt })
+
+pub returns-in-Some-Generate : goal.returns-in-Some-Generate
+returns-in-Some-Generate g c =
+    let shelf = g.H.Shelf.state c.args.shelf.now in
+    let made = rw c.in-Some-Generate.is at c.in-Some-Generate.field-0-is in
+    let is = ap (option_map command_view) (sym (c.in-Some-Generate.is ∙ ap Some made)) in
+    subst
+    (λ (command : Option spec.Command). HasOutcome (record { command = command; shelf = shelf; shelf_after = shelf; sink = g.K.Sink.state c.args.out.now; sink_after = g.K.Sink.state c.generate.new.out; status = c.generate.result }))
+    is (record { outcome = Summarized c.in-Some-Generate.rounds; is = (refl, refl); writes = c.generate.ensures; explains = tt })

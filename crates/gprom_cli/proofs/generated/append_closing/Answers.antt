@@ -1,4 +1,4 @@
-use Rattle.std.proofs.Common.{◌≡◌, ap, ◌∙◌}
+use Rattle.std.proofs.Common.{◌≡◌, ◌∙◌}
 use Rattle.std.specs.Fmt.{decimal}
 use Rattle.gprom_cli.specs.Generated as spec
 use Rattle.gprom_cli.proofs.GeneratedLemmas.{lines-pieces}

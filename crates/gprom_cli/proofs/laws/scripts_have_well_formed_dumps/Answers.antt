@@ -1,7 +1,6 @@
-use Rattle.std.proofs.Common.{◌≡◌, ℕ, ap, sym, subst, ◌∙◌}
+use Rattle.std.proofs.Common.{◌≡◌, ap, sym, subst, ◌∙◌}
 use Rattle.gp_base.specs.Annotated.{monomials, plain}
 use Rattle.gp_base.specs.Tokens.{Monomial}
-use Rattle.gp_grammar.specs.Syntax as y
 use Rattle.gp_syntax.specs.Lines.{script_lines}
 use Rattle.gp_machine.specs.Event.{after}
 use Rattle.gp_machine.specs.State.{State, start}
@@ -12,7 +11,9 @@ use Rattle.gp_ask.specs.declared.answered.Answered.{Answered}
 use Rattle.gp_ask.specs.Answers.{answer_to, held_to}
 use Rattle.gp_ask.specs.Questions.{answers_text, has_refused, is_refused}
 use Rattle.gp_ask.specs.Texts.{answer_text}
+use Rattle.gprom_cli.specs.Summary.{row_count, rows_in}
 use Rattle.gprom_cli.proofs.AnswersLemmas.{same-refusals, same-texts}
+use Rattle.gprom_cli.proofs.RowCountLemmas.{same-rows}
 use Rattle.gprom_cli.proofs.laws.scripts_have_well_formed_dumps.Goals as goal
 
 pub returns-clause-formed : goal.returns-clause-formed
@@ -37,3 +38,12 @@ returns-clause-refusals c = λ script questions.
     subst (λ (s : State (Unit {0})). has_refused (answer_to (dump_of s)) questions ≡ has_refused (held_to (after monomials limits start lines)) questions) (sym (c.scripts_lead_to_histories.ensures.reached plain script))
     (same-refusals (answer_to (dump_of plainly)) (held_to state) (λ question. ap (λ (a : Answered). is_refused a) (c.histories_answer_as_their_dumps.ensures lines question)) questions)
     ∙ ap (λ (s : State Monomial). has_refused (held_to s) questions) (sym (c.scripts_lead_to_histories-2.ensures.reached monomials script))
+
+pub returns-clause-rows : goal.returns-clause-rows
+returns-clause-rows c = λ script questions.
+    let lines = lines_read (script_lines script) in
+    let plainly = after plain limits start lines in
+    let state = after monomials limits start lines in
+    subst (λ (s : State (Unit {0})). rows_in (answer_to (dump_of s)) questions ≡ rows_in (held_to (after monomials limits start lines)) questions) (sym (c.scripts_lead_to_histories.ensures.reached plain script))
+    (same-rows (answer_to (dump_of plainly)) (held_to state) (λ question. ap row_count (c.histories_answer_as_their_dumps.ensures lines question)) questions)
+    ∙ ap (λ (s : State Monomial). rows_in (held_to s) questions) (sym (c.scripts_lead_to_histories-2.ensures.reached monomials script))

@@ -1,8 +1,8 @@
-use Rattle.std.proofs.Common.{rules, ◌≡◌, true, codes, refl, ap, ap₂, ◌∙◌}
+use Rattle.std.proofs.Common.{rules, ◌≡◌, codes, ap, ap₂, ◌∙◌}
 use Rattle.std.proofs.lemmas.Result.{IfOk-weaker}
-use Rattle.clap.specs.Words.{app_of, new_app, new_rule, rule_of, with_rule}
+use Rattle.clap.specs.Words.{app_of, new_rule, rule_of, with_rule}
 use Rattle.clap.specs.Simple.{app_of_fields}
-use Rattle.gprom_cli.specs.Words.{command_line, empty_line, required_rule, with_settings}
+use Rattle.gprom_cli.specs.Words.{empty_line, required_rule, with_settings}
 use Rattle.gprom_cli.proofs.words.command_line.Goals as goal
 
 pub returns : goal.returns

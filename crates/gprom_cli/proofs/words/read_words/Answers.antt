@@ -1,4 +1,4 @@
-use Rattle.std.proofs.Common.{◌≡◌, map, string_bytes, ap, ◌∙◌, codes, option_map, sym}
+use Rattle.std.proofs.Common.{◌≡◌, map, string_bytes, ap, ◌∙◌, option_map, sym}
 use Rattle.clap.specs.Words.{app_of, first_value, found_of, first_of}
 use Rattle.clap.specs.Simple.{is_simple, matches_of}
 use Rattle.clap.specs.Faults.{fault_of, is_simple_and_free}

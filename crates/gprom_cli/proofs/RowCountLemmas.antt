@@ -1,0 +1,194 @@
+-- No answer has more rows than an answer may have.
+use Rattle.std.proofs.Common.{◌≡◌, ℕ, suc, ◌≤◌, Bool, true, false, cond, nat_lt, List, [], ◌∷◌, ◌++◌, length, map, Option, Some, None, Result, Ok, Err, refl, arith}
+use Rattle.std.specs.Prelude.{IfOk}
+use Rattle.std.specs.List.{sum_by}
+use Rattle.std.specs.Option.{option_or}
+use Rattle.std.proofs.lemmas.Bool.Decides.{nat_tests}
+use Rattle.std.proofs.lemmas.List.{length-map}
+use Rattle.std.proofs.lemmas.List.Sums.{sum_by-cons}
+use Rattle.gp_base.specs.declared.cell.Cell.{Cell}
+use Rattle.gp_base.specs.declared.refusal.Refusal.{Refusal}
+use Rattle.gp_base.specs.declared.refusal.Refusal.TheVariants.{E27}
+use Rattle.gp_base.specs.Order.{row_cmp, sorted_by}
+use Rattle.gp_base.specs.Tokens.{Monomial}
+use Rattle.gp_base.specs.Annotated.{monomials, plain}
+use Rattle.gp_base.specs.declared.table.Table.{Table}
+use Rattle.gp_base.specs.declared.token.Token.{Token}
+use Rattle.gp_grammar.specs.declared.semiring_name.SemiringName.{SemiringName}
+use Rattle.gp_grammar.specs.LineReading.{Fault, question_of}
+use Rattle.gp_grammar.specs.Syntax as y
+use Rattle.gp_algebra.specs.Answers.{Element, answer, cells_of}
+use Rattle.gp_algebra.specs.Statements.{Select}
+use Rattle.gp_check.specs.Checking.{checked_query}
+use Rattle.gp_exec.specs.declared.limit.TheConstants.{MAX_ANSWER_ROWS}
+use Rattle.gp_base.specs.Catalogs.{place_of}
+use Rattle.gp_versions.specs.declared.span.Span.{Span}
+use Rattle.gp_syntax.specs.Lines.{script_lines}
+use Rattle.gp_machine.specs.Annotating.{annotated_versions}
+use Rattle.gp_machine.specs.Entries.{Entry, log_of}
+use Rattle.gp_machine.specs.HistorySpans.{as_of}
+use Rattle.gp_machine.specs.Points.{at_point}
+use Rattle.gp_machine.specs.Questions.{annotated_answer, annotation_stop, answer_refusal, given, is_known, log_refusal, needed_version, own_stop, rows_answer}
+use Rattle.gp_log.specs.Limits.{limits}
+use Rattle.gp_log.specs.LogFacts.{tables_in}
+use Rattle.gp_dump.specs.Dumps.{Dump}
+use Rattle.gp_dump.proofs.RowPlaces.{sorted_length}
+use Rattle.gp_history.specs.Provenance.{occurrence}
+use Rattle.gp_monomials.specs.Listing as listing
+use Rattle.gp_monomials.specs.declared.listed.Listed.{Listed}
+use Rattle.gp_valuation.specs.Rules.{first_outside}
+use Rattle.gp_values.specs.ValueAnswers.{all_elements, limited, value_answer, values_of}
+use Rattle.gp_history.specs.Agreement.{agree}
+use Rattle.gp_ask.specs.declared.answered.Answered.{Answered}
+use Rattle.gp_ask.specs.Answers.{answer_to, dump_program, dump_provenance, dump_rows, dump_values, of_elements, query_answer, spans_at, versions_answer, with_monomials}
+use Rattle.gp_ask.specs.Questions.{answered}
+use Rattle.gp_ask.specs.Values.{value_of, rules_of, semiring_of, unless_outside, valued, with_values}
+use Rattle.gprom_cli.specs.Summary.{line_rows, row_count, rows_in}
+
+abbrev HasFew : Answered → Type 0
+HasFew answered = row_count answered ≤ MAX_ANSWER_ROWS
+
+-- ---- elements that were not refused
+
+abbrev AreFew : {A : Type 0} → Result (List A) Refusal → Type 0
+AreFew result = IfOk result (λ items. length items ≤ MAX_ANSWER_ROWS)
+
+module _ {A : Type 0} (items : List A) where
+  counted : (many : Bool) → nat_lt MAX_ANSWER_ROWS (length items) ≡ many → AreFew (given (cond many (Some E27) None) items)
+  counted true is = tt
+  counted false is = grind (arith, nat_tests)
+
+  behind : (refusal other : Option Refusal) → AreFew (given other items) → AreFew (given (option_or refusal other) items)
+  behind (Some refusal) other few = tt
+  behind None other few = few
+
+  abbrev limit : AreFew (given (cond (nat_lt MAX_ANSWER_ROWS (length items)) (Some E27) None) items)
+  limit = counted (nat_lt MAX_ANSWER_ROWS (length items)) refl
+
+-- ---- their rows
+
+few-elements : {M : Type 0} (result : Result (List (Element M)) Refusal) → AreFew result → HasFew (of_elements result)
+few-elements (Ok elements) few = let same = sorted_length row_cmp (cells_of elements) in let cells = length-map elements (λ element. element.cells) in omega (arith, few, same, cells)
+few-elements (Err refusal) few = omega arith
+
+grouped-one : (same : Bool) (cells : List Cell) (monomials : List Monomial) (more others : List Listed) (n : ℕ) → length more ≤ n → length others ≤ n → length (cond same more (record { row = cells; monomials = monomials } ∷ others)) ≤ suc n
+grouped-one true cells monomials more others n few few_others = omega (arith, few)
+grouped-one false cells monomials more others n few few_others = omega (arith, few_others)
+
+grouped-few : (cells : List Cell) (monomials : List Monomial) (rows : List (List Cell)) → length (listing.grouped_after cells monomials rows) ≤ suc (length rows)
+grouped-few cells monomials [] = omega arith
+grouped-few cells monomials (row ∷ rows) =
+    grouped-one (listing.has_cells cells row) cells monomials
+    (listing.grouped_after cells (monomials ++ listing.monomial_of row ∷ []) rows) (listing.grouped_after (listing.cells_of row) (listing.monomial_of row ∷ []) rows) (suc (length rows))
+    (grouped-few cells (monomials ++ listing.monomial_of row ∷ []) rows) (grouped-few (listing.cells_of row) (listing.monomial_of row ∷ []) rows)
+
+grouped-all : (rows : List (List Cell)) → length (listing.grouped rows) ≤ length rows
+grouped-all [] = omega arith
+grouped-all (row ∷ rows) = grouped-few (listing.cells_of row) (listing.monomial_of row ∷ []) rows
+
+few-listed : (result : Result (List (Element Monomial)) Refusal) → AreFew result → HasFew (with_monomials result)
+few-listed (Ok elements) few =
+    let rows = map occurrence elements in
+    let groups = grouped-all (sorted_by row_cmp rows) in
+    let same = sorted_length row_cmp rows in
+    let each = length-map elements occurrence in
+    omega (arith, few, groups, same, each)
+few-listed (Err refusal) few = omega arith
+
+few-values : {K : Type 0} (text_of : K → List ℕ) (result : Result (List (List Cell × K)) Refusal) → AreFew result → HasFew (with_values text_of result)
+few-values text_of (Ok rows) few = let same = length-map rows (valued text_of) in omega (arith, few, same)
+few-values text_of (Err refusal) few = omega arith
+
+few-limited : {M K : Type 0} (values : List (Element M) → List (List Cell × K)) (result : Result (List (Element M)) Refusal) → AreFew (limited MAX_ANSWER_ROWS values result)
+few-limited values (Err refusal) = tt
+few-limited values (Ok elements) = limit (values elements)
+
+few-inside : (name : SemiringName) (outside : Option ℕ) (inside : Answered) → HasFew inside → HasFew (unless_outside name outside inside)
+few-inside name None inside few = few
+few-inside name (Some number) inside few = omega arith
+
+-- ---- the answers of the history machine
+
+module _ (entries : List Entry) (spans : ℕ → List Span) (point : y.State) (query : Select) where
+  few-plain : AreFew (rows_answer limits entries spans point query)
+  few-plain =
+      let versions = as_of plain spans in
+      let elements = answer plain query (at_point plain entries point versions) in
+      let stop = own_stop plain limits entries point versions in
+      let over = answer_refusal plain limits elements in
+      behind elements (log_refusal entries point) (option_or stop over) (behind elements stop over (limit elements))
+
+  few-annotated : (catalogue : List Table) → AreFew (annotated_answer monomials limits agree catalogue entries spans point query)
+  few-annotated catalogue =
+      let versions = annotated_versions monomials entries spans in
+      let elements = answer monomials query (at_point monomials entries point versions) in
+      let annotation = annotation_stop monomials limits agree catalogue (log_of entries) spans (needed_version entries point) in
+      let stop = own_stop monomials limits entries point versions in
+      let over = answer_refusal monomials limits elements in
+      behind elements (log_refusal entries point) (option_or annotation (option_or stop over)) (behind elements annotation (option_or stop over) (behind elements stop over (limit elements)))
+
+  few-valued : {K : Type 0} (plus : K → K → K) (zero_of one_of : K) (times : K → K → K) (value : Token → K) (catalogue : List Table)
+      → AreFew (value_answer limits plus zero_of one_of times value agree catalogue entries spans point query)
+  few-valued plus zero_of one_of times value catalogue =
+      few-limited (values_of plus zero_of one_of times value) (all_elements monomials limits agree catalogue entries spans point query)
+
+few-checked : (answers : Select → Answered) (refusal : Option Refusal) (checked : Result Select Refusal) → ((select : Select) → HasFew (answers select)) → HasFew (query_answer answers refusal checked)
+few-checked answers (Some refusal) checked few = omega arith
+few-checked answers None (Err refusal) few = omega arith
+few-checked answers None (Ok select) few = few select
+
+-- ---- every answer
+
+few-log : (known : Bool) (a b : Answered) → row_count a ≡ 0 → row_count b ≡ 0 → HasFew (cond known a b)
+few-log true a b none other = omega (arith, none)
+few-log false a b none other = omega (arith, other)
+
+few-versions : (name : List ℕ) (tables : List (List Span)) (place : Option ℕ) → HasFew (versions_answer name tables place)
+few-versions name tables None = omega arith
+few-versions name tables (Some place) = omega arith
+
+few-answer : (dump : Dump) (question : y.Question) → HasFew (answer_to dump question)
+few-answer dump (y.log t) = few-log (is_known t dump.entries) _ _ refl refl
+few-answer dump (y.versions name) = few-versions name dump.tables (place_of name (tables_in dump.entries))
+few-answer dump (y.ask y.rows point query) =
+    few-checked (dump_rows dump point) (log_refusal dump.entries point) (checked_query (tables_in dump.entries) query)
+    (λ select. few-elements (rows_answer limits dump.entries (spans_at dump.tables) point select) (few-plain dump.entries (spans_at dump.tables) point select))
+few-answer dump (y.ask y.provenance point query) =
+    few-checked (dump_provenance dump point) (log_refusal dump.entries point) (checked_query (tables_in dump.entries) query)
+    (λ select. few-listed (annotated_answer monomials limits agree (tables_in dump.entries) dump.entries (spans_at dump.tables) point select) (few-annotated dump.entries (spans_at dump.tables) point select (tables_in dump.entries)))
+few-answer dump (y.ask (y.explain prov) point query) =
+    few-checked (dump_program dump prov point) (log_refusal dump.entries point) (checked_query (tables_in dump.entries) query) (λ select. omega arith)
+few-answer dump (y.ask (y.value name rules other) point query) =
+    let semiring = semiring_of name in
+    let value = value_of semiring (rules_of rules other) in
+    few-checked (dump_values semiring name (rules_of rules other) dump point) (log_refusal dump.entries point) (checked_query (tables_in dump.entries) query)
+    (λ select.
+    let rows = value_answer limits semiring.plus_of semiring.zero_of semiring.one_of semiring.times_of value agree (tables_in dump.entries) dump.entries (spans_at dump.tables) point select in
+    few-inside name (first_outside semiring.number_of (rules_of rules other).0 (rules_of rules other).1) (with_values semiring.text_of rows)
+    (few-values semiring.text_of rows (few-valued dump.entries (spans_at dump.tables) point select semiring.plus_of semiring.zero_of semiring.one_of semiring.times_of value (tables_in dump.entries))))
+
+few-read : (dump : Dump) (read : Result y.Question Fault) → HasFew (answered (answer_to dump) read)
+few-read dump (Err fault) = omega arith
+few-read dump (Ok question) = few-answer dump question
+
+pub few-rows : (dump : Dump) (line : ℕ × List ℕ) → line_rows (answer_to dump) line ≤ MAX_ANSWER_ROWS
+few-rows dump line = few-read dump (question_of line.1)
+
+-- ---- answers with as many rows
+
+module _ (answers others : y.Question → Answered) (same : (question : y.Question) → row_count (answers question) ≡ row_count (others question)) where
+  same-read : (read : Result y.Question Fault) → row_count (answered answers read) ≡ row_count (answered others read)
+  same-read (Err fault) = refl
+  same-read (Ok question) = same question
+
+  same-lines : (lines : List (ℕ × List ℕ)) → sum_by (line_rows answers) lines ≡ sum_by (line_rows others) lines
+  same-lines [] = refl
+  same-lines (line ∷ lines) =
+      let first = same-read (question_of line.1) in
+      let rest = same-lines lines in
+      let one = sum_by-cons (line_rows answers) line lines in
+      let other = sum_by-cons (line_rows others) line lines in
+      omega (arith, first, rest, one, other)
+
+  pub same-rows : (questions : List ℕ) → rows_in answers questions ≡ rows_in others questions
+  same-rows questions = same-lines (script_lines questions)

@@ -1,0 +1,174 @@
+-- The numbers of a summary: transactions, row lines, questions, and the dump that was read back.
+use Rattle.std.proofs.Common.{◌≡◌, ℕ, zero, suc, ◌+◌, ◌*◌, ◌<◌, ◌≤◌, Bool, true, false, cond, List, [], ◌∷◌, ◌++◌, length, map, refl, sym, ap, ◌∙◌, subst, arith}
+use Rattle.std.specs.List.{sum_by}
+use Rattle.std.proofs.lemmas.List.{append-nil, length-append, map-append}
+use Rattle.std.proofs.lemmas.List.Concat.{flat_map-append}
+use Rattle.std.proofs.lemmas.List.Sums.{sum-map, sum_by-cons}
+use Rattle.gp_base.specs.Annotated.{monomials, plain}
+use Rattle.gp_syntax.specs.Lines.{script_lines}
+use Rattle.gp_versions.specs.declared.span.Span.{Span}
+use Rattle.gp_versions.specs.Spans.{Versions}
+use Rattle.gp_machine.specs.Entries.{Began, Committed, Created, Ended, Entry, Ran, fate_of, transactions_in, versions_in}
+use Rattle.gp_log.specs.declared.limit.TheConstants.{MAX_ENTRIES}
+use Rattle.gp_script.specs.declared.script.TheConstants.{MAX_SCRIPT_LENGTH}
+use Rattle.gp_script.specs.History.{final_state}
+use Rattle.gp_dump.specs.Dumps.{Dump, IsDump, dump_of, spans_in}
+use Rattle.gp_dump.specs.Rules.{Holds, Fails, verdict_on}
+use Rattle.gp_dump.specs.Views.{tables_view}
+use Rattle.gp_dump.proofs.LawLemmas.{read}
+use Rattle.gp_ask.specs.Answers.{answer_to, held_to}
+use Rattle.gprom_cli.specs.declared.summary.Summary.{Summary}
+use Rattle.gprom_cli.specs.Call.{script_dump}
+use Rattle.gprom_cli.specs.Generated.{Pieces, closing_lines, generated_questions, generated_script, line_text, lines_text, replay_line}
+use Rattle.gprom_cli.specs.Summary.{committed_in, committed_up_to, has_committed, is_lost, lost_in, lost_up_to, questions_about, rows_in, summary_by, summary_of, summary_with}
+use Rattle.gprom_cli.proofs.GeneratedLemmas.{lines-length, wide}
+
+-- ---- one transaction more
+
+module _ (entries : List Entry) (t : ℕ) where
+  next : suc t ≡ t + 1
+  next = omega arith
+
+  pub committed-next : (committed : Bool) → has_committed (fate_of (t + 1) entries) ≡ committed → committed_up_to entries (t + 1) ≡ committed_up_to entries t ++ cond committed ((t + 1) ∷ []) []
+  committed-next committed is =
+      subst (λ (u : ℕ). committed_up_to entries u ≡ committed_up_to entries t ++ cond (has_committed (fate_of u entries)) (u ∷ []) []) next refl
+      ∙ ap (λ (b : Bool). committed_up_to entries t ++ cond b ((t + 1) ∷ []) []) is
+
+  -- the next one committed
+  pub committed-more : has_committed (fate_of (t + 1) entries) ≡ true → committed_up_to entries (t + 1) ≡ committed_up_to entries t ++ (t + 1) ∷ []
+  committed-more is = committed-next true is
+
+  pub committed-same : has_committed (fate_of (t + 1) entries) ≡ false → committed_up_to entries (t + 1) ≡ committed_up_to entries t
+  committed-same is = committed-next false is ∙ append-nil (committed_up_to entries t)
+
+  lost-next : (lost : Bool) → is_lost (fate_of (t + 1) entries) ≡ lost → lost_up_to entries (t + 1) ≡ lost_up_to entries t + cond lost 1 0
+  lost-next lost is =
+      subst (λ (u : ℕ). lost_up_to entries u ≡ lost_up_to entries t + cond (is_lost (fate_of u entries)) 1 0) next refl
+      ∙ ap (λ (b : Bool). lost_up_to entries t + cond b 1 0) is
+
+  -- the next one was lost
+  pub lost-more : is_lost (fate_of (t + 1) entries) ≡ true → lost_up_to entries (t + 1) ≡ lost_up_to entries t + 1
+  lost-more is = lost-next true is
+
+  pub lost-same : is_lost (fate_of (t + 1) entries) ≡ false → lost_up_to entries (t + 1) ≡ lost_up_to entries t
+  lost-same is = let step = lost-next false is in omega (arith, step)
+
+-- no more than there are
+lost-one : (lost : Bool) (before t : ℕ) → before ≤ t → before + cond lost 1 0 ≤ suc t
+lost-one true before t few = omega (arith, few)
+lost-one false before t few = omega (arith, few)
+
+pub lost-few : (entries : List Entry) (t : ℕ) → lost_up_to entries t ≤ t
+lost-few entries zero = omega arith
+lost-few entries (suc t) = lost-one (is_lost (fate_of (suc t) entries)) (lost_up_to entries t) t (lost-few entries t)
+
+-- ---- row lines
+
+abbrev pub span_count : Versions → ℕ
+span_count table = length table.spans
+
+pub spans-by : (versions : List Versions) → spans_in (tables_view versions) ≡ sum_by span_count versions
+spans-by versions = sum-map (λ (spans : List Span). length spans) (tables_view versions) ∙ counted versions
+  where
+    counted : (tables : List Versions) → sum_by (λ (spans : List Span). length spans) (tables_view tables) ≡ sum_by span_count tables
+    counted [] = refl
+    counted (table ∷ tables) =
+        sum_by-cons (λ (spans : List Span). length spans) table.spans (tables_view tables) ∙ ap (λ (n : ℕ). length table.spans + n) (counted tables) ∙ sym (sum_by-cons span_count table tables)
+
+-- ---- questions
+
+transactions-few : (entries : List Entry) → transactions_in entries ≤ length entries
+transactions-few [] = omega arith
+transactions-few (Created line session table ∷ older) = let before = transactions-few older in omega (arith, before)
+transactions-few (Began line session t ∷ older) = let before = transactions-few older in omega (arith, before)
+transactions-few (Ran line session command t statement ∷ older) = let before = transactions-few older in omega (arith, before)
+transactions-few (Committed line session t ∷ older) = let before = transactions-few older in omega (arith, before)
+transactions-few (Ended line session end t ∷ older) = let before = transactions-few older in omega (arith, before)
+
+versions-few : (entries : List Entry) → versions_in entries ≤ length entries
+versions-few [] = omega arith
+versions-few (Created line session table ∷ older) = let before = versions-few older in omega (arith, before)
+versions-few (Began line session t ∷ older) = let before = versions-few older in omega (arith, before)
+versions-few (Ran line session command t statement ∷ older) = let before = versions-few older in omega (arith, before)
+versions-few (Committed line session t ∷ older) = let before = versions-few older in omega (arith, before)
+versions-few (Ended line session end t ∷ older) = let before = versions-few older in omega (arith, before)
+
+replay-length : (t : ℕ) → t < 10000 → length (lines_text (replay_line t ∷ [])) ≤ 60
+replay-length t below = let digits = wide t below in omega (arith, lines-length (replay_line t ∷ []), digits)
+
+closing-length : (last : ℕ) → last < 10000 → length (lines_text (closing_lines last)) ≤ 200
+closing-length last below = let digits = wide last below in omega (arith, lines-length (closing_lines last), digits)
+
+-- one question more, or none
+replays-one : (committed : Bool) (so_far : List ℕ) (t : ℕ) → suc t < 10000 → length (lines_text (map replay_line so_far)) ≤ 60 * t → length (lines_text (map replay_line (so_far ++ cond committed (suc t ∷ []) []))) ≤ 60 * suc t
+replays-one true so_far t below before =
+    let last = replay-length (suc t) below in
+    let parts =
+    ap (λ (lines : List Pieces). length (lines_text lines)) (map-append replay_line so_far (suc t ∷ []))
+    ∙ ap (λ (text : List ℕ). length text) (flat_map-append line_text (map replay_line so_far) (replay_line (suc t) ∷ []))
+    ∙ length-append (lines_text (map replay_line so_far)) (lines_text (replay_line (suc t) ∷ [])) in
+    omega (arith, before, last, parts)
+replays-one false so_far t below before =
+    let same = ap (λ (ts : List ℕ). length (lines_text (map replay_line ts))) (append-nil so_far) in
+    omega (arith, before, same)
+
+replays-length : (entries : List Entry) (t : ℕ) → t < 10000 → length (lines_text (map replay_line (committed_up_to entries t))) ≤ 60 * t
+replays-length entries zero below = omega arith
+replays-length entries (suc t) below = replays-one (has_committed (fate_of (suc t) entries)) (committed_up_to entries t) t below (replays-length entries t (omega (arith, below)))
+
+-- the questions about the log of a dump are short enough to be asked
+pub short-questions : (entries : List Entry) → length entries ≤ MAX_ENTRIES → length (questions_about entries) ≤ MAX_SCRIPT_LENGTH
+short-questions entries few =
+    let transactions = transactions-few entries in
+    let versions = versions-few entries in
+    let replays = replays-length entries (transactions_in entries) (omega (arith, transactions, few)) in
+    let closing = closing-length (versions_in entries) (omega (arith, versions, few)) in
+    let parts = ap (λ (text : List ℕ). length text) (flat_map-append line_text (map replay_line (committed_in entries)) (closing_lines (versions_in entries)))
+    ∙ length-append (lines_text (map replay_line (committed_in entries))) (lines_text (closing_lines (versions_in entries))) in
+    omega (arith, transactions, few, replays, closing, parts)
+
+-- ---- the dump that was read back
+
+-- a dump that was read is the one that was written
+pub same-dump : (script bytes : List ℕ) (dump : Dump) → IsDump (dump_of (final_state plain script)) → bytes ≡ script_dump script → verdict_on bytes ≡ Holds dump → dump ≡ dump_of (final_state plain script)
+same-dump script bytes dump rules same holds =
+    let written = read (script_dump script) (dump_of (final_state plain script)) (record { text = refl; rules = rules }) in
+    let both : Holds dump ≡ Holds (dump_of (final_state plain script)) = sym holds ∙ ap verdict_on same ∙ written in
+    cc
+
+-- and it is read
+pub no-fault-there : (script bytes : List ℕ) (f line : ℕ) → IsDump (dump_of (final_state plain script)) → bytes ≡ script_dump script → verdict_on bytes ≡ Fails f line → ⊥
+no-fault-there script bytes f line rules same fails =
+    let written = read (script_dump script) (dump_of (final_state plain script)) (record { text = refl; rules = rules }) in
+    let both : Fails f line ≡ Holds (dump_of (final_state plain script)) = sym fails ∙ ap verdict_on same ∙ written in
+    cc
+
+-- ---- the summary
+
+-- its numbers, one by one
+pub same-summary : (rounds : ℕ) (script : List ℕ) (dump : Dump) (questions : List ℕ) (lines committed lost spans asked rows : ℕ)
+    → lines ≡ length (script_lines script) → committed ≡ length (committed_in dump.entries) → lost ≡ lost_in dump.entries → spans ≡ spans_in dump.tables
+    → asked ≡ length (script_lines questions) → rows ≡ rows_in (answer_to dump) questions
+    → record { rounds = rounds; lines = lines; committed = committed; lost = lost; spans = spans; questions = asked; rows = rows } ≡ summary_by rounds script dump (answer_to dump) questions
+same-summary rounds script dump questions lines committed lost spans asked rows a b c d e f = rw (a, b, c, d, e, f) refl
+
+module _ (rounds : ℕ) (script : List ℕ) (dump : Dump) (committed questions : List ℕ) (is_script : script ≡ generated_script rounds) (is_dump : dump ≡ dump_of (final_state plain script))
+    (is_committed : committed ≡ committed_in dump.entries) (is_questions : questions ≡ generated_questions committed (versions_in dump.entries)) where
+  pub questions-are : questions ≡ questions_about dump.entries
+  questions-are = is_questions ∙ ap (λ (ts : List ℕ). generated_questions ts (versions_in dump.entries)) is_committed
+
+  -- a summary whose answers are those of the dump
+  abbrev pub told : Summary
+  told = summary_by rounds script dump (answer_to dump) questions
+
+  module _ (rows : (asked : List ℕ) → rows_in (answer_to (dump_of (final_state plain script))) asked ≡ rows_in (held_to (final_state monomials script)) asked) where
+    pub summary-is : told ≡ summary_of rounds
+    summary-is =
+        let state = final_state plain script in
+        let there : told ≡ summary_by rounds script (dump_of state) (answer_to (dump_of state)) (questions_about (dump_of state).entries) =
+        ap (λ (asked : List ℕ). summary_by rounds script dump (answer_to dump) asked) questions-are
+        ∙ ap (λ (d : Dump). summary_by rounds script d (answer_to d) (questions_about d.entries)) is_dump in
+        let asked = questions_about (dump_of state).entries in
+        let held : summary_by rounds script (dump_of state) (answer_to (dump_of state)) asked ≡ summary_by rounds script (dump_of state) (held_to (final_state monomials script)) asked =
+        ap (λ (n : ℕ). record (summary_by rounds script (dump_of state) (answer_to (dump_of state)) asked) { rows = n }) (rows asked) in
+        there ∙ held ∙ ap (λ (s : List ℕ). summary_with rounds s) is_script
