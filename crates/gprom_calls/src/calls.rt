@@ -57,7 +57,15 @@ const INVALID_ARGUMENTS: &[&[&str]] = &[
     &["run", "S"],
     &["run", "S", "D", "D"],
     &["ask", "S"],
-    &["gen", "5"],
+    &["gen"],
+    &["gen", "0"],
+    &["gen", "401"],
+    &["gen", "05"],
+    &["gen", "+5"],
+    &["gen", "5x"],
+    &["gen", "18446744073709551617"],
+    &["gen", "5", "5"],
+    &["GEN", "5"],
     &["RUN", "S", "D"],
     &["run", "-S", "D"],
     &["run", "S", ""],
@@ -72,6 +80,32 @@ const INVALID_ARGUMENTS: &[&[&str]] = &[
 fn invalid_arguments_print_the_usage(rt: HostRuntime) {
     for args in INVALID_ARGUMENTS {
         assert!(rt; answers(rt.alloc(), args, SCRIPT, USAGE, 2), "{args:?}");
+    }
+}
+
+/// Numbers of rounds, with the summaries of their scripts.
+const SUMMARIES: &[(&str, &str)] = &[
+    (
+        "1",
+        "gen 1\nlines 12\ncommitted 3\nlost 0\nspans 13\nquestions 5\nrows 41\n",
+    ),
+    (
+        "5",
+        "gen 5\nlines 40\ncommitted 10\nlost 1\nspans 24\nquestions 12\nrows 115\n",
+    ),
+    (
+        "400",
+        "gen 400\nlines 2805\ncommitted 721\nlost 80\nspans 1130\nquestions 723\nrows 7230\n",
+    ),
+];
+
+#[test]
+fn generated_scripts_have_summaries(rt: HostRuntime) {
+    for (rounds, summary) in SUMMARIES {
+        assert!(rt;
+            answers(rt.alloc(), &["gen", rounds], b"", summary, 0),
+            "{rounds}"
+        );
     }
 }
 

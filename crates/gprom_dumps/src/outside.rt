@@ -1,6 +1,7 @@
 //! Arguments that are invalid, and files and output that fail.
 
-use crate::call::{ASK, Call, End, RUN, ends};
+use crate::call::{ASK, Call, End, RUN, called, ends, shelf_of};
+use crate::questions::BANK;
 use std::alloc::{AllocError, Global};
 use std::test::Fail;
 
@@ -97,6 +98,19 @@ const CASES: &[Case] = &[
             status: 5,
             output: b"",
             dump: Some(DUMP),
+        },
+    ),
+    (
+        Call {
+            arguments: &["gen", "1"],
+            files: &[],
+            shelf_fails: &[],
+            sink_fails: &[1],
+        },
+        End {
+            status: 5,
+            output: b"",
+            dump: None,
         },
     ),
     // Files that are not there; the dump is looked for first.
@@ -270,14 +284,42 @@ fn calls_end_by_their_causes(rt: HostRuntime) -> Result<(), Fail> {
 
 /// Whether a script of which the dump cannot be replaced is told so. What D holds afterwards is not known.
 fn is_told(alloc: Global) -> Result<bool, AllocError> {
-    let mut shelf = crate::call::shelf_of(alloc, &[("S", SCRIPT)], &[2])?;
-    let (status, out) = crate::call::called(alloc, RUN, &mut shelf, &[])?;
+    let mut shelf = shelf_of(alloc, &[("S", SCRIPT)], &[2])?;
+    let (status, out) = called(alloc, RUN, &mut shelf, &[])?;
     Ok(status == 5 && out.bytes() == b"cannot write D\n".as_slice())
 }
 
 #[test]
 fn a_dump_that_is_not_written_is_told(rt: HostRuntime) -> Result<(), Fail> {
     assert!(rt; is_told(rt.alloc())?);
+    Ok(())
+}
+
+/// Questions of every kind about the bank.
+const QUESTIONS: &[u8] =
+    b"REENACT 2 AFTER 2 SELECT * FROM acct\nREENACT 3 COMMIT SELECT * FROM acct\nPROVENANCE OF AS OF 5 SELECT * FROM acct WHERE id > 10\nVALUE IN COST (i = 5, u2 = 2, ELSE 1) OF AS OF 5 SELECT * FROM acct WHERE id > 10\nVALUE IN LEVEL (u4 = 2, q6.1 = 1, ELSE 0) OF AS OF 5 SELECT * FROM acct WHERE id > 10\nVERSIONS OF audit\nEXPLAIN AS OF 1 SELECT id FROM acct\nLOG 7\n";
+
+const ANSWERS: &[u8] =
+    b"1 rows 3\n  1, 70\n  2, 80\n  3, 0\n2 rows 3\n  1, 70\n  2, 80\n  3, 7\n3 rows 2\n  11, 141 : i1.1.1^2*q2.3*q6.1*u2.1^2*u4.1\n  12, 161 : i1.1.2^2*q2.3*q6.1*u2.2^2*u4.1\n4 rows 2\n  11, 141 : 17\n  12, 161 : 17\n5 rows 2\n  11, 141 : 2\n  12, 161 : 2\n6 versions 2\n  2.3.1(1.1.1) 2 - 1, 70\n  2.3.1(1.1.2) 2 - 2, 80\n7 program 1\n  QUERY PROJECT(SCAN(acct, 1), #1)\n8 log 3\n  28 s2 BEGIN\n  29 s2 DELETE FROM owner WHERE (name = 'Cy')\n  30 s2 ROLLBACK\n";
+
+/// The status of these questions to the bank's dump where the output fails at this call, or None unless their answers were written: all of
+/// them under status 0, and a proper prefix under others.
+fn failing_at(alloc: Global, call: u64) -> Result<Option<u8>, AllocError> {
+    let mut shelf = shelf_of(alloc, &[("S", BANK), ("Q", QUESTIONS)], &[])?;
+    called(alloc, RUN, &mut shelf, &[])?;
+    let (status, out) = called(alloc, ASK, &mut shelf, &[call])?;
+    let is_whole = out.bytes() == ANSWERS;
+    let is_expected = ANSWERS.starts_with(out.bytes()) && is_whole == (status == 0);
+    Ok(if is_expected { Some(status) } else { None })
+}
+
+/// The output fails at each call in turn, until `ask` does not fail: each of the eight answers is one call.
+#[test]
+fn a_failing_output_gets_a_prefix(rt: HostRuntime) -> Result<(), Fail> {
+    for call in 1..=8 {
+        assert!(rt; failing_at(rt.alloc(), call)? == Some(5), "at {call}");
+    }
+    assert!(rt; failing_at(rt.alloc(), 9)? == Some(0));
     Ok(())
 }
 

@@ -188,36 +188,3 @@ fn statements_of_a_dump_are_not_run(rt: HostRuntime) -> Result<(), Fail> {
     assert!(rt; dump_answers(rt.alloc(), &dump, questions, answers, 0)?);
     Ok(())
 }
-
-/// The status of the bank's questions when the sink fails at this call, or None if a text that is no prefix of the answers was written.
-fn failing_at(
-    alloc: Global,
-    questions: &[u8],
-    answers: &[u8],
-    call: u64,
-) -> Result<Option<u8>, AllocError> {
-    let mut shelf = shelf_of(alloc, &[("S", BANK), ("Q", questions)], &[])?;
-    called(alloc, RUN, &mut shelf, &[])?;
-    let (status, out) = called(alloc, ASK, &mut shelf, &[call])?;
-    Ok(if answers.starts_with(out.bytes()) {
-        Some(status)
-    } else {
-        None
-    })
-}
-
-/// The sink fails at each call in turn, until a run does not fail.
-#[test]
-fn a_failing_output_gets_a_prefix(rt: HostRuntime) -> Result<(), Fail> {
-    let mut questions = Vec::new(rt.alloc());
-    let mut answers = Vec::new(rt.alloc());
-    separate(BANK_QUESTIONS, &mut questions, &mut answers)?;
-    for call in 1..=6 {
-        assert!(rt;
-            failing_at(rt.alloc(), &questions, &answers, call)? == Some(5),
-            "at {call}"
-        );
-    }
-    assert!(rt; failing_at(rt.alloc(), &questions, &answers, 7)? == Some(0));
-    Ok(())
-}

@@ -9,13 +9,15 @@
 //!
 //! Reading order: `transcript.rt` (plays a transcript), `parts.rt` (long transcripts), `conflicts.rt` (which transactions are lost), `sessions.rt`
 //! (what a transaction sees, and how it ends), `statements.rt` (what statements write and read), `faults.rt` (refused lines), `order.rt` (the first
-//! of several refusals), `limits.rt` (quantities at their limits, and one above).
+//! of several refusals), `limits.rt` (quantities at their limits, and one above), `large.rt` (joins and updates of 10,000 rows).
 #![tactic(auto)]
 
 #[cfg(test)]
 mod conflicts;
 #[cfg(test)]
 mod faults;
+#[cfg(test)]
+mod large;
 #[cfg(test)]
 mod limits;
 #[cfg(test)]

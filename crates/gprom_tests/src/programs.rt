@@ -33,6 +33,8 @@ enum Condition {
     Equals(u32, Given),
     /// That is false or unknown.
     EqualsIsNotTrue(u32, Given),
+    /// Both columns are equal.
+    Same(u32, u32),
 }
 
 /// A query of a table of cases.
@@ -56,6 +58,8 @@ enum Query {
     Rows(&'static [Marked]),
     /// Rows of one cell, with the numbers from 1.
     Numbers(u32),
+    /// Rows of one cell each.
+    Cells(&'static [Given]),
     /// A row of one cell, with an identity of these sources, which have one node each.
     Identity(&'static [Numbers]),
 }
@@ -96,6 +100,14 @@ fn numbered_rows(alloc: Global, count: u32) -> Result<Sequence<Row>, NoMemory> {
     let mut all = Sequence::new(alloc);
     for number in 0..count {
         all.push(row_with(alloc, Cell::Int(i64::from(number) + 1))?)?;
+    }
+    Ok(all)
+}
+
+fn cell_rows(alloc: Global, cells: &[Given]) -> Result<Sequence<Row>, NoMemory> {
+    let mut all = Sequence::new(alloc);
+    for given in cells {
+        all.push(row_with(alloc, cell_of(alloc, *given)?)?)?;
     }
     Ok(all)
 }
@@ -153,6 +165,11 @@ fn equals(alloc: Global, column: u32, given: Given) -> Result<Cond, NoMemory> {
     Ok(Cond::Cmp(Cmp::Eq, left, right))
 }
 
+fn same(alloc: Global, left: u32, right: u32) -> Result<Cond, NoMemory> {
+    let (left, right) = boxed_pair(alloc, Ok(Expr::Col(left)), Ok(Expr::Col(right)))?;
+    Ok(Cond::Cmp(Cmp::Eq, left, right))
+}
+
 fn is_not_true(alloc: Global, cond: Result<Cond, NoMemory>) -> Result<Cond, NoMemory> {
     let cond = boxed(alloc, cond)?;
     Ok(Cond::IsTrue { cond, yes: false })
@@ -164,6 +181,7 @@ fn cond_of(alloc: Global, condition: Condition) -> Result<Cond, NoMemory> {
         Condition::EqualsIsNotTrue(column, given) => {
             is_not_true(alloc, equals(alloc, column, given))
         }
+        Condition::Same(left, right) => same(alloc, left, right),
     }
 }
 
@@ -226,6 +244,7 @@ fn query_of(alloc: Global, query: &Query) -> Made {
         ),
         Query::Rows(rows) => given(marked_rows(alloc, rows)),
         Query::Numbers(count) => given(numbered_rows(alloc, *count)),
+        Query::Cells(cells) => given(cell_rows(alloc, cells)),
         Query::Identity(sources) => given(identity_row(alloc, sources)),
     }
 }
@@ -393,6 +412,20 @@ const PROGRAMS: &[(Program, Outcome)] = &[
             Query::Filter(&TABLE, Condition::EqualsIsNotTrue(1, Given::Int(1))),
         ),
         Outcome::Rows("2, {1.1.2}, NO\n"),
+    ),
+    // A number and the text that spells it join nothing, and NULL joins nothing, not even NULL.
+    (
+        (
+            &[],
+            Query::Filter(
+                &Query::Product(
+                    &Query::Cells(&[Given::Null, Given::Int(1), Given::Text("1")]),
+                    &Query::Cells(&[Given::Text("1"), Given::Int(1), Given::Null, Given::Int(1)]),
+                ),
+                Condition::Same(1, 2),
+            ),
+        ),
+        Outcome::Rows("1, 1\n1, 1\n'1', '1'\n"),
     ),
     (
         (

@@ -279,6 +279,62 @@ const IDENTITIES: &[(&str, Expected<'static>)] = &[
     ),
 ];
 
+/// Joins of a table with itself, and their answers in the order of nested loops. Its rows are (1, 2, 'x'), (2, 1, '1'), (1, NULL, NULL),
+/// (NULL, 1, '2') and (2, 2, 'x').
+const JOINS: &[(&str, Expected<'static>)] = &[
+    // Keys that occur twice on both sides. NULL joins nothing.
+    (
+        "SELECT x.b, y.b FROM r x, r y WHERE x.a = y.a",
+        Expected::Rows("2, 2;2, NULL;1, 1;1, 2;NULL, 2;NULL, NULL;2, 1;2, 2;"),
+    ),
+    (
+        "SELECT x.a, y.a FROM r x, r y WHERE x.b = y.a",
+        Expected::Rows("1, 2;1, 2;2, 1;2, 1;NULL, 1;NULL, 1;2, 2;2, 2;"),
+    ),
+    // Texts.
+    (
+        "SELECT x.a, y.a FROM r x, r y WHERE x.c = y.c",
+        Expected::Rows("1, 1;1, 2;2, 2;NULL, NULL;2, 1;2, 2;"),
+    ),
+    // Two equalities of one pair, and one that is a condition beside another.
+    (
+        "SELECT x.b, y.b FROM r x, r y WHERE x.a = y.a AND x.b = y.b",
+        Expected::Rows("2, 2;1, 1;2, 2;"),
+    ),
+    (
+        "SELECT x.b, y.b FROM r x, r y WHERE x.a = y.a AND y.b > 1",
+        Expected::Rows("2, 2;1, 2;NULL, 2;2, 2;"),
+    ),
+    // An equality of a column and an expression, and one that is not a condition of its own.
+    (
+        "SELECT x.a, y.a FROM r x, r y WHERE x.a = y.a + 1",
+        Expected::Rows("2, 1;2, 1;2, 1;2, 1;"),
+    ),
+    (
+        "SELECT x.c, y.c FROM r x, r y WHERE x.a = 1 AND (x.a = y.b OR y.a = 2)",
+        Expected::Rows("'x', '1';'x', '2';'x', 'x';NULL, '1';NULL, '2';NULL, 'x';"),
+    ),
+    (
+        "SELECT x.c, y.c FROM r x, r y WHERE NOT x.a = y.a",
+        Expected::Rows(
+            "'x', '1';'x', 'x';'1', 'x';'1', NULL;NULL, '1';NULL, 'x';'x', 'x';'x', NULL;",
+        ),
+    ),
+    // Three and four items, chained, and joined to the first.
+    (
+        "SELECT x.b, y.a, z.b FROM r x, r y, r z WHERE x.a = y.b AND y.a = z.a",
+        Expected::Rows(
+            "2, 2, 1;2, 2, 2;1, 1, 2;1, 1, NULL;1, 2, 1;1, 2, 2;NULL, 2, 1;NULL, 2, 2;2, 1, 2;2, 1, NULL;2, 2, 1;2, 2, 2;",
+        ),
+    ),
+    (
+        "SELECT w.c, z.c FROM r w, r x, r y, r z WHERE w.c = x.c AND x.b = y.b AND w.a = z.a AND y.c = z.c",
+        Expected::Rows(
+            "'x', 'x';'x', 'x';'x', 'x';'x', 'x';'1', '1';'x', 'x';'x', 'x';'x', 'x';'x', 'x';",
+        ),
+    ),
+];
+
 /// The first query that does not have its answer.
 fn first_wrong(
     alloc: Global,
@@ -312,6 +368,17 @@ fn answers_have_identities(rt: HostRuntime) -> Result<(), Fail> {
         "INSERT INTO r VALUES (1), (2)",
     )?;
     assert_eq!(rt; first_wrong(rt.alloc(), &table, IDENTITIES), None);
+    Ok(())
+}
+
+#[test]
+fn joins_are_in_the_order_of_nested_loops(rt: HostRuntime) -> Result<(), Fail> {
+    let table = table_of(
+        rt.alloc(),
+        "CREATE TABLE r (a INT, b INT, c TEXT)",
+        "INSERT INTO r VALUES (1, 2, 'x'), (2, 1, '1'), (1, NULL, NULL), (NULL, 1, '2'), (2, 2, 'x')",
+    )?;
+    assert_eq!(rt; first_wrong(rt.alloc(), &table, JOINS), None);
     Ok(())
 }
 
