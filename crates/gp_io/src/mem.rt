@@ -1,7 +1,9 @@
 //! A shelf and a sink in memory with injected failures, for tests.
-ghost use Rattle.std.specs.Prelude.{◌≡◌, [], Some};
+ghost use Rattle.std.specs.Prelude.{◌≡◌, ◌≤◌, ◌+◌, ◌-◌, ◌^◌, ◌↔◌, [], min, Some, Err, IfOk, IfErr, OnOk, OnErr, IfSome, vec_len};
+ghost use Rattle.std.specs.List.{Contains};
 ghost use Rattle.gp_io.specs.NamedFile.{files_of};
-ghost use Rattle.gp_io.specs.Shelf.{unreported};
+ghost use Rattle.gp_io.specs.Shelf.{prefix_of, unreported, ReadStops, ReplacesFile, ReplaceStops};
+ghost use Rattle.gp_io.specs.Sink.{appended, CountsFault, WritesPrefix};
 ghost use Rattle.gp_io.specs.Stored.{names_of};
 
 use crate::calm::{CalmShelf, CalmSink};
@@ -47,12 +49,27 @@ impl MemShelf {
 }
 
 impl Shelf for MemShelf {
+    ghost use Rattle.gp_io.specs.FaultPlan.{FailsAsPlanned, shelf_calls, shelf_fails_at};
+
     ghost state = { λ shelf. record (⟦<CalmShelf as Shelf>⟧.state shelf.calm) {
       read_faults = names_of shelf.read_faults.items;
       replace_faults = names_of shelf.replace_faults.items;
     } };
 
-    fn read(&mut self, name: &str, most: usize) -> Result<Vec<u8>, ShelfStop> {
+    /// Answers `Failed` exactly at a number in the list (`planned`), but for memory.
+    fn read(&mut self, name: &str, most: usize) -> Result<Vec<u8>, ShelfStop>
+        ensures at_most { IfOk result (λ bytes. vec_len bytes ≤ most) }
+        ensures content { IfOk result (λ bytes. IfSome (⟦<MemShelf as Shelf>⟧.state self.old).holds
+            (λ files. prefix_of name.now most files ≡ Some bytes.items)) }
+        ensures unchanged { OnOk result (⟦<MemShelf as Shelf>⟧.state self.new
+            ≡ ⟦<MemShelf as Shelf>⟧.state self.old) }
+        ensures stopped { IfErr result (ReadStops name.now (⟦<MemShelf as Shelf>⟧.state self.old)
+            (⟦<MemShelf as Shelf>⟧.state self.new)) }
+        ensures planned { FailsAsPlanned result
+            (Contains (shelf_fails_at self.old) (shelf_calls self.new)) }
+        ensures counted { shelf_calls self.new ≡ min (shelf_calls self.old + 1) (2 ^ 64 - 1) }
+        ensures fails_at { shelf_fails_at self.new ≡ shelf_fails_at self.old }
+    {
         if self.plan.next_fails() {
             report(self.alloc, &mut self.read_faults, name)?;
             return Err(ShelfStop::Failed);
@@ -60,7 +77,20 @@ impl Shelf for MemShelf {
         self.calm.read(name, most)
     }
 
-    fn replace(&mut self, name: &str, bytes: &[u8]) -> Result<(), ShelfStop> {
+    /// Answers `Failed` exactly at a number in the list (`planned`), but for memory. An error changes
+    /// no file (`files`).
+    fn replace(&mut self, name: &str, bytes: &[u8]) -> Result<(), ShelfStop>
+        ensures replaced { OnOk result (ReplacesFile name.now bytes.now
+            (⟦<MemShelf as Shelf>⟧.state self.old) (⟦<MemShelf as Shelf>⟧.state self.new)) }
+        ensures stopped { IfErr result (ReplaceStops name.now (⟦<MemShelf as Shelf>⟧.state self.old)
+            (⟦<MemShelf as Shelf>⟧.state self.new)) }
+        ensures files { OnErr result ((⟦<MemShelf as Shelf>⟧.state self.new).holds
+            ≡ (⟦<MemShelf as Shelf>⟧.state self.old).holds) }
+        ensures planned { FailsAsPlanned result
+            (Contains (shelf_fails_at self.old) (shelf_calls self.new)) }
+        ensures counted { shelf_calls self.new ≡ min (shelf_calls self.old + 1) (2 ^ 64 - 1) }
+        ensures fails_at { shelf_fails_at self.new ≡ shelf_fails_at self.old }
+    {
         if self.plan.next_fails() {
             report(self.alloc, &mut self.replace_faults, name)?;
             return Err(ShelfStop::Failed);
@@ -105,10 +135,28 @@ impl MemSink {
 }
 
 impl Sink for MemSink {
+    ghost use Rattle.gp_io.specs.FaultPlan.{sink_calls, sink_fails_at};
+
     ghost state = { λ sink. record (⟦<CalmSink as Sink>⟧.state sink.calm) { faults = sink.faults } };
 
+    /// Answers `Failed` exactly at a number in the list (`planned`), and has then written nothing
+    /// (`nothing`).
     #[tactic(auto, using(crate::proofs::SinkLemmas::one_call))]
-    fn write_all(&mut self, bytes: &[u8]) -> Result<(), SinkStop> {
+    fn write_all(&mut self, bytes: &[u8]) -> Result<(), SinkStop>
+        ensures complete { OnOk result ((⟦<MemSink as Sink>⟧.state self.new).taken
+            ≡ appended (⟦<MemSink as Sink>⟧.state self.old).taken bytes.now) }
+        ensures prefix { WritesPrefix bytes.now (⟦<MemSink as Sink>⟧.state self.old).taken
+            (⟦<MemSink as Sink>⟧.state self.new).taken }
+        ensures faults { CountsFault result (⟦<MemSink as Sink>⟧.state self.old).faults
+            (⟦<MemSink as Sink>⟧.state self.new).faults }
+        ensures nothing { result ≡ Err SinkStop.Failed
+            → (⟦<MemSink as Sink>⟧.state self.new).taken
+            ≡ (⟦<MemSink as Sink>⟧.state self.old).taken }
+        ensures planned { (result ≡ Err SinkStop.Failed)
+            ↔ Contains (sink_fails_at self.old) (sink_calls self.new) }
+        ensures counted { sink_calls self.new ≡ min (sink_calls self.old + 1) (2 ^ 64 - 1) }
+        ensures fails_at { sink_fails_at self.new ≡ sink_fails_at self.old }
+    {
         if self.plan.next_fails() {
             self.faults = self.faults.saturating_add(1);
             return Err(SinkStop::Failed);
