@@ -65,7 +65,7 @@ head-after v first spans held apart whole =
     rw (itself, passed) (head-end first v spans first.to refl parts.1 apart whole)
 
 -- an earlier span of the identity had ended
-skip-end : (v low from : ℕ) (to : Option ℕ) → low ≤ v → IsEndAbove from to → IsSomeAnd to (λ end. end ≤ low) → least (later v from) (later_end v to) ≡ None
+pub skip-end : (v low from : ℕ) (to : Option ℕ) → low ≤ v → IsEndAbove from to → IsSomeAnd to (λ end. end ≤ low) → least (later v from) (later_end v to) ≡ None
 skip-end v low from None early above ended = absurd ended
 skip-end v low from (Some to) early above ended = rw (le-ltb v from (omega arith), le-ltb v to (omega arith)) refl
 

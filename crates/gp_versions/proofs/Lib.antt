@@ -1,3 +1,4 @@
+pub mod ChainLemmas
 pub mod HeldLemmas
 pub mod LaterLemmas
 pub mod OrderLemmas

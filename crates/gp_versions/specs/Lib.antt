@@ -1,4 +1,6 @@
+pub mod Chains
 pub mod Commits
+pub mod Keys
 pub mod SpanCodes
 pub mod Spans
 pub mod Written

@@ -8,14 +8,14 @@ use crate::span::Span;
 use gp_base::RowId;
 
 /// Whether the identities are equal.
-fn is_same(id: &RowId, other: &RowId) -> bool
+pub fn is_same(id: &RowId, other: &RowId) -> bool
     ensures { result ≡ same_identity id.now other.now }
 {
     id == other
 }
 
 /// The lesser of two versions, where there are any.
-fn lesser(left: Option<u32>, right: Option<u32>) -> Option<u32>
+pub fn lesser(left: Option<u32>, right: Option<u32>) -> Option<u32>
     ensures { result ≡ least left right }
 {
     match (left, right) {
@@ -26,7 +26,7 @@ fn lesser(left: Option<u32>, right: Option<u32>) -> Option<u32>
 }
 
 /// The least version above v at which the span begins or ends.
-fn changed_after(span: &Span, v: u32) -> Option<u32>
+pub fn changed_after(span: &Span, v: u32) -> Option<u32>
     ensures { result ≡ least (later v span.now.from) (later_end v span.now.to) }
 {
     let from = if v < span.from { Some(span.from) } else { None };

@@ -6,7 +6,7 @@
 //! this transaction time, and SQL:2011 a system-versioned table.
 //!
 //! In reading order: [`Span`] and [`Write`], the [`Writes`] of a commit, and the [`VersionTable`] with [`AsOf`], the spans
-//! that hold a version. The functions of `laws.rt`, as [`written_after_is_the_least`], are laws of the definitions in
+//! that hold a version. `chains.rt` finds the spans of an identity. The functions of `laws.rt`, as [`written_after_is_the_least`], are laws of the definitions in
 //! `specs/`, which the contracts cite.
 //!
 //! ```text
@@ -18,7 +18,9 @@
 #![tactic(auto)]
 
 mod as_of;
+mod chains;
 mod commit;
+mod id_key;
 mod later;
 mod laws;
 mod order;

@@ -9,8 +9,9 @@ ghost use Rattle.gp_versions.specs.Commits.{AreBelow, AreDistinct, after_commit,
 ghost use Rattle.gp_versions.specs.Spans.{AreWhole, NoOverlap, rows_at, span_cmp, spans_at, written_after};
 
 use crate::as_of::AsOf;
+use crate::chains::Chains;
 use crate::commit::commit_spans;
-use crate::later::written_after;
+use crate::later::{lesser, written_after};
 use crate::order::sorted_places;
 use crate::span::Span;
 use crate::writes::Writes;
@@ -21,13 +22,18 @@ use std::marker::Model;
 /// The row versions of a table, since its creation: its spans, in the order in which they began, or the order that
 /// [`VersionTable::from_spans`] was given. Spans of one identity never overlap, so each version has at most one row of an
 /// identity, and each span holds at least one version.
+///
+/// A later write of a row is looked up by its identity among the spans that [`VersionTable::enter`] has entered, and by a
+/// pass over the others, which began since. Contracts do not see which spans are entered.
 #[derive(Drop)]
 pub struct VersionTable {
     spans: Vec<Span>,
+    chains: Chains,
 }
 
 impl Model for VersionTable {
     ghost use Rattle.std.specs.Prelude.{◌-◌, vec_capacity, vec_len};
+    ghost use Rattle.gp_versions.specs.Chains.{IsChained};
     ghost use Rattle.gp_versions.specs.Spans.{AreWhole, NoOverlap, Versions};
     ghost use Rattle.gp_versions.specs.SpanCodes.{versions_code};
 
@@ -40,7 +46,8 @@ impl Model for VersionTable {
       spare = vec_capacity a.spans - vec_len a.spans;
     } };
 
-    ghost invariant = { λ a. NoOverlap a.spans.items × AreWhole a.spans.items };
+    ghost invariant = { λ a. NoOverlap a.spans.items × AreWhole a.spans.items
+        × IsChained a.chains a.spans.items };
 }
 
 impl VersionTable {
@@ -50,6 +57,7 @@ impl VersionTable {
     {
         VersionTable {
             spans: Vec::new(alloc),
+            chains: Chains::new(alloc),
         }
     }
 
@@ -60,7 +68,8 @@ impl VersionTable {
         requires whole { AreWhole spans.items }
         ensures spans { result.spans ≡ spans.items }
     {
-        VersionTable { spans }
+        let chains = Chains::new(*spans.allocator());
+        VersionTable { spans, chains }
     }
 
     /// The number of spans.
@@ -109,13 +118,25 @@ impl VersionTable {
     pub fn written_after(&self, id: &RowId, v: u32) -> Option<u32>
         ensures { result ≡ written_after id.now v self.now.spans }
     {
-        written_after(self.spans.as_slice(), id, v)
+        let spans = self.spans.as_slice();
+        let entered = self.chains.written_after(spans, id, v);
+        lesser(entered, written_after(&spans[self.chains.len()..], id, v))
     }
 
-    /// Makes room for at least n more spans. The spans are unchanged, also if memory runs out.
+    /// Enters the spans that began since the last call, so that [`VersionTable::written_after`] looks them up by identity.
+    /// The spans and the room are unchanged, also if memory runs out; some spans are entered then. Places that 32 bits cannot
+    /// number run out of memory.
+    pub fn enter(&mut self) -> Result<(), NoMemory>
+        ensures { self.new ≡ self.old }
+    {
+        self.chains.enter(&self.spans)
+    }
+
+    /// Makes room for at least n more spans. The spans are unchanged, and no room is lost, also if memory runs out.
     pub fn reserve(&mut self, n: u32) -> Result<(), NoMemory>
         ensures unchanged { self.new.spans ≡ self.old.spans }
         ensures spare { OnOk result (n ≤ self.new.spare) }
+        ensures kept { self.old.spare ≤ self.new.spare }
     {
         self.spans.reserve(n as usize)?;
         Ok(())

@@ -11,7 +11,7 @@ use std::test::Fail;
 pub(crate) type Numbers = (u32, u32, u32);
 
 /// The identity of these numbers and sources, which have few enough nodes.
-fn id_with(numbers: Numbers, sources: Vec<RowId>) -> Result<RowId, NoMemory> {
+pub(crate) fn id_with(numbers: Numbers, sources: Vec<RowId>) -> Result<RowId, NoMemory> {
     let (t, k, n) = numbers;
     match RowId::new(t, k, n, sources) {
         Some(id) => Ok(id),

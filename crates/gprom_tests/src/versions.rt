@@ -1,15 +1,16 @@
 //! Row versions: the rows of each version of a table, and later writes.
 //!
-//! One history is worked out by hand. A row with the identity 2.1.1 is inserted in version 1, updated in version 2 and
-//! deleted in version 4; a row with the identity 1.1.1 is inserted in version 3.
+//! Two histories are worked out by hand. In the first, a row with the identity 2.1.1 is inserted in version 1, updated in
+//! version 2 and deleted in version 4; a row with the identity 1.1.1 is inserted in version 3. In the second, the identities
+//! of three rows differ only in how their sources nest, so that a table looks them up by the same key.
 
-ghost use Rattle.std.specs.Prelude.{◌+◌, ◌≤◌, OnOk};
+ghost use Rattle.std.specs.Prelude.{◌+◌, ◌≤◌, IfOk, OnOk};
 ghost use Rattle.gp_versions.specs.Commits.{AreBelow};
 
 use crate::cases::pair;
-use crate::provenance::id_of;
+use crate::provenance::{id_of, id_with};
 use crate::values::{Given, row_of};
-use gp_base::{NoMemory, Row, RowId, write_id, write_row};
+use gp_base::{MAX_NODES, NoMemory, Row, RowId, write_id, write_row};
 use gp_versions::{
     Span, VersionTable, Write, Writes, a_span_ends_at_the_next_write,
     a_version_has_one_row_of_an_identity, written_after_is_the_least,
@@ -142,6 +143,137 @@ fn rows_are_written_later(rt: HostRuntime) -> Result<(), Fail> {
         let id = first_id(rt.alloc(), *t);
         assert!(rt; is_later(&table, id, *v, *later), "{t}.1.1 after {v}");
     }
+    Ok(())
+}
+
+/// How many nodes an identity has, each of them 1.1.1, and how many of them are one in the other: the innermost of those has
+/// the rest as its sources.
+type Shape = (u32, u32);
+
+const WIDE: Shape = (MAX_NODES, 1);
+
+const MIXED: Shape = (MAX_NODES, 2);
+
+const TALL: Shape = (MAX_NODES, MAX_NODES);
+
+const SMALL: Shape = (1, 1);
+
+/// The identity 1.1.1 with as many sources 1.1.1.
+fn wide_id(alloc: Global, count: u32) -> Result<RowId, NoMemory> {
+    let mut sources = Vec::new(alloc);
+    for _ in 0..count {
+        sources.push(first_id(alloc, 1)?)?;
+    }
+    id_with((1, 1, 1), sources)
+}
+
+/// The identity 1.1.1 with one source.
+fn id_over(alloc: Global, id: RowId) -> Result<RowId, NoMemory> {
+    let mut sources = Vec::new(alloc);
+    sources.push(id)?;
+    id_with((1, 1, 1), sources)
+}
+
+/// The identity of this shape.
+fn shaped_id(alloc: Global, shape: Shape) -> Result<RowId, NoMemory> {
+    let (nodes, depth) = shape;
+    let mut id = wide_id(alloc, nodes.saturating_sub(depth))?;
+    for _ in 1..depth {
+        id = id_over(alloc, id)?;
+    }
+    Ok(id)
+}
+
+/// The write of a row of one number with an identity of this shape, or its deletion.
+fn shaped_write(alloc: Global, shape: Shape, number: Option<i64>) -> Result<Write, NoMemory> {
+    let (id, row) = pair(shaped_id(alloc, shape), row_after(alloc, number))?;
+    Ok(Write { id, row })
+}
+
+/// The table after five versions, which wrote rows of three shapes.
+fn shaped_history(alloc: Global) -> Result<VersionTable, NoMemory>
+    ensures below { IfOk result (λ table. AreBelow 6 table.spans) }
+{
+    let mut table = VersionTable::new(alloc);
+    commit(alloc, &mut table, 1, shaped_write(alloc, WIDE, Some(10)))?;
+    commit(alloc, &mut table, 2, shaped_write(alloc, TALL, Some(20)))?;
+    commit(alloc, &mut table, 3, shaped_write(alloc, WIDE, Some(11)))?;
+    commit(alloc, &mut table, 4, shaped_write(alloc, TALL, None))?;
+    commit(alloc, &mut table, 5, shaped_write(alloc, MIXED, Some(30)))?;
+    Ok(table)
+}
+
+const FIVE_VERSIONS: &[(Shape, u32, Option<u32>)] = &[
+    (WIDE, 0, Some(1)),
+    (WIDE, 1, Some(3)),
+    (WIDE, 2, Some(3)),
+    (WIDE, 3, None),
+    (TALL, 0, Some(2)),
+    (TALL, 2, Some(4)),
+    (TALL, 3, Some(4)),
+    (TALL, 4, None),
+    (MIXED, 0, Some(5)),
+    (MIXED, 4, Some(5)),
+    (MIXED, 5, None),
+    (SMALL, 0, None),
+];
+
+/// Two versions more.
+fn commit_twice(alloc: Global, table: &mut VersionTable) -> Result<(), NoMemory>
+    requires { AreBelow 6 table.old.spans }
+{
+    commit(alloc, table, 6, shaped_write(alloc, MIXED, Some(31)))?;
+    commit(alloc, table, 7, shaped_write(alloc, WIDE, None))?;
+    Ok(())
+}
+
+const SEVEN_VERSIONS: &[(Shape, u32, Option<u32>)] = &[
+    (WIDE, 0, Some(1)),
+    (WIDE, 1, Some(3)),
+    (WIDE, 3, Some(7)),
+    (WIDE, 6, Some(7)),
+    (WIDE, 7, None),
+    (TALL, 0, Some(2)),
+    (TALL, 2, Some(4)),
+    (TALL, 4, None),
+    (MIXED, 0, Some(5)),
+    (MIXED, 5, Some(6)),
+    (MIXED, 6, None),
+    (SMALL, 0, None),
+];
+
+/// Whether each of these rows is written next by its version.
+fn are_later(alloc: Global, table: &VersionTable, all: &[(Shape, u32, Option<u32>)]) -> bool {
+    for (shape, v, later) in all {
+        if !is_later(table, shaped_id(alloc, *shape), *v, *later) {
+            return false;
+        }
+    }
+    true
+}
+
+#[test]
+fn rows_with_one_key_are_told_apart(rt: HostRuntime) -> Result<(), Fail> {
+    let mut table = shaped_history(rt.alloc())?;
+    assert!(rt;
+        are_later(rt.alloc(), &table, FIVE_VERSIONS),
+        "no span is entered"
+    );
+    table.enter()?;
+    assert!(rt;
+        are_later(rt.alloc(), &table, FIVE_VERSIONS),
+        "all are entered"
+    );
+    commit_twice(rt.alloc(), &mut table)?;
+    assert!(rt;
+        are_later(rt.alloc(), &table, SEVEN_VERSIONS),
+        "some are entered"
+    );
+    table.enter()?;
+    assert!(rt;
+        are_later(rt.alloc(), &table, SEVEN_VERSIONS),
+        "all are entered again"
+    );
     Ok(())
 }
 
