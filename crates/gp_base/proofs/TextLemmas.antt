@@ -1,16 +1,17 @@
 -- Lemmas of row texts: different rows have different texts. After the text of a cell the row ends or a comma follows, so the end of each
 -- cell's text is determined, and different cells have different texts.
-use Rattle.std.proofs.Common.{◌≡◌, ℕ, suc, ◌≤◌, eqb, List, [], ◌∷◌, ◌++◌, length, drop, get_or, ℤ, pos, negsuc, refl, sym, ap, subst, ◌∙◌, append_assoc, codes, lit≤, arith, inl, inr}
+use Rattle.std.proofs.Common.{◌≡◌, ℕ, suc, ◌≤◌, Bool, true, false, cond, ◌||◌, ◌==◌, eqb, List, [], ◌∷◌, ◌++◌, length, drop, get_or, ℤ, pos, negsuc, refl, sym, ap, subst, ◌∙◌, append_assoc, codes, lit≤, arith, inl, inr}
 use Rattle.std.specs.Int.{w64}
 use Rattle.std.specs.Int.RustNames.{FitsSigned}
 use Rattle.std.specs.Fmt.{decimal, signed_decimal}
-use Rattle.std.specs.List.{AllByRecursion, flat_map}
+use Rattle.std.specs.List.{AllByRecursion, flat_map, list_any}
 use Rattle.std.specs.Str.Parse.{AllDigits}
 use Rattle.std.proofs.lemmas.Bool.{cases_Bool, eqb-true, eqb-false}
 use Rattle.std.proofs.lemmas.List.{length-append}
 use Rattle.std.proofs.lemmas.Str.Parse.{digit_from_value}
 use Rattle.std.proofs.lemmas.Fmt.{decimal_is_IsNumeral, decimal_nonempty, signed_decimal_injective}
 use Rattle.gp_base.specs.declared.cell.Cell.{Cell}
+use Rattle.gp_base.specs.declared.display.TheConstants.{QUOTE}
 use Rattle.gp_base.specs.declared.cell.Cell.TheVariants.{Null, Int, Text, Id, Mark, Mono}
 use Rattle.gp_base.specs.Cells.{IsPlain, ArePlain}
 use Rattle.gp_base.specs.Texts.{quoted_byte, cell_text, row_text}
@@ -210,3 +211,14 @@ row_text-injective (a ∷ cells) (b ∷ more) fits suits e =
     let first : a ≡ b = parts.0 in
     let later : cells ≡ more = others-injective cells more fits.1 suits.1 parts.1 in
     cc
+
+-- ---- texts without quotes
+
+unquoted-next : (quote : Bool) (byte : ℕ) (text rest : List ℕ) (later : Bool) → (later ≡ false → rest ≡ text) → (quote || later) ≡ false → (cond quote (QUOTE ∷ QUOTE ∷ []) (byte ∷ []) ++ rest) ≡ byte ∷ text
+unquoted-next true byte text rest later same none = absurd cc
+unquoted-next false byte text rest later same none = ap (λ (more : List ℕ). byte ∷ more) (same none)
+
+-- a text without a quote is written as it is
+pub unquoted : (text : List ℕ) → list_any (λ byte. byte == QUOTE) text ≡ false → flat_map quoted_byte text ≡ text
+unquoted [] none = refl
+unquoted (byte ∷ text) none = unquoted-next (byte == QUOTE) byte text (flat_map quoted_byte text) (list_any (λ other. other == QUOTE) text) (unquoted text) none

@@ -17,6 +17,7 @@ use crate::row::Row;
 use crate::row_id::RowId;
 use crate::text::Text;
 use crate::token::Token;
+use itoa::Buffer;
 use std::alloc::Global;
 
 /// The quote around a text value.
@@ -37,14 +38,13 @@ fn quoted(alloc: Global, text: &[u8]) -> Result<Vec<u8>, NoMemory>
 }
 
 /// Appends a number in decimal.
-fn write_number(alloc: Global, number: i64, out: &mut Vec<u8>) -> Result<(), NoMemory>
+fn write_number(number: i64, out: &mut Vec<u8>) -> Result<(), NoMemory>
     ensures ok { OnOk result (out.new.items ≡ out.old.items ++ signed_decimal number) }
     ensures err { OnErr result
         (AppendsPrefix out.old.items out.new.items (signed_decimal number)) }
 {
-    let digits = number.to_string(alloc)?;
-    append_all(out, &[digits.as_bytes()])?;
-    Ok(())
+    let mut buffer = Buffer::new();
+    append_all(out, &[buffer.format(number).as_bytes()])
 }
 
 /// Appends a text in quotes.
@@ -53,9 +53,12 @@ fn write_quoted(alloc: Global, text: &Text, out: &mut Vec<u8>) -> Result<(), NoM
     ensures err { OnErr result
         (AppendsPrefix out.old.items out.new.items (cell_text (Cell.Text text.now))) }
 {
-    let inside = quoted(alloc, text.as_bytes())?;
-    append_all(out, &[b"'", &inside, b"'"])?;
-    Ok(())
+    let bytes = text.as_bytes();
+    if bytes.contains(&QUOTE) {
+        let inside = quoted(alloc, bytes)?;
+        return append_all(out, &[b"'", &inside, b"'"]);
+    }
+    append_all(out, &[b"'", bytes, b"'"])
 }
 
 /// Appends an identity.
@@ -63,10 +66,11 @@ fn write_quoted(alloc: Global, text: &Text, out: &mut Vec<u8>) -> Result<(), NoM
 fn push_id(alloc: Global, id: &RowId, out: &mut Vec<u8>) -> Result<(), NoMemory>
     ensures { OnOk result (out.new.items ≡ out.old.items ++ identity_text id.now) }
 {
-    let t = id.t().to_string(alloc)?;
-    let k = id.k().to_string(alloc)?;
-    let n = id.n().to_string(alloc)?;
-    append_all(out, &[t.as_bytes(), b".", k.as_bytes(), b".", n.as_bytes()])?;
+    let mut buffers = (Buffer::new(), Buffer::new(), Buffer::new());
+    let t = buffers.0.format(id.t()).as_bytes();
+    let k = buffers.1.format(id.k()).as_bytes();
+    let n = buffers.2.format(id.n()).as_bytes();
+    append_all(out, &[t, b".", k, b".", n])?;
     push_sources(alloc, id.sources(), out)
 }
 
@@ -242,7 +246,7 @@ impl TextFormat<Cell> for CellFormat {
     fn write(&self, alloc: Global, cell: &Cell, out: &mut Vec<u8>) -> Result<(), NoMemory> {
         match cell {
             Cell::Null => append_all(out, &[b"NULL"]),
-            Cell::Int(number) => write_number(alloc, *number, out),
+            Cell::Int(number) => write_number(*number, out),
             Cell::Text(text) => write_quoted(alloc, text, out),
             Cell::Id(id) => write_id_cell(alloc, id, out),
             Cell::Mark(mark) => write_mark(*mark, out),
