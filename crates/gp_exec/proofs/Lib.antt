@@ -9,6 +9,7 @@ pub mod IndexLemmas
 pub mod InputLemmas
 pub mod JoiningLemmas
 pub mod LivenessLemmas
+pub mod LookingLemmas
 pub mod PairLemmas
 pub mod ProgramLemmas
 pub mod PublishingLemmas

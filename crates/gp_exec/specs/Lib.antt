@@ -7,6 +7,7 @@ pub mod Joining
 pub mod Keys
 pub mod Levels
 pub mod Liveness
+pub mod Looking
 pub mod Pairs
 pub mod Publishing
 pub mod Running
