@@ -1,3 +1,4 @@
+pub mod KeptLemmas
 pub mod LayoutLemmas
 pub mod LineLemmas
 pub mod NumberLemmas

@@ -30,6 +30,16 @@ impl Gap {
         }
     }
 
+    /// Whether the symbol has a space before it.
+    pub(crate) fn has_space_before(self, symbol: Symbol) -> bool
+        ensures { result ≡ has_space self (Sign symbol) }
+    {
+        match self {
+            Gap::Start | Gap::Joined => false,
+            Gap::AfterComma | Gap::Spaced => is_separated(symbol),
+        }
+    }
+
     /// The gap after a symbol.
     pub(crate) fn after_symbol(self, symbol: Symbol) -> Gap
         ensures { result ≡ next_gap self (Sign symbol) }
@@ -54,7 +64,7 @@ impl Gap {
 }
 
 /// Whether a space may be before the symbol.
-pub(crate) fn is_separated(symbol: Symbol) -> bool
+fn is_separated(symbol: Symbol) -> bool
     ensures { result ≡ is_separated (Sign symbol) }
 {
     match symbol {
