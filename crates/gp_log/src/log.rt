@@ -302,7 +302,8 @@ impl Log {
         }
     }
 
-    /// How many statements the transaction ran.
+    /// How many statements the transaction ran. A number that no transaction has ran none, in a log whose lines follow each
+    /// other: [`statements_are_numbered`](crate::statements_are_numbered).
     pub fn statement_count(&self, t: u32) -> u32
         ensures { result ≡ statement_count t (log_view self.now.entries) }
     {
@@ -322,7 +323,8 @@ impl Log {
         self.index.first(t)
     }
 
-    /// The statement of this number in the transaction, from 1, or None if there is none.
+    /// The statement of this number in the transaction, from 1, or None if there is none: exactly where the number is 0 or
+    /// above the count of its statements, by [`statements_are_numbered`](crate::statements_are_numbered).
     pub fn statement(&self, t: u32, k: u32) -> Option<&Stmt>
         ensures { option_map (λ s. statement_view s.now) result
             ≡ statement_at t k (log_view self.now.entries) }
