@@ -2,6 +2,7 @@ mod ActiveLemmas
 mod AnnotationLemmas
 pub mod AskedLemmas
 mod CommitLemmas
+mod CommitterLemmas
 mod ConflictLemmas
 pub mod CountLemmas
 pub mod Distinct
@@ -17,6 +18,7 @@ mod PublishLemmas
 mod QuestionLemmas
 pub mod ReachedLemmas
 mod RecordedLemmas
+mod ReplaceLemmas
 mod RepresentLemmas
 mod RunBags
 pub mod Simulation

@@ -1,23 +1,26 @@
--- A homomorphism of annotations commutes with runs, with commits, with the states that questions ask about, and with where a run stops.
+-- A homomorphism of annotations commutes with runs, with commits, with the states that questions ask about, and with where a run stops. So the
+-- rows of those states do not depend on annotations.
 use Rattle.std.proofs.Common.{◌≡◌, ℕ, zero, suc, Bool, cond, List, [], ◌∷◌, ◌++◌, refl, sym, ap, ◌∙◌, map, Option, Some, None}
 use Rattle.std.specs.Prelude.{◌&&◌, not}
 use Rattle.std.specs.List.{filter}
 use Rattle.std.specs.Option.{option_or}
 use Rattle.std.proofs.lemmas.List.{map-append}
-use Rattle.gp_base.specs.Annotated.{Annotations, Annotated, Database, Environment}
+use Rattle.gp_base.specs.Annotated.{Annotations, Annotated, Database, Environment, plain}
 use Rattle.gp_base.specs.Identities.{Identity, same_identity}
 use Rattle.gp_grammar.specs.Syntax as y
 use Rattle.gp_algebra.specs.Answers.{answer, cells_of}
-use Rattle.gp_algebra.specs.Reannotation.{IsHomomorphism, element_reannotated, reannotated}
+use Rattle.gp_algebra.specs.Reannotation.{IsHomomorphism, database_reannotated, element_reannotated, forgotten, reannotated}
 use Rattle.gp_algebra.specs.Statements.{Select, Statement}
 use Rattle.gp_algebra.proofs.Erasure.{Reannotates, answer_reannotated, is_over_nodes_reannotated, is_over_rows_reannotated, step_reannotated}
 use Rattle.gp_algebra.proofs.Lists.{any-map, filter-map, map-map}
 use Rattle.gp_machine.specs.Committed.{cleared, unmarked}
 use Rattle.gp_machine.specs.Entries.{Entry, Log, log_of, version_of}
 use Rattle.gp_machine.specs.Limits.{Limits}
-use Rattle.gp_machine.specs.Points.{OverRows, OverNodes, at_point, run_stop, statement_stop, version_before}
+use Rattle.gp_machine.specs.Points.{OverRows, OverNodes, at_point, at_version, held_at, run_stop, statement_stop, version_before}
 use Rattle.gp_machine.specs.Publishing.{at_commit, holds, publish, was_written}
 use Rattle.gp_machine.specs.Runs.{run, stepped}
+use Rattle.gp_machine.specs.State.{State}
+use Rattle.gp_machine.specs.StateReannotation.{AreEqualButForAnnotations, state_reannotated}
 
 module _ {M N : Type 0} (h : M → N) where
   -- each version is the other one's with other annotations
@@ -87,3 +90,27 @@ module _ {M N : Type 0} (kind : Annotations M) (other : Annotations N) (h : M �
         let earlier = run_stop_reannotated k in
         let now = statement_stop_reannotated (suc k) (log.statement t (suc k)) (run kind log t k a) (run other log t k b) (run_reannotated log t k) in
         λ i. option_or (earlier i) (now i)
+
+-- ---- rows without their annotations
+
+-- forgetting annotations keeps one, products and tokens, whatever they are
+pub forgotten_keeps : {M : Type 0} (kind : Annotations M) → IsHomomorphism kind plain forgotten
+forgotten_keeps kind = record { one = refl; times = λ a b. refl; token = λ token. refl }
+
+module _ {M N : Type 0} (kind : Annotations M) (other : Annotations N) where
+  -- both are the states over the same rows without annotations
+  pub rows_agree : (entries : List Entry) (point : y.State) (a : Environment M) (b : Environment N) → ((version : ℕ) → AreEqualButForAnnotations (a version) (b version))
+      → AreEqualButForAnnotations (at_point kind entries point a) (at_point other entries point b)
+  rows_agree entries point a b same table =
+      sym (at_point_reannotated other plain forgotten (forgotten_keeps other) b (λ version. database_reannotated forgotten (a version)) (λ version table. sym (same version table)) entries point table)
+      ∙ at_point_reannotated kind plain forgotten (forgotten_keeps kind) a (λ version. database_reannotated forgotten (a version)) (λ version table. refl) entries point table
+
+-- the states that a history held
+pub held_reannotated : {M N : Type 0} (h : M → N) (state : State M) (point : y.State) → Reannotates h (held_at state point) (held_at (state_reannotated h state) point)
+held_reannotated h state (y.as_of version) table = refl
+held_reannotated h state (y.after t k) table = refl
+held_reannotated h state (y.State.commit t) table = go (version_of t state.entries)
+  where
+    go : (version : Option ℕ) → at_version version (state_reannotated h state).committed table ≡ map (reannotated h) (at_version version state.committed table)
+    go None = refl
+    go (Some version) = refl

@@ -1,6 +1,7 @@
 pub mod Actions
 pub mod Annotating
 pub mod Committed
+pub mod Committers
 pub mod Conflicts
 pub mod EngineLine
 pub mod Entries
@@ -13,6 +14,7 @@ pub mod Questions
 pub mod Reached
 pub mod Recorded
 pub mod Replies
+pub mod Replacing
 pub mod Represents
 pub mod Runs
 pub mod State

@@ -1,6 +1,7 @@
--- Part of the statement: a state with other annotations, by a map of them.
-use Rattle.std.specs.Prelude.{Option, Some, None}
-use Rattle.gp_algebra.specs.Reannotation.{database_reannotated}
+-- Part of the statement: a state with other annotations, by a map of them, and versions that differ in their annotations.
+use Rattle.std.specs.Prelude.{◌≡◌, ℕ, Option, Some, None, map}
+use Rattle.gp_base.specs.Annotated.{Database, Environment}
+use Rattle.gp_algebra.specs.Reannotation.{database_reannotated, forgotten, reannotated}
 use Rattle.gp_machine.specs.declared.reply.Reply.{Reply}
 use Rattle.gp_machine.specs.State.{Active, State}
 
@@ -31,3 +32,14 @@ module _ {M N : Type 0} (h : M → N) where
   -- the outcome of a line: the reply has no annotations
   abbrev pub outcome_reannotated : State M × Reply → State N × Reply
   outcome_reannotated outcome = (state_reannotated outcome.0, outcome.1)
+
+  -- the tables of the second database have the rows of the first, in the same order, with the annotations that the map gives
+  abbrev pub IsReannotated : Database M → Database N → Type 0
+  IsReannotated db other = (table : ℕ) → other table ≡ map (reannotated h) (db table)
+
+  abbrev pub AreReannotated : Environment M → Environment N → Type 0
+  AreReannotated versions others = (version : ℕ) → IsReannotated (versions version) (others version)
+
+-- the same rows with the same identities and marks, in the same order, whatever their annotations
+abbrev pub AreEqualButForAnnotations : {M N : Type 0} → Database M → Database N → Type 0
+AreEqualButForAnnotations db other = (table : ℕ) → map (reannotated forgotten) (other table) ≡ map (reannotated forgotten) (db table)

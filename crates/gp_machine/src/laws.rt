@@ -1,10 +1,10 @@
 //! Laws of the history machine. Each function does nothing: its postconditions are the laws. A law with a type parameter
 //! holds for annotations of every type, as monomials, the elements of a semiring, or nothing at all.
 
-ghost use Rattle.std.specs.Prelude.{Bool, ◌≡◌, ◌≢◌, ℕ, zero, suc, ◌-◌, ◌<◌, ◌≤◌, true, false, List, [], ◌∷◌, ◌++◌, length, map, Option, Some, None};
+ghost use Rattle.std.specs.Prelude.{Bool, ◌≡◌, ◌≢◌, ℕ, zero, suc, ◌-◌, ◌<◌, ◌≤◌, true, false, List, [], ◌∷◌, ◌++◌, filter, length, map, Option, Some, None};
 ghost use Rattle.std.specs.List.{AllByRecursion};
 ghost use Rattle.std.specs.List.Sorted.{IsPermutation};
-ghost use Rattle.gp_base.specs.Annotated.{Annotated, Annotations, Database, plain};
+ghost use Rattle.gp_base.specs.Annotated.{Annotated, Annotations, Database, Environment, plain};
 ghost use Rattle.gp_base.specs.Identities.{Identity, transaction_of};
 ghost use Rattle.gp_grammar.specs.Syntax as y;
 ghost use Rattle.gp_versions.specs.declared.span.Span.{Span};
@@ -17,22 +17,24 @@ ghost use Rattle.gp_algebra.specs.Statements.{Select, Statement};
 ghost use Rattle.gp_machine.specs.declared.reply.Reply.{Reply};
 ghost use Rattle.gp_machine.specs.Actions.{action_of};
 ghost use Rattle.gp_machine.specs.Annotating.{annotated, annotated_versions, computed, identified};
-ghost use Rattle.gp_machine.specs.Committed.{cleared, is_written};
+ghost use Rattle.gp_machine.specs.Committed.{cleared, is_written, next_version, unmarked};
+ghost use Rattle.gp_machine.specs.Committers.{CommittedBy};
 ghost use Rattle.gp_machine.specs.Conflicts.{Conflict, IsLeastConflict, least_conflict};
 ghost use Rattle.gp_machine.specs.EngineLine.{Answers, FindsConflict, Follows, ShowsConflict};
-ghost use Rattle.gp_machine.specs.Entries.{Entry, begin_version, committer_of, log_of, statement_count, version_of, versions_in};
-ghost use Rattle.gp_machine.specs.Event.{Line, after, line_event, published};
+ghost use Rattle.gp_machine.specs.Entries.{Entry, Log, begin_version, committer_of, log_of, statement_count, version_of, versions_in};
+ghost use Rattle.gp_machine.specs.Event.{Line, after, conflict_of, line_event, published};
 ghost use Rattle.gp_machine.specs.HistorySpans.{as_of, next_written, span_after, span_count, spans_from, state_spans};
 ghost use Rattle.gp_machine.specs.Limits.{ChecksTargets, Limits};
 ghost use Rattle.gp_machine.specs.Points.{IsAsked, at_point, held_at, run_stop};
-ghost use Rattle.gp_machine.specs.Publishing.{at_commit};
+ghost use Rattle.gp_machine.specs.Publishing.{at_commit, publish};
+ghost use Rattle.gp_machine.specs.Replacing.{AddsNoneOf, Replaces, rows_with};
 ghost use Rattle.gp_machine.specs.Questions.{AreAlike, annotated_answer, held_answer, rows_answer};
 ghost use Rattle.gp_machine.specs.Reached.{CountsAreWithin, IsReached};
 ghost use Rattle.gp_machine.specs.Recorded.{is_recorded};
 ghost use Rattle.gp_machine.specs.Represents.{Kept, Overlay, Represents, kept_start};
 ghost use Rattle.gp_machine.specs.State.{Active, State, start};
-ghost use Rattle.gp_machine.specs.StateReannotation.{outcome_reannotated, state_reannotated};
-ghost use Rattle.gp_machine.specs.Views.{HaveDifferentIdentities, IsViewOf};
+ghost use Rattle.gp_machine.specs.StateReannotation.{AreEqualButForAnnotations, AreReannotated, IsReannotated, outcome_reannotated, state_reannotated};
+ghost use Rattle.gp_machine.specs.Views.{HaveDifferentIdentities, IsView, IsViewOf, unwritten};
 
 /// Every state that lines lead to is that of a history: its versions are what its commits published, a transaction begins
 /// before it commits, the first committer wins, and what each transaction reads is what its run gives.
@@ -63,6 +65,56 @@ pub fn transactions_keep_their_invariant<M>()
         → IsViewOf active.transaction active.statements
         (state.committed (begin_version active.transaction state.entries))
         active.view active.written }
+{}
+
+/// Publishing a view puts the rows that its transaction wrote in place of those of a later database. The view satisfies the
+/// invariant of [`transactions_keep_their_invariant`] over its base, table by table, and of the written identities the later
+/// table has only such as the base has. That holds where the rows of these identities are unchanged (`unchanged`), and for the
+/// newest version of a reached state, if the commit is not lost (`won`). The published table is then, as a list, the later rows
+/// that were not written and after them the marked rows of the view; so of every identity that was not written it has the later
+/// rows, and of every written one those of the view (`replaces`). With the marks cleared (`unmarked`) it is the table of the
+/// version that a commit makes (`commit`).
+pub fn publishing_replaces_the_written_rows<M>()
+    ensures replaces { (among : Identity → Bool) (base view later : Database M) (table : ℕ)
+        → IsView among (base table) (view table)
+        → AddsNoneOf among (base table) (later table)
+        → Replaces among (later table) (view table) (publish base view later table) }
+    ensures unmarked { (among : Identity → Bool) (base view later : Database M) (table : ℕ)
+        → IsView among (base table) (view table)
+        → AddsNoneOf among (base table) (later table)
+        → AllByRecursion (λ row. row.mark ≡ false) (later table)
+        → cleared (publish base view later) table
+        ≡ unwritten among (later table)
+        ++ map unmarked (filter (λ row. row.mark) (view table)) }
+    ensures commit { (t k : ℕ) (base view later : Database M) (written : List Written)
+        → IsViewOf t k base view written
+        → (table : ℕ) → AddsNoneOf (λ id. is_written table id written) (base table) (later table)
+        → cleared (publish base view later) table ≡ next_version later view written table }
+    ensures unchanged { (among : Identity → Bool) (base later : List (Annotated M))
+        → ((id : Identity) → among id ≡ true → rows_with id later ≡ rows_with id base)
+        → AddsNoneOf among base later }
+    ensures won { (kind : Annotations M) (limits : Limits) (state : State M)
+        → IsReached kind limits state
+        → (active : Active M) → conflict_of state active ≡ None → (table : ℕ)
+        → AddsNoneOf (λ id. is_written table id active.written)
+        (state.committed (begin_version active.transaction state.entries) table)
+        (state.committed (versions_in state.entries) table) }
+{}
+
+/// The identity of a row of a version begins with the number of the transaction that made the row, which is 1 or more, and
+/// which committed as that version or an earlier one (`rows`). A transaction commits once: the version that it made is the one
+/// that it is the committer of (`once`).
+pub fn identities_begin_with_their_committers<M>()
+    ensures rows { (kind : Annotations M) (limits : Limits) (lines : List Line)
+        (version table : ℕ) → version ≤ versions_in (after kind limits start lines).entries
+        → AllByRecursion
+        (λ row. CommittedBy (after kind limits start lines).entries version
+        (transaction_of row.identity))
+        ((after kind limits start lines).committed version table) }
+    ensures once { (kind : Annotations M) (limits : Limits) (lines : List Line) (u : ℕ)
+        → u < versions_in (after kind limits start lines).entries
+        → version_of (committer_of (suc u) (after kind limits start lines).entries)
+        (after kind limits start lines).entries ≡ Some (suc u) }
 {}
 
 /// An engine without annotations follows the history machine, if it keeps what represents the state, and answers each line
@@ -105,6 +157,31 @@ pub fn annotations_change_no_reply<M, N>()
         ≡ state_reannotated forgotten (after kind limits start lines) }
     ensures spans { (h : M → N) (state : State M) (table : ℕ)
         → state_spans (state_reannotated h state) table ≡ state_spans state table }
+{}
+
+/// Rows, identities and marks of a state do not depend on annotations. Over versions that a homomorphism of annotations
+/// relates, the tables of every state that a question can ask about are related by it too, row by row in the same order
+/// (`points`), as the states that a history held are (`held`), and a run stops at the same statement (`stops`). Over versions
+/// that are equal but for annotations of any two kinds, with no map between them, those tables are equal but for annotations
+/// too (`rows`).
+pub fn annotations_change_no_row<M, N>()
+    ensures points { (kind : Annotations M) (other : Annotations N) (h : M → N)
+        → IsHomomorphism kind other h
+        → (versions : Environment M) (others : Environment N) → AreReannotated h versions others
+        → (entries : List Entry) (point : y.State) → IsReannotated h
+        (at_point kind entries point versions) (at_point other entries point others) }
+    ensures stops { (kind : Annotations M) (other : Annotations N) (h : M → N)
+        → IsHomomorphism kind other h
+        → (versions : Environment M) (others : Environment N) → AreReannotated h versions others
+        → (limits : Limits) (log : Log) (t k : ℕ)
+        → run_stop other limits log t k others ≡ run_stop kind limits log t k versions }
+    ensures held { (h : M → N) (state : State M) (point : y.State)
+        → IsReannotated h (held_at state point) (held_at (state_reannotated h state) point) }
+    ensures rows { (kind : Annotations M) (other : Annotations N)
+        (versions : Environment M) (others : Environment N)
+        → ((version : ℕ) → AreEqualButForAnnotations (versions version) (others version))
+        → (entries : List Entry) (point : y.State) → AreEqualButForAnnotations
+        (at_point kind entries point versions) (at_point other entries point others) }
 {}
 
 /// The spans of a reached state hold the rows of every version, in the same order, and with the annotations of the version that
