@@ -1,0 +1,46 @@
+//! Laws of scripts, and of answers as CSV. The functions do nothing: their postconditions are the laws.
+
+ghost use Rattle.std.specs.Prelude.{◌≡◌, ◌≤◌, ℕ, ℤ, List, Ok, Some, length, true};
+ghost use Rattle.std.specs.List.{list_all};
+ghost use Rattle.gp_base.specs.Cells.{fits_number, is_user_text};
+ghost use Rattle.gp_base.specs.declared.cell.Cell.{Cell};
+ghost use Rattle.gp_base.specs.declared.cell.Cell.TheVariants as cell;
+ghost use Rattle.gp_base.specs.declared.table.Kind.{Kind};
+ghost use Rattle.gp_base.specs.declared.table.Kind.TheVariants as kind;
+ghost use Rattle.gp_base.specs.declared.refusal.Refusal.{Refusal};
+ghost use Rattle.gp_csv.specs.Answers.{answer_records, csv_text, field_of, refusal_records};
+ghost use Rattle.gp_csv.specs.Fields.{cell_of};
+ghost use Rattle.gp_csv.specs.Scripts.{Row, fits_line, batches_of, rows_in};
+ghost use Rattle.gp_csv.specs.Sheets.{records_of};
+
+use crate::script::{MAX_INSERTS, MAX_ROWS};
+
+/// The default reader reads the records of an answer back from its text, and so those of a refusal.
+pub fn answers_are_read_back()
+    ensures answers { (number : ℕ) (rows : List (List Cell))
+        → records_of (csv_text (answer_records number rows)) ≡ answer_records number rows }
+    ensures refusals { (number : ℕ) (refusal : Refusal)
+        → records_of (csv_text (refusal_records number refusal)) ≡ refusal_records number refusal }
+{}
+
+/// In a column of its kind each cell that a user can write is read back from its field.
+pub fn cells_are_read_back()
+    ensures null { (column : Kind) → cell_of column (field_of cell.Null) ≡ Some cell.Null }
+    ensures numbers { (number : ℤ) → fits_number number ≡ true
+        → cell_of kind.Int (field_of (cell.Int number)) ≡ Some (cell.Int number) }
+    ensures texts { (text : List ℕ) → is_user_text text ≡ true
+        → cell_of kind.Text (field_of (cell.Text text)) ≡ Some (cell.Text text) }
+{}
+
+/// The INSERT lines of a script hold the rows of the sheet, in order and each as often as it stands there. Each line can be read,
+/// and there are no more rows and lines than a table and a script can have.
+pub fn batches_hold_the_rows()
+    ensures kept { (name : List ℕ) (rows : List Row) (lines : List (List Row))
+        → batches_of name rows ≡ Ok lines → rows_in lines ≡ rows }
+    ensures few { (name : List ℕ) (rows : List Row) (lines : List (List Row))
+        → batches_of name rows ≡ Ok lines → length lines ≤ MAX_INSERTS }
+    ensures counted { (name : List ℕ) (rows : List Row) (lines : List (List Row))
+        → batches_of name rows ≡ Ok lines → length rows ≤ MAX_ROWS }
+    ensures fit { (name : List ℕ) (rows : List Row) (lines : List (List Row))
+        → batches_of name rows ≡ Ok lines → list_all (fits_line name) lines ≡ true }
+{}
