@@ -5,6 +5,7 @@ use Rattle.std.proofs.lemmas.Grind.{flat_map-append}
 use Rattle.std.specs.Fmt.{decimal, digits, signed_decimal}
 use Rattle.std.specs.List.{flat_map, concat}
 use Rattle.std.proofs.lemmas.Bool.{cases_Bool, eqb-true}
+use Rattle.gp_base.specs.Cells.{IsPlain, ArePlain}
 use Rattle.gp_base.specs.Texts.{cell_text, row_text}
 use Rattle.gp_base.specs.declared.cell.Cell.{Cell}
 use Rattle.gp_base.specs.declared.cell.Cell.TheVariants as cell
@@ -17,7 +18,7 @@ use Rattle.gp_lexer.specs.Layout.{Page, put, written, laid_out, empty_page}
 use Rattle.gp_lexer.specs.Lexemes.{symbol_text}
 use Rattle.gp_grammar.specs.Syntax.{Lexemes, Command, begin, insert}
 use Rattle.gp_csv.specs.Packing.{tuple_text, insert_text}
-use Rattle.gp_csv.specs.Scripts.{IsPlain, ArePlain, ArePlainRows, line_of, ended_line}
+use Rattle.gp_csv.specs.Scripts.{ArePlainRows, line_of, ended_line}
 use Rattle.gp_grammar.specs.Canonical.{cell_lexemes, tuple_lexemes, listed_lexemes, command_lexemes, command_text}
 
 abbrev page : List ℕ → Gap → Page
@@ -43,7 +44,7 @@ minus-number text n = big-number (text ++ codes "-") n (eqb n (2 ^ 63)) refl ∙
 minus-spaced : (text : List ℕ) (n : ℕ) → put (page (text ++ (32 ∷ codes "-")) Joined) (cond (eqb n (2 ^ 63)) Big (Number n)) ≡ page (text ++ (32 ∷ (codes "-" ++ decimal n))) Spaced
 minus-spaced text n = big-number (text ++ (32 ∷ codes "-")) n (eqb n (2 ^ 63)) refl ∙ ap (λ (t : List ℕ). page t Spaced) (append_assoc text (32 ∷ codes "-") (decimal n))
 
--- a cell behind a bracket, and behind a comma
+-- a cell after a bracket, and after a comma
 cell-first : (text : List ℕ) (c : Cell) → IsPlain c → written (page text Start) (cell_lexemes c) ≡ page (text ++ cell_text c) Spaced
 unfolding written symbol_text
 cell-first text cell.Null plain = refl
@@ -83,7 +84,7 @@ cells-other text (c ∷ cells) plain =
     (ap (λ (t : List ℕ). t ++ other_texts cells) (append_assoc text (codes ",") (32 ∷ cell_text c))
     ∙ append_assoc text (codes ", " ++ cell_text c) (other_texts cells))
 
--- a row behind its open bracket, and its closing one
+-- a row after its open bracket, and its closing one
 cells-closed : (text : List ℕ) (cells : List Cell) → ArePlain cells → written (page text Start) (listed_lexemes cell_lexemes cells ++ (Sign s.Close ∷ [])) ≡ page (text ++ (row_text cells ++ codes ")")) Spaced
 unfolding written symbol_text
 cells-closed text [] plain = refl

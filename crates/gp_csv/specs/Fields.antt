@@ -1,5 +1,5 @@
--- Part of the statement: what the fields of a sheet are as cells. NULL is `\N`, as in the text format of PostgreSQL's COPY, or an empty field in
--- a column of numbers.
+-- Part of the statement: the cells that fields of a sheet write. NULL is `\N`, as in the text format of PostgreSQL's COPY, or an empty field of an
+-- INT column. A text that begins with a backslash is written with two.
 use Rattle.std.specs.Prelude.{ℕ, ℤ, zero, suc, pos, negsuc, ◌+◌, ◌*◌, ◌-◌, ◌^◌, nat_le, nat_lt, Bool, true, false, ◌&&◌, List, [], ◌∷◌, length, Option, Some, None, option_and_then, if◌then◌else◌, ◌==◌}
 use Rattle.std.specs.Option.{option_map}
 use Rattle.std.specs.Str.{bytes_eq}
@@ -17,7 +17,7 @@ use Rattle.gp_csv.specs.declared.field.TheConstants.{BACKSLASH, MINUS}
 abbrev pub is_digit : ℕ → Bool
 is_digit byte = nat_le 48 byte && nat_le byte 57
 
--- the number that digits write behind a number; none where a byte is no digit
+-- the number that digits write after those of a number; none if a byte is no digit
 abbrev pub read_on : ℕ → List ℕ → Option ℕ
 read_on number [] = Some number
 read_on number (byte ∷ bytes) = if is_digit byte then read_on (10 * number + (byte - 48)) bytes else None
@@ -46,15 +46,17 @@ number_of (byte ∷ bytes) =
 abbrev pub null_field : List ℕ
 null_field = BACKSLASH ∷ 78 ∷ []
 
--- a field without the first of two backslashes in front; one alone is none
+-- the text after an escaping backslash: another backslash, and the rest
 abbrev pub after_escape : List ℕ → Option (List ℕ)
 after_escape [] = None
 after_escape (byte ∷ bytes) = if byte == BACKSLASH then Some (byte ∷ bytes) else None
 
+-- the text of a field of a TEXT column
 abbrev pub unescaped : List ℕ → Option (List ℕ)
 unescaped [] = Some []
 unescaped (byte ∷ bytes) = if byte == BACKSLASH then after_escape bytes else Some (byte ∷ bytes)
 
+-- the cell of a text, if a user can write it
 abbrev pub text_cell : List ℕ → Option Cell
 text_cell text = if is_user_text text then Some (cell.Text text) else None
 
@@ -63,6 +65,7 @@ abbrev pub int_cell_of : List ℕ → Option Cell
 int_cell_of [] = Some cell.Null
 int_cell_of (byte ∷ bytes) = option_map (λ (number : ℤ). cell.Int number) (number_of (byte ∷ bytes))
 
+-- the cell of a field that is not `\N`
 abbrev pub value_cell_of : Kind → List ℕ → Option Cell
 value_cell_of kind.Int field = int_cell_of field
 value_cell_of kind.Text field = option_and_then text_cell (unescaped field)
@@ -71,7 +74,7 @@ value_cell_of kind.Text field = option_and_then text_cell (unescaped field)
 unfoldable pub cell_of : Kind → List ℕ → Option Cell
 cell_of column field = if bytes_eq field null_field then Some cell.Null else value_cell_of column field
 
--- a record has no field at the place, or one that a column of numbers can hold
+-- a record has no field at the place, or one that an INT column can hold
 abbrev pub is_int_field : Option (List ℕ) → Bool
 is_int_field None = true
 is_int_field (Some field) = is_there (cell_of kind.Int field)
@@ -80,7 +83,7 @@ is_int_field (Some field) = is_there (cell_of kind.Int field)
     is_there None = false
     is_there (Some cell) = true
 
--- the cells of a record in these columns, of which the first has this place; none if a field is no cell of its column
+-- the cells of a record in these columns, the first of which is at this place; none if a field is no cell of its column
 abbrev pub cells_from : ℕ → List (List ℕ) → List Column → Option (List Cell)
 cells_from place fields [] = Some []
 cells_from place fields (column ∷ columns) =

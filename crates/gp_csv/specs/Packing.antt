@@ -1,4 +1,4 @@
--- Machinery: how the script is written, row by row, in numbers and texts alone.
+-- Machinery: how the script is written, row by row. Of the last line only counts are kept.
 use Rattle.std.specs.Prelude.{ℕ, suc, ◌+◌, ◌%◌, nat_le, nat_lt, Bool, true, false, ◌&&◌, List, [], ◌∷◌, ◌++◌, length, Result, Ok, Err, if◌then◌else◌, ◌==◌, codes}
 use Rattle.std.specs.List.{concat}
 use Rattle.gp_base.specs.declared.cell.Cell.{Cell}
@@ -21,11 +21,11 @@ tuple_text row = concat (codes "(" ∷ row_text row ∷ codes ")" ∷ [])
 abbrev pub insert_text : List ℕ → List ℕ
 insert_text name = concat (codes "s1: INSERT INTO " ∷ name ∷ codes " VALUES " ∷ [])
 
--- a script up to its last line, which has no line feed yet, and what is known of that line
+-- a script up to its last INSERT line, which has no line feed yet, and the counts of that line
 abbrev pub Output : Type 0
 Output = List ℕ × Line
 
--- the line has room for one more tuple
+-- whether the line has room for one more tuple
 abbrev pub has_room : Line → List ℕ → Bool
 has_room line tuple = nat_lt 0 line.rows && (nat_lt line.rows MAX_VALUES && nat_le (line.length + 2 + length tuple) MAX_LINE_LENGTH)
 
@@ -33,7 +33,7 @@ abbrev pub joined : Output → List ℕ → Output
 joined written tuple =
     (written.0 ++ concat (codes ", " ∷ tuple ∷ []), record { length = written.1.length + 2 + length tuple; rows = written.1.rows + 1; inserts = written.1.inserts })
 
--- the end of a line, with COMMIT and BEGIN where they are due
+-- what is written between two INSERT lines, after so many of them
 abbrev pub line_end : ℕ → List ℕ
 line_end lines = if lines == 0 then [] else (if lines % MAX_STEPS == 0 then codes "\ns1: COMMIT\ns1: BEGIN\n" else codes "\n")
 

@@ -1,16 +1,18 @@
 -- Part of the statement: the sheet of a CSV text. The text is read after RFC 4180, without a header row, and its records may differ in length. The
 -- first record names the columns, and each other one is a row.
-use Rattle.std.specs.Prelude.{◌≡◌, ℕ, suc, Bool, true, false, not, ◌&&◌, List, [], ◌∷◌, length, map, Option, Some, None, Result, Ok, Err, if◌then◌else◌, ◌==◌}
-use Rattle.std.specs.List.{list_all}
-use Rattle.std.specs.Str.{is_utf8}
+use Rattle.std.specs.Prelude.{◌≡◌, ◌<◌, ◌≤◌, ℕ, suc, Bool, true, false, not, ◌&&◌, List, [], ◌∷◌, length, map, Option, Some, None, Result, Ok, Err, if◌then◌else◌, ◌==◌}
+use Rattle.std.specs.List.{IsDistinct, list_all}
+use Rattle.std.specs.Str.{bytes_eq, is_utf8}
 use Rattle.csv.specs.Reading.{default_config, records, strip_bom}
 use Rattle.csv.specs.Records.{field_at}
 use Rattle.gp_base.specs.Cells.{fits_number, is_user_text}
+use Rattle.gp_base.specs.Names.{is_name}
 use Rattle.gp_base.specs.declared.cell.Cell.{Cell}
 use Rattle.gp_base.specs.declared.cell.Cell.TheVariants as cell
 use Rattle.gp_base.specs.declared.table.Column.{Column}
 use Rattle.gp_base.specs.declared.table.Kind.{Kind}
 use Rattle.gp_base.specs.declared.table.Kind.TheVariants as kind
+use Rattle.gp_grammar.specs.declared.limits.TheConstants.{MAX_COLUMNS}
 use Rattle.gp_csv.specs.Faults.{Fault, refuse, result_map, result_then}
 use Rattle.gp_csv.specs.Fields.{is_int_field, cells_from}
 use Rattle.gp_csv.specs.Headings.{header_of}
@@ -24,7 +26,7 @@ records_of bytes = records default_config (strip_bom bytes)
 
 -- ---- columns
 
--- the kind of a column that has none written: numbers, where all its fields can be
+-- the type of a column whose heading has none: INT, if every record that has its field has a number or NULL there
 abbrev pub inferred : ℕ → List (List (List ℕ)) → Kind
 inferred place others = if list_all (λ (fields : List (List ℕ)). is_int_field (field_at fields place)) others then kind.Int else kind.Text
 
@@ -32,7 +34,7 @@ abbrev pub kind_or : Kind → Option Kind → Kind
 kind_or other None = other
 kind_or other (Some written) = written
 
--- the columns of headings, of which the first has this place, over the other records
+-- the columns of headings, the first of which is at this place, over the other records
 abbrev pub columns_from : ℕ → List (List (List ℕ)) → List Heading → List Column
 columns_from place others [] = []
 columns_from place others (heading ∷ headings) =
@@ -44,13 +46,13 @@ abbrev pub or_bad_cell : ℕ → Option (List Cell) → Result (List Cell) Fault
 or_bad_cell number None = refuse BAD_CELL number
 or_bad_cell number (Some cells) = Ok cells
 
--- the row that the record of this number is, or its first fault
+-- the row of the record of this number, or its first fault
 unfoldable pub row_of : List Column → ℕ → List (List ℕ) → Result (List Cell) Fault
 row_of columns number fields =
     if not (list_all is_utf8 fields) then refuse NOT_UTF8 number
     else (if length fields == length columns then or_bad_cell number (cells_from 0 fields columns) else refuse BAD_LENGTH number)
 
--- the rows that the records from this number on are, or the first fault
+-- the rows of the records from this number on, or the first fault
 abbrev pub rows_from : List Column → ℕ → List (List (List ℕ)) → Result (List (List Cell)) Fault
 rows_from columns number [] = Ok []
 rows_from columns number (fields ∷ others) =
@@ -72,19 +74,26 @@ sheet_of bytes = sheet_of_records (records_of bytes)
 
 -- ---- valid sheets
 
--- a cell that a column of this kind can hold
+-- a cell that a user can write and that a column of this type can hold
 abbrev pub is_cell_of : Kind → Cell → Bool
 is_cell_of column cell.Null = true
 is_cell_of kind.Int (cell.Int number) = fits_number number
 is_cell_of kind.Text (cell.Text text) = is_user_text text
 is_cell_of column other = false
 
--- a cell for each column, which can hold it
+-- a cell for each column
 abbrev pub is_row_of : List Column → List Cell → Bool
 is_row_of [] [] = true
 is_row_of (column ∷ columns) (cell ∷ cells) = is_cell_of column.kind cell && is_row_of columns cells
 is_row_of columns cells = false
 
--- what every sheet that was read has
+abbrev pub column_names : List Column → List (List ℕ)
+column_names columns = map (λ (column : Column). column.name) columns
+
+-- a sheet that can be a table: 1 to MAX_COLUMNS columns, whose names are names and differ, and rows of these columns
 pub record IsSheet (sheet : Sheet) : Type 0 where
+  pub some : 0 < length sheet.cols
+  pub few : length sheet.cols ≤ MAX_COLUMNS
+  pub names : list_all is_name (column_names sheet.cols) ≡ true
+  pub different : IsDistinct bytes_eq (column_names sheet.cols)
   pub rows : list_all (is_row_of sheet.cols) sheet.rows ≡ true

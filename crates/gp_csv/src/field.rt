@@ -1,4 +1,4 @@
-//! The fields of a sheet as cells.
+//! The fields of a sheet as cells. NULL is `\N`, as in the text format of PostgreSQL's COPY.
 
 ghost use Rattle.std.specs.Prelude.{◌≡◌, IfOk};
 ghost use Rattle.std.specs.Option.{option_map};
@@ -9,7 +9,7 @@ use crate::number::parse_integer;
 use gp_base::{Cell, Kind, NoMemory, Text, is_user_text};
 use std::alloc::Global;
 
-/// The byte that marks NULL and escapes itself.
+/// The byte that NULL begins with, and that escapes itself at the start of a text.
 pub(crate) const BACKSLASH: u8 = b'\\';
 
 /// The sign of a number.
@@ -26,7 +26,7 @@ pub(crate) fn is_utf8(text: &[u8]) -> bool
     }
 }
 
-/// The text behind a first backslash, if there is a second.
+/// The text after an escaping backslash, which has to begin with a backslash itself.
 fn after_escape(text: &[u8]) -> Option<&[u8]>
     ensures { option_map (λ rest. rest.now) result ≡ after_escape text.now }
 {
@@ -42,7 +42,7 @@ fn after_escape(text: &[u8]) -> Option<&[u8]>
     }
 }
 
-/// The text that a field writes.
+/// The text of a field: the first of two backslashes at its start is dropped, and one alone is an error.
 fn unescaped(field: &[u8]) -> Option<&[u8]>
     ensures { option_map (λ rest. rest.now) result ≡ unescaped field.now }
 {
@@ -58,7 +58,7 @@ fn unescaped(field: &[u8]) -> Option<&[u8]>
     }
 }
 
-/// The cell of a text, if a table can hold it.
+/// The cell of a text, if a user can write it.
 fn text_cell(alloc: Global, text: &[u8]) -> Result<Option<Cell>, NoMemory>
     ensures { IfOk result (λ cell. cell ≡ text_cell text.now) }
 {
@@ -69,7 +69,7 @@ fn text_cell(alloc: Global, text: &[u8]) -> Result<Option<Cell>, NoMemory>
     }
 }
 
-/// The cell of a field in a column of numbers.
+/// The cell of a field of an INT column, where an empty field is NULL too.
 fn parse_int_cell(field: &[u8]) -> Option<Cell>
     ensures { result ≡ int_cell_of field.now }
 {
@@ -79,7 +79,7 @@ fn parse_int_cell(field: &[u8]) -> Option<Cell>
     }
 }
 
-/// The cell of a field that is not the mark of NULL.
+/// The cell of a field that is not `\N`.
 fn parse_value_cell(alloc: Global, kind: Kind, field: &[u8]) -> Result<Option<Cell>, NoMemory>
     ensures { IfOk result (λ cell. cell ≡ value_cell_of kind field.now) }
 {
@@ -92,7 +92,7 @@ fn parse_value_cell(alloc: Global, kind: Kind, field: &[u8]) -> Result<Option<Ce
     }
 }
 
-/// The cell that a field is in a column of this kind, if it is one.
+/// The cell of a field in a column of this type, if it is one.
 #[tactic(auto, unfolding(crate::specs::Fields::cell_of))]
 pub(crate) fn parse_cell(alloc: Global, kind: Kind, field: &[u8]) -> Result<Option<Cell>, NoMemory>
     ensures { IfOk result (λ cell. cell ≡ cell_of kind field.now) }
@@ -104,7 +104,7 @@ pub(crate) fn parse_cell(alloc: Global, kind: Kind, field: &[u8]) -> Result<Opti
     }
 }
 
-/// Whether a column of numbers can hold the field, if there is one.
+/// Whether an INT column can hold the field, if there is one.
 #[tactic(auto, unfolding(crate::specs::Fields::cell_of))]
 pub(crate) fn is_int_field(field: Option<&[u8]>) -> bool
     ensures { result ≡ is_int_field (option_map (λ text. text.now) field.entry) }

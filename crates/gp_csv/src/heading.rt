@@ -1,4 +1,4 @@
-//! The first record of a sheet, which names the columns.
+//! The headings of a sheet: its first record, which names the columns.
 
 ghost use Rattle.std.specs.Prelude.{◌≡◌, ◌==◌, ◌≤◌, IfOk, None, Some, length, if◌then◌else◌};
 ghost use Rattle.std.specs.List.{position_or_len};
@@ -13,12 +13,12 @@ use gp_base::{Kind, Name, NoMemory, is_name};
 use gp_grammar::MAX_COLUMNS;
 use std::alloc::Global;
 
-/// A column as the first record names it.
+/// A column, as the first record names it.
 #[derive(Drop)]
 pub(crate) struct Heading {
     /// Its name.
     pub name: Name,
-    /// Its type, where one is written.
+    /// Its type, if one is written.
     pub kind: Option<Kind>,
 }
 
@@ -30,7 +30,7 @@ fn name_len(field: &[u8]) -> usize
     field.iter().take_while(|byte| **byte != b' ').count()
 }
 
-/// The type behind a name, if there is one or nothing.
+/// The type in the rest of a field after the name: none, or a space and INT or TEXT in capitals.
 fn kind_of_suffix(rest: &[u8]) -> Option<Option<Kind>>
     ensures { result ≡ kind_of_suffix rest.now }
 {
@@ -45,8 +45,12 @@ fn kind_of_suffix(rest: &[u8]) -> Option<Option<Kind>>
     }
 }
 
-/// The heading of a word and a type, if the word is a name.
-fn heading_named(alloc: Global, word: &[u8], kind: Option<Kind>) -> Result<Option<Heading>, NoMemory>
+/// The heading of a word, in lower case, if that is a name.
+fn heading_named(
+    alloc: Global,
+    word: &[u8],
+    kind: Option<Kind>,
+) -> Result<Option<Heading>, NoMemory>
     ensures { IfOk result (λ heading. heading ≡ heading_named word.now kind) }
 {
     let name = word.to_ascii_lowercase(alloc)?;
@@ -58,7 +62,7 @@ fn heading_named(alloc: Global, word: &[u8], kind: Option<Kind>) -> Result<Optio
     }
 }
 
-/// The heading of a field, if it is one.
+/// The heading that a field is, if it is one.
 #[tactic(auto, unfolding(crate::specs::Headings::heading_of))]
 fn parse_heading(alloc: Global, field: &[u8]) -> Result<Option<Heading>, NoMemory>
     ensures { IfOk result (λ heading. heading ≡ heading_of field.now) }
@@ -79,7 +83,7 @@ fn is_taken(name: &[u8], headings: &[Heading]) -> bool
         .any(|heading| heading.name.as_bytes() == name)
 }
 
-/// Adds a heading, unless its name stands twice.
+/// Adds a heading, unless another has its name.
 fn add_heading(heading: Heading, headings: &mut Vec<Heading>) -> Result<bool, NoMemory>
     ensures { IfOk result (λ found. with_heading headings.old.items (Some heading)
         ≡ if found then Some headings.new.items else None) }
@@ -91,7 +95,7 @@ fn add_heading(heading: Heading, headings: &mut Vec<Heading>) -> Result<bool, No
     Ok(true)
 }
 
-/// Adds the heading of a field, if it is one and its name stands once.
+/// Adds the heading that a field is, if it is one and no other has its name.
 fn add_field(alloc: Global, field: &[u8], headings: &mut Vec<Heading>) -> Result<bool, NoMemory>
     ensures { IfOk result (λ found. with_heading headings.old.items (heading_of field.now)
         ≡ if found then Some headings.new.items else None) }
@@ -102,7 +106,7 @@ fn add_field(alloc: Global, field: &[u8], headings: &mut Vec<Heading>) -> Result
     }
 }
 
-/// Adds the headings of the fields to none.
+/// Adds the headings of the fields, if all are headings with names of their own.
 #[tactic(auto, using(crate::proofs::HeadingLemmas::heading_steps))]
 fn add_fields(
     alloc: Global,

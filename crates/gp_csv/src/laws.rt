@@ -1,4 +1,4 @@
-//! Laws of scripts, and of answers as CSV. The functions do nothing: their postconditions are the laws.
+//! The laws of scripts, and of answers as CSV, each as a public function that does nothing.
 
 ghost use Rattle.std.specs.Prelude.{◌≡◌, ◌≤◌, ℕ, ℤ, List, Ok, Some, length, true};
 ghost use Rattle.std.specs.List.{list_all};
@@ -15,7 +15,7 @@ ghost use Rattle.gp_csv.specs.Sheets.{records_of};
 
 use crate::script::{MAX_INSERTS, MAX_ROWS};
 
-/// The default reader reads the records of an answer back from its text, and so those of a refusal.
+/// The default reader reads the records of an answer back from its text, and the records of a refusal.
 pub fn answers_are_read_back()
     ensures answers { (number : ℕ) (rows : List (List Cell))
         → records_of (csv_text (answer_records number rows)) ≡ answer_records number rows }
@@ -23,7 +23,7 @@ pub fn answers_are_read_back()
         → records_of (csv_text (refusal_records number refusal)) ≡ refusal_records number refusal }
 {}
 
-/// In a column of its kind each cell that a user can write is read back from its field.
+/// In a column of its type every cell that a user can write is read back from its field.
 pub fn cells_are_read_back()
     ensures null { (column : Kind) → cell_of column (field_of cell.Null) ≡ Some cell.Null }
     ensures numbers { (number : ℤ) → fits_number number ≡ true
@@ -32,15 +32,15 @@ pub fn cells_are_read_back()
         → cell_of kind.Text (field_of (cell.Text text)) ≡ Some (cell.Text text) }
 {}
 
-/// The INSERT lines of a script hold the rows of the sheet, in order and each as often as it stands there. Each line can be read,
-/// and there are no more rows and lines than a table and a script can have.
+/// The INSERT lines of a script hold the rows of the sheet, in order and each as often as it occurs there. Each line is within the
+/// limits of a line, and there are no more rows and lines than a table and a script can have.
 pub fn batches_hold_the_rows()
-    ensures kept { (name : List ℕ) (rows : List Row) (lines : List (List Row))
-        → batches_of name rows ≡ Ok lines → rows_in lines ≡ rows }
-    ensures few { (name : List ℕ) (rows : List Row) (lines : List (List Row))
-        → batches_of name rows ≡ Ok lines → length lines ≤ MAX_INSERTS }
-    ensures counted { (name : List ℕ) (rows : List Row) (lines : List (List Row))
-        → batches_of name rows ≡ Ok lines → length rows ≤ MAX_ROWS }
-    ensures fit { (name : List ℕ) (rows : List Row) (lines : List (List Row))
-        → batches_of name rows ≡ Ok lines → list_all (fits_line name) lines ≡ true }
+    ensures kept { (name : List ℕ) (rows : List Row) (batches : List (List Row))
+        → batches_of name rows ≡ Ok batches → rows_in batches ≡ rows }
+    ensures few { (name : List ℕ) (rows : List Row) (batches : List (List Row))
+        → batches_of name rows ≡ Ok batches → length batches ≤ MAX_INSERTS }
+    ensures counted { (name : List ℕ) (rows : List Row) (batches : List (List Row))
+        → batches_of name rows ≡ Ok batches → length rows ≤ MAX_ROWS }
+    ensures fit { (name : List ℕ) (rows : List Row) (batches : List (List Row))
+        → batches_of name rows ≡ Ok batches → list_all (fits_line name) batches ≡ true }
 {}

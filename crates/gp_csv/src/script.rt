@@ -1,4 +1,5 @@
-//! The script that fills a table with the rows of a sheet.
+//! The script that fills a table with the rows of a sheet. The rows are written once, one after another, and of the last line only
+//! counts are kept: no line is built on its own, and none is read again.
 
 ghost use Rattle.std.specs.Prelude.{◌≡◌, ◌+◌, ◌<◌, ◌≤◌, IfOk, OnOk, length, true};
 ghost use Rattle.gp_grammar.specs.Canonical.{command_text};
@@ -16,23 +17,23 @@ use gp_grammar::{MAX_LINE_LENGTH, MAX_VALUES};
 use gp_syntax::{Command, write_command};
 use std::alloc::Global;
 
-/// A table has at most this many rows after an INSERT, and so has a sheet.
+/// The greatest number of rows of a sheet, as of a table after an INSERT.
 pub const MAX_ROWS: usize = 10_000;
 
-/// A script has at most this many INSERT lines, as it has statements.
+/// The greatest number of INSERT lines of a script, as of its statements.
 pub const MAX_INSERTS: usize = 2_000;
 
-/// A transaction has at most this many INSERT lines, as it has statements.
+/// The greatest number of INSERT lines of a transaction, as of its statements.
 pub const MAX_STEPS: usize = 256;
 
-/// What is known of the last line of a script.
+/// Counts of the last INSERT line of a script that is being written.
 #[derive(Clone, Copy)]
 pub(crate) struct Line {
-    /// Its bytes.
+    /// The bytes of the line.
     pub length: usize,
-    /// Its rows.
+    /// The rows of the line.
     pub rows: usize,
-    /// The number of INSERT lines.
+    /// The INSERT lines so far.
     pub inserts: usize,
 }
 
@@ -63,7 +64,7 @@ fn has_room(line: Line, tuple: &[u8]) -> bool
         && line.length.saturating_add(2).saturating_add(tuple.len()) <= MAX_LINE_LENGTH
 }
 
-/// The end of a line, with COMMIT and BEGIN where they are due.
+/// What is written between two INSERT lines: a line feed, and COMMIT and BEGIN if the transaction can have no more of them.
 fn line_end(lines: usize) -> &'static [u8]
     ensures { result.now ≡ line_end lines }
 {
@@ -112,7 +113,7 @@ fn begin_line(
     })
 }
 
-/// Puts a tuple that fits a line where it belongs.
+/// Adds a tuple to the last line, or begins the next one with it.
 fn place(
     script: &mut Vec<u8>,
     prefix: &[u8],
@@ -136,7 +137,7 @@ fn place(
     }
 }
 
-/// Puts the tuple of the record of this number.
+/// Adds the tuple of the record of this number.
 #[tactic(auto, unfolding(crate::specs::Packing::put_row))]
 fn put_row(
     script: &mut Vec<u8>,
@@ -164,7 +165,7 @@ fn put_row(
     place(script, prefix, number, line, tuple)
 }
 
-/// Puts the row of the record of this number.
+/// Adds the row of the record of this number.
 fn add_row(
     alloc: Global,
     script: &mut Vec<u8>,
@@ -181,7 +182,7 @@ fn add_row(
     put_row(script, prefix, number, line, &tuple)
 }
 
-/// Puts the rows.
+/// Adds the rows.
 #[tactic(auto, using(crate::proofs::PackingLemmas::put_steps))]
 fn add_rows(
     alloc: Global,
@@ -205,7 +206,7 @@ fn add_rows(
     Ok(line)
 }
 
-/// The CREATE TABLE of the sheet's columns.
+/// The CREATE TABLE of a sheet.
 fn create_command(name: &Name, columns: &Sequence<Column>) -> Result<Command, NoMemory>
     ensures { IfOk result (λ command. command_view command ≡ create_of name.now columns.now) }
 {
@@ -216,7 +217,7 @@ fn create_command(name: &Name, columns: &Sequence<Column>) -> Result<Command, No
     })
 }
 
-/// The text of the CREATE TABLE.
+/// Its canonical text.
 fn create_text(alloc: Global, name: &Name, columns: &Sequence<Column>) -> Result<Vec<u8>, NoMemory>
     ensures { IfOk result (λ text. text.items ≡ command_text (create_of name.now columns.now)) }
 {
@@ -243,7 +244,7 @@ fn script_end(lines: usize) -> &'static [u8]
     }
 }
 
-/// The script, by its texts.
+/// The script, gathered from its texts.
 #[tactic(auto, unfolding(crate::specs::Packing::packed_script))]
 fn packed_script(alloc: Global, name: &Name, sheet: &Sheet) -> Result<Vec<u8>, CsvStop>
     ensures { Returns (λ text. text.items) result (packed_script name.now sheet.now) }
@@ -255,14 +256,14 @@ fn packed_script(alloc: Global, name: &Name, sheet: &Sheet) -> Result<Vec<u8>, C
     Ok(script)
 }
 
-/// The script that creates a table of this name and fills it with the rows of the sheet. Each INSERT line takes as many of the
-/// next rows as a line of a script can have, and each transaction as many of these lines as it can.
+/// The script that creates a table of this name with the rows of the sheet, by session 1. Each INSERT line takes as many of the next
+/// rows as a line can have, and each transaction as many of these lines as it can have.
 ///
-/// A sheet is refused at the first record with a fault: a row alone is too long for a line, or it has more than [`MAX_ROWS`]
-/// rows, or would need more than [`MAX_INSERTS`] INSERT lines.
+/// The sheet is refused at its first record with a fault: its row alone is too long for a line, or it is a row more than
+/// [`MAX_ROWS`], or would need more than [`MAX_INSERTS`] INSERT lines.
 #[tactic(auto, using(crate::proofs::ScriptLemmas::scripts))]
 pub fn write_script(alloc: Global, name: &Name, sheet: &Sheet) -> Result<Vec<u8>, CsvStop>
-    requires stored { ArePlainRows sheet.now.rows }
+    requires plain { ArePlainRows sheet.now.rows }
     ensures exact { Returns (λ script. script.items) result (script_of name.now sheet.now) }
 {
     packed_script(alloc, name, sheet)

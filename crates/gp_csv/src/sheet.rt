@@ -1,4 +1,4 @@
-//! Sheets: a table with its rows, as CSV writes it.
+//! Sheets: a table with its rows, read from CSV.
 
 ghost use Rattle.std.specs.Prelude.{◌≡◌, ◌+◌, ◌-◌, ◌<◌, ◌^◌, [], IfOk, None, Some, length, map, if◌then◌else◌};
 ghost use Rattle.std.specs.List.{list_all};
@@ -25,7 +25,7 @@ pub struct Sheet {
     pub rows: Sequence<Row>,
 }
 
-/// Whether a column of numbers can hold the field of each record at the place.
+/// Whether an INT column can hold the field at this place of every record that has one.
 fn are_int_fields(place: usize, records: &[ByteRecord]) -> bool
     ensures { result ≡ list_all (λ row. is_int_field (field_at (fields_of row) place))
         records.now }
@@ -38,7 +38,7 @@ fn are_int_fields(place: usize, records: &[ByteRecord]) -> bool
     true
 }
 
-/// The kind of a column that has none written.
+/// The type of a column whose heading has none.
 #[tactic(auto, using(crate::proofs::SheetLemmas::tests))]
 fn infer_kind(place: usize, records: &[ByteRecord]) -> Kind
     ensures { result ≡ inferred place (map fields_of records.now) }
@@ -79,7 +79,7 @@ fn make_columns(
     Ok(columns)
 }
 
-/// Adds the cells of a record to a row without cells, if its fields are cells of the columns.
+/// Adds the cells of a record to an empty row, if its fields are cells of the columns.
 #[tactic(auto, using(crate::proofs::SheetLemmas::cell_steps))]
 fn add_cells(
     alloc: Global,
@@ -103,7 +103,7 @@ fn add_cells(
     Ok(true)
 }
 
-/// The row of a record that is UTF-8 and has as many fields as there are columns.
+/// The row of a record, once its encoding and its length are known to be right.
 fn read_cells(
     alloc: Global,
     columns: &[Column],
@@ -149,7 +149,7 @@ fn read_row(
     read_cells(alloc, columns, number, record)
 }
 
-/// The rows of the records behind the first.
+/// The rows of the records after the first.
 #[tactic(auto, using(crate::proofs::SheetLemmas::row_steps))]
 fn read_rows(
     alloc: Global,
@@ -166,7 +166,7 @@ fn read_rows(
     Ok(rows)
 }
 
-/// The sheet under these headings.
+/// The sheet of these headings and the records after them.
 fn read_under(alloc: Global, headings: &[Heading], records: &[ByteRecord]) -> Result<Sheet, CsvStop>
     requires { length records.now + 2 < 2 ^ 32 }
     ensures { Returns (λ sheet. sheet) result
@@ -195,12 +195,13 @@ fn read_from(alloc: Global, records: &[ByteRecord]) -> Result<Sheet, CsvStop>
 }
 
 /// Reads a sheet: the first record names the columns, and each other one is a row. Records end at a line feed, a carriage return or
-/// both, and fields are quoted as in RFC 4180. A sheet is refused at its first record with a fault, for the least fault there.
+/// both, fields are quoted as in RFC 4180, and a byte order mark at the start is dropped. A sheet is refused at its first record with
+/// a fault, for the least fault there.
 pub fn read_sheet(alloc: Global, bytes: &[u8]) -> Result<Sheet, CsvStop>
     requires { length bytes.now < 2 ^ 32 - 1 }
     ensures exact { Returns (λ sheet. sheet) result (sheet_of bytes.now) }
     ensures valid { IfOk result (λ sheet. IsSheet sheet) }
-    ensures stored { IfOk result (λ sheet. ArePlainRows sheet.rows) }
+    ensures plain { IfOk result (λ sheet. ArePlainRows sheet.rows) }
 {
     let records = read_records(alloc, bytes)?;
     read_from(alloc, &records)
