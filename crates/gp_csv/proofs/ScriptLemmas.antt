@@ -116,11 +116,12 @@ same_test false false f g = refl
 same_written : (t t' : List ℕ) (a b c a' b' c' : ℕ) → t ≡ t' → a ≡ a' → b ≡ b' → c ≡ c' → ◌≡◌ {A = Output} (t, record { length = a; rows = b; inserts = c }) (t', record { length = a'; rows = b'; inserts = c' })
 same_written t t' a b c a' b' c' e1 e2 e3 e4 = rw (e1, e2, e3, e4) refl
 
-room-numbers : (k m l n : ℕ) → m ≡ suc (suc k) → n ≡ l → (ltb 0 (suc k) && (ltb (suc k) MAX_VALUES && leb l MAX_LINE_LENGTH)) ≡ (leb m MAX_VALUES && leb n MAX_LINE_LENGTH)
+room-numbers : (k m l n : ℕ) → m ≡ suc (suc k) → n ≡ l → (ltb 0 (suc k) && (ltb (suc k) MAX_VALUES && leb l MAX_LINE_LENGTH)) ≡ (ltb 0 m && (leb m MAX_VALUES && leb n MAX_LINE_LENGTH))
 room-numbers k m l n em en =
     let some : ltb 0 (suc k) ≡ true = lt-ltb 0 (suc k) (omega arith) in
+    let more : ltb 0 m ≡ true = lt-ltb 0 m (omega (arith, em)) in
     let few : ltb (suc k) MAX_VALUES ≡ leb m MAX_VALUES = same_test _ _ (λ h. le-leb m MAX_VALUES (let p : suc k < MAX_VALUES = ltb-true (suc k) MAX_VALUES h in omega (arith, p, em))) (λ h. lt-ltb (suc k) MAX_VALUES (let p : m ≤ MAX_VALUES = leb-true m MAX_VALUES h in omega (arith, p, em))) in
-    rw (some, few, en) refl
+    rw (some, more, few, en) refl
 
 -- the length of a line with one row more
 more-length : (name : List ℕ) (first : List Cell) (line : List (List Cell)) (row : List Cell) → ArePlain first → ArePlainRows line → ArePlain row

@@ -29,9 +29,10 @@ ended_line command = line_of command ++ 10 ∷ []
 
 -- ---- rows to batches
 
--- an INSERT of this batch is a line that a script can have
+-- an INSERT of this batch is a line that a script can have: it has rows, but not too many, and is not too long
 abbrev pub fits_line : List ℕ → List Row → Bool
-fits_line name batch = nat_le (length batch) MAX_VALUES && nat_le (length (line_of (insert name batch))) MAX_LINE_LENGTH
+fits_line name batch =
+    nat_lt 0 (length batch) && (nat_le (length batch) MAX_VALUES && nat_le (length (line_of (insert name batch))) MAX_LINE_LENGTH)
 
 -- The batches that begin with this one, where `count` is their number so far, and `number` is the record of the next row. A row joins the last batch,
 -- unless the line would be too long; then it begins the next one. Since a longer line never fits where a shorter one does not, each batch has as
