@@ -1,0 +1,193 @@
+-- An INSERT of rows into the one table: its check, and the rows and identities that it makes.
+use Rattle.std.proofs.Common.{◌≡◌, ℕ, zero, suc, ◌+◌, ◌<◌, ◌≤◌, Bool, true, false, cond, eqb, leb, ltb, ◌&&◌, ◌||◌, List, [], ◌∷◌, ◌++◌, length, length-append, map, filter, Option, Some, None, Ok, Err, refl, sym, ap, ◌∙◌, eq-eqb, ne_eqb, le-ltb, arith}
+use Rattle.std.specs.List.{AllByRecursion, list_all, list_any}
+use Rattle.std.specs.Str.{bytes_eq}
+use Rattle.std.proofs.lemmas.Bool.{and_parts, and_from}
+use Rattle.std.proofs.lemmas.List.Folds.{list_any-append}
+use Rattle.std.proofs.lemmas.Slice.Eq.{bytes_eq-Decides}
+use Rattle.gp_base.specs.Annotated.{Annotated, Database, plain}
+use Rattle.gp_base.specs.Cells.{is_user_cell}
+use Rattle.gp_base.specs.Identities.{Identity, identity, no_sources, nodes, same_identity, transaction_of}
+use Rattle.gp_base.specs.declared.cell.Cell.{Cell}
+use Rattle.gp_base.specs.declared.cell.Cell.TheVariants as cell
+use Rattle.gp_base.specs.declared.refusal.Refusal.{Refusal}
+use Rattle.gp_base.specs.declared.row_id.TheConstants.{MAX_NODES}
+use Rattle.gp_base.specs.declared.table.Column.{Column}
+use Rattle.gp_base.specs.declared.table.Kind.{Kind}
+use Rattle.gp_base.specs.declared.table.Kind.TheVariants as kind
+use Rattle.gp_base.specs.declared.table.Table.{Table}
+use Rattle.gp_grammar.specs.Syntax as y
+use Rattle.gp_algebra.specs.Effects.{Written, given_from, written_in}
+use Rattle.gp_algebra.specs.Statements as s
+use Rattle.gp_check.specs.Checking.{checked}
+use Rattle.gp_check.specs.Faults.{cells_agree}
+use Rattle.gp_check.specs.Typing.{agrees, cell_type, kind_type}
+use Rattle.gp_exec.specs.declared.limit.TheConstants.{MAX_TABLE_ROWS}
+use Rattle.gp_machine.specs.Committed.{is_written, unmarked}
+use Rattle.gp_machine.specs.Event.{refusal_of}
+use Rattle.gp_log.specs.Limits.{limits}
+use Rattle.gp_csv.specs.Sheets.{is_cell_of, is_row_of}
+
+abbrev pub Row : Type 0
+Row = Annotated (Unit {0})
+
+-- ---- the rows of a sheet as rows of a VALUES
+
+all-weaker : {A : Type 0} (p q : A → Bool) → ((x : A) → p x ≡ true → q x ≡ true) → (xs : List A) → list_all p xs ≡ true → list_all q xs ≡ true
+all-weaker p q weaker [] all = refl
+all-weaker p q weaker (x ∷ xs) all = let h = and_parts (p x) (list_all p xs) all in and_from (q x) (list_all q xs) (weaker x h.0) (all-weaker p q weaker xs h.1)
+
+cell-agrees : (k : Kind) (c : Cell) → is_cell_of k c ≡ true → agrees (kind_type k) (cell_type c) ≡ true
+cell-agrees kind.Int cell.Null e = refl
+cell-agrees kind.Text cell.Null e = refl
+cell-agrees kind.Int (cell.Int number) e = refl
+cell-agrees kind.Text (cell.Text text) e = refl
+cell-agrees kind.Int (cell.Text text) e = absurd cc
+cell-agrees kind.Text (cell.Int number) e = absurd cc
+cell-agrees kind.Int (cell.Id id) e = absurd cc
+cell-agrees kind.Int (cell.Mark mark) e = absurd cc
+cell-agrees kind.Int (cell.Mono monomial) e = absurd cc
+cell-agrees kind.Text (cell.Id id) e = absurd cc
+cell-agrees kind.Text (cell.Mark mark) e = absurd cc
+cell-agrees kind.Text (cell.Mono monomial) e = absurd cc
+
+row-agrees : (columns : List Column) (cells : List Cell) → is_row_of columns cells ≡ true → cells_agree columns cells ≡ true
+row-agrees [] [] e = refl
+row-agrees (column ∷ columns) [] e = absurd cc
+row-agrees [] (c ∷ cells) e = absurd cc
+row-agrees (column ∷ columns) (c ∷ cells) e =
+    let h = and_parts (is_cell_of column.kind c) (is_row_of columns cells) e in
+    and_from (agrees (kind_type column.kind) (cell_type c)) (cells_agree columns cells) (cell-agrees column.kind c h.0) (row-agrees columns cells h.1)
+
+row-width : (columns : List Column) (cells : List Cell) → is_row_of columns cells ≡ true → length cells ≡ length columns
+row-width [] [] e = refl
+row-width (column ∷ columns) [] e = absurd cc
+row-width [] (c ∷ cells) e = absurd cc
+row-width (column ∷ columns) (c ∷ cells) e = ap suc (row-width columns cells (and_parts (is_cell_of column.kind c) (is_row_of columns cells) e).1)
+
+-- ---- the check
+
+pub checked-insert : (table : Table) (rows : List (List Cell)) → list_all (is_row_of table.cols) rows ≡ true → checked (table ∷ []) (y.insert table.name rows) ≡ Ok (s.insert 0 rows)
+checked-insert table rows all =
+    let name : bytes_eq table.name table.name ≡ true = (bytes_eq-Decides table.name table.name).1 refl in
+    let widths : list_all (λ (row : List Cell). eqb (length row) (length table.cols)) rows ≡ true =
+    all-weaker (is_row_of table.cols) (λ (row : List Cell). eqb (length row) (length table.cols)) (λ row e. eq-eqb _ _ (row-width table.cols row e)) rows all in
+    let types : list_all (cells_agree table.cols) rows ≡ true = all-weaker (is_row_of table.cols) (cells_agree table.cols) (row-agrees table.cols) rows all in
+    rw (name, widths, types) refl
+
+-- ---- the rows that it makes
+
+pub given-length : (t k n : ℕ) (rows : List (List Cell)) → length (given_from plain t k n rows) ≡ length rows
+given-length t k n [] = refl
+given-length t k n (row ∷ rows) = ap suc (given-length t k (suc n) rows)
+
+pub given-cells : (t k n : ℕ) (rows : List (List Cell)) → map (λ (row : Row). row.cells) (given_from plain t k n rows) ≡ rows
+given-cells t k n [] = refl
+given-cells t k n (row ∷ rows) = ap (λ (others : List (List Cell)). row ∷ others) (given-cells t k (suc n) rows)
+
+given-nodes : (t k n : ℕ) (rows : List (List Cell)) → list_any (λ (row : Row). ltb MAX_NODES (nodes row.identity)) (given_from plain t k n rows) ≡ false
+given-nodes t k n [] = refl
+given-nodes t k n (row ∷ rows) = given-nodes t k (suc n) rows
+
+pub not-refused : (tables : List Table) (t k : ℕ) (rows : List (List Cell)) (view : Database (Unit {0})) → length (view 0) + length rows ≤ MAX_TABLE_ROWS
+    → refusal_of plain limits tables t k (s.insert 0 rows) view ≡ None
+not-refused tables t k rows view few =
+    let count : length (view 0 ++ given_from plain t k 1 rows) ≡ length (view 0) + length (given_from plain t k 1 rows) = length-append (view 0) (given_from plain t k 1 rows) in
+    let given = given-length t k 1 rows in
+    let fits : ltb MAX_TABLE_ROWS (length (view 0 ++ given_from plain t k 1 rows)) ≡ false = le-ltb MAX_TABLE_ROWS (length (view 0 ++ given_from plain t k 1 rows)) (omega (arith, few, count, given)) in
+    rw (fits, given-nodes t k 1 rows) refl
+
+-- ---- the identities that it writes
+
+pub all-append : {A : Type 0} (P : A → Type 0) (xs ys : List A) → AllByRecursion P xs → AllByRecursion P ys → AllByRecursion P (xs ++ ys)
+all-append P [] ys all others = others
+all-append P (x ∷ xs) ys all others = (all.0, all-append P xs ys all.1 others)
+
+pub all-mapped : {A : Type 0} (P Q : A → Type 0) → ((x : A) → P x → Q x) → (xs : List A) → AllByRecursion P xs → AllByRecursion Q xs
+all-mapped P Q weaker [] all = tt
+all-mapped P Q weaker (x ∷ xs) all = (weaker x all.0, all-mapped P Q weaker xs all.1)
+
+abbrev pub IsWritten : List Written → Row → Type 0
+IsWritten written row = is_written 0 row.identity written ≡ true
+
+abbrev pub IsBy : ℕ → Written → Type 0
+IsBy t pair = transaction_of pair.identity ≡ t
+
+abbrev pub IsBefore : ℕ → Row → Type 0
+IsBefore t row = transaction_of row.identity < t
+
+pub given-by : (t k n : ℕ) (rows : List (List Cell)) → AllByRecursion (IsBy t) (written_in 0 (given_from plain t k n rows))
+given-by t k n [] = tt
+given-by t k n (row ∷ rows) = (refl, given-by t k (suc n) rows)
+
+pub given-before : (t k n : ℕ) (rows : List (List Cell)) → AllByRecursion (IsBefore (suc t)) (given_from plain t k n rows)
+given-before t k n [] = tt
+given-before t k n (row ∷ rows) = (omega arith, given-before t k (suc n) rows)
+
+either : (a b : Bool) → b ≡ true → (a || b) ≡ true
+either true b e = refl
+either false b e = e
+
+first : (a b : Bool) → a ≡ true → (a || b) ≡ true
+first true b e = refl
+first false b e = absurd cc
+
+-- what is among some of the written rows is among all of them
+pub written-before : (written others : List Written) (row : Row) → IsWritten written row → IsWritten (written ++ others) row
+written-before written others row e = list_any-append _ written others ∙ first (is_written 0 row.identity written) (is_written 0 row.identity others) e
+
+pub written-after : (written others : List Written) (row : Row) → IsWritten others row → IsWritten (written ++ others) row
+written-after written others row e = list_any-append _ written others ∙ either (is_written 0 row.identity written) (is_written 0 row.identity others) e
+
+same-made : (t k n : ℕ) → same_identity (identity t k n no_sources) (identity t k n no_sources) ≡ true
+same-made t k n = rw (eq-eqb t t refl, eq-eqb k k refl, eq-eqb n n refl) refl
+
+pub given-written : (t k n : ℕ) (rows : List (List Cell)) → AllByRecursion (IsWritten (written_in 0 (given_from plain t k n rows))) (given_from plain t k n rows)
+given-written t k n [] = tt
+given-written t k n (row ∷ rows) = (
+  first (same_identity (identity t k n no_sources) (identity t k n no_sources)) _ (same-made t k n),
+  all-mapped (IsWritten (written_in 0 (given_from plain t k (suc n) rows))) (IsWritten (written_in 0 (given_from plain t k n (row ∷ rows))))
+  (λ other e. either (same_identity (identity t k n no_sources) other.identity) (is_written 0 other.identity (written_in 0 (given_from plain t k (suc n) rows))) e)
+  (given_from plain t k (suc n) rows) (given-written t k (suc n) rows),
+)
+
+other-identity : (id other : Identity) (t : ℕ) → transaction_of id ≡ t → transaction_of other < t → same_identity id other ≡ false
+other-identity (identity u k n ids) (identity v l m others) t by before =
+    let differ : eqb u v ≡ false = ne_eqb u v (λ e. omega (arith, by, before, e)) in
+    rw differ refl
+
+nothing : (a b : Bool) → a ≡ false → (b && a) ≡ false
+nothing a true e = e
+nothing a false e = refl
+
+-- rows of earlier transactions are not among those that this one wrote
+pub not-written : (t : ℕ) (written : List Written) (row : Row) → AllByRecursion (IsBy t) written → IsBefore t row → is_written 0 row.identity written ≡ false
+not-written t [] row by before = refl
+not-written t (pair ∷ written) row by before =
+    rw (nothing (same_identity pair.identity row.identity) (eqb pair.table 0) (other-identity pair.identity row.identity t by.0 before)) (not-written t written row by.1 before)
+
+-- ---- what a commit keeps
+
+pub keeps-all : {A : Type 0} (p : A → Bool) (xs : List A) → AllByRecursion (λ x. p x ≡ true) xs → filter p xs ≡ xs
+keeps-all p [] all = refl
+keeps-all p (x ∷ xs) all = rw all.0 (ap (λ (others : List _). x ∷ others) (keeps-all p xs all.1))
+
+pub keeps-none : {A : Type 0} (p : A → Bool) (xs : List A) → AllByRecursion (λ x. p x ≡ false) xs → filter p xs ≡ []
+keeps-none p [] all = refl
+keeps-none p (x ∷ xs) all = rw all.0 (keeps-none p xs all.1)
+
+pub filter-few : {A : Type 0} (p : A → Bool) (xs : List A) → length (filter p xs) ≤ length xs
+filter-few p [] = omega arith
+filter-few p (x ∷ xs) = by (p x) (filter-few p xs)
+  where
+    by : (b : Bool) → length (filter p xs) ≤ length xs → length (cond b (x ∷ filter p xs) (filter p xs)) ≤ length (x ∷ xs)
+    by true few = omega (arith, few)
+    by false few = omega (arith, few)
+
+pub unmarked-cells : (rows : List Row) → map (λ (row : Row). row.cells) (map unmarked rows) ≡ map (λ (row : Row). row.cells) rows
+unmarked-cells [] = refl
+unmarked-cells (row ∷ rows) = ap (λ (others : List (List Cell)). row.cells ∷ others) (unmarked-cells rows)
+
+pub unmarked-before : (t : ℕ) (rows : List Row) → AllByRecursion (IsBefore t) rows → AllByRecursion (IsBefore t) (map unmarked rows)
+unmarked-before t [] all = tt
+unmarked-before t (row ∷ rows) all = (all.0, unmarked-before t rows all.1)

@@ -1,0 +1,6 @@
+mod InsertLemmas
+mod ReadLemmas
+mod DerivedLemmas
+mod StateLemmas
+mod TextLemmas
+mod LoadLemmas

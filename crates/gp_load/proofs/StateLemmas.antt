@@ -1,0 +1,266 @@
+-- The lines of the script of a sheet, one after another: after each the table has the rows so far.
+use Rattle.std.proofs.Common.{◌≡◌, ℕ, zero, suc, ◌+◌, ◌-◌, ◌*◌, ◌<◌, ◌≤◌, Bool, true, false, not, cond, eqb, leb, ltb, List, [], ◌∷◌, ◌++◌, length, length-append, map, filter, Option, Some, None, Result, Ok, Err, refl, sym, ap, subst, ◌∙◌, append_assoc, append-nil, eq-eqb, le-ltb, leb-true, arith}
+use Rattle.std.specs.List.{AllByRecursion, list_all}
+use Rattle.std.proofs.lemmas.List.{map-append}
+use Rattle.std.proofs.lemmas.List.Elements.{filter-append}
+use Rattle.gp_base.specs.Annotated.{Annotated, Database, plain}
+use Rattle.gp_base.specs.Identities.{transaction_of}
+use Rattle.gp_base.specs.declared.cell.Cell.{Cell}
+use Rattle.gp_base.specs.declared.table.Table.{Table}
+use Rattle.gp_grammar.specs.Syntax as y
+use Rattle.gp_grammar.specs.Syntax.{Command}
+use Rattle.gp_algebra.specs.Effects.{Written, given_from, step, wrote, written_in}
+use Rattle.gp_algebra.specs.Statements as s
+use Rattle.gp_check.specs.Checking.{checked}
+use Rattle.gp_machine.specs.declared.reply.Reply.{Reply}
+use Rattle.gp_machine.specs.declared.reply.Reply.TheVariants as reply
+use Rattle.gp_machine.specs.Actions.{Create, Begin, Commit, Run}
+use Rattle.gp_machine.specs.Committed.{is_written, merged, next_version, unmarked}
+use Rattle.gp_machine.specs.Conflicts.{least_conflict}
+use Rattle.gp_machine.specs.Entries.{Entry, begin_version, statements_in, transactions_in, versions_in}
+use Rattle.gp_machine.specs.Event.{accepted, answered, beginning, began, committing, conflict_of, count_refusal, created, creating, event, is_full, published, published_rows, ran, refusal_of, reply_of, running}
+use Rattle.gp_machine.specs.HistorySpans.{next_written}
+use Rattle.gp_machine.specs.Replies.{is_refusal}
+use Rattle.gp_machine.specs.State.{Active, State, start}
+use Rattle.gp_exec.specs.declared.limit.TheConstants.{MAX_TABLE_ROWS}
+use Rattle.gp_log.specs.Limits.{limits}
+use Rattle.gp_log.specs.declared.limit.TheConstants.{MAX_STATEMENTS, MAX_STEPS, MAX_TRANSACTIONS}
+use Rattle.gp_txn.specs.declared.counting.TheConstants.{MAX_SPANS}
+use Rattle.gp_csv.specs.Sheets.{is_row_of}
+use Rattle.gp_load.proofs.InsertLemmas.{IsBefore, IsBy, IsWritten, Row, all-append, all-mapped, checked-insert, filter-few, given-before, given-by, given-cells, given-length, given-written, keeps-all, keeps-none, not-refused, not-written, unmarked-before, unmarked-cells, written-after, written-before}
+
+abbrev pub Plain : Type 0
+Plain = State (Unit {0})
+
+abbrev pub cells_in : List Row → List (List Cell)
+cells_in rows = map (λ (row : Row). row.cells) rows
+
+-- the newest version of the table
+abbrev pub newest : Plain → List Row
+newest state = state.committed (versions_in state.entries) 0
+
+-- ---- lines that are accepted
+
+-- from this state, none of the commands of session 1 from this line on is refused, and what they lead to has the property
+abbrev pub Accepts : Plain → ℕ → List Command → (Plain → Type 0) → Type 0
+Accepts state line [] P = P state
+Accepts state line (c ∷ cs) P = (is_refusal (event plain limits state line 1 c).1 ≡ false) × Accepts (event plain limits state line 1 c).0 (line + 1) cs P
+
+accepts-by : (state : Plain) (line : ℕ) (c : Command) (cs : List Command) (P : Plain → Type 0) (out : Plain × Reply) → event plain limits state line 1 c ≡ out
+    → is_refusal out.1 ≡ false → Accepts out.0 (line + 1) cs P → Accepts state line (c ∷ cs) P
+accepts-by state line c cs P out same answered others =
+    subst (λ (o : Plain × Reply). (is_refusal o.1 ≡ false) × Accepts o.0 (line + 1) cs P) (sym same) (answered, others)
+
+-- ---- between transactions, and in one
+
+-- between transactions: t of them began, n statements were accepted, and the table has these rows
+pub record Idle (table : Table) (rows : List (List Cell)) (t n most : ℕ) (state : Plain) : Type 0 where
+  pub catalogue : state.catalogue ≡ table ∷ []
+  pub idle : state.active 1 ≡ None
+  pub began : transactions_in state.entries ≡ t
+  pub statements : statements_in state.entries ≡ n
+  pub cells : cells_in (newest state) ≡ rows
+  pub before : AllByRecursion (IsBefore (suc t)) (newest state)
+  pub published : state.rows ≤ most
+
+-- in transaction t: it has k statements, n were accepted in all, and it reads these rows
+pub record Running (table : Table) (rows : List (List Cell)) (t k n most : ℕ) (state : Plain) : Type 0 where
+  pub catalogue : state.catalogue ≡ table ∷ []
+  pub active : Active (Unit {0})
+  pub is : state.active 1 ≡ Some active
+  pub transaction : active.transaction ≡ t
+  pub steps : active.statements ≡ k
+  pub began : transactions_in state.entries ≡ t
+  pub statements : statements_in state.entries ≡ n
+  pub begun : begin_version active.transaction state.entries ≡ versions_in state.entries
+  pub new : List Row
+  pub view : active.view 0 ≡ newest state ++ new
+  pub cells : cells_in (active.view 0) ≡ rows
+  pub before : AllByRecursion (IsBefore t) (newest state)
+  pub own : AllByRecursion (IsBy t) active.written
+  pub wrote : AllByRecursion (IsWritten active.written) new
+  pub recent : AllByRecursion (IsBefore (suc t)) new
+  pub published : state.rows ≤ most
+
+cells-length : (rows : List Row) (cells : List (List Cell)) → cells_in rows ≡ cells → length rows ≡ length cells
+cells-length [] cells e = ap (λ (x : List (List Cell)). length x) e
+cells-length (row ∷ rows) [] e = absurd cc
+cells-length (row ∷ rows) (c ∷ cells) e = let same : cells_in rows ≡ cells = cc in ap suc (cells-length rows cells same)
+
+not-le : (a b : ℕ) → b < a → leb a b ≡ false
+not-le a b below = by (leb a b) refl
+  where
+    by : (x : Bool) → leb a b ≡ x → x ≡ false
+    by false e = refl
+    by true e = let le : a ≤ b = leb-true a b e in absurd (omega (arith, below, le))
+
+-- ---- CREATE TABLE
+
+pub creates : (table : Table) (line : ℕ) (cs : List Command) (P : Plain → Type 0) → limits.created [] table ≡ None
+    → ((next : Plain) (l : ℕ) → Idle table [] 0 0 0 next → Accepts next l cs P) → Accepts start line (y.create table ∷ cs) P
+creates table line cs P named others =
+    accepts-by start line (y.create table) cs P (created start line 1 table, reply.Created 0) (ap (creating start line 1 table) named) refl
+    (others (created start line 1 table) (line + 1) (record {
+      catalogue = refl;
+      idle = refl;
+      began = refl;
+      statements = refl;
+      cells = refl;
+      before = tt;
+      published = omega arith;
+    }))
+
+-- ---- BEGIN
+
+pub begins : (table : Table) (rows : List (List Cell)) (t n most line : ℕ) (state : Plain) (cs : List Command) (P : Plain → Type 0) → Idle table rows t n most state → t < MAX_TRANSACTIONS
+    → ((next : Plain) (l : ℕ) → Running table rows (suc t) 0 n most next → Accepts next l cs P) → Accepts state line (y.begin ∷ cs) P
+begins table rows t n most line state cs P h few others =
+    let count = h.began in
+    let room : leb MAX_TRANSACTIONS (transactions_in state.entries) ≡ false = not-le MAX_TRANSACTIONS (transactions_in state.entries) (omega (arith, count, few)) in
+    accepts-by state line y.begin cs P (began state line 1, reply.Began (suc (transactions_in state.entries)) (versions_in state.entries))
+    (ap (λ (a : Option (Active (Unit {0}))). answered plain limits state line 1 a Begin) h.idle ∙ ap (beginning state line 1) room) refl
+    (others (began state line 1) (line + 1) (record {
+      catalogue = h.catalogue;
+      active = record { transaction = suc (transactions_in state.entries); statements = 0; view = state.committed (versions_in state.entries); written = [] };
+      is = refl;
+      transaction = ap suc h.began;
+      steps = refl;
+      began = ap suc h.began;
+      statements = h.statements;
+      begun = rw (eq-eqb (suc (transactions_in state.entries)) (suc (transactions_in state.entries)) refl) refl;
+      new = [];
+      view = sym (append-nil (newest state));
+      cells = h.cells;
+      before = h.before;
+      own = tt;
+      wrote = tt;
+      recent = tt;
+      published = h.published;
+    }))
+
+-- ---- INSERT
+
+module _ (table : Table) (rows batch : List (List Cell)) (t k n most line : ℕ) (state : Plain) (cs : List Command) (P : Plain → Type 0) (h : Running table rows t k n most state)
+    (steps : k < MAX_STEPS) (statements : n < MAX_STATEMENTS) (few : length rows + length batch ≤ MAX_TABLE_ROWS) (fits : list_all (is_row_of table.cols) batch ≡ true) where
+  abbrev command : Command
+  command = y.insert table.name batch
+
+  abbrev a : Active (Unit {0})
+  a = h.active
+
+  abbrev made : List Row
+  made = given_from plain a.transaction (suc a.statements) 1 batch
+
+  counts : count_refusal limits a.statements (statements_in state.entries) ≡ None
+  counts =
+      let x : leb MAX_STEPS a.statements ≡ false = not-le MAX_STEPS a.statements (let e = h.steps in omega (arith, e, steps)) in
+      let z : leb MAX_STATEMENTS (statements_in state.entries) ≡ false = not-le MAX_STATEMENTS (statements_in state.entries) (let e = h.statements in omega (arith, e, statements)) in
+      rw (x, z) refl
+
+  checks : limits.checked state.catalogue command ≡ Ok (s.insert 0 batch)
+  checks = ap (λ (tables : List Table). checked tables command) h.catalogue ∙ checked-insert table batch fits
+
+  within : refusal_of plain limits state.catalogue a.transaction (suc a.statements) (s.insert 0 batch) a.view ≡ None
+  within = not-refused state.catalogue a.transaction (suc a.statements) batch a.view (let e = cells-length (a.view 0) rows h.cells in omega (arith, e, few))
+
+  abbrev next : Plain
+  next = accepted plain state line 1 a command (s.insert 0 batch)
+
+  is-next : event plain limits state line 1 command ≡ (next, reply.Wrote (length (written_in 0 made)))
+  is-next =
+      ap (λ (x : Option (Active (Unit {0}))). answered plain limits state line 1 x (Run command)) h.is
+      ∙ ap (λ (x : Option _). running plain state line 1 a command limits x (limits.checked state.catalogue command)) counts
+      ∙ ap (λ (x : Result s.Statement _). running plain state line 1 a command limits None x) checks
+      ∙ ap (ran plain state line 1 a command (s.insert 0 batch)) within
+
+  runs-on : Running table (rows ++ batch) t (suc k) (suc n) most next
+  runs-on = record {
+    catalogue = h.catalogue;
+    active = record a { statements = suc a.statements; view = step plain a.transaction (suc a.statements) (s.insert 0 batch) a.view; written = a.written ++ written_in 0 made };
+    is = refl;
+    transaction = h.transaction;
+    steps = ap suc h.steps;
+    began = h.began;
+    statements = ap suc h.statements;
+    begun = h.begun;
+    new = h.new ++ made;
+    view = ap (λ (x : List Row). x ++ made) h.view ∙ append_assoc (newest state) h.new made;
+    cells = map-append (λ (row : Row). row.cells) (a.view 0) made ∙ ap (λ (x : List (List Cell)). x ++ cells_in made) h.cells ∙ ap (λ (x : List (List Cell)). rows ++ x) (given-cells a.transaction (suc a.statements) 1 batch);
+    before = h.before;
+    own = all-append (IsBy t) a.written (written_in 0 made) h.own (subst (λ (x : ℕ). AllByRecursion (IsBy x) (written_in 0 made)) h.transaction (given-by a.transaction (suc a.statements) 1 batch));
+    wrote = all-append (IsWritten (a.written ++ written_in 0 made)) h.new made
+      (all-mapped (IsWritten a.written) (IsWritten (a.written ++ written_in 0 made)) (written-before a.written (written_in 0 made)) h.new h.wrote)
+      (all-mapped (IsWritten (written_in 0 made)) (IsWritten (a.written ++ written_in 0 made)) (written-after a.written (written_in 0 made)) made (given-written a.transaction (suc a.statements) 1 batch));
+    recent = all-append (IsBefore (suc t)) h.new made h.recent (subst (λ (x : ℕ). AllByRecursion (IsBefore (suc x)) made) h.transaction (given-before a.transaction (suc a.statements) 1 batch));
+    published = h.published;
+  }
+
+  pub inserts : ((other : Plain) (l : ℕ) → Running table (rows ++ batch) t (suc k) (suc n) most other → Accepts other l cs P) → Accepts state line (y.insert table.name batch ∷ cs) P
+  inserts others = accepts-by state line command cs P (next, reply.Wrote (length (written_in 0 made))) is-next refl (others next (line + 1) runs-on)
+
+-- ---- COMMIT
+
+no_conflict : (written : ℕ → List Written) (begin versions : ℕ) (pairs : List Written) → versions - begin ≡ 0 → least_conflict written begin versions pairs ≡ None
+no_conflict written begin versions [] e = refl
+no_conflict written begin versions (pair ∷ pairs) e = rw (e, no_conflict written begin versions pairs e) refl
+
+module _ (table : Table) (rows : List (List Cell)) (t k n most bound line : ℕ) (state : Plain) (cs : List Command) (P : Plain → Type 0) (h : Running table rows t k n most state)
+    (grows : most + length rows ≤ bound) (room : bound ≤ MAX_SPANS) where
+  abbrev own : Active (Unit {0})
+  own = h.active
+
+  abbrev test : Row → Bool
+  test row = is_written 0 row.identity own.written
+
+  alone : conflict_of state own ≡ None
+  alone = no_conflict state.written (begin_version own.transaction state.entries) (versions_in state.entries) own.written (let e = h.begun in omega (arith, e))
+
+  few-published : length (filter test (own.view 0)) ≤ length rows
+  few-published = let e = cells-length (own.view 0) rows h.cells in let f = filter-few test (own.view 0) in omega (arith, e, f)
+
+  count-done : published_rows own (length state.catalogue) ≡ length (filter test (own.view 0))
+  count-done = let e = ap (λ (tables : List Table). published_rows own (length tables)) h.catalogue in omega (arith, e)
+
+  not-full : is_full limits state own ≡ false
+  not-full = le-ltb MAX_SPANS (state.rows + published_rows own (length state.catalogue)) (let f = few-published in let g = h.published in let c = count-done in omega (arith, f, g, c, grows, room))
+
+  abbrev done : Plain
+  done = published state line 1 own
+
+  is-done : event plain limits state line 1 y.Command.commit ≡ (done, reply.Committed own.transaction (suc (versions_in state.entries)))
+  is-done =
+      ap (λ (x : Option (Active (Unit {0}))). answered plain limits state line 1 x Commit) h.is
+      ∙ ap (λ (x : Option _). committing state line 1 own x (is_full limits state own)) alone
+      ∙ ap (committing state line 1 own None) not-full
+
+  -- the rows of the newest version, which it did not write, and then its own
+  old-rows : AllByRecursion (λ (row : Row). test row ≡ false) (newest state)
+  old-rows = all-mapped (IsBefore t) (λ (row : Row). test row ≡ false) (λ row before. not-written t own.written row h.own before) (newest state) h.before
+
+  kept-rows : merged (state.committed (versions_in state.entries)) own.view own.written 0 ≡ own.view 0
+  kept-rows =
+      let p : Row → Bool = λ row. not (test row) in
+      let old : filter p (newest state) ≡ newest state = keeps-all p (newest state) (all-mapped (λ (row : Row). test row ≡ false) (λ (row : Row). p row ≡ true) (λ row e. rw e refl) (newest state) old-rows) in
+      let mine : filter test (newest state ++ h.new) ≡ h.new =
+      filter-append test (newest state) h.new ∙ ap (λ (x : List Row). x ++ filter test h.new) (keeps-none test (newest state) old-rows) ∙ keeps-all test h.new h.wrote in
+      ap (λ (x : List Row). x ++ filter test (own.view 0)) old ∙ ap (λ (x : List Row). newest state ++ filter test x) h.view ∙ ap (λ (x : List Row). newest state ++ x) mine ∙ sym h.view
+
+  newest-is : newest done ≡ map unmarked (own.view 0)
+  newest-is = rw (eq-eqb (suc (versions_in state.entries)) (suc (versions_in state.entries)) refl) (ap (map unmarked) kept-rows)
+
+  before-done : AllByRecursion (IsBefore (suc t)) (newest done)
+  before-done = subst (AllByRecursion (IsBefore (suc t))) (sym newest-is) (unmarked-before (suc t) (own.view 0) (subst (AllByRecursion (IsBefore (suc t))) (sym h.view)
+      (all-append (IsBefore (suc t)) (newest state) h.new (all-mapped (IsBefore t) (IsBefore (suc t)) (λ row before. omega (arith, before)) (newest state) h.before) h.recent)))
+
+  pub commits : ((other : Plain) (l : ℕ) → Idle table rows t n bound other → Accepts other l cs P) → Accepts state line (y.Command.commit ∷ cs) P
+  commits others =
+      accepts-by state line y.Command.commit cs P (done, reply.Committed own.transaction (suc (versions_in state.entries))) is-done refl
+      (others done (line + 1) (record {
+        catalogue = h.catalogue;
+        idle = refl;
+        began = h.began;
+        statements = h.statements;
+        cells = ap cells_in newest-is ∙ unmarked-cells (own.view 0) ∙ h.cells;
+        before = before-done;
+        published = let f = few-published in let g = h.published in let c = count-done in omega (arith, f, g, c, grows);
+      }))

@@ -1,0 +1,109 @@
+-- The lines of a script's text are those of its commands, numbered from 1.
+use Rattle.std.proofs.Common.{◌≡◌, ℕ, zero, suc, ◌+◌, ◌-◌, ◌<◌, ◌≤◌, Bool, true, false, not, cond, eqb, ◌&&◌, ◌||◌, List, [], ◌∷◌, ◌++◌, length, get_or, filter, Option, Some, None, Ok, refl, sym, ap, subst, ◌∙◌, append_assoc, eqb-true, arith, inl, inr}
+use Rattle.std.specs.Char.{is_ascii_control}
+use Rattle.std.specs.List.{AllByRecursion, enumerate_from, list_any, onto_first, slice_split}
+use Rattle.std.specs.Str.Lines.{lines, lines_of_parts, strip_carriage_return}
+use Rattle.std.proofs.lemmas.Bool.{cases_Bool, cond-false}
+use Rattle.std.proofs.lemmas.List.Splits.{length-slice_split}
+use Rattle.gp_base.specs.Annotated.{plain}
+use Rattle.gp_grammar.specs.declared.limits.TheConstants.{MAX_LINE_LENGTH}
+use Rattle.gp_grammar.specs.Syntax.{Command}
+use Rattle.gp_syntax.specs.Lines.{is_answered, script_lines}
+use Rattle.gp_machine.specs.Event.{event}
+use Rattle.gp_machine.specs.declared.reply.Reply.{Reply}
+use Rattle.gp_machine.specs.Replies.{is_refusal}
+use Rattle.gp_log.specs.Limits.{limits}
+use Rattle.gp_script.specs.History.{has_refusal, line_outcome, outcome_of, replies_from, state_after}
+use Rattle.gp_csv.specs.Scripts.{ended_line, line_of, script_text}
+use Rattle.gp_load.proofs.ReadLemmas.{IsReadable, line-plain, line-read}
+use Rattle.gp_load.proofs.StateLemmas.{Accepts, Plain}
+
+-- ---- one line
+
+abbrev is_feed : ℕ → Bool
+is_feed byte = eqb byte 10
+
+neither : (a b : Bool) → (a || b) ≡ false → (a ≡ false) × (b ≡ false)
+neither true b e = absurd cc
+neither false b e = (refl, e)
+
+-- a control character is in no text that has none
+plain-without : (c : ℕ) (text : List ℕ) → is_ascii_control c ≡ true → list_any is_ascii_control text ≡ false → list_any (λ b. eqb b c) text ≡ false
+plain-without c [] control e = refl
+plain-without c (b ∷ text) control e =
+    let h = neither (is_ascii_control b) (list_any is_ascii_control text) e in
+    rw (other (eqb b c) refl h.0) (plain-without c text control h.1)
+  where
+    other : (x : Bool) → eqb b c ≡ x → is_ascii_control b ≡ false → eqb b c ≡ false
+    other false same graphic = same
+    other true same graphic = let f : is_ascii_control b ≡ true = ap is_ascii_control (eqb-true b c same) ∙ control in absurd cc
+
+split-text : (text rest : List ℕ) → list_any is_feed text ≡ false → slice_split is_feed (text ++ (10 ∷ rest)) ≡ text ∷ slice_split is_feed rest
+split-text [] rest e = refl
+split-text (b ∷ text) rest e = let h = neither (is_feed b) (list_any is_feed text) e in rw h.0 (ap (onto_first b) (split-text text rest h.1))
+
+parts-more : (part : List ℕ) (parts : List (List ℕ)) → 0 < length parts → lines_of_parts (part ∷ parts) ≡ strip_carriage_return part ∷ lines_of_parts parts
+parts-more part [] some = absurd (omega arith)
+parts-more part (next ∷ parts) some = refl
+
+byte-other : (text : List ℕ) (i : ℕ) → list_any (λ b. eqb b 13) text ≡ false → eqb (get_or text i 0) 13 ≡ false
+byte-other [] i e = refl
+byte-other (b ∷ text) zero e = (neither (eqb b 13) (list_any (λ b. eqb b 13) text) e).0
+byte-other (b ∷ text) (suc i) e = byte-other text i (neither (eqb b 13) (list_any (λ b. eqb b 13) text) e).1
+
+whole-line : (text : List ℕ) → list_any (λ b. eqb b 13) text ≡ false → strip_carriage_return text ≡ text
+whole-line text e = rw (byte-other text (length text - 1) e) refl
+
+first-line : (text rest : List ℕ) → list_any is_ascii_control text ≡ false → lines (text ++ (10 ∷ rest)) ≡ text ∷ lines rest
+first-line text rest e =
+    ap lines_of_parts (split-text text rest (plain-without 10 text refl e))
+    ∙ parts-more text (slice_split is_feed rest) (let n = length-slice_split is_feed rest in omega (arith, n))
+    ∙ ap (λ (x : List ℕ). x ∷ lines rest) (whole-line text (plain-without 13 text refl e))
+
+-- ---- the lines of a script
+
+-- the lines of commands, the first of which has this number
+abbrev pub numbered : ℕ → List Command → List (ℕ × List ℕ)
+numbered number [] = []
+numbered number (c ∷ cs) = (number, line_of c) ∷ numbered (number + 1) cs
+
+and_false : (a : Bool) → (a && false) ≡ false
+and_false true = refl
+and_false false = refl
+
+line-answered : (c : Command) → is_answered (line_of c) ≡ true
+line-answered c = ap not (and_false _)
+
+text-cons : (c : Command) (cs : List Command) → script_text (c ∷ cs) ≡ line_of c ++ (10 ∷ script_text cs)
+text-cons c cs = append_assoc (line_of c) (10 ∷ []) (script_text cs)
+
+answered : (number : ℕ) (cs : List Command) → AllByRecursion IsReadable cs → filter (λ (line : ℕ × List ℕ). is_answered line.1) (enumerate_from number (lines (script_text cs))) ≡ numbered number cs
+answered number [] all = refl
+answered number (c ∷ cs) all =
+    ap (λ (text : List ℕ). filter (λ (line : ℕ × List ℕ). is_answered line.1) (enumerate_from number (lines text))) (text-cons c cs)
+    ∙ ap (λ (x : List (List ℕ)). filter (λ (line : ℕ × List ℕ). is_answered line.1) (enumerate_from number x)) (first-line (line_of c) (script_text cs) (line-plain c all.0))
+    ∙ rw (line-answered c) (ap (λ (x : List (ℕ × List ℕ)). (number, line_of c) ∷ x) (answered (number + 1) cs all.1))
+
+pub lines-are : (cs : List Command) → AllByRecursion IsReadable cs → script_lines (script_text cs) ≡ numbered 1 cs
+lines-are cs all = answered 1 cs all
+
+-- ---- their history
+
+pub record Leads (state : Plain) (lines : List (ℕ × List ℕ)) (P : Plain → Type 0) : Type 0 where
+  pub accepted : has_refusal (replies_from plain state lines) ≡ false
+  pub final : P (state_after plain state lines)
+
+either-false : (a b : Bool) → a ≡ false → b ≡ false → (a || b) ≡ false
+either-false true b e f = absurd cc
+either-false false b e f = f
+
+pub lines-lead : (state : Plain) (number : ℕ) (cs : List Command) (P : Plain → Type 0) → AllByRecursion IsReadable cs → Accepts state number cs P → Leads state (numbered number cs) P
+lines-lead state number [] P all accepts = record { accepted = refl; final = accepts }
+lines-lead state number (c ∷ cs) P all accepts =
+    let others : List (ℕ × List ℕ) = numbered (number + 1) cs in
+    let out : Plain × Reply = event plain limits state number 1 c in
+    let rest = lines-lead out.0 (number + 1) cs P all.1 accepts.1 in
+    let same : line_outcome plain state (number, line_of c) ≡ out = ap (outcome_of plain state number) (line-read c all.0) in
+    let both = subst (λ (o : Plain × Reply). ((is_refusal o.1 || has_refusal (replies_from plain o.0 others)) ≡ false) × P (state_after plain o.0 others)) (sym same)
+      (either-false (is_refusal out.1) (has_refusal (replies_from plain out.0 others)) accepts.0 rest.accepted, rest.final) in
+    record { accepted = both.0; final = both.1 }

@@ -1,0 +1,30 @@
+-- Part of the statement: the script of a sheet is run without a refusal, and leaves the rows of the sheet in its one table.
+use Rattle.std.specs.Prelude.{◌≡◌, ℕ, true, false, List, [], ◌∷◌, map, Ok}
+use Rattle.gp_base.specs.declared.cell.Cell.{Cell}
+use Rattle.gp_base.specs.declared.table.Table.{Table}
+use Rattle.gp_base.specs.Annotated.{Annotated, plain}
+use Rattle.gp_base.specs.Names.{is_name}
+use Rattle.gp_machine.specs.Entries.{versions_in}
+use Rattle.gp_machine.specs.State.{State}
+use Rattle.gp_script.specs.History.{final_state, has_refusal, replies_of}
+use Rattle.gp_csv.specs.Sheets.{IsSheet}
+use Rattle.gp_csv.specs.Scripts.{script_of}
+use Rattle.gp_csv.specs.declared.sheet.Sheet.{Sheet}
+
+-- the cells of the rows of a table in the last version
+abbrev pub last_rows : State (Unit {0}) → ℕ → List (List Cell)
+last_rows state table = map (λ (row : Annotated (Unit {0})). row.cells) (state.committed (versions_in state.entries) table)
+
+-- the table of a sheet
+abbrev pub table_of : List ℕ → Sheet → Table
+table_of name sheet = record { name = name; cols = sheet.cols }
+
+-- no line of the script is refused, and the last version has the sheet's rows, in order and each as often as it occurs, in its one table
+pub record Loads (name : List ℕ) (sheet : Sheet) (script : List ℕ) : Type 0 where
+  pub accepted : has_refusal (replies_of script) ≡ false
+  pub table : (final_state plain script).catalogue ≡ table_of name sheet ∷ []
+  pub rows : last_rows (final_state plain script) 0 ≡ sheet.rows
+
+-- so does the script of every sheet that can be a table, under every name
+abbrev pub LoadsSheets : Type 0
+LoadsSheets = (name : List ℕ) (sheet : Sheet) (script : List ℕ) → is_name name ≡ true → IsSheet sheet → script_of name sheet ≡ Ok script → Loads name sheet script
