@@ -1,5 +1,5 @@
 -- The headings of the fields in turn.
-use Rattle.std.proofs.Common.{◌≡◌, ℕ, ◌+◌, List, drop, Option, Some, None, refl}
+use Rattle.std.proofs.Common.{◌≡◌, ℕ, ◌+◌, List, drop, Some, None, refl}
 use Rattle.csv.specs.Records.{field_at}
 use Rattle.gp_csv.specs.Headings.{with_heading, heading_of, headings_from}
 use Rattle.gp_csv.specs.declared.heading.Heading.{Heading}

@@ -1,11 +1,10 @@
 -- The INSERT lines of a script hold the rows, in order and each once, and are within the limits.
-use Rattle.std.proofs.Common.{◌≡◌, ℕ, zero, suc, ◌+◌, ◌<◌, ◌≤◌, Bool, true, false, cond, leb, ltb, ◌&&◌, List, [], ◌∷◌, ◌++◌, length, Result, Ok, Err, refl, sym, ap, subst, ◌∙◌, append_assoc, append-nil, arith, inl, inr}
+use Rattle.std.proofs.Common.{◌≡◌, ℕ, suc, ◌+◌, ◌<◌, ◌≤◌, Bool, true, false, leb, ltb, List, [], ◌∷◌, ◌++◌, length, Result, Ok, refl, ap, subst, ◌∙◌, append_assoc, arith, inl, inr}
 use Rattle.std.specs.List.{list_all}
-use Rattle.std.proofs.lemmas.Bool.{cases_Bool, and_from, ltb-false, le-leb, leb-true, ltb-true, le-ltb, leb-false}
-use Rattle.gp_base.specs.declared.cell.Cell.{Cell}
+use Rattle.std.proofs.lemmas.Bool.{cases_Bool, and_from, ltb-false, le-leb, leb-false}
 use Rattle.gp_grammar.specs.Syntax.{insert}
-use Rattle.gp_grammar.specs.declared.limits.TheConstants.{MAX_LINE_LENGTH, MAX_VALUES}
-use Rattle.gp_csv.specs.Faults.{Fault, refuse, result_map}
+use Rattle.gp_grammar.specs.declared.limits.TheConstants.{MAX_LINE_LENGTH}
+use Rattle.gp_csv.specs.Faults.{Fault}
 use Rattle.gp_csv.specs.Scripts.{Row, rows_in, line_of, fits_line, batches_from, batches_of}
 use Rattle.gp_csv.specs.declared.error.TheConstants.{LONG_ROW, TOO_MANY}
 use Rattle.gp_csv.specs.declared.script.TheConstants.{MAX_ROWS, MAX_INSERTS}

@@ -1,8 +1,8 @@
 -- Rows put in turn.
-use Rattle.std.proofs.Common.{◌≡◌, ℕ, suc, ◌+◌, ◌<◌, ◌≤◌, List, [], ◌∷◌, length, drop, get_or, Result, Ok, Err, refl, add-one, arith}
+use Rattle.std.proofs.Common.{◌≡◌, ℕ, ◌+◌, ◌<◌, ◌≤◌, List, length, drop, get_or, Ok, refl, add-one}
 use Rattle.std.proofs.lemmas.List.{drop_more, drop_all}
 use Rattle.gp_base.specs.declared.cell.Cell.{Cell}
-use Rattle.gp_csv.specs.Faults.{Fault, refuse}
+use Rattle.gp_csv.specs.Faults.{refuse}
 use Rattle.gp_csv.specs.Packing.{Output, put_row, put_rows, tuple_text}
 
 pub put-next : (prefix : List ℕ) (number : ℕ) (written next : Output) (rows : List (List Cell)) (i : ℕ) (d : List Cell) → i < length rows

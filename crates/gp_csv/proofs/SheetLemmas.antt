@@ -1,12 +1,12 @@
 -- Columns, cells and rows in turn.
-use Rattle.std.proofs.Common.{◌≡◌, ℕ, suc, ◌+◌, ◌<◌, ◌≤◌, Bool, true, false, List, [], ◌∷◌, ◌++◌, length, drop, map, get_or, Option, Some, None, option_and_then, Result, Ok, Err, refl, sym, ap, ◌∙◌, append_assoc, add-one, arith}
+use Rattle.std.proofs.Common.{◌≡◌, ℕ, suc, ◌+◌, ◌<◌, ◌≤◌, List, [], ◌∷◌, ◌++◌, length, drop, get_or, Option, Some, None, Result, Ok, Err, refl, ap, append_assoc, add-one}
 use Rattle.std.specs.Option.{option_map}
 use Rattle.std.proofs.lemmas.List.{drop_more, drop_all, append-nil}
 use Rattle.std.proofs.lemmas.List.Folds.{list_all-map}
 use Rattle.csv.specs.Records.{field_at}
 use Rattle.gp_base.specs.declared.cell.Cell.{Cell}
 use Rattle.gp_base.specs.declared.table.Column.{Column}
-use Rattle.gp_csv.specs.Faults.{Fault, refuse, result_map, result_then}
+use Rattle.gp_csv.specs.Faults.{Fault, refuse, result_map}
 use Rattle.gp_csv.specs.Fields.{cell_of, cells_from}
 use Rattle.gp_csv.specs.Sheets.{columns_from, inferred, kind_or, row_of, rows_from}
 use Rattle.gp_csv.specs.declared.heading.Heading.{Heading}

@@ -1,25 +1,24 @@
 -- The canonical text of an INSERT of rows, from the texts of its rows.
-use Rattle.std.proofs.Common.{◌≡◌, ℕ, suc, ℤ, pos, negsuc, ◌^◌, Bool, true, false, cond, eqb, List, [], ◌∷◌, ◌++◌, refl, sym, ap, ◌∙◌, append_assoc, append-nil, inl, inr}
+use Rattle.std.proofs.Common.{◌≡◌, ℕ, suc, pos, negsuc, ◌^◌, Bool, true, false, cond, eqb, List, [], ◌∷◌, ◌++◌, refl, sym, ap, ◌∙◌, append_assoc, append-nil}
 use Rattle.std.specs.Prelude.{codes}
 use Rattle.std.proofs.lemmas.Grind.{flat_map-append}
-use Rattle.std.specs.Fmt.{decimal, digits, signed_decimal}
+use Rattle.std.specs.Fmt.{decimal, digits}
 use Rattle.std.specs.List.{flat_map, concat}
-use Rattle.std.proofs.lemmas.Bool.{cases_Bool, eqb-true}
+use Rattle.std.proofs.lemmas.Bool.{eqb-true}
 use Rattle.gp_base.specs.Cells.{IsPlain, ArePlain}
 use Rattle.gp_base.specs.Texts.{cell_text, row_text}
 use Rattle.gp_base.specs.declared.cell.Cell.{Cell}
 use Rattle.gp_base.specs.declared.cell.Cell.TheVariants as cell
 use Rattle.gp_lexer.specs.declared.lexeme.Symbol.TheVariants as s
-use Rattle.gp_lexer.specs.declared.lexeme.Lexeme.{Lexeme}
-use Rattle.gp_lexer.specs.declared.lexeme.Lexeme.TheVariants.{Symbol as Sign, Word, Number, Big, Text}
+use Rattle.gp_lexer.specs.declared.lexeme.Lexeme.TheVariants.{Symbol as Sign, Number, Big}
 use Rattle.gp_lexer.specs.declared.gap.Gap.{Gap}
 use Rattle.gp_lexer.specs.declared.gap.Gap.TheVariants.{Start, AfterComma, Joined, Spaced}
-use Rattle.gp_lexer.specs.Layout.{Page, put, written, laid_out, empty_page}
+use Rattle.gp_lexer.specs.Layout.{Page, put, written, empty_page}
 use Rattle.gp_lexer.specs.Lexemes.{symbol_text}
 use Rattle.gp_grammar.specs.Syntax.{Lexemes, Command, begin, insert}
 use Rattle.gp_csv.specs.Packing.{tuple_text, insert_text}
 use Rattle.gp_csv.specs.Scripts.{ArePlainRows, line_of, ended_line}
-use Rattle.gp_grammar.specs.Canonical.{cell_lexemes, tuple_lexemes, listed_lexemes, command_lexemes, command_text}
+use Rattle.gp_grammar.specs.Canonical.{cell_lexemes, tuple_lexemes, listed_lexemes, command_lexemes}
 
 abbrev page : List ℕ → Gap → Page
 page text gap = record { text = text; gap = gap }

@@ -1,5 +1,5 @@
 -- A sheet that was read is a valid one.
-use Rattle.std.proofs.Common.{◌≡◌, ℕ, zero, suc, ℤ, pos, negsuc, ◌+◌, ◌^◌, ◌<◌, ◌≤◌, ◌-◌, Bool, true, false, not, cond, leb, ltb, eqb, ◌&&◌, ◌||◌, List, [], ◌∷◌, ◌++◌, length, length-append, map, take, drop, Option, Some, None, option_and_then, Result, Ok, Err, refl, sym, ap, subst, ◌∙◌, arith, inl, inr}
+use Rattle.std.proofs.Common.{◌≡◌, ℕ, zero, suc, ℤ, pos, negsuc, ◌+◌, ◌^◌, ◌<◌, ◌≤◌, ◌-◌, Bool, true, false, not, cond, leb, ltb, eqb, ◌||◌, List, [], ◌∷◌, ◌++◌, length, length-append, map, take, drop, Option, Some, None, option_and_then, Result, Ok, Err, refl, sym, ap, subst, ◌∙◌, arith, inl, inr}
 use Rattle.std.specs.Prelude.{IfOk}
 use Rattle.std.specs.Option.{option_map}
 use Rattle.std.specs.Int.RustNames.{FitsSigned}
@@ -19,7 +19,7 @@ use Rattle.gp_csv.specs.Faults.{Fault, refuse, result_map, result_then, Returns}
 use Rattle.gp_csv.specs.Fields.{positive_of, negative_of, magnitude_of, number_of, null_field, unescaped, text_cell, int_cell_of, value_cell_of, cell_of, cells_from}
 use Rattle.gp_csv.specs.Headings.{header_of, heading_named, heading_of, headings_from, is_taken, kind_of_suffix, name_len, or_bad_header, with_heading}
 use Rattle.gp_csv.specs.Scripts.{ArePlainRows}
-use Rattle.gp_csv.specs.Sheets.{IsSheet, is_cell_of, is_row_of, column_names, columns_from, or_bad_cell, row_of, rows_from, sheet_under, sheet_of_records, sheet_of, records_of}
+use Rattle.gp_csv.specs.Sheets.{IsSheet, is_cell_of, is_row_of, column_names, columns_from, or_bad_cell, row_of, rows_from, sheet_under, sheet_of_records, records_of}
 use Rattle.gp_csv.specs.declared.error.CsvStop.{CsvStop}
 use Rattle.gp_csv.specs.declared.error.CsvStop.TheVariants.{Refused, NoMemory}
 use Rattle.gp_csv.specs.declared.heading.Heading.{Heading}

@@ -1,5 +1,5 @@
 -- Machinery: how the script is written, row by row. Of the last line only counts are kept.
-use Rattle.std.specs.Prelude.{ℕ, suc, ◌+◌, ◌%◌, nat_le, nat_lt, Bool, true, false, ◌&&◌, List, [], ◌∷◌, ◌++◌, length, Result, Ok, Err, if◌then◌else◌, ◌==◌, codes}
+use Rattle.std.specs.Prelude.{ℕ, suc, ◌+◌, ◌%◌, nat_le, nat_lt, Bool, ◌&&◌, List, [], ◌∷◌, ◌++◌, length, Result, Ok, if◌then◌else◌, ◌==◌, codes}
 use Rattle.std.specs.List.{concat}
 use Rattle.gp_base.specs.declared.cell.Cell.{Cell}
 use Rattle.gp_base.specs.Texts.{row_text}

@@ -1,6 +1,6 @@
 -- Part of the statement: the script that fills a table with the rows of a sheet. It is of one session, each of its lines is a command in canonical
 -- text, and each INSERT takes a batch of rows.
-use Rattle.std.specs.Prelude.{ℕ, suc, ◌+◌, ◌%◌, nat_le, nat_lt, Bool, true, false, ◌&&◌, List, [], ◌∷◌, ◌++◌, length, Result, Ok, Err, if◌then◌else◌, ◌==◌, codes}
+use Rattle.std.specs.Prelude.{ℕ, suc, ◌+◌, ◌%◌, nat_le, nat_lt, Bool, ◌&&◌, List, [], ◌∷◌, ◌++◌, length, Result, Ok, if◌then◌else◌, ◌==◌, codes}
 use Rattle.std.specs.List.{flat_map}
 use Rattle.gp_base.specs.Cells.{ArePlain}
 use Rattle.gp_base.specs.declared.cell.Cell.{Cell}

@@ -1,12 +1,10 @@
 -- The commands of a script are derived by the grammar from their canonical lexemes, and these can be written in a line.
-use Rattle.std.proofs.Common.{◌≡◌, ℕ, zero, suc, ℤ, pos, negsuc, ◌+◌, ◌-◌, ◌*◌, ◌^◌, ◌<◌, ◌≤◌, Bool, true, false, not, cond, eqb, leb, ltb, ◌&&◌, List, [], ◌∷◌, ◌++◌, length, length-append, take, refl, sym, ap, subst, ◌∙◌, append_assoc, append-nil, eqb-true, leb-true, ltb-true, ltb-false, le-ltb, inl, inr, arith}
-use Rattle.std.specs.Prelude.{codes, None}
+use Rattle.std.proofs.Common.{◌≡◌, ℕ, suc, pos, negsuc, ◌+◌, ◌-◌, ◌*◌, ◌^◌, ◌<◌, ◌≤◌, Bool, true, false, not, cond, eqb, leb, ltb, ◌&&◌, List, [], ◌∷◌, ◌++◌, length, length-append, refl, sym, subst, append_assoc, append-nil, eqb-true, leb-true, ltb-true, ltb-false, le-ltb, inl, inr, arith}
 use Rattle.std.specs.Char.{is_ascii_control}
-use Rattle.std.specs.List.{AllByRecursion, flat_map, list_all, list_any}
-use Rattle.std.specs.Str.{IsUtf8}
+use Rattle.std.specs.List.{AllByRecursion, flat_map, list_any}
 use Rattle.std.specs.Str.Lossy.{utf8_valid_len}
 use Rattle.std.proofs.lemmas.Bool.{cases_Bool, and_parts, eqb-false}
-use Rattle.gp_base.specs.Cells.{fits_number, is_user_cell, is_user_text}
+use Rattle.gp_base.specs.Cells.{is_user_cell, is_user_text}
 use Rattle.gp_base.specs.Names.{is_name}
 use Rattle.gp_base.specs.declared.cell.Cell.{Cell}
 use Rattle.gp_base.specs.declared.cell.Cell.TheVariants as cell
@@ -28,10 +26,9 @@ use Rattle.gp_lexer.specs.Lexemes.{AreProper, HasUtf8Text, HaveUtf8Texts, IsProp
 use Rattle.gp_lexer.proofs.LayoutLemmas.{added, written-added}
 use Rattle.gp_lexer.proofs.SpellingLemmas.{name-parts}
 use Rattle.gp_grammar.specs.declared.limits.TheConstants.{MAX_COLUMNS, MAX_LINE_LENGTH, MAX_VALUES}
-use Rattle.gp_grammar.specs.Canonical.{cell_lexemes, column_definition_lexemes, command_lexemes, command_text, joined_lexemes, kind_lexeme, listed_lexemes, tuple_lexemes}
+use Rattle.gp_grammar.specs.Canonical.{cell_lexemes, column_definition_lexemes, command_lexemes, kind_lexeme, listed_lexemes, tuple_lexemes}
 use Rattle.gp_grammar.specs.CommandGrammar as g
 use Rattle.gp_grammar.specs.CommandGrammar.{IsColumn, IsCommand, IsList, IsLiteral, IsTuple, comma}
-use Rattle.gp_grammar.specs.Limits.{command_shape, passed_limit}
 use Rattle.gp_grammar.specs.Syntax as y
 use Rattle.gp_grammar.specs.Syntax.{Command, Lexemes}
 use Rattle.gp_csv.specs.Scripts.{line_of}

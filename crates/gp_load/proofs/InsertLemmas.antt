@@ -1,16 +1,14 @@
 -- An INSERT of rows into the one table: its check, and the rows and identities that it makes.
-use Rattle.std.proofs.Common.{◌≡◌, ℕ, zero, suc, ◌+◌, ◌<◌, ◌≤◌, Bool, true, false, cond, eqb, leb, ltb, ◌&&◌, ◌||◌, List, [], ◌∷◌, ◌++◌, length, length-append, map, filter, Option, Some, None, Ok, Err, refl, sym, ap, ◌∙◌, eq-eqb, ne_eqb, le-ltb, arith}
+use Rattle.std.proofs.Common.{◌≡◌, ℕ, suc, ◌+◌, ◌<◌, ◌≤◌, Bool, true, false, cond, eqb, ltb, ◌&&◌, ◌||◌, List, [], ◌∷◌, ◌++◌, length, length-append, map, filter, None, Ok, refl, ap, ◌∙◌, eq-eqb, ne_eqb, le-ltb, arith}
 use Rattle.std.specs.List.{AllByRecursion, list_all, list_any}
 use Rattle.std.specs.Str.{bytes_eq}
 use Rattle.std.proofs.lemmas.Bool.{and_parts, and_from}
 use Rattle.std.proofs.lemmas.List.Folds.{list_any-append}
 use Rattle.std.proofs.lemmas.Slice.Eq.{bytes_eq-Decides}
 use Rattle.gp_base.specs.Annotated.{Annotated, Database, plain}
-use Rattle.gp_base.specs.Cells.{is_user_cell}
 use Rattle.gp_base.specs.Identities.{Identity, identity, no_sources, nodes, same_identity, transaction_of}
 use Rattle.gp_base.specs.declared.cell.Cell.{Cell}
 use Rattle.gp_base.specs.declared.cell.Cell.TheVariants as cell
-use Rattle.gp_base.specs.declared.refusal.Refusal.{Refusal}
 use Rattle.gp_base.specs.declared.row_id.TheConstants.{MAX_NODES}
 use Rattle.gp_base.specs.declared.table.Column.{Column}
 use Rattle.gp_base.specs.declared.table.Kind.{Kind}
@@ -147,8 +145,8 @@ given-written t k n [] = tt
 given-written t k n (row ∷ rows) = (
   first (same_identity (identity t k n no_sources) (identity t k n no_sources)) _ (same-made t k n),
   all-mapped (IsWritten (written_in 0 (given_from plain t k (suc n) rows))) (IsWritten (written_in 0 (given_from plain t k n (row ∷ rows))))
-  (λ other e. either (same_identity (identity t k n no_sources) other.identity) (is_written 0 other.identity (written_in 0 (given_from plain t k (suc n) rows))) e)
-  (given_from plain t k (suc n) rows) (given-written t k (suc n) rows),
+      (λ other e. either (same_identity (identity t k n no_sources) other.identity) (is_written 0 other.identity (written_in 0 (given_from plain t k (suc n) rows))) e)
+      (given_from plain t k (suc n) rows) (given-written t k (suc n) rows),
 )
 
 other-identity : (id other : Identity) (t : ℕ) → transaction_of id ≡ t → transaction_of other < t → same_identity id other ≡ false

@@ -1,5 +1,5 @@
 -- The script of a sheet leaves the rows of the sheet.
-use Rattle.std.proofs.Common.{◌≡◌, ℕ, zero, suc, ◌+◌, ◌*◌, ◌<◌, ◌≤◌, Bool, true, false, not, cond, eqb, leb, ltb, ◌&&◌, ◌||◌, List, [], ◌∷◌, ◌++◌, length, length-append, map, Option, Some, None, Result, Ok, Err, refl, sym, ap, subst, ◌∙◌, append_assoc, append-nil, eqb-true, leb-true, leb-false, arith, inl, inr}
+use Rattle.std.proofs.Common.{◌≡◌, ℕ, suc, ◌+◌, ◌*◌, ◌<◌, ◌≤◌, Bool, true, false, cond, eqb, leb, ltb, ◌&&◌, ◌||◌, List, [], ◌∷◌, ◌++◌, length, length-append, None, Ok, refl, sym, ap, subst, ◌∙◌, append_assoc, append-nil, eqb-true, leb-true, leb-false, arith, inl, inr}
 use Rattle.std.specs.Prelude.{◌/◌, ◌%◌}
 use Rattle.std.specs.List.{AllByRecursion, IsDistinct, list_all, list_any}
 use Rattle.std.specs.Str.{bytes_eq}
@@ -8,7 +8,6 @@ use Rattle.std.proofs.lemmas.Bool.{cases_Bool, and_parts, eqb-false}
 use Rattle.std.proofs.lemmas.List.Folds.{list_any-append}
 use Rattle.std.proofs.lemmas.Slice.Eq.{bytes_eq-Decides}
 use Rattle.gp_base.specs.Annotated.{plain}
-use Rattle.gp_base.specs.Cells.{is_user_cell}
 use Rattle.gp_base.specs.Names.{is_name}
 use Rattle.gp_base.specs.declared.cell.Cell.{Cell}
 use Rattle.gp_base.specs.declared.cell.Cell.TheVariants as cell
@@ -20,12 +19,9 @@ use Rattle.gp_grammar.specs.declared.limits.TheConstants.{MAX_LINE_LENGTH, MAX_V
 use Rattle.gp_grammar.specs.Syntax as y
 use Rattle.gp_grammar.specs.Syntax.{Command}
 use Rattle.gp_check.specs.Faults.{repeated_behind}
-use Rattle.gp_exec.specs.declared.limit.TheConstants.{MAX_TABLE_ROWS}
 use Rattle.gp_machine.specs.State.{start}
 use Rattle.gp_log.specs.Limits.{limits}
-use Rattle.gp_log.specs.declared.limit.TheConstants.{MAX_STATEMENTS}
-use Rattle.gp_script.specs.History.{final_state, has_refusal, replies_from, state_after}
-use Rattle.gp_csv.specs.Faults.{result_map}
+use Rattle.gp_script.specs.History.{has_refusal, replies_from, state_after}
 use Rattle.gp_csv.specs.Scripts.{batches_of, commands_of, fits_line, inserts_from, inserts_of, line_of, rows_in, script_of, script_text, transaction_break}
 use Rattle.gp_csv.specs.Sheets.{IsSheet, column_names, is_cell_of, is_row_of}
 use Rattle.gp_csv.specs.declared.script.TheConstants.{MAX_INSERTS, MAX_ROWS, MAX_STEPS}
@@ -36,7 +32,7 @@ use Rattle.gp_load.specs.Loading.{Loads, last_rows, table_of}
 use Rattle.gp_load.proofs.DerivedLemmas.{IsNamed, IsSome, IsUser, IsUserRow, begin-readable, commit-readable, create-readable, insert-readable}
 use Rattle.gp_load.proofs.ReadLemmas.{IsReadable}
 use Rattle.gp_load.proofs.StateLemmas.{Accepts, Idle, Plain, Running, begins, cells_in, commits, creates, inserts, newest}
-use Rattle.gp_load.proofs.TextLemmas.{Leads, lines-are, lines-lead, numbered}
+use Rattle.gp_load.proofs.TextLemmas.{lines-are, lines-lead}
 
 abbrev Rows : Type 0
 Rows = List (List Cell)
@@ -147,7 +143,7 @@ module _ (table : Table) (named : is_name table.name ≡ true) (columns : IsSome
       let r = all-parts (is_row_of table.cols) batch (rows_in batches) rows in (
         record {
           readable = insert-readable table.name batch named (some-rows batch n.0) (rows-user table.cols batch columns r.0) (leb-true (length batch) MAX_VALUES g.0)
-            (leb-true (length (line_of (y.insert table.name batch))) MAX_LINE_LENGTH g.1);
+              (leb-true (length (line_of (y.insert table.name batch))) MAX_LINE_LENGTH g.1);
           rows = r.0;
         },
         batches-good batches f.1 r.1,

@@ -1,5 +1,5 @@
 -- A line of session 1 with a command in canonical text is read as this command.
-use Rattle.std.proofs.Common.{◌≡◌, ℕ, zero, suc, ◌+◌, ◌-◌, ◌<◌, ◌≤◌, Bool, true, false, cond, List, [], ◌∷◌, ◌++◌, length, Option, Some, None, Ok, Err, refl, sym, ap, ◌∙◌, arith, inl, inr, lit≤}
+use Rattle.std.proofs.Common.{◌≡◌, ℕ, zero, suc, ◌+◌, ◌-◌, ◌≤◌, false, List, [], ◌∷◌, ◌++◌, length, Option, Some, None, Ok, Err, refl, sym, ap, ◌∙◌, arith, inl, inr, lit≤}
 use Rattle.std.specs.Prelude.{codes}
 use Rattle.std.specs.List.{list_any}
 use Rattle.std.specs.Char.{is_ascii_control}
@@ -10,7 +10,6 @@ use Rattle.std.proofs.lemmas.Bool.{cases_Bool}
 use Rattle.gp_lexer.specs.declared.lexeme.Symbol.TheVariants as s
 use Rattle.gp_lexer.specs.declared.lexeme.Lexeme.{Lexeme}
 use Rattle.gp_lexer.specs.declared.lexeme.Lexeme.TheVariants.{Symbol as Sign, Word}
-use Rattle.gp_lexer.specs.Layout.{laid_out}
 use Rattle.gp_lexer.specs.Lexemes.{AreProper, HaveUtf8Texts, symbol_text}
 use Rattle.gp_lexer.specs.Lexing.{Lexed, Scanned, is_blank, lexed, lexed_at, lexed_from, lexeme_at, lexemes_of, reserved_word, sign_at, with_lexeme, word_at}
 use Rattle.gp_lexer.proofs.LayoutLemmas.{lexemes_of-laid_out}

@@ -1,25 +1,23 @@
 -- The lines of the script of a sheet, one after another: after each the table has the rows so far.
-use Rattle.std.proofs.Common.{◌≡◌, ℕ, zero, suc, ◌+◌, ◌-◌, ◌*◌, ◌<◌, ◌≤◌, Bool, true, false, not, cond, eqb, leb, ltb, List, [], ◌∷◌, ◌++◌, length, length-append, map, filter, Option, Some, None, Result, Ok, Err, refl, sym, ap, subst, ◌∙◌, append_assoc, append-nil, eq-eqb, le-ltb, leb-true, arith}
+use Rattle.std.proofs.Common.{◌≡◌, ℕ, suc, ◌+◌, ◌-◌, ◌<◌, ◌≤◌, Bool, true, false, not, leb, List, [], ◌∷◌, ◌++◌, length, map, filter, Option, Some, None, Result, Ok, refl, sym, ap, subst, ◌∙◌, append_assoc, append-nil, eq-eqb, le-ltb, leb-true, arith}
 use Rattle.std.specs.List.{AllByRecursion, list_all}
 use Rattle.std.proofs.lemmas.List.{map-append}
 use Rattle.std.proofs.lemmas.List.Elements.{filter-append}
-use Rattle.gp_base.specs.Annotated.{Annotated, Database, plain}
-use Rattle.gp_base.specs.Identities.{transaction_of}
+use Rattle.gp_base.specs.Annotated.{plain}
 use Rattle.gp_base.specs.declared.cell.Cell.{Cell}
 use Rattle.gp_base.specs.declared.table.Table.{Table}
 use Rattle.gp_grammar.specs.Syntax as y
 use Rattle.gp_grammar.specs.Syntax.{Command}
-use Rattle.gp_algebra.specs.Effects.{Written, given_from, step, wrote, written_in}
+use Rattle.gp_algebra.specs.Effects.{Written, given_from, step, written_in}
 use Rattle.gp_algebra.specs.Statements as s
 use Rattle.gp_check.specs.Checking.{checked}
 use Rattle.gp_machine.specs.declared.reply.Reply.{Reply}
 use Rattle.gp_machine.specs.declared.reply.Reply.TheVariants as reply
-use Rattle.gp_machine.specs.Actions.{Create, Begin, Commit, Run}
-use Rattle.gp_machine.specs.Committed.{is_written, merged, next_version, unmarked}
+use Rattle.gp_machine.specs.Actions.{Begin, Commit, Run}
+use Rattle.gp_machine.specs.Committed.{is_written, merged, unmarked}
 use Rattle.gp_machine.specs.Conflicts.{least_conflict}
-use Rattle.gp_machine.specs.Entries.{Entry, begin_version, statements_in, transactions_in, versions_in}
-use Rattle.gp_machine.specs.Event.{accepted, answered, beginning, began, committing, conflict_of, count_refusal, created, creating, event, is_full, published, published_rows, ran, refusal_of, reply_of, running}
-use Rattle.gp_machine.specs.HistorySpans.{next_written}
+use Rattle.gp_machine.specs.Entries.{begin_version, statements_in, transactions_in, versions_in}
+use Rattle.gp_machine.specs.Event.{accepted, answered, beginning, began, committing, conflict_of, count_refusal, created, creating, event, is_full, published, published_rows, ran, refusal_of, running}
 use Rattle.gp_machine.specs.Replies.{is_refusal}
 use Rattle.gp_machine.specs.State.{Active, State, start}
 use Rattle.gp_exec.specs.declared.limit.TheConstants.{MAX_TABLE_ROWS}
@@ -27,7 +25,7 @@ use Rattle.gp_log.specs.Limits.{limits}
 use Rattle.gp_log.specs.declared.limit.TheConstants.{MAX_STATEMENTS, MAX_STEPS, MAX_TRANSACTIONS}
 use Rattle.gp_txn.specs.declared.counting.TheConstants.{MAX_SPANS}
 use Rattle.gp_csv.specs.Sheets.{is_row_of}
-use Rattle.gp_load.proofs.InsertLemmas.{IsBefore, IsBy, IsWritten, Row, all-append, all-mapped, checked-insert, filter-few, given-before, given-by, given-cells, given-length, given-written, keeps-all, keeps-none, not-refused, not-written, unmarked-before, unmarked-cells, written-after, written-before}
+use Rattle.gp_load.proofs.InsertLemmas.{IsBefore, IsBy, IsWritten, Row, all-append, all-mapped, checked-insert, filter-few, given-before, given-by, given-cells, given-written, keeps-all, keeps-none, not-refused, not-written, unmarked-before, unmarked-cells, written-after, written-before}
 
 abbrev pub Plain : Type 0
 Plain = State (Unit {0})
@@ -189,8 +187,8 @@ module _ (table : Table) (rows batch : List (List Cell)) (t k n most line : ℕ)
     before = h.before;
     own = all-append (IsBy t) a.written (written_in 0 made) h.own (subst (λ (x : ℕ). AllByRecursion (IsBy x) (written_in 0 made)) h.transaction (given-by a.transaction (suc a.statements) 1 batch));
     wrote = all-append (IsWritten (a.written ++ written_in 0 made)) h.new made
-      (all-mapped (IsWritten a.written) (IsWritten (a.written ++ written_in 0 made)) (written-before a.written (written_in 0 made)) h.new h.wrote)
-      (all-mapped (IsWritten (written_in 0 made)) (IsWritten (a.written ++ written_in 0 made)) (written-after a.written (written_in 0 made)) made (given-written a.transaction (suc a.statements) 1 batch));
+        (all-mapped (IsWritten a.written) (IsWritten (a.written ++ written_in 0 made)) (written-before a.written (written_in 0 made)) h.new h.wrote)
+        (all-mapped (IsWritten (written_in 0 made)) (IsWritten (a.written ++ written_in 0 made)) (written-after a.written (written_in 0 made)) made (given-written a.transaction (suc a.statements) 1 batch));
     recent = all-append (IsBefore (suc t)) h.new made h.recent (subst (λ (x : ℕ). AllByRecursion (IsBefore (suc x)) made) h.transaction (given-before a.transaction (suc a.statements) 1 batch));
     published = h.published;
   }

@@ -1,12 +1,10 @@
 -- The lines of a script's text are those of its commands, numbered from 1.
-use Rattle.std.proofs.Common.{◌≡◌, ℕ, zero, suc, ◌+◌, ◌-◌, ◌<◌, ◌≤◌, Bool, true, false, not, cond, eqb, ◌&&◌, ◌||◌, List, [], ◌∷◌, ◌++◌, length, get_or, filter, Option, Some, None, Ok, refl, sym, ap, subst, ◌∙◌, append_assoc, eqb-true, arith, inl, inr}
+use Rattle.std.proofs.Common.{◌≡◌, ℕ, zero, suc, ◌+◌, ◌-◌, ◌<◌, Bool, true, false, not, eqb, ◌&&◌, ◌||◌, List, [], ◌∷◌, ◌++◌, length, get_or, filter, refl, sym, ap, subst, ◌∙◌, append_assoc, eqb-true, arith}
 use Rattle.std.specs.Char.{is_ascii_control}
 use Rattle.std.specs.List.{AllByRecursion, enumerate_from, list_any, onto_first, slice_split}
 use Rattle.std.specs.Str.Lines.{lines, lines_of_parts, strip_carriage_return}
-use Rattle.std.proofs.lemmas.Bool.{cases_Bool, cond-false}
 use Rattle.std.proofs.lemmas.List.Splits.{length-slice_split}
 use Rattle.gp_base.specs.Annotated.{plain}
-use Rattle.gp_grammar.specs.declared.limits.TheConstants.{MAX_LINE_LENGTH}
 use Rattle.gp_grammar.specs.Syntax.{Command}
 use Rattle.gp_syntax.specs.Lines.{is_answered, script_lines}
 use Rattle.gp_machine.specs.Event.{event}
@@ -14,7 +12,7 @@ use Rattle.gp_machine.specs.declared.reply.Reply.{Reply}
 use Rattle.gp_machine.specs.Replies.{is_refusal}
 use Rattle.gp_log.specs.Limits.{limits}
 use Rattle.gp_script.specs.History.{has_refusal, line_outcome, outcome_of, replies_from, state_after}
-use Rattle.gp_csv.specs.Scripts.{ended_line, line_of, script_text}
+use Rattle.gp_csv.specs.Scripts.{line_of, script_text}
 use Rattle.gp_load.proofs.ReadLemmas.{IsReadable, line-plain, line-read}
 use Rattle.gp_load.proofs.StateLemmas.{Accepts, Plain}
 
@@ -105,5 +103,5 @@ lines-lead state number (c ∷ cs) P all accepts =
     let rest = lines-lead out.0 (number + 1) cs P all.1 accepts.1 in
     let same : line_outcome plain state (number, line_of c) ≡ out = ap (outcome_of plain state number) (line-read c all.0) in
     let both = subst (λ (o : Plain × Reply). ((is_refusal o.1 || has_refusal (replies_from plain o.0 others)) ≡ false) × P (state_after plain o.0 others)) (sym same)
-      (either-false (is_refusal out.1) (has_refusal (replies_from plain out.0 others)) accepts.0 rest.accepted, rest.final) in
+    (either-false (is_refusal out.1) (has_refusal (replies_from plain out.0 others)) accepts.0 rest.accepted, rest.final) in
     record { accepted = both.0; final = both.1 }
