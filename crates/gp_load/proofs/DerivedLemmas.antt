@@ -302,6 +302,14 @@ pub begin-readable : IsReadable y.begin
 unfolding symbol_text
 begin-readable = record { derived = g.begin; within = refl; proper = (tt, tt); texts = (tt, tt); short = let a = laid_out-length (command_lexemes y.begin) in omega (arith, a) }
 
+pub begin-short : length (line_of y.begin) ≤ 20
+unfolding symbol_text
+begin-short = let a = laid_out-length (command_lexemes y.begin) in omega (arith, a)
+
+pub commit-short : length (line_of y.Command.commit) ≤ 20
+unfolding symbol_text
+commit-short = let a = laid_out-length (command_lexemes y.Command.commit) in omega (arith, a)
+
 pub commit-readable : IsReadable y.Command.commit
 unfolding symbol_text
 commit-readable = record { derived = g.commit; within = refl; proper = (tt, tt); texts = (tt, tt); short = let a = laid_out-length (command_lexemes y.Command.commit) in omega (arith, a) }

@@ -4,6 +4,7 @@ use Rattle.std.specs.Prelude.{◌/◌, ◌%◌}
 use Rattle.std.specs.List.{AllByRecursion, IsDistinct, list_all, list_any}
 use Rattle.std.specs.Str.{bytes_eq}
 use Rattle.std.proofs.Math.Nat.{div-add-mod, mod-lt}
+use Rattle.std.proofs.lemmas.Grind.{flat_map-append}
 use Rattle.std.proofs.lemmas.Bool.{cases_Bool, and_parts, eqb-false}
 use Rattle.std.proofs.lemmas.List.Folds.{list_any-append}
 use Rattle.std.proofs.lemmas.Slice.Eq.{bytes_eq-Decides}
@@ -21,15 +22,16 @@ use Rattle.gp_grammar.specs.Syntax.{Command}
 use Rattle.gp_check.specs.Faults.{repeated_behind}
 use Rattle.gp_machine.specs.State.{start}
 use Rattle.gp_log.specs.Limits.{limits}
+use Rattle.gp_script.specs.declared.script.TheConstants.{MAX_SCRIPT_LENGTH}
 use Rattle.gp_script.specs.History.{has_refusal, replies_from, state_after}
-use Rattle.gp_csv.specs.Scripts.{batches_of, commands_of, fits_line, inserts_from, inserts_of, line_of, rows_in, script_of, script_text, transaction_break}
+use Rattle.gp_csv.specs.Scripts.{batches_of, commands_of, ended_line, fits_line, inserts_from, inserts_of, line_of, rows_in, script_of, script_text, transaction_break}
 use Rattle.gp_csv.specs.Sheets.{IsSheet, column_names, is_cell_of, is_row_of}
 use Rattle.gp_csv.specs.declared.script.TheConstants.{MAX_INSERTS, MAX_ROWS, MAX_STEPS}
 use Rattle.gp_csv.specs.declared.sheet.Sheet.{Sheet}
 use Rattle.gp_csv.proofs.LineLemmas.{HoldsAll, lines-hold-all}
 use Rattle.gp_csv.proofs.ValidLemmas.{from_map}
 use Rattle.gp_load.specs.Loading.{Loads, last_rows, table_of}
-use Rattle.gp_load.proofs.DerivedLemmas.{IsNamed, IsSome, IsUser, IsUserRow, begin-readable, commit-readable, create-readable, insert-readable}
+use Rattle.gp_load.proofs.DerivedLemmas.{IsNamed, IsSome, IsUser, IsUserRow, begin-readable, begin-short, commit-readable, commit-short, create-readable, insert-readable}
 use Rattle.gp_load.proofs.ReadLemmas.{IsReadable}
 use Rattle.gp_load.proofs.StateLemmas.{Accepts, Idle, Plain, Running, begins, cells_in, commits, creates, inserts, newest}
 use Rattle.gp_load.proofs.TextLemmas.{lines-are, lines-lead}
@@ -269,6 +271,67 @@ columns-named : (columns : List Column) → list_all is_name (column_names colum
 columns-named [] all = tt
 columns-named (column ∷ columns) all = let h = and_parts (is_name column.name) (list_all is_name (column_names columns)) all in (h.0, columns-named columns h.1)
 
+-- ---- the length of the script
+
+ended-length : (c : Command) → length (ended_line c) ≡ length (line_of c) + 1
+ended-length c = length-append (line_of c) (10 ∷ [])
+
+cons-length : (c : Command) (cs : List Command) → length (script_text (c ∷ cs)) ≡ length (line_of c) + 1 + length (script_text cs)
+cons-length c cs =
+    let a : length (ended_line c ++ script_text cs) ≡ length (ended_line c) + length (script_text cs) = length-append (ended_line c) (script_text cs) in
+    let b = ended-length c in
+    omega (arith, a, b)
+
+both-length : (cs others : List Command) → length (script_text (cs ++ others)) ≡ length (script_text cs) + length (script_text others)
+both-length cs others = ap (λ (text : List ℕ). length text) (flat_map-append ended_line cs others) ∙ length-append (script_text cs) (script_text others)
+
+break-length : (count : ℕ) → length (script_text (transaction_break count)) ≤ 42
+break-length count = by (eqb (count % MAX_STEPS) 0)
+  where
+    by : (b : Bool) → length (script_text (cond b (y.Command.commit ∷ y.begin ∷ []) [])) ≤ 42
+    by true =
+        let a = cons-length y.Command.commit (y.begin ∷ []) in
+        let b = cons-length y.begin [] in
+        let c = commit-short in
+        let d = begin-short in
+        omega (arith, a, b, c, d)
+    by false = omega arith
+
+from-length : (table : Table) (count : ℕ) (batches : List Rows) → AllByRecursion (IsBatch table) batches → length (script_text (inserts_from table.name count batches)) ≤ 4139 * length batches
+from-length table count [] all = omega arith
+from-length table count (batch ∷ batches) all =
+    let others : List Command = inserts_from table.name (suc count) batches in
+    let a = both-length (transaction_break count) (y.insert table.name batch ∷ others) in
+    let b = cons-length (y.insert table.name batch) others in
+    let c = break-length count in
+    let d = all.0.readable.short in
+    let e = from-length table (suc count) batches all.1 in
+    omega (arith, a, b, c, d, e)
+
+of-length : (table : Table) (batches : List Rows) → AllByRecursion (IsBatch table) batches → length (script_text (inserts_of table.name batches)) ≤ 4139 * length batches
+of-length table [] all = omega arith
+of-length table (batch ∷ batches) all =
+    let a = cons-length (y.insert table.name batch) (inserts_from table.name 1 batches) in
+    let d = all.0.readable.short in
+    let e = from-length table 1 batches all.1 in
+    omega (arith, a, d, e)
+
+script-short : (table : Table) (batches : List Rows) → IsReadable (y.create table) → AllByRecursion (IsBatch table) batches → length batches ≤ MAX_INSERTS
+    → length (script_text (y.create table ∷ y.begin ∷ (inserts_of table.name batches ++ (y.Command.commit ∷ [])))) ≤ MAX_SCRIPT_LENGTH
+script-short table batches readable all few =
+    let ends : List Command = y.Command.commit ∷ [] in
+    let a = cons-length (y.create table) (y.begin ∷ (inserts_of table.name batches ++ ends)) in
+    let b = cons-length y.begin (inserts_of table.name batches ++ ends) in
+    let c = both-length (inserts_of table.name batches) ends in
+    let d = cons-length y.Command.commit [] in
+    let e = of-length table batches all in
+    let f = readable.short in
+    let g = begin-short in
+    let h = commit-short in
+    omega (arith, a, b, c, d, e, f, g, h, few)
+
+-- ---- the script loads the sheet
+
 loads-by : (name : List ℕ) (sheet : Sheet) (batches : List Rows) → is_name name ≡ true → IsSheet sheet → HoldsAll name sheet.rows batches → Loads name sheet (script_text (commands_of name sheet batches))
 loads-by name sheet batches named h holds =
     let table : Table = table_of name sheet in
@@ -282,6 +345,7 @@ loads-by name sheet batches named h holds =
     let leads = lines-lead start 1 (commands_of name sheet batches) (HasRows table sheet.rows) readable accepts in
     let same = lines-are (commands_of name sheet batches) readable in
     record {
+      short = script-short table batches readable.0 good holds.few;
       accepted = ap (λ (lines : List (ℕ × List ℕ)). has_refusal (replies_from plain start lines)) same ∙ leads.accepted;
       table = ap (λ (lines : List (ℕ × List ℕ)). (state_after plain start lines).catalogue) same ∙ leads.final.catalogue;
       rows = ap (λ (lines : List (ℕ × List ℕ)). last_rows (state_after plain start lines) 0) same ∙ leads.final.cells;

@@ -1,5 +1,5 @@
 -- Part of the statement: the script of a sheet is run without a refusal, and leaves the rows of the sheet in its one table.
-use Rattle.std.specs.Prelude.{◌≡◌, ℕ, true, false, List, [], ◌∷◌, map, Ok}
+use Rattle.std.specs.Prelude.{◌≡◌, ℕ, ◌≤◌, true, false, List, [], ◌∷◌, length, map, Result, Ok}
 use Rattle.gp_base.specs.declared.cell.Cell.{Cell}
 use Rattle.gp_base.specs.declared.table.Table.{Table}
 use Rattle.gp_base.specs.Annotated.{Annotated, plain}
@@ -7,7 +7,9 @@ use Rattle.gp_base.specs.Names.{is_name}
 use Rattle.gp_machine.specs.Entries.{versions_in}
 use Rattle.gp_machine.specs.State.{State}
 use Rattle.gp_script.specs.History.{final_state, has_refusal, replies_of}
-use Rattle.gp_csv.specs.Sheets.{IsSheet}
+use Rattle.gp_script.specs.declared.script.TheConstants.{MAX_SCRIPT_LENGTH}
+use Rattle.gp_csv.specs.Faults.{Fault, result_map, result_then}
+use Rattle.gp_csv.specs.Sheets.{IsSheet, sheet_of}
 use Rattle.gp_csv.specs.Scripts.{script_of}
 use Rattle.gp_csv.specs.declared.sheet.Sheet.{Sheet}
 
@@ -19,8 +21,10 @@ last_rows state table = map (λ (row : Annotated (Unit {0})). row.cells) (state.
 abbrev pub table_of : List ℕ → Sheet → Table
 table_of name sheet = record { name = name; cols = sheet.cols }
 
--- no line of the script is refused, and the last version has the sheet's rows, in order and each as often as it occurs, in its one table
+-- The script can be run, no line of it is refused, and the last version has the sheet's rows, in order and each as often as it occurs, in its one
+-- table.
 pub record Loads (name : List ℕ) (sheet : Sheet) (script : List ℕ) : Type 0 where
+  pub short : length script ≤ MAX_SCRIPT_LENGTH
   pub accepted : has_refusal (replies_of script) ≡ false
   pub table : (final_state plain script).catalogue ≡ table_of name sheet ∷ []
   pub rows : last_rows (final_state plain script) 0 ≡ sheet.rows
@@ -28,3 +32,14 @@ pub record Loads (name : List ℕ) (sheet : Sheet) (script : List ℕ) : Type 0 
 -- so does the script of every sheet that can be a table, under every name
 abbrev pub LoadsSheets : Type 0
 LoadsSheets = (name : List ℕ) (sheet : Sheet) (script : List ℕ) → is_name name ≡ true → IsSheet sheet → script_of name sheet ≡ Ok script → Loads name sheet script
+
+-- the script of the sheet of a text and the number of its rows, or the first fault
+abbrev pub loaded_of : List ℕ → List ℕ → Result (List ℕ × ℕ) Fault
+loaded_of name bytes =
+    result_then (λ (sheet : Sheet). result_map (λ (script : List ℕ). (script, length sheet.rows)) (script_of name sheet)) (sheet_of bytes)
+
+-- the script loads the sheet of the text
+pub record LoadsText (name bytes script : List ℕ) : Type 0 where
+  pub sheet : Sheet
+  pub is : sheet_of bytes ≡ Ok sheet
+  pub loads : Loads name sheet script
