@@ -17,6 +17,7 @@ use Rattle.gp_base.specs.declared.table.Kind.{Kind}
 use Rattle.gp_base.specs.declared.table.Kind.TheVariants as kind
 use Rattle.gp_base.specs.declared.table.Table.{Table}
 use Rattle.gp_grammar.specs.declared.limits.TheConstants.{MAX_LINE_LENGTH, MAX_VALUES}
+use Rattle.gp_lexer.proofs.SpellingLemmas.{none-of}
 use Rattle.gp_grammar.specs.Syntax as y
 use Rattle.gp_grammar.specs.Syntax.{Command}
 use Rattle.gp_check.specs.Faults.{repeated_behind}
@@ -32,9 +33,10 @@ use Rattle.gp_csv.proofs.LineLemmas.{HoldsAll, lines-hold-all}
 use Rattle.gp_csv.proofs.ValidLemmas.{from_map}
 use Rattle.gp_load.specs.Loading.{Loads, last_rows, table_of}
 use Rattle.gp_load.proofs.DerivedLemmas.{IsNamed, IsSome, IsUser, IsUserRow, begin-readable, begin-short, commit-readable, commit-short, create-readable, insert-readable}
+use Rattle.gp_load.proofs.InsertLemmas.{all-append}
 use Rattle.gp_load.proofs.ReadLemmas.{IsReadable}
 use Rattle.gp_load.proofs.StateLemmas.{Accepts, Idle, Plain, Running, begins, cells_in, commits, creates, inserts, newest}
-use Rattle.gp_load.proofs.TextLemmas.{lines-are, lines-lead}
+use Rattle.gp_load.proofs.TextLemmas.{either-false, lines-are, lines-lead}
 
 abbrev Rows : Type 0
 Rows = List (List Cell)
@@ -48,14 +50,6 @@ name-other a b e = by (bytes_eq b a) refl
     by false same = refl
     by true same = let f : bytes_eq a b ≡ true = (bytes_eq-Decides a b).1 (sym ((bytes_eq-Decides b a).0 same)) in absurd cc
 
-neither : (a b : Bool) → (a || b) ≡ false → (a ≡ false) × (b ≡ false)
-neither true b e = absurd cc
-neither false b e = (refl, e)
-
-either-false : (a b : Bool) → a ≡ false → b ≡ false → (a || b) ≡ false
-either-false true b e f = absurd cc
-either-false false b e f = f
-
 -- a name is none of these
 abbrev IsNew : List (List ℕ) → List ℕ → Type 0
 IsNew earlier name = list_any (λ (other : List ℕ). bytes_eq other name) earlier ≡ false
@@ -63,7 +57,7 @@ IsNew earlier name = list_any (λ (other : List ℕ). bytes_eq other name) earli
 new-other : (earlier : List (List ℕ)) (name : List ℕ) → IsNew earlier name → list_any (bytes_eq name) earlier ≡ false
 new-other [] name e = refl
 new-other (other ∷ earlier) name e =
-    let h = neither (bytes_eq other name) (list_any (λ (z : List ℕ). bytes_eq z name) earlier) e in
+    let h = none-of (bytes_eq other name) (list_any (λ (z : List ℕ). bytes_eq z name) earlier) e in
     either-false (bytes_eq name other) (list_any (bytes_eq name) earlier) (name-other other name h.0) (new-other earlier name h.1)
 
 new-snoc : (earlier : List (List ℕ)) (first name : List ℕ) → IsNew earlier name → bytes_eq first name ≡ false → IsNew (earlier ++ first ∷ []) name
@@ -152,10 +146,6 @@ module _ (table : Table) (named : is_name table.name ≡ true) (columns : IsSome
       )
 
 -- ---- the commands are read
-
-all-append : {A : Type 0} (P : A → Type 0) (xs ys : List A) → AllByRecursion P xs → AllByRecursion P ys → AllByRecursion P (xs ++ ys)
-all-append P [] ys all others = others
-all-append P (x ∷ xs) ys all others = (all.0, all-append P xs ys all.1 others)
 
 break-readable : (count : ℕ) → AllByRecursion IsReadable (transaction_break count)
 break-readable count = by (eqb (count % MAX_STEPS) 0)

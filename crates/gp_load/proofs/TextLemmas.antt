@@ -5,6 +5,7 @@ use Rattle.std.specs.List.{AllByRecursion, enumerate_from, list_any, onto_first,
 use Rattle.std.specs.Str.Lines.{lines, lines_of_parts, strip_carriage_return}
 use Rattle.std.proofs.lemmas.List.Splits.{length-slice_split}
 use Rattle.gp_base.specs.Annotated.{plain}
+use Rattle.gp_lexer.proofs.SpellingLemmas.{none-of}
 use Rattle.gp_grammar.specs.Syntax.{Command}
 use Rattle.gp_syntax.specs.Lines.{is_answered, script_lines}
 use Rattle.gp_machine.specs.Event.{event}
@@ -21,15 +22,11 @@ use Rattle.gp_load.proofs.StateLemmas.{Accepts, Plain}
 abbrev is_feed : ℕ → Bool
 is_feed byte = eqb byte 10
 
-neither : (a b : Bool) → (a || b) ≡ false → (a ≡ false) × (b ≡ false)
-neither true b e = absurd cc
-neither false b e = (refl, e)
-
 -- a control character is in no text that has none
 plain-without : (c : ℕ) (text : List ℕ) → is_ascii_control c ≡ true → list_any is_ascii_control text ≡ false → list_any (λ b. eqb b c) text ≡ false
 plain-without c [] control e = refl
 plain-without c (b ∷ text) control e =
-    let h = neither (is_ascii_control b) (list_any is_ascii_control text) e in
+    let h = none-of (is_ascii_control b) (list_any is_ascii_control text) e in
     rw (other (eqb b c) refl h.0) (plain-without c text control h.1)
   where
     other : (x : Bool) → eqb b c ≡ x → is_ascii_control b ≡ false → eqb b c ≡ false
@@ -38,7 +35,7 @@ plain-without c (b ∷ text) control e =
 
 split-text : (text rest : List ℕ) → list_any is_feed text ≡ false → slice_split is_feed (text ++ (10 ∷ rest)) ≡ text ∷ slice_split is_feed rest
 split-text [] rest e = refl
-split-text (b ∷ text) rest e = let h = neither (is_feed b) (list_any is_feed text) e in rw h.0 (ap (onto_first b) (split-text text rest h.1))
+split-text (b ∷ text) rest e = let h = none-of (is_feed b) (list_any is_feed text) e in rw h.0 (ap (onto_first b) (split-text text rest h.1))
 
 parts-more : (part : List ℕ) (parts : List (List ℕ)) → 0 < length parts → lines_of_parts (part ∷ parts) ≡ strip_carriage_return part ∷ lines_of_parts parts
 parts-more part [] some = absurd (omega arith)
@@ -46,8 +43,8 @@ parts-more part (next ∷ parts) some = refl
 
 byte-other : (text : List ℕ) (i : ℕ) → list_any (λ b. eqb b 13) text ≡ false → eqb (get_or text i 0) 13 ≡ false
 byte-other [] i e = refl
-byte-other (b ∷ text) zero e = (neither (eqb b 13) (list_any (λ b. eqb b 13) text) e).0
-byte-other (b ∷ text) (suc i) e = byte-other text i (neither (eqb b 13) (list_any (λ b. eqb b 13) text) e).1
+byte-other (b ∷ text) zero e = (none-of (eqb b 13) (list_any (λ b. eqb b 13) text) e).0
+byte-other (b ∷ text) (suc i) e = byte-other text i (none-of (eqb b 13) (list_any (λ b. eqb b 13) text) e).1
 
 whole-line : (text : List ℕ) → list_any (λ b. eqb b 13) text ≡ false → strip_carriage_return text ≡ text
 whole-line text e = rw (byte-other text (length text - 1) e) refl
@@ -91,7 +88,7 @@ pub record Leads (state : Plain) (lines : List (ℕ × List ℕ)) (P : Plain →
   pub accepted : has_refusal (replies_from plain state lines) ≡ false
   pub final : P (state_after plain state lines)
 
-either-false : (a b : Bool) → a ≡ false → b ≡ false → (a || b) ≡ false
+pub either-false : (a b : Bool) → a ≡ false → b ≡ false → (a || b) ≡ false
 either-false true b e f = absurd cc
 either-false false b e f = f
 

@@ -105,6 +105,7 @@ fn answers_are_sheets(rt: HostRuntime) -> Result<(), Fail> {
         makes(
             rt.alloc(),
             &written,
+            3,
             "s1: CREATE TABLE people (line INT, c1 TEXT, c2 INT)\ns1: BEGIN\n\
              s1: INSERT INTO people VALUES (7, '\\N', -5), (7, '', NULL), \
              (7, 'a \"b\"', -9223372036854775808)\ns1: COMMIT\n"

@@ -42,7 +42,7 @@ fn wide(alloc: Global, rows: u32, bytes: u32, last: u32) -> Result<Vec<u8>, Allo
 /// The number of lines of the script of a sheet, or 0 if there is none.
 fn line_count(alloc: Global, csv: &[u8]) -> usize {
     match script_of(alloc, csv) {
-        Ok(script) => script.iter().filter(|byte| **byte == b'\n').count(),
+        Ok(script) => script.text.iter().filter(|byte| **byte == b'\n').count(),
         Err(_) => 0,
     }
 }
