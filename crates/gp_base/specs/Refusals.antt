@@ -64,3 +64,4 @@ refusal_text (r.E25 t k) = concat (codes "E25 rows over limit in transaction " �
 refusal_text (r.E26 t k) = concat (codes "E26 identity over limit in transaction " ∷ decimal t ∷ codes " at " ∷ decimal k ∷ [])
 refusal_text r.E27 = codes "E27 more than 50000 rows"
 refusal_text (r.E28 number semiring) = concat (codes "E28 " ∷ decimal number ∷ codes " is not in " ∷ semiring ∷ [])
+refusal_text r.E30 = codes "E30 not exported"

@@ -152,6 +152,8 @@ pub enum Refusal {
         /// The semiring's name.
         semiring: Text,
     },
+    /// The question has no answer as CSV.
+    E30,
 }
 
 fn limit_text(limit: Limit) -> &'static [u8]
@@ -328,6 +330,7 @@ fn refusal_text(alloc: Global, refusal: &Refusal) -> Result<Vec<u8>, NoMemory>
         }
         Refusal::E27 => text_of_pieces(alloc, &[b"E27 more than 50000 rows"]),
         Refusal::E28 { number, semiring } => semiring_refusal_text(alloc, *number, semiring),
+        Refusal::E30 => text_of_pieces(alloc, &[b"E30 not exported"]),
     }
 }
 
