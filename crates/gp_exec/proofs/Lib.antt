@@ -10,7 +10,7 @@ pub mod InputLemmas
 pub mod JoiningLemmas
 pub mod LivenessLemmas
 pub mod LookingLemmas
-pub mod PairLemmas
+pub mod ProductLemmas
 pub mod ProgramLemmas
 pub mod PublishingLemmas
 pub mod RelationLemmas

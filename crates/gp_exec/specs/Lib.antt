@@ -8,7 +8,7 @@ pub mod Keys
 pub mod Levels
 pub mod Liveness
 pub mod Looking
-pub mod Pairs
+pub mod Products
 pub mod Publishing
 pub mod Running
 pub mod Search

@@ -7,12 +7,12 @@
 //! [`joined`], [`simple_values`], and [`Input`] with [`column_behind`] are parts of it that other executors share.
 //!
 //! Inside, `search` is the nested loops of [`choose`] and `early` the tests that prune them. Where a condition has an
-//! equality of columns, which `equality` finds, `input` gives the rows that join a row: it knows the places of the cells
-//! of a column, by `cell_index` and `key`. `found` has the rows of a query where they stand, and filters them there;
-//! `relation` joins them, and `projection` makes rows of them. `publication` puts a transaction onto a later version: its
-//! rows are `pending`, and the marks and identities that they will have are found by a `look` before they are made.
-//! `evaluation` evaluates a query by these, and `program` takes the steps of a program in turn. `liveness` tells which of
-//! them later ones still read.
+//! equality of columns, which `equality` finds, `input` gives the rows that join a row: it knows the places of the cells of
+//! a column, by `cell_index` and `key`. `found` has the rows of a query where they stand, and filters them there; `relation`
+//! makes the rows of a product one by one, and `projection` makes rows of rows. `publication` puts a transaction onto a
+//! later version: its rows are `pending`, and the marks and identities that they will have are found by a `look` before they
+//! are made. `evaluation` evaluates a query by these, up to a limit where there is one, and `program` takes the steps of a
+//! program in turn. `liveness` tells which of them later ones still read.
 //!
 //! ```text
 //! // every element of the answer, at most 50,000
