@@ -163,7 +163,8 @@ column-even n x = column-by n x.name x.kind
 command-even : (x : Command) → AreShallow (command_shape x).terms → Even (command_lexemes x)
 command-even (syntax.create table) h =
     in-brackets 59 (listed_lexemes column_definition_lexemes table.cols) (list-even 59 (Sign s.Comma ∷ []) column_definition_lexemes (comma-balanced 59) (column-even 59) table.cols)
-command-even syntax.begin h = λ room rest k. refl
+command-even (syntax.begin false) h = λ room rest k. refl
+command-even (syntax.begin true) h = λ room rest k. refl
 command-even syntax.Command.commit h = λ room rest k. refl
 command-even syntax.rollback h = λ room rest k. refl
 command-even (syntax.insert table rows) h = list-even MAX_OPEN (Sign s.Comma ∷ []) tuple_lexemes (comma-balanced MAX_OPEN) (tuple-even 59) rows

@@ -121,6 +121,7 @@ set-canonical _ _ (g.set_term name a x i) = g.set_term name (term_lexemes x) x (
 pub command-canonical : (a : Lexemes) (x : Command) → IsCommand a x → IsCommand (command_lexemes x) x
 command-canonical _ _ (g.create name a cols i) = g.create name (listed_lexemes column_definition_lexemes cols) cols (list-canonical comma IsColumn column_definition_lexemes column-canonical i)
 command-canonical _ _ g.begin = g.begin
+command-canonical _ _ g.begin_read_committed = g.begin_read_committed
 command-canonical _ _ g.commit = g.commit
 command-canonical _ _ g.rollback = g.rollback
 command-canonical _ _ (g.insert table a rows i) = g.insert table (listed_lexemes tuple_lexemes rows) rows (list-canonical comma IsTuple tuple_lexemes tuple-canonical i)

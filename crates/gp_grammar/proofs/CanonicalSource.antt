@@ -158,6 +158,7 @@ module _ (P : Lexeme → Type 0) (sign : (symbol : Symbol) → P (Sign symbol)) 
     ),
   )
   command-every _ _ g.begin h = h
+  command-every _ _ g.begin_read_committed h = h
   command-every _ _ g.commit h = h
   command-every _ _ g.rollback h = h
   command-every _ _ (g.insert table a rows i) h = (sign s.Insert, (sign s.Into, (h.1.1.0, (sign s.Values, list-every comma IsTuple tuple_lexemes every-comma tuple-every i h.1.1.1.1))))

@@ -1,6 +1,6 @@
 -- What the grammar of commands derives is parsed, where nothing after it goes on with it.
-use Rattle.std.proofs.Common.{◌≡◌, ℕ, suc, ◌<◌, List, [], ◌∷◌, ◌++◌, length, map, Option, Some, None, Ok, Err, refl, sym, ap, subst, arith, ◌∙◌, append_assoc}
-use Rattle.std.specs.Prelude.{option_map}
+use Rattle.std.proofs.Common.{◌≡◌, ℕ, suc, ◌<◌, true, false, List, [], ◌∷◌, ◌++◌, length, map, Option, Some, None, Ok, Err, refl, sym, ap, subst, arith, ◌∙◌, append_assoc}
+use Rattle.std.specs.Prelude.{codes, option_map}
 use Rattle.std.proofs.lemmas.List.{append-nil, map-append, map-id}
 use Rattle.gp_base.specs.declared.cell.Cell.{Cell}
 use Rattle.gp_base.specs.declared.table.Column.{Column}
@@ -16,7 +16,7 @@ use Rattle.gp_grammar.specs.CommandGrammar as g
 use Rattle.gp_grammar.specs.CommandGrammar.{IsList, comma, union_all, IsColumn, IsLiteral, IsTuple, IsItem, IsItems, IsWhere, IsBlock, IsQuery, IsSetTerm, IsCommand, session_of, IsSessionCommand, Closed}
 use Rattle.gp_grammar.specs.Parsing.{Outcome, Parser, ◌>>=◌, by_option, strip, expect, identifier, term}
 use Rattle.gp_grammar.specs.CommandParsing as c
-use Rattle.gp_grammar.specs.CommandParsing.{◌then◌, where_next, accept, many, push, separated, in_brackets, named, closed}
+use Rattle.gp_grammar.specs.CommandParsing.{◌then◌, where_next, accept, strip_word, expect_word, many, push, separated, in_brackets, named, closed}
 use Rattle.gp_grammar.proofs.Completeness.{term-complete, first_binds}
 use Rattle.gp_grammar.proofs.Shrinking.{Below, Shrinks, Keeps, shrinks-keeps, keeps-accept, shrinks-bind, keeps-bind, keeps-next, shrinks-then, shrinks-identifier, shrinks-term, many-none, many-some, shrinks-separated, shrinks-in_brackets}
 
@@ -329,10 +329,32 @@ delete-of : (table : Bytes) (ts rest : Lexemes) (cond : Option Term) → c.condi
 unfolding c.delete expect
 delete-of table ts rest cond e = ap (λ p. p >>= (λ r. Ok (syntax.delete table r.0, r.1))) e
 
+-- where no name may follow, no word does
+no-word : (text : Bytes) (rest : Lexemes) → NoAlias rest → strip_word text rest ≡ None
+no-word text [] h = refl
+no-word text (Word name ∷ ts) h = let e : length ts ≡ suc (length ts) = ap left (h []) in absurd (omega arith)
+  where
+    left : Outcome (Item × Lexemes) → ℕ
+    left (Ok r) = length r.1
+    left (Err rest) = 0
+no-word text (Sign symbol ∷ ts) h = refl
+no-word text (Number n ∷ ts) h = refl
+no-word text (Big ∷ ts) h = refl
+no-word text (Text bytes ∷ ts) h = refl
+
+begin-of : (rest : Lexemes) → strip_word (codes "read") rest ≡ None → c.begin rest ≡ Ok (syntax.begin false, rest)
+unfolding c.begin
+begin-of rest n = ap (λ o. by_option o (Ok (syntax.begin false, rest)) (expect_word (codes "committed") (accept (syntax.begin true)))) n
+
+begin_read_committed-of : (rest : Lexemes) → c.begin (Word (codes "read") ∷ Word (codes "committed") ∷ rest) ≡ Ok (syntax.begin true, rest)
+unfolding c.begin
+begin_read_committed-of rest = refl
+
 pub command-complete : (a : Lexemes) (x : Command) → IsCommand a x → (rest : Lexemes) → EndsQuery rest → c.command (a ++ rest) ≡ Ok (capped_command x, rest)
 command-complete _ _ (g.create name a cols i) rest h = create-of name _ rest cols (in_brackets-complete (separated c.column) a rest cols
     (separated-exact IsColumn c.column shrinks-column Anything (λ ts. tt) column-complete a cols i (Sign s.Close ∷ rest) tt refl))
-command-complete _ _ g.begin rest h = refl
+command-complete _ _ g.begin rest h = begin-of rest (no-word (codes "read") rest h.block.no_alias)
+command-complete _ _ g.begin_read_committed rest h = begin_read_committed-of rest
 command-complete _ _ g.commit rest h = refl
 command-complete _ _ g.rollback rest h = refl
 command-complete _ _ (g.insert table a rows i) rest h = insert-of table (a ++ rest) rest rows

@@ -1,6 +1,6 @@
 -- No lexeme after a fault matters to the parser of commands.
-use Rattle.std.proofs.Common.{◌≡◌, ℕ, zero, suc, pos, negsuc, [], ◌∷◌, Option, Some, None, Ok, Err, refl, subst}
-use Rattle.std.specs.Prelude.{option_map, ◌^◌, ◌-◌}
+use Rattle.std.proofs.Common.{◌≡◌, ℕ, zero, suc, pos, negsuc, true, false, [], ◌∷◌, Option, Some, None, Ok, Err, refl, subst}
+use Rattle.std.specs.Prelude.{codes, option_map, ◌^◌, ◌-◌}
 use Rattle.gp_base.specs.declared.cell.Cell.{Cell}
 use Rattle.gp_base.specs.declared.cell.Cell.TheVariants as cell
 use Rattle.gp_base.specs.declared.table.Kind.TheVariants as kind
@@ -13,11 +13,11 @@ use Rattle.gp_grammar.specs.Syntax.{Lexemes, Bytes, Term, SetTerm, Item, Items, 
 use Rattle.gp_grammar.specs.CommandGrammar.{session_of}
 use Rattle.gp_grammar.specs.Parsing.{Parser, ◌>>=◌, by_option, expect, identifier, term}
 use Rattle.gp_grammar.specs.CommandParsing as c
-use Rattle.gp_grammar.specs.CommandParsing.{◌then◌, where_next, fail, accept, many, push, separated, in_brackets, named, closed}
+use Rattle.gp_grammar.specs.CommandParsing.{◌then◌, where_next, fail, accept, expect_word, many, push, separated, in_brackets, named, closed}
 use Rattle.gp_grammar.proofs.CommandCompleteness.{shrinks-literal, shrinks-tuple, shrinks-column, shrinks-item, shrinks-all, shrinks-set_term}
 use Rattle.gp_grammar.proofs.Shrinking.{shrinks-term}
 use Rattle.gp_grammar.proofs.Locality.{Local, local-ok, local-bind, local-err, local-expect, local-identifier, local-term}
-use Rattle.gp_grammar.proofs.LocalCombinators.{first_choice, local-next-all, local-first-all, local-many, local-separated, local-in_brackets, local-closed}
+use Rattle.gp_grammar.proofs.LocalCombinators.{first_choice, local-next-all, local-word-all, local-first-all, local-many, local-separated, local-in_brackets, local-closed}
 
 some-is : {A : Type 0} (a b : A) → Some a ≡ Some b → a ≡ b
 some-is a b h = cc
@@ -87,7 +87,7 @@ selected ts = c.query ts >>= (λ r. Ok (syntax.select r.0, r.1))
 
 abbrev command_symbol : Symbol → Option (Parser Command)
 command_symbol s.Create = Some c.create
-command_symbol s.Begin = Some (accept syntax.begin)
+command_symbol s.Begin = Some c.begin
 command_symbol s.Commit = Some (accept syntax.Command.commit)
 command_symbol s.Rollback = Some (accept syntax.rollback)
 command_symbol s.Insert = Some c.insert
@@ -249,9 +249,15 @@ module _ (t : Lexeme) (m m' : Lexemes) where
   local-delete n = local-expect t m m' n s.From _ (local-bind t m m' n identifier _ (local-identifier t m m' n) (λ table.
       local-bind t m m' n c.condition _ (local-condition n) (λ cond. local-ok t m m' n (syntax.delete table cond))))
 
+  local-begin : IsLocal c.begin
+  unfolding c.begin
+  local-begin = local-word-all t m m' (codes "read") (expect_word (codes "committed") (accept (syntax.begin true))) (accept (syntax.begin false))
+      (local-word-all t m m' (codes "committed") (accept (syntax.begin true)) fail (λ n. local-ok t m m' n (syntax.begin true)) (λ n. local-err t m m' n))
+      (λ n. local-ok t m m' n (syntax.begin false))
+
   command_symbol-chosen : (n : ℕ) (symbol : Symbol) (p : Parser Command) → command_symbol symbol ≡ Some p → Local t m m' n p
   command_symbol-chosen n s.Create p e = is_local-is n _ p (local-create n) e
-  command_symbol-chosen n s.Begin p e = is_local-is n _ p (local-ok t m m' n syntax.begin) e
+  command_symbol-chosen n s.Begin p e = is_local-is n _ p (local-begin n) e
   command_symbol-chosen n s.Commit p e = is_local-is n _ p (local-ok t m m' n syntax.Command.commit) e
   command_symbol-chosen n s.Rollback p e = is_local-is n _ p (local-ok t m m' n syntax.rollback) e
   command_symbol-chosen n s.Insert p e = is_local-is n _ p (local-insert n) e

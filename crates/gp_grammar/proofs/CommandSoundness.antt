@@ -1,5 +1,5 @@
 -- The parser of commands is sound, and what it leaves before a fault begins a command.
-use Rattle.std.proofs.Common.{◌≡◌, ℕ, zero, suc, List, [], ◌∷◌, ◌++◌, Option, Some, None, Ok, Err, refl}
+use Rattle.std.proofs.Common.{◌≡◌, ℕ, zero, suc, true, false, List, [], ◌∷◌, ◌++◌, Option, Some, None, Ok, Err, refl}
 use Rattle.std.specs.Prelude.{codes}
 use Rattle.std.proofs.lemmas.List.{append-nil}
 use Rattle.gp_base.specs.declared.cell.Cell.TheVariants as cell
@@ -13,12 +13,12 @@ use Rattle.gp_grammar.specs.CommandGrammar as g
 use Rattle.gp_grammar.specs.CommandGrammar.{IsList, comma, union_all, IsColumn, IsLiteral, IsTuple, IsItem, IsCommand, session_of, Closed}
 use Rattle.gp_grammar.specs.Parsing.{◌>>=◌, by_option, identifier, term}
 use Rattle.gp_grammar.specs.CommandParsing as c
-use Rattle.gp_grammar.specs.CommandParsing.{◌then◌, accept, separated, push, named}
+use Rattle.gp_grammar.specs.CommandParsing.{◌then◌, accept, expect_word, separated, push, named}
 use Rattle.gp_grammar.proofs.Building.{BuildsTerm}
 use Rattle.gp_grammar.proofs.CommandBuilding as built
 use Rattle.gp_grammar.proofs.CommandBuilding.{BuildsWhere, BuildsItems, BuildsBlock, BuildsQuery, BuildsSetTerm, BuildsCommand, BuildsSession, as_is}
 use Rattle.gp_grammar.proofs.Soundness.{Sentence, Sound, sound-ok, sound-err, sound-shift, sound-bind, sound-phrase, expect-sound, identifier-sound, term-sound}
-use Rattle.gp_grammar.proofs.SoundCombinators.{next-sound, list-sound, separated-sound, in_brackets-sound, closed-sound}
+use Rattle.gp_grammar.proofs.SoundCombinators.{next-sound, word-sound, expect_word-sound, list-sound, separated-sound, in_brackets-sound, closed-sound}
 
 -- ---- literals and tuples
 
@@ -159,12 +159,19 @@ delete-sound ts = expect-sound s.From (λ b y. BuildsCommand (Sign s.Delete ∷ 
     sound-bind BuildsWhere (λ b y. BuildsCommand (Sign s.Delete ∷ Sign s.From ∷ Word table ∷ b) y) ts2 (c.condition ts2) _ (condition-sound ts2)
     (λ w ts3 cond i. sound-ok _ ts3 (syntax.delete table cond) (rw append-nil (built.delete table w cond i)))))
 
+begin-sound : (ts : Lexemes) → Sound (λ b y. BuildsCommand (Sign s.Begin ∷ b) y) ts (c.begin ts)
+unfolding c.begin
+begin-sound ts = word-sound (codes "read") (λ b y. BuildsCommand (Sign s.Begin ∷ b) y) (expect_word (codes "committed") (accept (syntax.begin true))) (accept (syntax.begin false)) ts
+    (λ ts1. expect_word-sound (codes "committed") (λ b y. BuildsCommand (Sign s.Begin ∷ Word (codes "read") ∷ b) y) (accept (syntax.begin true)) ts1
+    (λ ts2. sound-ok _ ts2 (syntax.begin true) (as_is _ _ g.begin_read_committed refl)))
+    (sound-ok _ ts (syntax.begin false) (as_is _ _ g.begin refl))
+
 a_begin : Sentence BuildsCommand
-a_begin = record { lexemes = Sign s.Begin ∷ []; tree = syntax.begin; is = as_is _ _ g.begin refl }
+a_begin = record { lexemes = Sign s.Begin ∷ []; tree = syntax.begin false; is = as_is _ _ g.begin refl }
 
 command_by-sound : (symbol : Symbol) (ts : Lexemes) → Sound BuildsCommand (Sign symbol ∷ ts) (c.command_by symbol (Sign symbol ∷ ts) ts)
 command_by-sound s.Create ts = sound-shift BuildsCommand (Sign s.Create ∷ []) ts (c.create ts) (create-sound ts)
-command_by-sound s.Begin ts = record { used = Sign s.Begin ∷ []; split = refl; is = as_is _ _ g.begin refl }
+command_by-sound s.Begin ts = sound-shift BuildsCommand (Sign s.Begin ∷ []) ts (c.begin ts) (begin-sound ts)
 command_by-sound s.Commit ts = record { used = Sign s.Commit ∷ []; split = refl; is = as_is _ _ g.commit refl }
 command_by-sound s.Rollback ts = record { used = Sign s.Rollback ∷ []; split = refl; is = as_is _ _ g.rollback refl }
 command_by-sound s.Insert ts = sound-shift BuildsCommand (Sign s.Insert ∷ []) ts (c.insert ts) (insert-sound ts)
@@ -185,7 +192,7 @@ command-sound (Text bytes ∷ ts) = sound-err BuildsCommand _ a_begin
 -- ---- script lines
 
 a_line : Sentence BuildsSession
-a_line = record { lexemes = Word (codes "s1") ∷ Sign s.Colon ∷ Sign s.Begin ∷ []; tree = _; is = built.in_session (codes "s1") 1 (Sign s.Begin ∷ []) syntax.begin refl (as_is _ _ g.begin refl) }
+a_line = record { lexemes = Word (codes "s1") ∷ Sign s.Colon ∷ Sign s.Begin ∷ []; tree = _; is = built.in_session (codes "s1") 1 (Sign s.Begin ∷ []) (syntax.begin false) refl (as_is _ _ g.begin refl) }
 
 session-sound : (name : Bytes) (ts : Lexemes) (o : Option ℕ) → session_of name ≡ o
     → Sound BuildsSession (Word name ∷ ts) (by_option o (Err (Word name ∷ ts)) (λ session. c.in_session session ts))

@@ -38,12 +38,12 @@ leading_zero : whole c.script_line (Word (codes "s01") ∷ Sign s.Colon ∷ Sign
 leading_zero = refl
 
 -- `s64: BEGIN;`, and a second semicolon
-session_64 : whole c.script_line (Word (codes "s64") ∷ Sign s.Colon ∷ Sign s.Begin ∷ Sign s.Semicolon ∷ []) ≡ Ok (record { session = 64; command = y.begin })
-unfolding p.expect
+session_64 : whole c.script_line (Word (codes "s64") ∷ Sign s.Colon ∷ Sign s.Begin ∷ Sign s.Semicolon ∷ []) ≡ Ok (record { session = 64; command = y.begin false })
+unfolding p.expect c.begin
 session_64 = refl
 
 second_semicolon : whole c.script_line (Word (codes "s1") ∷ Sign s.Colon ∷ Sign s.Begin ∷ Sign s.Semicolon ∷ Sign s.Semicolon ∷ []) ≡ Err (Sign s.Semicolon ∷ [])
-unfolding p.expect
+unfolding p.expect c.begin
 second_semicolon = refl
 
 -- the least number is a sign and the big number, and the big number alone is none
@@ -116,6 +116,24 @@ canonical_update : option_map command_text (result_ok (r.command_of (codes "upda
     ≡ Some (codes "UPDATE r SET b = (((-b) * c) + 'x') WHERE (((NOT (a = b)) AND (b IS NULL)) OR (a <> c))")
 unfolding is_utf8 chars lib.Utf8.encode lex.lexed lex.lexed_from lex.lexeme_at lex.word_at lex.reserved_word symbol_text lex.number_at lex.sign_at p.expect c.update c.set_term c.separated c.many c.repeat c.condition p.term p.term_within p.joined p.chain p.chain_within p.negation p.full_test p.factor p.column p.brackets p.value_test cap.binary cap.neg cap.not cap.is_null written
 canonical_update = refl
+
+-- `BEGIN READ COMMITTED` in letters of either case, and a transaction of that kind is written in capitals
+read_committed : r.script_line_of (codes "s1: begin Read COMMITTED;") ≡ Ok (record { session = 1; command = y.begin true })
+unfolding is_utf8 chars lib.Utf8.encode lex.lexed lex.lexed_from lex.lexeme_at lex.word_at lex.reserved_word symbol_text lex.number_at lex.sign_at p.expect c.begin
+read_committed = refl
+
+canonical_read_committed : option_map command_text (result_ok (r.command_of (codes "begin read committed"))) ≡ Some (codes "BEGIN READ COMMITTED")
+unfolding is_utf8 chars lib.Utf8.encode lex.lexed lex.lexed_from lex.lexeme_at lex.word_at lex.reserved_word symbol_text lex.number_at lex.sign_at p.expect c.begin
+canonical_read_committed = refl
+
+-- both words are needed, and in this order
+only_read : r.script_line_of (codes "s1: BEGIN READ") ≡ Err (r.syntax 15)
+unfolding is_utf8 chars lib.Utf8.encode lex.lexed lex.lexed_from lex.lexeme_at lex.word_at lex.reserved_word symbol_text lex.number_at lex.sign_at p.expect c.begin
+only_read = refl
+
+only_committed : r.script_line_of (codes "s1: BEGIN COMMITTED") ≡ Err (r.syntax 11)
+unfolding is_utf8 chars lib.Utf8.encode lex.lexed lex.lexed_from lex.lexeme_at lex.word_at lex.reserved_word symbol_text lex.number_at lex.sign_at p.expect c.begin
+only_committed = refl
 
 -- 61 open brackets are too deep, 60 are not, and one that closes makes room
 too_deep : is_too_deep MAX_OPEN (replicate 61 (Sign s.Open)) ≡ true

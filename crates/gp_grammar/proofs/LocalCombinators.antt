@@ -6,8 +6,8 @@ use Rattle.gp_lexer.specs.declared.lexeme.Lexeme.{Lexeme}
 use Rattle.gp_lexer.specs.declared.lexeme.Lexeme.TheVariants.{Symbol as Sign, Word, Number, Big, Text}
 use Rattle.gp_grammar.specs.Syntax.{Lexemes, Bytes}
 use Rattle.gp_grammar.specs.Parsing.{Parser, ◌>>=◌, by_option, is_symbol, strip}
-use Rattle.gp_grammar.specs.CommandParsing.{where_next, fail, accept, many, push, separated, in_brackets, closed}
-use Rattle.gp_grammar.specs.QuestionParsing.{is_word, where_word, number_if}
+use Rattle.gp_grammar.specs.CommandParsing.{where_next, fail, accept, is_word, where_word, many, push, separated, in_brackets, closed}
+use Rattle.gp_grammar.specs.QuestionParsing.{number_if}
 use Rattle.gp_grammar.proofs.Shrinking.{Shrinks, many_step, many-unfolds}
 use Rattle.gp_grammar.proofs.Locality.{Local, Same, Past, NotLonger, not_longer-less, not_longer-past, local-weaken, local-ok, local-bind, local-err, local-expect, here, there, after, along-by, local-same}
 

@@ -16,9 +16,9 @@ use Rattle.gp_grammar.specs.CommandGrammar.{IsList, comma, IsQuery, Closed}
 use Rattle.gp_grammar.specs.QuestionGrammar as g
 use Rattle.gp_grammar.specs.QuestionGrammar.{IsState, IsSemiring, IsPattern, IsRule, IsRules, IsHow, IsOpenQuestion, pattern_name}
 use Rattle.gp_grammar.specs.Parsing.{Outcome, Parser, ◌>>=◌, by_option, strip, expect, identifier}
-use Rattle.gp_grammar.specs.CommandParsing.{◌then◌, where_next, accept, push, query}
+use Rattle.gp_grammar.specs.CommandParsing.{◌then◌, where_next, accept, strip_word, where_word, expect_word, push, query}
 use Rattle.gp_grammar.specs.QuestionParsing as q
-use Rattle.gp_grammar.specs.QuestionParsing.{strip_word, where_word, expect_word, number_if, number, pattern_of}
+use Rattle.gp_grammar.specs.QuestionParsing.{number_if, number, pattern_of}
 use Rattle.gp_grammar.proofs.Agreement.{Agree, agree-refl, agree-bind, agree-weaken, strip-less}
 use Rattle.gp_grammar.proofs.Shrinking.{Below, Shrinks, Keeps, shrinks-keeps, keeps-accept, shrinks-bind, keeps-bind, keeps-next, shrinks-then}
 use Rattle.gp_grammar.proofs.CommandCompleteness.{EndsQuery, query-complete, closed-complete}

@@ -12,9 +12,9 @@ use Rattle.gp_grammar.specs.Syntax as syntax
 use Rattle.gp_grammar.specs.Syntax.{Lexemes, Bytes, Pattern, Rule, rule_of, Rules, How, Question}
 use Rattle.gp_grammar.specs.QuestionGrammar.{pattern_name}
 use Rattle.gp_grammar.specs.Parsing.{Outcome, Parser, ◌>>=◌, by_option, identifier}
-use Rattle.gp_grammar.specs.CommandParsing.{◌then◌, where_next, fail, accept, push, query}
+use Rattle.gp_grammar.specs.CommandParsing.{◌then◌, where_next, fail, accept, where_word, expect_word, push, query}
 use Rattle.gp_grammar.specs.QuestionParsing as q
-use Rattle.gp_grammar.specs.QuestionParsing.{where_word, expect_word, number_if, number, pattern_of}
+use Rattle.gp_grammar.specs.QuestionParsing.{number_if, number, pattern_of}
 use Rattle.gp_grammar.proofs.QuestionCompleteness.{after_rule, rules_from-unfolds}
 use Rattle.gp_grammar.proofs.Locality.{Local, local-ok, local-bind, local-err, local-expect, local-identifier, local-same}
 use Rattle.gp_grammar.proofs.LocalCombinators.{first_choice, local-zero, local-next, local-next-all, local-word-all, local-number, local-first-all, local-closed}

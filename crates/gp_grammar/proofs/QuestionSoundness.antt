@@ -3,9 +3,7 @@ use Rattle.std.proofs.Common.{◌≡◌, ℕ, zero, suc, ◌≤◌, Bool, true, 
 use Rattle.std.specs.Prelude.{codes, nat_le}
 use Rattle.std.proofs.lemmas.List.{append-nil}
 use Rattle.std.proofs.lemmas.Bool.{leb-true}
-use Rattle.std.proofs.lemmas.Slice.Eq.{bytes_eq-Decides}
 use Rattle.gp_lexer.specs.declared.lexeme.Symbol.TheVariants as s
-use Rattle.gp_lexer.specs.declared.lexeme.Lexeme.{Lexeme}
 use Rattle.gp_lexer.specs.declared.lexeme.Lexeme.TheVariants.{Symbol as Sign, Word, Number, Big, Text}
 use Rattle.gp_grammar.specs.declared.semiring_name.SemiringName.TheVariants as semiring
 use Rattle.gp_grammar.specs.declared.token_kind.TokenKind.{TokenKind}
@@ -18,55 +16,20 @@ use Rattle.gp_grammar.specs.CommandGrammar as l
 use Rattle.gp_grammar.specs.CommandGrammar.{IsList, comma, Closed}
 use Rattle.gp_grammar.specs.QuestionGrammar as g
 use Rattle.gp_grammar.specs.QuestionGrammar.{IsState, IsSemiring, IsPattern, IsRule, IsRules, IsHow, IsOpenQuestion, pattern_name}
-use Rattle.gp_grammar.specs.Parsing.{Outcome, Parser, ◌>>=◌, by_option, identifier}
-use Rattle.gp_grammar.specs.CommandParsing.{◌then◌, where_next, fail, accept, push, query}
+use Rattle.gp_grammar.specs.Parsing.{Outcome, ◌>>=◌, by_option, identifier}
+use Rattle.gp_grammar.specs.CommandParsing.{◌then◌, where_next, fail, accept, where_word, expect_word, push, query}
 use Rattle.gp_grammar.specs.QuestionParsing as q
-use Rattle.gp_grammar.specs.QuestionParsing.{is_word, strip_word, where_word, expect_word, number_if, number, pattern_of}
+use Rattle.gp_grammar.specs.QuestionParsing.{number_if, number, pattern_of}
 use Rattle.gp_grammar.specs.Laws.{Built}
 use Rattle.gp_grammar.proofs.CommandBuilding.{BuildsQuery}
-use Rattle.gp_grammar.proofs.Soundness.{Sentence, Sound, sentence, sound-ok, sound-err, sound-at, sound-shift, sound-bind, sound-phrase, expect-sound, identifier-sound}
-use Rattle.gp_grammar.proofs.SoundCombinators.{next-sound, closed-sound}
+use Rattle.gp_grammar.proofs.Soundness.{Sentence, Sound, sound-ok, sound-err, sound-shift, sound-bind, sound-phrase, expect-sound, identifier-sound}
+use Rattle.gp_grammar.proofs.SoundCombinators.{next-sound, word-sound, expect_word-sound, closed-sound}
 use Rattle.gp_grammar.proofs.CommandSoundness.{query-sound}
 
 abbrev pub BuildsQuestion : Lexemes → Question → Type 0
 BuildsQuestion = Built IsOpenQuestion capped_question
 
--- ---- words and numbers
-
-same-word : (text : Bytes) (t : Lexeme) → is_word text t ≡ true → t ≡ Word text
-same-word text (Word word) h = ap (λ z. Word z) (sym ((bytes_eq-Decides text word).0 h))
-same-word text (Sign symbol) h = cc
-same-word text (Number n) h = cc
-same-word text Big h = cc
-same-word text (Text bytes) h = cc
-
-if-some : (b : Bool) (ts rest : Lexemes) → cond b (Some ts) None ≡ Some rest → (b ≡ true) × (ts ≡ rest)
-if-some true ts rest h = (refl, cc)
-if-some false ts rest h = cc
-
-word-split : (text : Bytes) (ts rest : Lexemes) → strip_word text ts ≡ Some rest → ts ≡ Word text ∷ rest
-word-split text [] rest h = cc
-word-split text (t ∷ ts) rest h =
-    let w : (is_word text t ≡ true) × (ts ≡ rest) = if-some (is_word text t) ts rest h in
-    let a : t ≡ Word text = same-word text t w.0 in
-    let b : ts ≡ rest = w.1 in
-    cc
-
-option-sound : {B : Type 0} (text : Bytes) (Q : Lexemes → B → Type 0) (some none : Parser B) (ts : Lexemes) (o : Option Lexemes) → strip_word text ts ≡ o
-    → ((rest : Lexemes) → Sound (λ b y. Q (Word text ∷ b) y) rest (some rest)) → Sound Q ts (none ts) → Sound Q ts (by_option o (none ts) some)
-option-sound text Q some none ts None e k n = n
-option-sound text Q some none ts (Some rest) e k n =
-    sound-at Q ts (Word text ∷ rest) (some rest) (word-split text ts rest e) (sound-shift Q (Word text ∷ []) rest (some rest) (k rest))
-
-word-sound : {B : Type 0} (text : Bytes) (Q : Lexemes → B → Type 0) (some none : Parser B) (ts : Lexemes)
-    → ((rest : Lexemes) → Sound (λ b y. Q (Word text ∷ b) y) rest (some rest)) → Sound Q ts (none ts) → Sound Q ts (where_word text some none ts)
-word-sound text Q some none ts k n = option-sound text Q some none ts (strip_word text ts) refl k n
-
-expect_word-sound : {B : Type 0} (text : Bytes) (Q : Lexemes → B → Type 0) (some : Parser B) (ts : Lexemes)
-    → ((rest : Lexemes) → Sound (λ b y. Q (Word text ∷ b) y) rest (some rest)) → Sound Q ts (expect_word text some ts)
-expect_word-sound text Q some ts k =
-    let w : Sentence (λ b y. Q (Word text ∷ b) y) = sentence (λ b y. Q (Word text ∷ b) y) [] (some []) (k []) in
-    word-sound text Q some fail ts k (sound-err Q ts (record { lexemes = Word text ∷ w.lexemes; tree = w.tree; is = w.is }))
+-- ---- numbers
 
 record IsNumber (fits : ℕ → Bool) (ts : Lexemes) (n : ℕ) : Type 0 where
   is : ts ≡ Number n ∷ []

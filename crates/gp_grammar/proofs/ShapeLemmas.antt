@@ -193,7 +193,7 @@ update-terms sets cond =
 
 pub command-shape : (c : Command) → command_shape (capped_command c) ≡ capped_shape (command_shape c)
 command-shape (syntax.create table) = refl
-command-shape syntax.begin = refl
+command-shape (syntax.begin read_committed) = refl
 command-shape syntax.Command.commit = refl
 command-shape syntax.rollback = refl
 command-shape (syntax.insert table rows) = refl
@@ -209,7 +209,7 @@ exact-sets (x ∷ sets) h = ap (λ z. record { col = x.col; term = z } ∷ map c
 
 exact-command : (c : Command) → AreExact (command_shape c).terms → capped_command c ≡ c
 exact-command (syntax.create table) h = refl
-exact-command syntax.begin h = refl
+exact-command (syntax.begin read_committed) h = refl
 exact-command syntax.Command.commit h = refl
 exact-command syntax.rollback h = refl
 exact-command (syntax.insert table rows) h = refl

@@ -1,15 +1,17 @@
--- Soundness of options, lists and closed phrases.
-use Rattle.std.proofs.Common.{◌≡◌, ℕ, zero, suc, List, [], ◌∷◌, ◌++◌, length, Option, Some, None, Ok, refl, subst, append_assoc}
+-- Soundness of options, words, lists and closed phrases.
+use Rattle.std.proofs.Common.{◌≡◌, ℕ, zero, suc, Bool, true, false, cond, List, [], ◌∷◌, ◌++◌, length, Option, Some, None, Ok, refl, sym, ap, subst, append_assoc}
 use Rattle.std.proofs.lemmas.List.{append-nil}
+use Rattle.std.proofs.lemmas.Slice.Eq.{bytes_eq-Decides}
 use Rattle.gp_lexer.specs.declared.lexeme.Symbol.{Symbol}
 use Rattle.gp_lexer.specs.declared.lexeme.Symbol.TheVariants as s
-use Rattle.gp_lexer.specs.declared.lexeme.Lexeme.TheVariants.{Symbol as Sign}
-use Rattle.gp_grammar.specs.Syntax.{Lexemes}
+use Rattle.gp_lexer.specs.declared.lexeme.Lexeme.{Lexeme}
+use Rattle.gp_lexer.specs.declared.lexeme.Lexeme.TheVariants.{Symbol as Sign, Word, Number, Big, Text}
+use Rattle.gp_grammar.specs.Syntax.{Lexemes, Bytes}
 use Rattle.gp_grammar.specs.CommandGrammar as g
 use Rattle.gp_grammar.specs.CommandGrammar.{IsList, comma, Closed}
 use Rattle.gp_grammar.specs.Parsing.{Outcome, Parser, ◌>>=◌, by_option, strip}
-use Rattle.gp_grammar.specs.CommandParsing.{where_next, accept, repeat, many, push, separated, in_brackets, closed}
-use Rattle.gp_grammar.proofs.Soundness.{Sound, sound-ok, sound-at, sound-shift, sound-bind, sound-phrase, expect-sound, strip-split}
+use Rattle.gp_grammar.specs.CommandParsing.{where_next, fail, accept, is_word, strip_word, where_word, expect_word, repeat, many, push, separated, in_brackets, closed}
+use Rattle.gp_grammar.proofs.Soundness.{Sentence, Sound, sentence, sound-ok, sound-err, sound-at, sound-shift, sound-bind, sound-phrase, expect-sound, strip-split}
 
 option-sound : {B : Type 0} (symbol : Symbol) (Q : Lexemes → B → Type 0) (some none : Parser B) (ts : Lexemes) (o : Option Lexemes) → strip symbol ts ≡ o
     → ((rest : Lexemes) → Sound (λ b y. Q (Sign symbol ∷ b) y) rest (some rest)) → Sound Q ts (none ts) → Sound Q ts (by_option o (none ts) some)
@@ -20,6 +22,45 @@ option-sound symbol Q some none ts (Some rest) e k n =
 pub next-sound : {B : Type 0} (symbol : Symbol) (Q : Lexemes → B → Type 0) (some none : Parser B) (ts : Lexemes)
     → ((rest : Lexemes) → Sound (λ b y. Q (Sign symbol ∷ b) y) rest (some rest)) → Sound Q ts (none ts) → Sound Q ts (where_next symbol some none ts)
 next-sound symbol Q some none ts k n = option-sound symbol Q some none ts (strip symbol ts) refl k n
+
+-- ---- words
+
+same-word : (text : Bytes) (t : Lexeme) → is_word text t ≡ true → t ≡ Word text
+same-word text (Word word) h = ap (λ z. Word z) (sym ((bytes_eq-Decides text word).0 h))
+same-word text (Sign symbol) h = cc
+same-word text (Number n) h = cc
+same-word text Big h = cc
+same-word text (Text bytes) h = cc
+
+if-some : (b : Bool) (ts rest : Lexemes) → cond b (Some ts) None ≡ Some rest → (b ≡ true) × (ts ≡ rest)
+if-some true ts rest h = (refl, cc)
+if-some false ts rest h = cc
+
+word-split : (text : Bytes) (ts rest : Lexemes) → strip_word text ts ≡ Some rest → ts ≡ Word text ∷ rest
+word-split text [] rest h = cc
+word-split text (t ∷ ts) rest h =
+    let w : (is_word text t ≡ true) × (ts ≡ rest) = if-some (is_word text t) ts rest h in
+    let a : t ≡ Word text = same-word text t w.0 in
+    let b : ts ≡ rest = w.1 in
+    cc
+
+word_option-sound : {B : Type 0} (text : Bytes) (Q : Lexemes → B → Type 0) (some none : Parser B) (ts : Lexemes) (o : Option Lexemes) → strip_word text ts ≡ o
+    → ((rest : Lexemes) → Sound (λ b y. Q (Word text ∷ b) y) rest (some rest)) → Sound Q ts (none ts) → Sound Q ts (by_option o (none ts) some)
+word_option-sound text Q some none ts None e k n = n
+word_option-sound text Q some none ts (Some rest) e k n =
+    sound-at Q ts (Word text ∷ rest) (some rest) (word-split text ts rest e) (sound-shift Q (Word text ∷ []) rest (some rest) (k rest))
+
+pub word-sound : {B : Type 0} (text : Bytes) (Q : Lexemes → B → Type 0) (some none : Parser B) (ts : Lexemes)
+    → ((rest : Lexemes) → Sound (λ b y. Q (Word text ∷ b) y) rest (some rest)) → Sound Q ts (none ts) → Sound Q ts (where_word text some none ts)
+word-sound text Q some none ts k n = word_option-sound text Q some none ts (strip_word text ts) refl k n
+
+pub expect_word-sound : {B : Type 0} (text : Bytes) (Q : Lexemes → B → Type 0) (some : Parser B) (ts : Lexemes)
+    → ((rest : Lexemes) → Sound (λ b y. Q (Word text ∷ b) y) rest (some rest)) → Sound Q ts (expect_word text some ts)
+expect_word-sound text Q some ts k =
+    let w : Sentence (λ b y. Q (Word text ∷ b) y) = sentence (λ b y. Q (Word text ∷ b) y) [] (some []) (k []) in
+    word-sound text Q some fail ts k (sound-err Q ts (record { lexemes = Word text ∷ w.lexemes; tree = w.tree; is = w.is }))
+
+-- ---- lists, brackets and semicolons
 
 -- a list whose items begin with `symbol`, but for the first
 module _ {A : Type 0} (separator : Lexemes) (Is : Lexemes → A → Type 0) (symbol : Symbol) (Next : Lexemes → A → Type 0)

@@ -1,6 +1,6 @@
 -- Part of the statement: the canonical lexemes of a command. Every operator is in brackets, a FROM name is written where it differs
 -- from the table's, and nothing else is left to choose.
-use Rattle.std.specs.Prelude.{suc, ℤ, pos, negsuc, ◌^◌, Bool, true, false, List, [], ◌∷◌, ◌++◌, Option, Some, None, if◌then◌else◌, ◌==◌}
+use Rattle.std.specs.Prelude.{suc, ℤ, pos, negsuc, ◌^◌, Bool, true, false, List, [], ◌∷◌, ◌++◌, Option, Some, None, codes, if◌then◌else◌, ◌==◌}
 use Rattle.std.specs.List.{flat_map}
 use Rattle.std.specs.Str.{bytes_eq}
 use Rattle.gp_base.specs.declared.cell.Cell.{Cell}
@@ -109,7 +109,8 @@ set_lexemes set = Word set.col ∷ Sign s.Eq ∷ term_lexemes set.term
 
 abbrev pub command_lexemes : Command → Lexemes
 command_lexemes (y.create table) = Sign s.Create ∷ Sign s.Table ∷ Word table.name ∷ bracketed (listed_lexemes column_definition_lexemes table.cols)
-command_lexemes y.begin = Sign s.Begin ∷ []
+command_lexemes (y.begin false) = Sign s.Begin ∷ []
+command_lexemes (y.begin true) = Sign s.Begin ∷ Word (codes "read") ∷ Word (codes "committed") ∷ []
 command_lexemes y.Command.commit = Sign s.Commit ∷ []
 command_lexemes y.rollback = Sign s.Rollback ∷ []
 command_lexemes (y.insert table rows) = Sign s.Insert ∷ Sign s.Into ∷ Word table ∷ Sign s.Values ∷ listed_lexemes tuple_lexemes rows
@@ -118,6 +119,7 @@ command_lexemes (y.update table sets cond) = Sign s.Update ∷ Word table ∷ Si
 command_lexemes (y.delete table cond) = Sign s.Delete ∷ Sign s.From ∷ Word table ∷ condition_lexemes cond
 command_lexemes (y.select query) = query_lexemes query
 
--- the canonical text of a command
+-- the canonical text of a command: READ and COMMITTED are in capitals like the reserved words, though a layout writes them as names
 abbrev pub command_text : Command → Bytes
+command_text (y.begin true) = codes "BEGIN READ COMMITTED"
 command_text x = laid_out (command_lexemes x)

@@ -55,7 +55,7 @@ capped_block block = record { items = capped_items block.items; from = block.fro
 
 abbrev pub capped_command : Command → Command
 capped_command (y.create table) = y.create table
-capped_command y.begin = y.begin
+capped_command (y.begin read_committed) = y.begin read_committed
 capped_command y.Command.commit = y.Command.commit
 capped_command y.rollback = y.rollback
 capped_command (y.insert table rows) = y.insert table rows

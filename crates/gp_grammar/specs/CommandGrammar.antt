@@ -1,5 +1,5 @@
 -- Part of the statement: the grammar of commands and script lines, one constructor for each rule. Commands are from SQL (ISO/IEC 9075-2).
-use Rattle.std.specs.Prelude.{◌≡◌, ℕ, suc, pos, negsuc, ◌-◌, ◌^◌, Bool, false, List, [], ◌∷◌, ◌++◌, Option, Some, None, if◌then◌else◌, ◌&&◌, nat_le, nat_lt, ◌==◌}
+use Rattle.std.specs.Prelude.{◌≡◌, ℕ, suc, pos, negsuc, ◌-◌, ◌^◌, Bool, true, false, List, [], ◌∷◌, ◌++◌, Option, Some, None, codes, if◌then◌else◌, ◌&&◌, nat_le, nat_lt, ◌==◌}
 use Rattle.std.specs.Str.{all_ascii_digits}
 use Rattle.std.specs.Str.Parse.{digits_value}
 use Rattle.gp_base.specs.declared.cell.Cell.{Cell}
@@ -63,6 +63,7 @@ IsQuery = IsList union_all IsBlock
 pub data IsSetTerm : Lexemes → SetTerm → Type 0 where
   set_term : (col : Bytes) (a : Lexemes) (x : Term) → IsTerm a x → IsSetTerm (Word col ∷ Sign s.Eq ∷ a) (record { col = col; term = x })
 
+-- READ and COMMITTED are no reserved words, and have their meaning only after BEGIN
 pub data IsCommand : Lexemes → Command → Type 0 where
   create : (name : Bytes) (a : Lexemes) (cols : List Column) → IsList comma IsColumn a cols
       → IsCommand (Sign s.Create ∷ Sign s.Table ∷ Word name ∷ Sign s.Open ∷ (a ++ (Sign s.Close ∷ []))) (y.create (record {
@@ -70,7 +71,8 @@ pub data IsCommand : Lexemes → Command → Type 0 where
             name;
         cols = cols;
       }))
-  begin : IsCommand (Sign s.Begin ∷ []) y.begin
+  begin : IsCommand (Sign s.Begin ∷ []) (y.begin false)
+  begin_read_committed : IsCommand (Sign s.Begin ∷ Word (codes "read") ∷ Word (codes "committed") ∷ []) (y.begin true)
   commit : IsCommand (Sign s.Commit ∷ []) y.Command.commit
   rollback : IsCommand (Sign s.Rollback ∷ []) y.rollback
   insert : (table : Bytes) (a : Lexemes) (rows : List (List Cell)) → IsList comma IsTuple a rows

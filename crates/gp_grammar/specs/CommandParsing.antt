@@ -1,11 +1,13 @@
 -- Machinery: the parser of commands and script lines as a function.
-use Rattle.std.specs.Prelude.{ℕ, zero, suc, pos, negsuc, ◌-◌, ◌^◌, List, [], ◌∷◌, ◌++◌, length, Option, Some, None, Ok, Err}
+use Rattle.std.specs.Prelude.{ℕ, zero, suc, pos, negsuc, ◌-◌, ◌^◌, Bool, true, false, List, [], ◌∷◌, ◌++◌, length, Option, Some, None, Ok, Err, codes, if◌then◌else◌}
+use Rattle.std.specs.Str.{bytes_eq}
 use Rattle.gp_base.specs.declared.cell.Cell.{Cell}
 use Rattle.gp_base.specs.declared.cell.Cell.TheVariants as cell
 use Rattle.gp_base.specs.declared.table.Column.{Column}
 use Rattle.gp_base.specs.declared.table.Kind.TheVariants as kind
 use Rattle.gp_lexer.specs.declared.lexeme.Symbol.{Symbol}
 use Rattle.gp_lexer.specs.declared.lexeme.Symbol.TheVariants as s
+use Rattle.gp_lexer.specs.declared.lexeme.Lexeme.{Lexeme}
 use Rattle.gp_lexer.specs.declared.lexeme.Lexeme.TheVariants.{Symbol as Sign, Word, Number, Big, Text}
 use Rattle.gp_grammar.specs.Syntax as y
 use Rattle.gp_grammar.specs.Syntax.{Lexemes, Bytes, Term, SetTerm, Item, Items, Block, Query, Command, ScriptLine}
@@ -52,6 +54,26 @@ in_brackets p = s.Open then (λ ts. p ts >>= (λ r. (s.Close then accept r.0) r.
 -- one semicolon may follow
 abbrev pub closed : {A : Type 0} → Parser A → Parser A
 closed p ts = p ts >>= (λ r. where_next s.Semicolon (accept r.0) (accept r.0) r.1)
+
+-- ---- words
+
+abbrev pub is_word : Bytes → Lexeme → Bool
+is_word text (Word word) = bytes_eq text word
+is_word text (Sign symbol) = false
+is_word text (Number n) = false
+is_word text Big = false
+is_word text (Text bytes) = false
+
+-- the lexemes after this word, where it is the first
+abbrev pub strip_word : Bytes → Lexemes → Option Lexemes
+strip_word text [] = None
+strip_word text (t ∷ ts) = if is_word text t then Some ts else None
+
+abbrev pub where_word : {A : Type 0} → Bytes → Parser A → Parser A → Parser A
+where_word text some none = λ ts. by_option (strip_word text ts) (none ts) some
+
+abbrev pub expect_word : {A : Type 0} → Bytes → Parser A → Parser A
+expect_word text p = where_word text p fail
 
 -- ---- commands
 
@@ -147,9 +169,13 @@ update ts = do
 unfoldable pub delete : Parser Command
 delete = s.From then (λ ts. identifier ts >>= (λ table. condition table.1 >>= (λ cond. Ok (y.delete table.0 cond.0, cond.1))))
 
+-- what a BEGIN begins
+unfoldable pub begin : Parser Command
+begin = where_word (codes "read") (expect_word (codes "committed") (accept (y.begin true))) (accept (y.begin false))
+
 abbrev pub command_by : Symbol → Lexemes → Parser Command
 command_by s.Create whole ts = create ts
-command_by s.Begin whole ts = Ok (y.begin, ts)
+command_by s.Begin whole ts = begin ts
 command_by s.Commit whole ts = Ok (y.Command.commit, ts)
 command_by s.Rollback whole ts = Ok (y.rollback, ts)
 command_by s.Insert whole ts = insert ts

@@ -72,7 +72,7 @@ term_shape x = shape_of_terms (x ∷ [])
 
 abbrev pub command_shape : Command → Shape
 command_shape (y.create table) = record { columns = length table.cols ∷ []; from = []; branches = 0; values = 0; terms = [] }
-command_shape y.begin = shape_of_terms []
+command_shape (y.begin read_committed) = shape_of_terms []
 command_shape y.Command.commit = shape_of_terms []
 command_shape y.rollback = shape_of_terms []
 command_shape (y.insert table rows) = record { columns = []; from = []; branches = 0; values = length rows; terms = [] }

@@ -1,8 +1,6 @@
 -- Machinery: the parser of questions as a function.
 use Rattle.std.specs.Prelude.{ℕ, zero, suc, Bool, true, false, List, [], ◌∷◌, length, Option, Some, None, Ok, Err, codes, if◌then◌else◌, nat_le}
-use Rattle.std.specs.Str.{bytes_eq}
 use Rattle.gp_lexer.specs.declared.lexeme.Symbol.TheVariants as s
-use Rattle.gp_lexer.specs.declared.lexeme.Lexeme.{Lexeme}
 use Rattle.gp_lexer.specs.declared.lexeme.Lexeme.TheVariants.{Symbol as Sign, Word, Number, Big, Text}
 use Rattle.gp_grammar.specs.declared.semiring_name.SemiringName.{SemiringName}
 use Rattle.gp_grammar.specs.declared.semiring_name.SemiringName.TheVariants as semiring
@@ -13,27 +11,9 @@ use Rattle.gp_grammar.specs.Syntax as y
 use Rattle.gp_grammar.specs.Syntax.{Lexemes, Bytes, State, Pattern, Rule, rule_of, Rules, How, Question}
 use Rattle.gp_grammar.specs.QuestionGrammar.{pattern_name}
 use Rattle.gp_grammar.specs.Parsing.{Parser, ◌>>=◌, by_option, expect, identifier}
-use Rattle.gp_grammar.specs.CommandParsing.{◌then◌, where_next, fail, accept, push, query, closed}
+use Rattle.gp_grammar.specs.CommandParsing.{◌then◌, where_next, fail, accept, where_word, expect_word, push, query, closed}
 
--- ---- words and numbers
-
-abbrev pub is_word : Bytes → Lexeme → Bool
-is_word text (Word word) = bytes_eq text word
-is_word text (Sign symbol) = false
-is_word text (Number n) = false
-is_word text Big = false
-is_word text (Text bytes) = false
-
--- the lexemes after this word, where it is the first
-abbrev pub strip_word : Bytes → Lexemes → Option Lexemes
-strip_word text [] = None
-strip_word text (t ∷ ts) = if is_word text t then Some ts else None
-
-abbrev pub where_word : {A : Type 0} → Bytes → Parser A → Parser A → Parser A
-where_word text some none = λ ts. by_option (strip_word text ts) (none ts) some
-
-abbrev pub expect_word : {A : Type 0} → Bytes → Parser A → Parser A
-expect_word text p = where_word text p fail
+-- ---- numbers
 
 -- a number for which the test holds
 abbrev pub number_if : (ℕ → Bool) → Parser ℕ

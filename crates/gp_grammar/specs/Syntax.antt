@@ -50,9 +50,11 @@ pub record Block : Type 0 where
 abbrev pub Query : Type 0
 Query = List Block
 
+-- a command; the transaction that BEGIN begins reads committed where the flag is true
 pub data Command : Type 0 where
   create : Table → Command
-  begin commit rollback : Command
+  begin : Bool → Command
+  commit rollback : Command
   insert : Bytes → List (List Cell) → Command
   insert_select : Bytes → Query → Command
   update : Bytes → List SetTerm → Option Term → Command
