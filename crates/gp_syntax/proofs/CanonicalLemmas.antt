@@ -1,11 +1,11 @@
 -- What is written lexeme by lexeme, part by part.
-use Rattle.std.proofs.Common.{◌≡◌, ℕ, suc, ℤ, pos, negsuc, ◌+◌, ◌^◌, ◌<◌, ◌<ℤ◌, ◌≤ℤ◌, unsigned_abs, Bool, true, false, cond, eqb, List, [], ◌∷◌, ◌++◌, length, map, take, get_or, refl, ap, sym, ◌∙◌, append-nil, add-one, arith}
+use Rattle.std.proofs.Common.{◌≡◌, ℕ, suc, ℤ, pos, negsuc, ◌+◌, ◌^◌, ◌<◌, ◌<ℤ◌, ◌≤ℤ◌, unsigned_abs, Bool, true, false, cond, eqb, List, [], ◌∷◌, ◌++◌, length, map, take, get_or, refl, ap, sym, ◌∙◌, append-nil, add-one, arith, codes}
 use Rattle.std.proofs.lemmas.Int.{ints}
 use Rattle.std.specs.Fmt.{digits}
 use Rattle.std.proofs.Math.Seq.{take-suc}
 use Rattle.std.proofs.lemmas.Grind.{flat_map-append}
 use Rattle.std.specs.List.{flat_map}
-use Rattle.std.proofs.lemmas.Bool.{eqb-true}
+use Rattle.std.proofs.lemmas.Bool.{eqb-true, false≢true}
 use Rattle.gp_lexer.specs.declared.lexeme.Symbol.TheVariants as s
 use Rattle.gp_lexer.specs.declared.lexeme.Lexeme.{Lexeme}
 use Rattle.gp_lexer.specs.declared.lexeme.Lexeme.TheVariants.{Symbol as Sign, Number, Big}
@@ -13,8 +13,9 @@ use Rattle.gp_base.specs.declared.cell.Cell.TheVariants as cell
 use Rattle.gp_lexer.specs.declared.gap.Gap.{Gap}
 use Rattle.gp_lexer.specs.declared.gap.Gap.TheVariants.{Start, AfterComma, Joined, Spaced}
 use Rattle.gp_lexer.specs.Layout.{Page, put, written}
-use Rattle.gp_grammar.specs.Syntax.{Lexemes}
-use Rattle.gp_grammar.specs.Canonical.{joined_lexemes, number_lexemes, cell_lexemes}
+use Rattle.gp_lexer.specs.Lexemes.{symbol_text}
+use Rattle.gp_grammar.specs.Syntax.{Lexemes, begin}
+use Rattle.gp_grammar.specs.Canonical.{joined_lexemes, number_lexemes, cell_lexemes, command_text}
 
 pub written-append : (page : Page) (a b : Lexemes) → written page (a ++ b) ≡ written (written page a) b
 unfolding written
@@ -30,6 +31,18 @@ unfolding written
 written-none page = refl
 
 pub ruleset writes = (written-append, written-cons, written-none)
+
+-- the words of a BEGIN
+pub begin-alone : (read_committed : Bool) → read_committed ≡ false → command_text (begin read_committed) ≡ codes "BEGIN"
+unfolding written symbol_text
+begin-alone true is = absurd (false≢true (sym is))
+begin-alone false is = refl
+
+pub begin-words : (read_committed : Bool) → read_committed ≡ true → command_text (begin read_committed) ≡ codes "BEGIN READ COMMITTED"
+begin-words true is = refl
+begin-words false is = absurd (false≢true is)
+
+pub ruleset begins = (begin-alone, begin-words)
 
 -- the greatest magnitude is spelled as a number
 big-spelled : (text : List ℕ) (gap : Gap) → put (record { text = text; gap = gap }) Big ≡ put (record { text = text; gap = gap }) (Number 9223372036854775808)

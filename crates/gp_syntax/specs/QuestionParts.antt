@@ -3,8 +3,8 @@ use Rattle.std.specs.Prelude.{ℕ, true, false, List, map, Option, None, Ok, cod
 use Rattle.gp_lexer.specs.declared.lexeme.Symbol.TheVariants as s
 use Rattle.gp_grammar.specs.Syntax as y
 use Rattle.gp_grammar.specs.Parsing.{Parser, ◌>>=◌, identifier}
-use Rattle.gp_grammar.specs.CommandParsing.{◌then◌, where_next, accept}
-use Rattle.gp_grammar.specs.QuestionParsing.{expect_word, where_word, number}
+use Rattle.gp_grammar.specs.CommandParsing.{◌then◌, where_next, accept, expect_word, where_word}
+use Rattle.gp_grammar.specs.QuestionParsing.{number}
 use Rattle.gp_syntax.specs.declared.question_parser.Rules.{Rules}
 use Rattle.gp_syntax.specs.declared.question_parser.Pattern.{Pattern}
 use Rattle.gp_syntax.specs.Views.{rule_view}

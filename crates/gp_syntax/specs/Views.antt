@@ -53,7 +53,7 @@ query_view query = map block_view query.blocks
 
 abbrev pub command_view : Command → y.Command
 command_view (c.Create table) = y.create table
-command_view c.Begin = y.begin
+command_view (c.Begin read_committed) = y.begin read_committed
 command_view c.Commit = y.Command.commit
 command_view c.Rollback = y.rollback
 command_view (c.Insert table rows) = y.insert table rows

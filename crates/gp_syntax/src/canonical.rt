@@ -1,14 +1,14 @@
 //! The writer of canonical texts. Each function writes the canonical lexemes of one part of the syntax.
 
-ghost use Rattle.std.specs.Prelude.{◌≡◌, ◌==◌, ◌≤◌, ◌^◌, ◌++◌, ◌∷◌, [], List, ℤ, IfOk, OnOk, if◌then◌else◌, map};
+ghost use Rattle.std.specs.Prelude.{◌≡◌, ◌==◌, ◌≤◌, ◌^◌, ◌++◌, ◌∷◌, [], List, ℤ, false, IfOk, OnOk, if◌then◌else◌, map};
 ghost use Rattle.std.specs.List.{flat_map};
 ghost use Rattle.std.specs.Str.{bytes_eq};
-ghost use Rattle.gp_lexer.specs.Layout.{put, written};
+ghost use Rattle.gp_lexer.specs.Layout.{laid_out, put, written};
 ghost use Rattle.gp_lexer.specs.declared.lexeme.Lexeme.{Lexeme};
 ghost use Rattle.gp_lexer.specs.declared.lexeme.Lexeme.TheVariants.{Symbol as Sign, Number as NumberLexeme, Big as BigLexeme};
 ghost use Rattle.gp_grammar.specs.Canonical as spec;
-ghost use Rattle.gp_grammar.specs.Syntax.{binary, case, create, insert, insert_select, update, delete};
-ghost use Rattle.gp_syntax.specs.Layouts.{insert_into, separator_lexemes};
+ghost use Rattle.gp_grammar.specs.Syntax.{begin, binary, case, create, insert, insert_select, update, delete};
+ghost use Rattle.gp_syntax.specs.Layouts.{insert_into, is_begin, separator_lexemes};
 ghost use Rattle.gp_syntax.specs.Views.{term_view, set_view, item_view, items_view, block_view, query_view, condition_view, command_view};
 
 use crate::command::{Block, Command, Item, Items, Query, SetTerm};
@@ -504,14 +504,16 @@ fn push_delete(layout: &mut Layout, table: &Name, cond: &Option<Term>) -> Result
     push_condition(layout, cond)
 }
 
+/// Writes a command that is no BEGIN.
 #[tactic(auto, using(crate::proofs::CanonicalLemmas::writes))]
 fn push_command(layout: &mut Layout, command: &Command) -> Result<(), NoMemory>
+    requires { is_begin (command_view command.now) ≡ false }
     ensures { OnOk result (layout.new
         ≡ written layout.old (spec.command_lexemes (command_view command.now))) }
 {
     match command {
         Command::Create { table } => push_create(layout, table),
-        Command::Begin => layout.push_symbol(Symbol::Begin),
+        Command::Begin { .. } => Ok(()),
         Command::Commit => layout.push_symbol(Symbol::Commit),
         Command::Rollback => layout.push_symbol(Symbol::Rollback),
         Command::Insert { table, rows } => push_insert(layout, table, rows.as_slice()),
@@ -522,12 +524,44 @@ fn push_command(layout: &mut Layout, command: &Command) -> Result<(), NoMemory>
     }
 }
 
+/// The canonical text of a command that is no BEGIN.
+fn laid_out_text(alloc: Global, command: &Command) -> Result<Vec<u8>, NoMemory>
+    requires { is_begin (command_view command.now) ≡ false }
+    ensures { IfOk result (λ text. text.items ≡ laid_out (spec.command_lexemes (command_view command.now))) }
+{
+    let mut layout = Layout::new(alloc);
+    push_command(&mut layout, command)?;
+    Ok(layout.into_text())
+}
+
+/// The words of a BEGIN. READ and COMMITTED are no reserved words, so a layout would write them in lower case.
+#[tactic(auto, using(crate::proofs::CanonicalLemmas::begins))]
+fn begin_words(read_committed: bool) -> &'static [u8]
+    ensures { result.now ≡ spec.command_text (begin read_committed) }
+{
+    if read_committed {
+        b"BEGIN READ COMMITTED"
+    } else {
+        b"BEGIN"
+    }
+}
+
+/// The canonical text of a BEGIN.
+fn begin_text(alloc: Global, read_committed: bool) -> Result<Vec<u8>, NoMemory>
+    ensures { IfOk result (λ text. text.items ≡ spec.command_text (begin read_committed)) }
+{
+    let mut text = Vec::new(alloc);
+    text.extend_from_slice(begin_words(read_committed))?;
+    Ok(text)
+}
+
 /// The canonical text of a command: reserved words in capitals, names in lower case, every operator in brackets, and one
 /// space between lexemes but around brackets, commas and dots. Running out of memory is the only error.
 pub fn write_command(alloc: Global, command: &Command) -> Result<Vec<u8>, NoMemory>
     ensures { IfOk result (λ text. text.items ≡ spec.command_text (command_view command.now)) }
 {
-    let mut layout = Layout::new(alloc);
-    push_command(&mut layout, command)?;
-    Ok(layout.into_text())
+    match command {
+        Command::Begin { read_committed } => begin_text(alloc, *read_committed),
+        _ => laid_out_text(alloc, command),
+    }
 }

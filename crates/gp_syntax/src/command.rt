@@ -56,8 +56,11 @@ pub enum Command {
         /// The new table.
         table: Table,
     },
-    /// `BEGIN`
-    Begin,
+    /// `BEGIN`, with or without `READ COMMITTED`
+    Begin {
+        /// Each statement of the transaction reads what was committed when it ran.
+        read_committed: bool,
+    },
     /// `COMMIT`
     Commit,
     /// `ROLLBACK`

@@ -16,7 +16,7 @@ ghost use Rattle.gp_syntax.specs.Views.{term_view, set_view, item_view, items_vi
 
 use crate::command::{Block, Command, Item, Items, Query, ScriptLine, SetTerm};
 use crate::error::ParseStop;
-use crate::lexeme_parser::{expect, identifier, strip};
+use crate::lexeme_parser::{expect, expect_word, identifier, strip, strip_word};
 use crate::list_parser::{ParsedList, in_brackets, parse_others, separated};
 use crate::names::session_of;
 use crate::parsed::{Parsed, ended, with_name};
@@ -520,6 +520,18 @@ fn delete(alloc: Global, lexemes: &[Lexeme]) -> Result<(Command, &[Lexeme]), Par
     Ok((Command::Delete { table, cond }, rest))
 }
 
+/// A BEGIN, behind its first word.
+#[tactic(auto, unfolding(gp_grammar::specs::CommandParsing::begin))]
+fn begin(lexemes: &[Lexeme]) -> Result<(Command, &[Lexeme]), ParseStop<'_>>
+    ensures { Parses command_view result (spec.begin lexemes.now) }
+{
+    let (read_committed, rest) = match strip_word(lexemes, b"read") {
+        Some(rest) => (true, expect_word(rest, b"committed")?),
+        None => (false, lexemes),
+    };
+    Ok((Command::Begin { read_committed }, rest))
+}
+
 /// A query as a command.
 fn select(alloc: Global, lexemes: &[Lexeme]) -> Result<(Command, &[Lexeme]), ParseStop<'_>>
     ensures { Parses command_view result (spec.command_by Symbol.Select lexemes.now lexemes.now) }
@@ -539,7 +551,7 @@ fn command_by<'a>(
 {
     match symbol {
         Symbol::Create => create(alloc, lexemes),
-        Symbol::Begin => Ok((Command::Begin, lexemes)),
+        Symbol::Begin => begin(lexemes),
         Symbol::Commit => Ok((Command::Commit, lexemes)),
         Symbol::Rollback => Ok((Command::Rollback, lexemes)),
         Symbol::Insert => insert(alloc, lexemes),

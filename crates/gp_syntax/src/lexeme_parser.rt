@@ -3,7 +3,8 @@
 ghost use Rattle.std.specs.Prelude.{◌≡◌, ◌<◌, IfOk, IfSome, length};
 ghost use Rattle.std.specs.Option.{option_map};
 ghost use Rattle.gp_grammar.specs.Parsing as spec;
-ghost use Rattle.gp_syntax.specs.Parses.{Parses, Expects, Shortens};
+ghost use Rattle.gp_grammar.specs.CommandParsing.{strip_word};
+ghost use Rattle.gp_syntax.specs.Parses.{Parses, Expects, Shortens, Strips};
 
 use crate::error::ParseStop;
 use gp_base::Name;
@@ -27,6 +28,29 @@ pub(crate) fn expect(lexemes: &[Lexeme], symbol: Symbol) -> Result<&[Lexeme], Pa
     ensures shorter { IfOk result (λ rest. length rest.now < length lexemes.now) }
 {
     match strip(lexemes, symbol) {
+        Some(rest) => Ok(rest),
+        None => Err(ParseStop::At(lexemes)),
+    }
+}
+
+/// The lexemes behind this word, if it is the first.
+pub(crate) fn strip_word<'a>(lexemes: &'a [Lexeme], text: &[u8]) -> Option<&'a [Lexeme]>
+    ensures { strip_word text.now lexemes.now ≡ option_map (λ rest. rest.now) result }
+{
+    match lexemes {
+        [Lexeme::Word(name), rest @ ..] if text == name.as_bytes() => Some(rest),
+        _ => None,
+    }
+}
+
+/// The lexemes behind this word, which has to be the first.
+pub(crate) fn expect_word<'a>(
+    lexemes: &'a [Lexeme],
+    text: &[u8],
+) -> Result<&'a [Lexeme], ParseStop<'a>>
+    ensures { Strips result lexemes.now (strip_word text.now lexemes.now) }
+{
+    match strip_word(lexemes, text) {
         Some(rest) => Ok(rest),
         None => Err(ParseStop::At(lexemes)),
     }

@@ -312,7 +312,7 @@ pub(crate) fn command_limit(command: &Command) -> Option<Limit>
                 None
             }
         }
-        Command::Begin => None,
+        Command::Begin { .. } => None,
         Command::Commit => None,
         Command::Rollback => None,
         Command::Insert { rows, .. } => {

@@ -7,14 +7,14 @@ ghost use Rattle.gp_grammar.specs.Parsing.{whole};
 ghost use Rattle.gp_grammar.specs.QuestionParsing as spec;
 ghost use Rattle.gp_grammar.specs.Syntax as y;
 ghost use Rattle.gp_grammar.specs.Syntax.{rule_of};
-ghost use Rattle.gp_syntax.specs.Parses.{Parses, ParsesAll, Strips, Extends, pushed};
+ghost use Rattle.gp_syntax.specs.Parses.{Parses, ParsesAll, Extends, pushed};
 ghost use Rattle.gp_syntax.specs.QuestionParts.{pattern_view, rules_view, rules_of, ends_rules, explained, reenacted, versions};
 ghost use Rattle.gp_syntax.specs.Views.{how_view, query_view, question_view, rule_view, state_view};
 
 use crate::command::Query;
 use crate::command_parser::query;
 use crate::error::ParseStop;
-use crate::lexeme_parser::{expect, identifier, strip};
+use crate::lexeme_parser::{expect, expect_word, identifier, strip, strip_word};
 use crate::names::pattern_name;
 use crate::parsed::{Parsed, ended};
 use crate::question::{How, Question, Rule, State};
@@ -43,26 +43,6 @@ pub(crate) struct Pattern {
     pub k: Option<u32>,
     /// Their row.
     pub n: Option<u32>,
-}
-
-/// The lexemes behind this word, if it is the first.
-fn strip_word<'a>(lexemes: &'a [Lexeme], text: &[u8]) -> Option<&'a [Lexeme]>
-    ensures { spec.strip_word text.now lexemes.now ≡ option_map (λ rest. rest.now) result }
-{
-    match lexemes {
-        [Lexeme::Word(name), rest @ ..] if text == name.as_bytes() => Some(rest),
-        _ => None,
-    }
-}
-
-/// The lexemes behind this word, which has to be the first.
-fn expect_word<'a>(lexemes: &'a [Lexeme], text: &[u8]) -> Result<&'a [Lexeme], ParseStop<'a>>
-    ensures { Strips result lexemes.now (spec.strip_word text.now lexemes.now) }
-{
-    match strip_word(lexemes, text) {
-        Some(rest) => Ok(rest),
-        None => Err(ParseStop::At(lexemes)),
-    }
 }
 
 /// A number.
