@@ -413,7 +413,7 @@ rows_fit width rows valid same = all_of_two _ _ _ (λ row cells width. and_true 
 pub fits : (tables : List Table) (command : Command) → list_all table_is_valid tables ≡ true → is_statement command ≡ true → is_valid command ≡ true
     → first_refusal tables command ≡ None → statement_fits tables (statement_of tables command) ≡ true
 fits tables (y.create table) columns statement valid none = absurd (true≢false (sym statement))
-fits tables y.begin columns statement valid none = absurd (true≢false (sym statement))
+fits tables (y.begin read_committed) columns statement valid none = absurd (true≢false (sym statement))
 fits tables y.Command.commit columns statement valid none = absurd (true≢false (sym statement))
 fits tables y.rollback columns statement valid none = absurd (true≢false (sym statement))
 fits tables (y.insert table rows) columns statement valid none =

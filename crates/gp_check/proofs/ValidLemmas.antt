@@ -191,6 +191,7 @@ set-valid _ _ (g.set_term col a x i) h = term-valid i h.1.1
 command-valid : (a : Lexemes) (x : Command) → IsCommand a x → AreOfText a → passed_limit (command_shape x) ≡ None → is_valid x ≡ true
 command-valid _ _ (g.create name a cols i) h none = list-nonempty i
 command-valid _ _ g.begin h none = refl
+command-valid _ _ g.begin_read_committed h none = refl
 command-valid _ _ g.commit h none = refl
 command-valid _ _ g.rollback h none = refl
 command-valid _ _ (g.insert table a rows i) h none =

@@ -11,7 +11,7 @@ use Rattle.gp_check.specs.Meaning.{select_of, statement_of}
 -- INSERT, UPDATE, DELETE and SELECT are statements
 abbrev pub is_statement : Command → Bool
 is_statement (y.create table) = false
-is_statement y.begin = false
+is_statement (y.begin read_committed) = false
 is_statement y.Command.commit = false
 is_statement y.rollback = false
 is_statement _ = true
