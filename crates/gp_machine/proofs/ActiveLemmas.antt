@@ -1,17 +1,20 @@
 -- The invariant of a running transaction: at its BEGIN, after a statement, and in a reached state.
-use Rattle.std.proofs.Common.{◌≡◌, ◌≢◌, ◌∙◌, ℕ, zero, suc, ◌≤◌, false, List, [], ◌++◌, refl, sym, arith, Some}
+use Rattle.std.proofs.Common.{◌≡◌, ◌≢◌, ◌∙◌, ℕ, zero, suc, ◌≤◌, false, List, [], ◌++◌, refl, sym, subst, arith, Some}
 use Rattle.gp_algebra.specs.Effects.{Written, step, wrote}
 use Rattle.gp_algebra.specs.Statements.{Statement}
 use Rattle.gp_base.specs.Annotated.{Annotated, Annotations, Database}
 use Rattle.gp_base.specs.Identities.{statement_of, transaction_of}
-use Rattle.gp_machine.proofs.CommitLemmas.{IsMadeBy, all_sound, made_view, view_kept}
-use Rattle.gp_machine.proofs.Distinct.{each_weaker}
-use Rattle.gp_machine.proofs.LogLemmas.{begun_le}
-use Rattle.gp_machine.proofs.StepViews.{AllKept, step_each, step_kept}
-use Rattle.gp_machine.specs.Committed.{unmarked}
-use Rattle.gp_machine.specs.Entries.{begin_version, log_of, versions_in}
+use Rattle.gp_machine.proofs.CommitLemmas.{Clean, IsMadeBy, all_sound, bases_within, made_view, view_kept}
+use Rattle.gp_machine.proofs.Distinct.{each_append, each_filter, each_weaker}
+use Rattle.gp_machine.proofs.LogLemmas.{versions_le}
+use Rattle.gp_machine.proofs.StepViews.{AllKept, MadeBy, step_each, step_kept}
+use Rattle.gp_machine.proofs.ViewLemmas.{kept_merged}
+use Rattle.gp_machine.specs.Bases.{Based, pairs}
+use Rattle.gp_machine.specs.Committed.{is_written, merged, unmarked}
+use Rattle.gp_machine.specs.Entries.{begin_version, log_of, statement_version, versions_in}
 use Rattle.gp_machine.specs.Limits.{Limits}
 use Rattle.gp_machine.specs.Reached.{IsReached}
+use Rattle.gp_machine.specs.Reading.{Seen}
 use Rattle.gp_machine.specs.State.{Active, State}
 use Rattle.gp_machine.specs.Views.{HaveDifferentIdentities, IsViewOf}
 use Rattle.std.specs.List.{AllByRecursion}
@@ -41,23 +44,52 @@ module _ {M : Type 0} (kind : Annotations M) (limits : Limits) (state : State M)
       apart : (row : Annotated M) → IsMadeBy (log_of state.entries) v row.identity → transaction_of row.identity ≡ active.transaction → ⊥
       apart row (u, m, is) own = (reached.running session active e).unfinished u (omega arith) (sym is ∙ own)
 
+  -- the versions that it has read are fit for it
+  pub active_clean : Clean kind (log_of state.entries) state.committed state.written reached.history active.transaction active.statements
+  active_clean =
+      let within = λ (j : ℕ). versions_le active.transaction j state.entries in
+      let sound = λ (j : ℕ). all_sound kind (log_of state.entries) state.committed state.written reached.history (statement_version active.transaction j state.entries) (within j) (statement_version active.transaction j state.entries) (omega arith) in
+      record {
+        different = λ j l table. (sound j table).different;
+        unmarked = λ j l table. (sound j table).unmarked;
+        others = λ j l table. made_by_others (statement_version active.transaction j state.entries) (within j) table;
+      }
+
   -- the marked rows of an active transaction are those that it wrote
-  pub active_kept : AllKept (state.committed (begin_version active.transaction state.entries)) active.view active.written
+  pub active_kept : AllKept (state.committed active.version) active.seen.view (pairs active.seen.written)
   active_kept =
       let r = reached.running session active e in
-      let b = begin_version active.transaction state.entries in
-      let l = begun_le active.transaction state.entries in
-      let sound = all_sound kind (log_of state.entries) state.committed state.written reached.history b l b (omega arith) in
-      rw (r.view, r.wrote) (view_kept kind (log_of state.entries) state.committed state.written reached.history active.transaction active.statements
-      (λ place. (sound place).different) (λ place. (sound place).unmarked) (made_by_others b l))
+      subst (λ (x : ℕ × Seen M). AllKept (state.committed x.0) x.1.view (pairs x.1.written)) (λ i. (sym r.version i, sym r.seen i))
+      (view_kept kind (log_of state.entries) state.committed state.written reached.history active.transaction active.statements active_clean)
+
+  -- a row that it wrote has a base that it has read
+  pub active_bases : AllByRecursion (λ (based : Based). (begin_version active.transaction state.entries ≤ based.base) × (based.base ≤ active.version)) active.seen.written
+  active_bases =
+      let r = reached.running session active e in
+      subst (λ (x : ℕ × Seen M). AllByRecursion (λ (based : Based). (begin_version active.transaction state.entries ≤ based.base) × (based.base ≤ x.0)) x.1.written) (λ i. (sym r.version i, sym r.seen i))
+      (bases_within kind (log_of state.entries) state.committed state.written reached.history active.transaction active.statements r.rising)
+
+  pub active_version : active.version ≤ versions_in state.entries
+  active_version = let r = reached.running session active e in subst (λ v. v ≤ versions_in state.entries) (sym r.version) (versions_le active.transaction active.statements state.entries)
+
+-- before a statement that reads a later version
+pub refreshed_view : {M : Type 0} (t k : ℕ) (base view later : Database M) (written : List Written) → IsViewOf t k base view written → ((table : ℕ) → HaveDifferentIdentities (later table))
+    → ((table : ℕ) → AllByRecursion (λ row. row.mark ≡ false) (later table)) → ((table : ℕ) → AllByRecursion (λ row. transaction_of row.identity ≢ t) (later table))
+    → IsViewOf t k later (merged later view written) written
+refreshed_view t k base view later written is different unmarked others = record {
+  tables = λ table. kept_merged (λ id. is_written table id written) (base table) (view table) (later table) (is.tables table) (different table) (unmarked table);
+  own = λ table. each_append _ _ _
+      (each_filter _ (λ row. transaction_of row.identity ≢ t) _ (λ row f n e. absurd (n e)) (later table) (others table))
+      (each_filter _ (λ row. transaction_of row.identity ≡ t → statement_of row.identity ≤ k) _ (λ row f o. o) (view table) (is.own table));
+}
 
 -- in a reached state
 pub active_view : {M : Type 0} (kind : Annotations M) (limits : Limits) (state : State M) → IsReached kind limits state → (session : ℕ) (active : Active M) → state.active session ≡ Some active
-    → IsViewOf active.transaction active.statements (state.committed (begin_version active.transaction state.entries)) active.view active.written
+    → IsViewOf active.transaction active.statements (state.committed active.version) active.seen.view (pairs active.seen.written)
 active_view kind limits state reached session active e =
     let r = reached.running session active e in
     record {
       tables = active_kept kind limits state reached session active e;
-      own = rw r.view (made_view kind (log_of state.entries) state.committed state.written reached.history active.transaction active.statements
-          (made_by_others kind limits state reached session active e (begin_version active.transaction state.entries) (begun_le active.transaction state.entries)));
+      own = subst (λ (x : Seen _). MadeBy active.transaction active.statements x.view) (sym r.seen)
+          (made_view kind (log_of state.entries) state.committed state.written reached.history active.transaction active.statements (active_clean kind limits state reached session active e).others);
     }

@@ -18,7 +18,7 @@ use Rattle.gp_machine.specs.Actions.{Action, Begin, Commit, Create, Rollback, Ru
 use Rattle.gp_machine.specs.Committers.{CommittedBy}
 use Rattle.gp_machine.specs.Conflicts.{Conflict}
 use Rattle.gp_machine.specs.Entries.{Committed, Entry, committer_of, log_of, statements_in, transactions_in, version_of, versions_in}
-use Rattle.gp_machine.specs.Event.{Line, after, answered, beginning, committing, conflict_of, count_refusal, creating, creation_refusal, event, is_full, ran, refusal_of, running}
+use Rattle.gp_machine.specs.Event.{Line, after, answered, beginning, committing, conflict_of, count_refusal, creating, creation_refusal, event, is_full, ran, refusal_of, running, start_now}
 use Rattle.gp_machine.specs.Limits.{Limits}
 use Rattle.gp_machine.specs.Reached.{IsReached}
 use Rattle.gp_machine.specs.State.{Active, State, start}
@@ -56,9 +56,9 @@ module _ {M : Type 0} (kind : Annotations M) (limits : Limits) where
       create_it table (Some refusal) = once
       create_it table None = once
 
-      begin_it : (full : Bool) → CommitOnce (beginning state line session full).0.entries
-      begin_it true = once
-      begin_it false = once
+      begin_it : (level full : Bool) → CommitOnce (beginning state line session level full).0.entries
+      begin_it level true = once
+      begin_it level false = once
 
       run_it : (active : Active M) (command : Command) (statement : Statement) (refusal : Option Refusal) → CommitOnce (ran kind state line session active command statement refusal).0.entries
       run_it active command statement (Some refusal) = once
@@ -67,7 +67,7 @@ module _ {M : Type 0} (kind : Annotations M) (limits : Limits) where
       check_it : (active : Active M) (command : Command) (refusal : Option Refusal) (checked : Result Statement Refusal) → CommitOnce (running kind state line session active command limits refusal checked).0.entries
       check_it active command (Some refusal) checked = once
       check_it active command None (Err refusal) = once
-      check_it active command None (Ok statement) = run_it active command statement (refusal_of kind limits state.catalogue active.transaction (suc active.statements) statement active.view)
+      check_it active command None (Ok statement) = run_it active command statement (refusal_of kind limits state.catalogue active.transaction (suc active.statements) statement (start_now state active))
 
       end_it : (active : Active M) → state.active session ≡ Some active → (lost : Option Conflict) (full : Bool) → CommitOnce (committing state line session active lost full).0.entries
       end_it active e (Some conflict) full = once
@@ -76,12 +76,12 @@ module _ {M : Type 0} (kind : Annotations M) (limits : Limits) where
 
       go : (active : Option (Active M)) → state.active session ≡ active → (action : Action) → CommitOnce (answered kind limits state line session active action).0.entries
       go None e (Create table) = create_it table (creation_refusal limits state.catalogue table)
-      go None e Begin = begin_it (nat_le limits.transactions (transactions_in state.entries))
+      go None e (Begin level) = begin_it level (nat_le limits.transactions (transactions_in state.entries))
       go None e (Run command) = once
       go None e Commit = once
       go None e Rollback = once
       go (Some active) e (Create table) = once
-      go (Some active) e Begin = once
+      go (Some active) e (Begin level) = once
       go (Some active) e (Run command) = check_it active command (count_refusal limits active.statements (statements_in state.entries)) (limits.checked state.catalogue command)
       go (Some active) e Commit = end_it active e (conflict_of state active) (is_full limits state active)
       go (Some active) e Rollback = once

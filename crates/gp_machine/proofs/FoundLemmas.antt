@@ -1,9 +1,8 @@
 -- The spans that an engine keeps, and the rows that its writes name, show the conflict of a transaction.
 use Rattle.std.proofs.Common.{◌≡◌, ◌≢◌, ℕ, zero, suc, ◌-◌, ◌<◌, ◌≤◌, ◌⊎◌, inl, inr, ⊎_elim, Bool, true, false, cond, List, [], ◌∷◌, refl, sym, ap, ◌∙◌, subst, arith, map, Option, Some, None}
-use Rattle.std.specs.Prelude.{◌&&◌, ◌||◌, ◌==◌}
+use Rattle.std.specs.Prelude.{◌&&◌, ◌||◌, ◌==◌, not, option_and_then}
 use Rattle.std.specs.List.{filter}
 use Rattle.std.proofs.lemmas.Bool.{false≢true}
-use Rattle.std.proofs.lemmas.List.Folds.{list_any-append}
 use Rattle.gp_algebra.specs.Answers.{Element, answer}
 use Rattle.gp_algebra.specs.Effects.{Written, given_from, made, written_in, wrote}
 use Rattle.gp_algebra.specs.Statements.{Statement, delete, insert, insert_select, read, update}
@@ -11,41 +10,43 @@ use Rattle.gp_base.specs.Annotated.{Annotated, Annotations, Database, Environmen
 use Rattle.gp_base.specs.Identities.{Identity, same_identity, transaction_of}
 use Rattle.gp_base.specs.declared.cell.Cell.{Cell}
 use Rattle.gp_expr.specs.Values.{passes}
-use Rattle.gp_machine.proofs.ActiveLemmas.{made_by_others}
-use Rattle.gp_machine.proofs.CommitLemmas.{IsMadeBy, all_sound, not_own, view_kept}
-use Rattle.gp_machine.proofs.Distinct.{each_both, each_filter, each_map, or_true}
+use Rattle.gp_machine.proofs.ActiveLemmas.{active_clean, made_by_others}
+use Rattle.gp_machine.proofs.BaseLemmas.{base_is, bases_kept, found as what_holds, is_based, of_based}
+use Rattle.gp_machine.proofs.CommitLemmas.{Clean, IsMadeBy, all_sound, clean, started_kept, view_kept}
+use Rattle.gp_machine.proofs.Distinct.{each_append, each_both, each_filter, each_map, each_weaker, or_true}
 use Rattle.gp_machine.proofs.EngineLemmas.{line_follows}
 use Rattle.gp_machine.proofs.LeastLemmas.{least_conflict_is, least_once, next_first}
-use Rattle.gp_machine.proofs.LogLemmas.{begun_le}
-use Rattle.gp_machine.proofs.Made.{and_true, eq_from, same_equal}
+use Rattle.gp_machine.proofs.LogLemmas.{versions_le}
+use Rattle.gp_machine.proofs.Made.{and_true, eq_from, eq_itself, same_equal, same_itself}
 use Rattle.gp_machine.proofs.ReachedLemmas.{all_reached, not_lost}
 use Rattle.gp_machine.proofs.RepresentLemmas.{committed_rows}
 use Rattle.gp_machine.proofs.SpanEnds.{spans_end}
-use Rattle.gp_machine.proofs.SpanLaws.{spans_apart, spans_whole}
+use Rattle.gp_machine.proofs.SpanLaws.{each_span, spans_apart, spans_whole}
 use Rattle.gp_machine.proofs.SpanOrder.{next_bounds, next_upto}
 use Rattle.gp_machine.proofs.StepViews.{is_written_in}
 use Rattle.gp_machine.proofs.ViewLemmas.{holds_others}
 use Rattle.gp_machine.specs.Actions.{action_of}
-use Rattle.gp_machine.specs.Committed.{IsHistory, is_written, unmarked}
-use Rattle.gp_machine.specs.Conflicts.{Conflict, IsLeastConflict}
-use Rattle.gp_machine.specs.EngineLine.{Answers, FindsConflict, Follows, ShowsConflict, is_named, next_write}
+use Rattle.gp_machine.specs.Bases.{Based, is_new, pairs, with_base}
+use Rattle.gp_machine.specs.Committed.{is_written}
+use Rattle.gp_machine.specs.Conflicts.{Conflict, HaveOneBase, IsBased, IsLeastConflict}
+use Rattle.gp_machine.specs.EngineLine.{Answers, FindsConflict, Follows, ShowsConflict, next_write}
 use Rattle.gp_machine.specs.Entries.{Log, begin_version, log_of, versions_in}
 use Rattle.gp_machine.specs.Event.{Line, after, conflict_of}
-use Rattle.gp_machine.specs.HistorySpans.{as_of, next_written, state_spans}
+use Rattle.gp_machine.specs.HistorySpans.{next_written, state_spans}
+use Rattle.gp_machine.specs.Histories.{IsHistory}
 use Rattle.gp_machine.specs.Limits.{Limits}
 use Rattle.gp_machine.specs.Publishing.{holds}
 use Rattle.gp_machine.specs.Reached.{IsReached}
-use Rattle.gp_machine.specs.Represents.{Kept, Overlay, Represents, RepresentsActive, base_of}
-use Rattle.gp_machine.specs.Runs.{run, run_wrote, wrote_by}
+use Rattle.gp_machine.specs.Represents.{Kept, Overlay, Represents, RepresentsActive, base_in}
+use Rattle.gp_machine.specs.Reading.{Seen, seen_by, start_by, wrote_by}
 use Rattle.gp_machine.specs.State.{Active, State, start}
-use Rattle.gp_machine.specs.Views.{HaveDifferentIdentities}
 use Rattle.gp_machine.specs.declared.reply.Reply.{Reply}
 use Rattle.gp_versions.proofs.HeldLemmas.{held-end}
-use Rattle.gp_versions.specs.Spans.{holds_at, row_of, rows_at, spans_at, written_after}
+use Rattle.gp_versions.specs.Spans.{holds_at, later, later_end, least, row_of, rows_at, spans_at, written_after}
 use Rattle.gp_versions.specs.declared.span.Span.{Span}
 use Rattle.std.specs.List.{AllByRecursion}
 
--- ---- rows that a run wrote are its own, or are in its begin version
+-- ---- rows that a transaction wrote are its own, or are in the versions of their bases
 
 or_cases : (a b : Bool) → (a || b) ≡ true → (a ≡ true) ⊎ (b ≡ true)
 or_cases true b e = inl refl
@@ -95,113 +96,188 @@ module _ {M : Type 0} (kind : Annotations M) where
   stepped_own t k None view table id e = absurd (false≢true e)
   stepped_own t k (Some statement) view table id e = wrote_own t k statement view table id e
 
+-- each of these rows satisfies this, if each of the rows that were written does
+each_of : (P : Written → Type 0) (all : List Written) → ((pair : Written) → is_written pair.table pair.identity all ≡ true → P pair) → AllByRecursion P all
+each_of P [] f = tt
+each_of P (pair ∷ all) f = (
+  f pair (ap (λ b. b || is_written pair.table pair.identity all) (λ i. eq_itself pair.table i && same_itself pair.identity i)),
+  each_of P all (λ other e. f other (or_true ((pair.table == other.table) && same_identity pair.identity other.identity) (is_written other.table other.identity all) e)),
+)
+
 module _ {M : Type 0} (kind : Annotations M) (log : Log) (committed : Environment M) (written : ℕ → List Written) (history : IsHistory kind log committed written) where
-  run_own : (t k : ℕ) → ((table : ℕ) → HaveDifferentIdentities (committed (log.begin_version t) table)) → ((table : ℕ) → AllByRecursion (λ row. row.mark ≡ false) (committed (log.begin_version t) table))
-      → ((table : ℕ) → AllByRecursion (λ row. transaction_of row.identity ≢ t) (committed (log.begin_version t) table)) → (table : ℕ) (id : Identity) → is_written table id (run_wrote kind log t k committed) ≡ true
-      → (transaction_of id ≡ t) ⊎ (holds id (committed (log.begin_version t) table) ≡ true)
-  run_own t zero different unmarked others table id e = absurd (false≢true e)
-  run_own t (suc k) different unmarked others table id e = go (λ before. run_own t k different unmarked others table id before)
+  -- a row that a transaction wrote is its own, or is in the version of its base, which is one that the transaction read
+  pub record IsRead (t k : ℕ) (based : Based) : Type 0 where
+    pub number : ℕ
+    pub within : number ≤ k
+    pub base : based.base ≡ log.version t number
+    pub read : (transaction_of based.pair.identity ≡ t) ⊎ (holds based.pair.identity (committed based.base based.pair.table) ≡ true)
+
+  pub bases_read : (t k : ℕ) → Clean kind log committed written history t k → AllByRecursion (IsRead t k) (seen_by kind log t k committed).written
+  bases_read t zero fit = tt
+  bases_read t (suc k) fit =
+      each_append _ (seen_by kind log t k committed).written _
+      (each_weaker _ _ (λ based r. record { number = r.number; within = omega (arith, r.within); base = r.base; read = r.read }) (seen_by kind log t k committed).written (bases_read t k less))
+      (each_map _ (λ pair. (is_new (seen_by kind log t k committed).written pair ≡ true) × ((transaction_of pair.identity ≡ t) ⊎ (holds pair.identity (start_by kind log t k committed pair.table) ≡ true))) (with_base (log.version t (suc k)))
+      (λ pair r. record { number = suc k; within = omega arith; base = refl; read = ⊎_elim inl (λ held. inr (there pair r.0 held)) r.1 })
+      (filter (is_new (seen_by kind log t k committed).written) now)
+      (each_filter _ (λ pair. (transaction_of pair.identity ≡ t) ⊎ (holds pair.identity (start_by kind log t k committed pair.table) ≡ true)) (is_new (seen_by kind log t k committed).written) (λ pair e r. (e, r)) now
+      (each_of _ now (λ pair e. stepped_own kind t (suc k) (log.statement t (suc k)) (start_by kind log t k committed) pair.table pair.identity e))))
     where
-      go : (is_written table id (run_wrote kind log t k committed) ≡ true → (transaction_of id ≡ t) ⊎ (holds id (committed (log.begin_version t) table) ≡ true))
-          → (transaction_of id ≡ t) ⊎ (holds id (committed (log.begin_version t) table) ≡ true)
-      go before =
-          (elim (is_written table id (run_wrote kind log t k committed)) as (λ b. is_written table id (run_wrote kind log t k committed) ≡ b → (transaction_of id ≡ t) ⊎ (holds id (committed (log.begin_version t) table) ≡ true)) [
-            | true ↦ λ is. before is
-            | false ↦ λ is.
-                let now : is_written table id (wrote_by kind t (suc k) (log.statement t (suc k)) (run kind log t k committed)) ≡ true =
-                sym (ap (λ b. b || is_written table id (wrote_by kind t (suc k) (log.statement t (suc k)) (run kind log t k committed))) is)
-                ∙ sym (list_any-append (λ (pair : Written). (pair.table == table) && same_identity pair.identity id) (run_wrote kind log t k committed) (wrote_by kind t (suc k) (log.statement t (suc k)) (run kind log t k committed))) ∙ e in
-                ⊎_elim inl
-                (λ held. inr (
-                sym (holds_others (λ id. is_written table id (run_wrote kind log t k committed)) id (committed (log.begin_version t) table) is)
-                ∙ sym (ap (holds id) (view_kept kind log committed written history t k different unmarked others table).others)
-                ∙ holds_others (λ id. is_written table id (run_wrote kind log t k committed)) id (run kind log t k committed table) is ∙ held))
-                (stepped_own kind t (suc k) (log.statement t (suc k)) (run kind log t k committed) table id now)
-          ]) refl
+      less : Clean kind log committed written history t k
+      less = record { different = λ j l. fit.different j (omega arith); unmarked = λ j l. fit.unmarked j (omega arith); others = λ j l. fit.others j (omega arith) }
+
+      now : List Written
+      now = wrote_by kind t (suc k) (log.statement t (suc k)) (start_by kind log t k committed)
+
+      unnot : (b : Bool) → not b ≡ true → b ≡ false
+      unnot true e = absurd (false≢true e)
+      unnot false e = refl
+
+      -- a row that was not written before is read as it is in the version
+      there : (pair : Written) → is_new (seen_by kind log t k committed).written pair ≡ true → holds pair.identity (start_by kind log t k committed pair.table) ≡ true → holds pair.identity (committed (log.version t (suc k)) pair.table) ≡ true
+      there pair new held =
+          let p : Identity → Bool = λ id. is_written pair.table id (pairs (seen_by kind log t k committed).written) in
+          sym (holds_others p pair.identity (committed (log.version t (suc k)) pair.table) (unnot _ new))
+          ∙ sym (ap (holds pair.identity) (started_kept kind log committed written history t k fit (view_kept kind log committed written history t k less) pair.table).others)
+          ∙ holds_others p pair.identity (start_by kind log t k committed pair.table) (unnot _ new) ∙ held
+
+  -- no row has two bases
+  pub one_base : (t k : ℕ) → HaveOneBase (seen_by kind log t k committed).written
+  one_base t zero = λ pair base other a b. absurd a
+  one_base t (suc k) = bases_kept (log.version t (suc k)) (seen_by kind log t k committed).written (wrote_by kind t (suc k) (log.statement t (suc k)) (start_by kind log t k committed)) (one_base t k)
 
   -- a row that a version wrote was made by a transaction that made a version
   committed_own : (u table : ℕ) (id : Identity) → u < log.versions → is_written table id (written (suc u)) ≡ true → IsMadeBy log log.versions id
   committed_own u table id l e =
       let t : ℕ = log.committer (suc u) in
-      let o : log.begin_version t ≤ u = history.order u l in
-      let sound = all_sound kind log committed written history (log.begin_version t) (omega arith) (log.begin_version t) (omega arith) in
-      ⊎_elim (λ own. (u, l, own))
-      (λ held. let by = holds_own (IsMadeBy log (log.begin_version t)) id (committed (log.begin_version t) table) (sound table).makers held in (by.0, omega (arith, by.1), by.2))
-      (run_own t (log.statement_count t) (λ place. (sound place).different) (λ place. (sound place).unmarked)
-      (λ place. not_own kind log committed written history (log.begin_version t) t refl (omega arith) (committed (log.begin_version t) place) (sound place).makers) table id
-      (ap (is_written table id) (sym (history.wrote u l)) ∙ e))
+      let sound = all_sound kind log committed written history u (omega arith) in
+      what_holds (λ table id. IsMadeBy log log.versions id) (seen_by kind log t (log.statement_count t) committed).written table id
+      (each_weaker _ _ (λ based r. ⊎_elim (λ own. (u, l, own))
+      (λ held.
+      let o : log.version t r.number ≤ u = history.order u r.number l r.within in
+      let by = holds_own (IsMadeBy log based.base) based.pair.identity (committed based.base based.pair.table) (sound based.base (omega (arith, r.base)) based.pair.table).makers held in
+      (by.0, omega (arith, by.1, r.base), by.2))
+      r.read) (seen_by kind log t (log.statement_count t) committed).written (bases_read t (log.statement_count t) (clean kind log committed written history u l sound (log.statement_count t) (omega arith))))
+      (ap (is_written table id) (sym (history.wrote u l)) ∙ e)
 
 -- ---- what the spans show
 
+-- spans of other rows show no write of a row
+no_write : (id : Identity) (v : ℕ) (spans : List Span) → AllByRecursion (λ (span : Span). same_identity span.id id ≡ false) spans → written_after id v spans ≡ None
+no_write id v [] each = refl
+no_write id v (span ∷ spans) each = ap (λ b. cond b (least (least (later v span.from) (later_end v span.to)) (written_after id v spans)) (written_after id v spans)) each.0 ∙ no_write id v spans each.1
+
 module _ (limits : Limits) (state : State (Unit {0})) (kept : Kept) (represents : Represents kept state) (reached : IsReached plain limits state) (session : ℕ) (active : Active (Unit {0})) (overlay : Overlay)
     (e : state.active session ≡ Some active) (runs : RepresentsActive kept.spans (begin_version active.transaction state.entries) overlay active) where
-  abbrev begin : ℕ
-  begin = begin_version active.transaction state.entries
-
   abbrev last : ℕ
   last = versions_in state.entries
 
-  within : begin ≤ last
-  within = begun_le active.transaction state.entries
+  abbrev wrote_all : List Based
+  wrote_all = active.seen.written
 
-  base : (place : ℕ) → base_of kept.spans overlay place ≡ state.committed begin place
-  base place = ap (λ v. as_of plain kept.spans v place) runs.begin ∙ committed_rows limits state kept represents reached begin place within
-
-  -- rows of the begin version are those of others
-  not_own_row : (place : ℕ) (id : Identity) → holds id (base_of kept.spans overlay place) ≡ true → transaction_of id ≢ active.transaction
-  not_own_row place id held =
-      holds_own (λ id. transaction_of id ≢ active.transaction) id (state.committed begin place) (made_by_others plain limits state reached session active e begin within place) (sym (ap (holds id) (base place)) ∙ held)
-
-  -- the next write of a row of the begin version
-  next_is : (place : ℕ) (id : Identity) → holds id (base_of kept.spans overlay place) ≡ true → next_write kept overlay place id ≡ next_written state.written place id begin (last - begin)
-  next_is place id held =
-      (λ i. written_after id (runs.begin i) (represents.spans place i))
-      ∙ holds_own (λ id. written_after id begin (state_spans state place) ≡ next_written state.written place id begin (last - begin)) id (rows_at plain begin (state_spans state place))
-      (each_map _ (λ (span : Span). written_after span.id begin (state_spans state place) ≡ next_written state.written place span.id begin (last - begin)) (row_of plain) (λ span is. is) (spans_at begin (state_spans state place))
-      (each_both _ _ _ (λ span a b. a ∙ b) (spans_at begin (state_spans state place))
-      (held-end begin (state_spans state place) (spans_apart plain (log_of state.entries) state.committed state.written reached.history place) (spans_whole last state.committed state.written place))
-      (each_filter _ (λ (span : Span). (v : ℕ) → v ≤ last → holds_at v span ≡ true → span.to ≡ next_written state.written place span.id v (last - v)) (holds_at begin) (λ span there right. right begin within there)
-      (state_spans state place) (spans_end state.committed state.written last place))))
-      (sym (λ i. holds id (rows_at plain (runs.begin i) (represents.spans place i))) ∙ held)
-
-  -- a row that the transaction wrote, and a later version too, is one of its begin version
-  in_base : (place : ℕ) (id : Identity) (v : ℕ) → is_written place id active.written ≡ true → begin < v → v ≤ last → is_written place id (state.written v) ≡ true → holds id (base_of kept.spans overlay place) ≡ true
-  in_base place id zero mine l m there = absurd (omega arith)
-  in_base place id (suc u) mine l m there =
+  -- each row that it wrote is its own, or is in the version of its base
+  read_each : AllByRecursion (λ (based : Based). (based.base ≤ last) × ((transaction_of based.pair.identity ≡ active.transaction) ⊎ (holds based.pair.identity (state.committed based.base based.pair.table) ≡ true))) wrote_all
+  read_each =
       let r = reached.running session active e in
-      let sound = all_sound plain (log_of state.entries) state.committed state.written reached.history begin within begin (omega arith) in
-      let by = committed_own plain (log_of state.entries) state.committed state.written reached.history u place id m there in
-      ⊎_elim (λ own. absurd (r.unfinished by.0 by.1 (sym by.2 ∙ own)))
-      (λ held. ap (holds id) (base place) ∙ held)
-      (run_own plain (log_of state.entries) state.committed state.written reached.history active.transaction active.statements (λ place. (sound place).different) (λ place. (sound place).unmarked)
-      (made_by_others plain limits state reached session active e begin within) place id (ap (is_written place id) (sym r.wrote) ∙ mine))
+      subst (λ (seen : Seen (Unit {0})). AllByRecursion (λ (based : Based). (based.base ≤ last) × ((transaction_of based.pair.identity ≡ active.transaction) ⊎ (holds based.pair.identity (state.committed based.base based.pair.table) ≡ true))) seen.written) (sym r.seen)
+      (each_weaker _ _ (λ based b. (let l = versions_le active.transaction b.number state.entries in omega (arith, b.base), b.read)) _
+      (bases_read plain (log_of state.entries) state.committed state.written reached.history active.transaction active.statements (active_clean plain limits state reached session active e)))
 
-  named : (place : ℕ) (id : Identity) → holds id (base_of kept.spans overlay place) ≡ true → is_named kept overlay place id ≡ is_written place id active.written
-  named place id held = ap (λ b. b && overlay.names (base_of kept.spans overlay) place id) held ∙ runs.names place id (λ own. not_own_row place id held (own ∙ runs.transaction))
+  bases : HaveOneBase wrote_all
+  bases = let r = reached.running session active e in subst (λ (seen : Seen (Unit {0})). HaveOneBase seen.written) (sym r.seen) (one_base plain (log_of state.entries) state.committed state.written reached.history active.transaction active.statements)
 
-  some_number : (v w : ℕ) → Some v ≡ Some w → v ≡ w
-  some_number v w e = cc
+  -- no span is of a row that the transaction made
+  other_spans : (place : ℕ) → AllByRecursion (λ (span : Span). transaction_of span.id ≢ active.transaction) (kept.spans place)
+  other_spans place =
+      subst (AllByRecursion (λ (span : Span). transaction_of span.id ≢ active.transaction)) (sym (represents.spans place))
+      (each_span last state.committed state.written place (λ span. transaction_of span.id ≢ active.transaction) (λ row. transaction_of row.identity ≢ active.transaction) (λ from row l n. n)
+      (λ v l. made_by_others plain limits state reached session active e v l place) last (omega arith))
 
   some_none : (v : ℕ) → Some v ≡ None → ⊥
   some_none v e = cc
 
-  shown_least : (conflict : Conflict) → ShowsConflict kept overlay (Some conflict) → IsLeastConflict state.written begin last active.written conflict
-  shown_least conflict (is, (next, least)) =
-      let both = and_true (holds conflict.pair.identity (base_of kept.spans overlay conflict.pair.table)) (overlay.names (base_of kept.spans overlay) conflict.pair.table conflict.pair.identity) is in
-      let writer : next_written state.written conflict.pair.table conflict.pair.identity begin (last - begin) ≡ Some conflict.version = sym (next_is conflict.pair.table conflict.pair.identity both.0) ∙ next in
-      let bounds = next_bounds state.written conflict.pair.table conflict.pair.identity (last - begin) begin conflict.version writer in
-      let first = next_first state.written conflict.pair.table conflict.pair.identity (last - begin) begin conflict.version writer in
-      let l = within in
+  -- so a row of its own has no next write
+  own_unwritten : (place : ℕ) (id : Identity) (base : ℕ) → transaction_of id ≡ active.transaction → written_after id base (kept.spans place) ≡ None
+  own_unwritten place id base own = no_write id base (kept.spans place) (each_weaker _ _ (λ span n. unlike span n) (kept.spans place) (other_spans place))
+    where
+      unlike : (span : Span) → transaction_of span.id ≢ active.transaction → same_identity span.id id ≡ false
+      unlike span n = elim (same_identity span.id id) as (λ b. same_identity span.id id ≡ b → b ≡ false) [
+        | true ↦ λ is. absurd (n (ap transaction_of (same_equal span.id id is) ∙ own))
+        | false ↦ λ is. refl
+      ] refl
+
+  -- the next write of a row of a version
+  next_is : (place base : ℕ) (id : Identity) → base ≤ last → holds id (state.committed base place) ≡ true → written_after id base (kept.spans place) ≡ next_written state.written place id base (last - base)
+  next_is place base id within held =
+      ap (written_after id base) (represents.spans place)
+      ∙ holds_own (λ id. written_after id base (state_spans state place) ≡ next_written state.written place id base (last - base)) id (rows_at plain base (state_spans state place))
+      (each_map _ (λ (span : Span). written_after span.id base (state_spans state place) ≡ next_written state.written place span.id base (last - base)) (row_of plain) (λ span is. is) (spans_at base (state_spans state place))
+      (each_both _ _ _ (λ span a b. a ∙ b) (spans_at base (state_spans state place))
+      (held-end base (state_spans state place) (spans_apart plain (log_of state.entries) state.committed state.written reached.history place) (spans_whole last state.committed state.written place))
+      (each_filter _ (λ (span : Span). (v : ℕ) → v ≤ last → holds_at v span ≡ true → span.to ≡ next_written state.written place span.id v (last - v)) (holds_at base) (λ span there right. right base within there)
+      (state_spans state place) (spans_end state.committed state.written last place))))
+      (ap (holds id) (sym (ap (rows_at plain base) (represents.spans place)) ∙ committed_rows limits state kept represents reached base place within) ∙ held)
+
+  -- a row that a version wrote is none of the transaction's own
+  others_wrote : (place v : ℕ) (id : Identity) → 0 < v → v ≤ last → is_written place id (state.written v) ≡ true → transaction_of id ≢ active.transaction
+  others_wrote place zero id p l there own = absurd (omega arith)
+  others_wrote place (suc u) id p l there own =
+      let r = reached.running session active e in
+      let by = committed_own plain (log_of state.entries) state.committed state.written reached.history u place id l there in
+      r.unfinished by.0 by.1 (sym by.2 ∙ own)
+
+  -- a row that the transaction wrote and a version after its base too: its next write
+  wrote_next : (based : Based) (v : ℕ) → IsBased based wrote_all → based.base < v → v ≤ last → is_written based.pair.table based.pair.identity (state.written v) ≡ true
+      → (w : ℕ) × (next_write kept overlay based.pair.table based.pair.identity ≡ Some w)
+  wrote_next based v among l m there =
+      let r = of_based _ wrote_all read_each based among in
+      let other = others_wrote based.pair.table v based.pair.identity (omega arith) m there in
+      let upto = next_upto state.written based.pair.table based.pair.identity (last - based.base) based.base v there l (omega (arith, r.0)) in (
+        upto.0,
+        ap (option_and_then (λ base. written_after based.pair.identity base (kept.spans based.pair.table))) (runs.base based.pair.table based.pair.identity (λ own. other (own ∙ runs.transaction)) ∙ base_is wrote_all based bases among)
+            ∙ ⊎_elim (λ own. absurd (other own)) (λ held. next_is based.pair.table based.base based.pair.identity r.0 held) r.1 ∙ upto.1,
+      )
+
+  -- a next write that the spans show is the first write of a row after its base
+  record IsNext (place version : ℕ) (id : Identity) : Type 0 where
+    base : ℕ
+    among : IsBased (record { pair = record { table = place; identity = id }; base = base }) wrote_all
+    within : base ≤ last
+    next : next_written state.written place id base (last - base) ≡ Some version
+
+  shown_next : (place version : ℕ) (id : Identity) → next_write kept overlay place id ≡ Some version → IsNext place version id
+  shown_next place version id shows = go (base_in kept.spans overlay place id) refl shows
+    where
+      none_some : None ≡ Some version → ⊥
+      none_some e = cc
+
+      go : (o : Option ℕ) → base_in kept.spans overlay place id ≡ o → option_and_then (λ base. written_after id base (kept.spans place)) o ≡ Some version → IsNext place version id
+      go None is shows = absurd (none_some shows)
+      go (Some base) is shows =
+          let other : transaction_of id ≢ active.transaction = λ own. some_none version (sym shows ∙ own_unwritten place id base own) in
+          let among = is_based place id wrote_all base (sym (runs.base place id (λ own. other (own ∙ runs.transaction))) ∙ is) in
+          let r = of_based _ wrote_all read_each (record { pair = record { table = place; identity = id }; base = base }) among in
+          record {
+            base = base;
+            among = among;
+            within = r.0;
+            next = ⊎_elim (λ own. absurd (other own)) (λ held. sym (next_is place base id r.0 held) ∙ shows) r.1;
+          }
+
+  shown_least : (conflict : Conflict) → ShowsConflict kept overlay (Some conflict) → IsLeastConflict state.written last wrote_all conflict
+  shown_least conflict (shows, least) =
+      let is = shown_next conflict.pair.table conflict.version conflict.pair.identity shows in
+      let bounds = next_bounds state.written conflict.pair.table conflict.pair.identity (last - is.base) is.base conflict.version is.next in
+      let first = next_first state.written conflict.pair.table conflict.pair.identity (last - is.base) is.base conflict.version is.next in
+      let l = is.within in
       record {
-        pair = sym (named conflict.pair.table conflict.pair.identity both.0) ∙ is;
+        base = is.base;
+        among = is.among;
         later = bounds.0;
         there = omega (arith, bounds.1);
         version = first.0;
         first = first.1;
-        least = λ other v mine l m there.
-            let held = in_base other.table other.identity v mine l m there in
-            let upto = next_upto state.written other.table other.identity (last - begin) begin v there l (omega (arith, within)) in
-            least other upto.0 (named other.table other.identity held ∙ mine) (next_is other.table other.identity held ∙ upto.1);
+        least = λ other v among l m there. let next = wrote_next other v among l m there in least other.pair next.0 next.1;
       }
 
   pub shown_is : (o : Option Conflict) → ShowsConflict kept overlay o → o ≡ conflict_of state active
@@ -210,15 +286,14 @@ module _ (limits : Limits) (state : State (Unit {0})) (kept : Kept) (represents 
       go : (o p : Option Conflict) → conflict_of state active ≡ p → ShowsConflict kept overlay o → o ≡ p
       go None None is shows = refl
       go None (Some conflict) is shows =
-          let least = least_conflict_is state.written begin last active.written conflict within is in
-          let held = in_base conflict.pair.table conflict.pair.identity conflict.version least.pair least.later least.there least.version in
-          let upto = next_upto state.written conflict.pair.table conflict.pair.identity (last - begin) begin conflict.version least.version least.later (omega (arith, within, least.there)) in
-          absurd (some_none upto.0 (sym (next_is conflict.pair.table conflict.pair.identity held ∙ upto.1) ∙ shows conflict.pair.table conflict.pair.identity (named conflict.pair.table conflict.pair.identity held ∙ least.pair)))
+          let least = least_conflict_is state.written last wrote_all conflict is in
+          let next = wrote_next (record { pair = conflict.pair; base = least.base }) conflict.version least.among least.later least.there least.version in
+          absurd (some_none next.0 (sym next.1 ∙ shows conflict.pair.table conflict.pair.identity))
       go (Some conflict) None is shows =
           let least = shown_least conflict shows in
-          absurd (false≢true (sym (not_lost state.written begin last active.written within is conflict.version conflict.pair.table conflict.pair.identity least.later least.there least.pair) ∙ least.version))
-      go (Some conflict) (Some other) is shows =
-          ap Some (least_once state.written begin last active.written active.written conflict other (λ pair v l m w. refl) (shown_least conflict shows) (least_conflict_is state.written begin last active.written other within is))
+          let first = of_based _ wrote_all (not_lost state.written last wrote_all is) (record { pair = conflict.pair; base = least.base }) least.among in
+          absurd (false≢true (sym (first conflict.version least.later least.there) ∙ least.version))
+      go (Some conflict) (Some other) is shows = ap Some (least_once state.written last wrote_all conflict other bases (shown_least conflict shows) (least_conflict_is state.written last wrote_all other is))
 
 -- so an engine that finds it by its spans finds the conflict of the history
 pub found : (limits : Limits) (state : State (Unit {0})) (kept : Kept) → Represents kept state → IsReached plain limits state → (session : ℕ) (conflict : Overlay → Option Conflict)

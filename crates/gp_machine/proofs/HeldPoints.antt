@@ -13,10 +13,10 @@ use Rattle.gp_algebra.specs.Statements.{Select, Statement}
 use Rattle.gp_base.specs.Annotated.{Annotations, Database}
 use Rattle.gp_machine.proofs.LogLemmas.{eq_not}
 use Rattle.gp_machine.proofs.Made.{eq_from, eq_itself}
-use Rattle.gp_machine.proofs.PublishLemmas.{computed_is}
+use Rattle.gp_machine.proofs.CommitLemmas.{all_sound, computed_is, run_is_seen}
 use Rattle.gp_machine.proofs.ReachedLemmas.{all_reached}
 use Rattle.gp_machine.proofs.RunBags.{cleared_same}
-use Rattle.gp_machine.proofs.Simulation.{commits_held, runs_held, versions_held}
+use Rattle.gp_machine.proofs.Simulation.{commits_held, runs_held, starts_held, versions_held}
 use Rattle.gp_machine.specs.Annotating.{annotated, annotated_versions, computed}
 use Rattle.gp_machine.specs.Committed.{cleared, unmarked}
 use Rattle.gp_machine.specs.Entries.{Began, Committed, Created, Ended, Entry, Ran, committer_of, log_of, statement_at, statement_count, version_of, versions_in}
@@ -24,9 +24,9 @@ use Rattle.gp_machine.specs.Event.{Line, after}
 use Rattle.gp_machine.specs.HistorySpans.{state_spans}
 use Rattle.gp_machine.specs.Limits.{Limits}
 use Rattle.gp_machine.specs.Points.{IsAsked, at_point, at_version, held_at, run_stop, statement_stop, to_commit, to_statement, to_version, version_before}
-use Rattle.gp_machine.specs.Publishing.{at_commit}
 use Rattle.gp_machine.specs.Reached.{IsReached}
-use Rattle.gp_machine.specs.Runs.{run}
+use Rattle.gp_machine.specs.Reading.{seen_by, start_by}
+use Rattle.gp_machine.specs.Runs.{at_commit, run, run_before}
 use Rattle.gp_machine.specs.State.{State, start}
 use Rattle.gp_versions.specs.declared.span.Span.{Span}
 
@@ -46,7 +46,7 @@ some_equal u v e = cc
 
 pub version_is : (t v : ℕ) (entries : List Entry) → version_of t entries ≡ Some v → IsVersionOf t v entries
 version_is t v [] e = absurd (none_some v e)
-version_is t v (Began line session u ∷ older) e = let i = version_is t v older e in record { earlier = i.earlier; is = i.is; within = i.within; made = i.made }
+version_is t v (Began line session u level ∷ older) e = let i = version_is t v older e in record { earlier = i.earlier; is = i.is; within = i.within; made = i.made }
 version_is t v (Ran line session command u statement ∷ older) e = let i = version_is t v older e in record { earlier = i.earlier; is = i.is; within = i.within; made = i.made }
 version_is t v (Ended line session end u ∷ older) e = let i = version_is t v older e in record { earlier = i.earlier; is = i.is; within = i.within; made = i.made }
 version_is t v (Created line session table ∷ older) e = let i = version_is t v older e in record { earlier = i.earlier; is = i.is; within = i.within; made = i.made }
@@ -99,8 +99,10 @@ module _ {M : Type 0} (kind : Annotations M) (limits : Limits) (lines : List Lin
         let t= : committer_of (suc i.earlier) state.entries ≡ t = i.made in
         λ table. through
         (subst (λ t. SameBag (run kind (log_of state.entries) t k (annotated_versions kind state.entries spans) table) (run kind (log_of state.entries) t k state.committed table)) t=
-        (runs_held kind (log_of state.entries) state.committed state.written reached.history spans are (versions_in state.entries) i.earlier k (let w = i.within in omega arith) (omega arith) i.within table))
-        (same_from _ _ (ap (λ (database : Database M). database table) (sym (reached.views t k (omega arith) (omega arith) l))))
+        (runs_held kind (log_of state.entries) state.committed state.written reached.history spans are (versions_in state.entries) i.earlier k (let w = i.within in omega arith) (omega arith) i.within (subst (λ t. k ≤ statement_count t state.entries) (sym t=) l) table))
+        (same_from _ _ (ap (λ (database : Database M). database table) (subst (λ t. k ≤ statement_count t state.entries → run kind (log_of state.entries) t k state.committed ≡ (seen_by kind (log_of state.entries) t k state.committed).view) t=
+        (run_is_seen kind (log_of state.entries) state.committed state.written reached.history i.earlier i.within (all_sound kind (log_of state.entries) state.committed state.written reached.history i.earlier (let w = i.within in omega arith)) k) l
+        ∙ sym (reached.views t k (omega arith) (omega arith) l))))
 
     pub commit_held : (t v : ℕ) → version_of t state.entries ≡ Some v → (table : ℕ) →
         SameBag (cleared (at_commit kind (log_of state.entries) t (version_before (version_of t state.entries)) (annotated_versions kind state.entries spans)) table) (at_version (version_of t state.entries) state.committed table)
@@ -123,14 +125,14 @@ module _ {M : Type 0} (kind : Annotations M) (limits : Limits) (lines : List Lin
     -- ---- no stop comes
 
     never_at : (t k w u : ℕ) → committer_of (suc u) state.entries ≡ t → u ≤ w → w ≤ versions_in state.entries → u < versions_in state.entries → k < statement_count t state.entries → (statement : Option Statement) → statement_at t (suc k) state.entries ≡ statement →
-        statement_stop kind limits t (suc k) statement (run kind (log_of state.entries) t k (annotated kind spans (computed kind (log_of state.entries) spans w))) ≡ None
+        statement_stop kind limits t (suc k) statement (run_before kind (log_of state.entries) t k (annotated kind spans (computed kind (log_of state.entries) spans w))) ≡ None
     never_at t k w u made l m within c None e = refl
     never_at t k w u made l m within c (Some statement) e =
         let reached : IsReached kind limits state = all_reached kind limits lines in
         let a = reached.makers u within in
-        let held : SameTables (run kind (log_of state.entries) t k (annotated kind spans (computed kind (log_of state.entries) spans w))) (run kind (log_of state.entries) t k state.committed) =
-        subst (λ t. SameTables (run kind (log_of state.entries) t k (annotated kind spans (computed kind (log_of state.entries) spans w))) (run kind (log_of state.entries) t k state.committed)) made
-        (runs_held kind (log_of state.entries) state.committed state.written reached.history spans are w u k l m within) in
+        let held : SameTables (run_before kind (log_of state.entries) t k (annotated kind spans (computed kind (log_of state.entries) spans w))) (start_by kind (log_of state.entries) t k state.committed) =
+        subst (λ t. k < statement_count t state.entries → SameTables (run_before kind (log_of state.entries) t k (annotated kind spans (computed kind (log_of state.entries) spans w))) (start_by kind (log_of state.entries) t k state.committed)) made
+        (starts_held kind (log_of state.entries) state.committed state.written reached.history spans are w u k l m within) c in
         let fits = reached.within t k statement (omega arith) (omega arith) c e in
         rw (is_over_rows_same kind limits.rows t (suc k) statement _ _ held, is_over_nodes_same kind limits.nodes t (suc k) statement _ _ held, fits.rows, fits.nodes)
 
@@ -139,7 +141,7 @@ module _ {M : Type 0} (kind : Annotations M) (limits : Limits) (lines : List Lin
         run_stop kind limits (log_of state.entries) t k (annotated kind spans (computed kind (log_of state.entries) spans w)) ≡ None
     never_stops t zero w u made l m within c = refl
     never_stops t (suc k) w u made l m within c =
-        ap (λ s. option_or s (statement_stop kind limits t (suc k) (statement_at t (suc k) state.entries) (run kind (log_of state.entries) t k (annotated kind spans (computed kind (log_of state.entries) spans w))))) (never_stops t k w u made l m within (omega arith))
+        ap (λ s. option_or s (statement_stop kind limits t (suc k) (statement_at t (suc k) state.entries) (run_before kind (log_of state.entries) t k (annotated kind spans (computed kind (log_of state.entries) spans w))))) (never_stops t k w u made l m within (omega arith))
         ∙ never_at t k w u made l m within c (statement_at t (suc k) state.entries) refl
 
     -- over all annotated versions

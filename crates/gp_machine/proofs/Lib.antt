@@ -1,6 +1,7 @@
 mod ActiveLemmas
 mod AnnotationLemmas
 pub mod AskedLemmas
+mod BaseLemmas
 mod CommitLemmas
 mod CommitterLemmas
 mod ConflictLemmas
@@ -11,8 +12,9 @@ pub mod FoundLemmas
 pub mod HeldPoints
 mod LeastLemmas
 pub mod LimitLemmas
-mod LogLemmas
-mod Made
+pub mod LogLemmas
+pub mod Made
+mod OverlayLemmas
 pub mod PointReannotation
 mod PublishLemmas
 mod QuestionLemmas

@@ -1,7 +1,7 @@
 -- A homomorphism of annotations commutes with runs, with commits, with the states that questions ask about, and with where a run stops. So the
 -- rows of those states do not depend on annotations.
-use Rattle.std.proofs.Common.{◌≡◌, ℕ, zero, suc, Bool, cond, List, [], ◌∷◌, ◌++◌, refl, sym, ap, ◌∙◌, map, Option, Some, None}
-use Rattle.std.specs.Prelude.{◌&&◌, not}
+use Rattle.std.proofs.Common.{◌≡◌, ℕ, zero, suc, Bool, true, false, cond, List, [], ◌∷◌, ◌++◌, refl, sym, ap, ◌∙◌, map, Option, Some, None}
+use Rattle.std.specs.Prelude.{◌&&◌, ◌==◌, not}
 use Rattle.std.specs.List.{filter}
 use Rattle.std.specs.Option.{option_or}
 use Rattle.std.proofs.lemmas.List.{map-append}
@@ -17,8 +17,8 @@ use Rattle.gp_machine.specs.Committed.{cleared, unmarked}
 use Rattle.gp_machine.specs.Entries.{Entry, Log, log_of, version_of}
 use Rattle.gp_machine.specs.Limits.{Limits}
 use Rattle.gp_machine.specs.Points.{OverRows, OverNodes, at_point, at_version, held_at, run_stop, statement_stop, version_before}
-use Rattle.gp_machine.specs.Publishing.{at_commit, holds, publish, was_written}
-use Rattle.gp_machine.specs.Runs.{run, stepped}
+use Rattle.gp_machine.specs.Publishing.{holds, publish, was_written}
+use Rattle.gp_machine.specs.Runs.{at_commit, refreshed, run, run_before, stepped}
 use Rattle.gp_machine.specs.State.{State}
 use Rattle.gp_machine.specs.StateReannotation.{AreEqualButForAnnotations, state_reannotated}
 
@@ -53,15 +53,30 @@ module _ {M N : Type 0} (kind : Annotations M) (other : Annotations N) (h : M �
   stepped_reannotated t k None c d same = same
   stepped_reannotated t k (Some statement) c d same = step_reannotated kind other h keeps t k statement c d same
 
+  -- what a transaction reads at a later version
+  refreshed_reannotated : (old new : ℕ) (c : Database M) (d : Database N) → Reannotates h c d → Reannotates h (refreshed old new a c) (refreshed old new b d)
+  refreshed_reannotated old new c d same =
+      elim (new == old) as (λ test. Reannotates h (cond test c (publish (a old) c (a new))) (cond test d (publish (b old) d (b new)))) [
+        | true ↦ same
+        | false ↦ publish_reannotated h (a old) c (a new) (b old) d (b new) (are old) same (are new)
+      ]
+
   pub run_reannotated : (log : Log) (t k : ℕ) → Reannotates h (run kind log t k a) (run other log t k b)
-  run_reannotated log t zero = are (log.begin_version t)
-  run_reannotated log t (suc k) = stepped_reannotated t (suc k) (log.statement t (suc k)) (run kind log t k a) (run other log t k b) (run_reannotated log t k)
+  run_reannotated log t zero = are (log.version t zero)
+  run_reannotated log t (suc k) =
+      stepped_reannotated t (suc k) (log.statement t (suc k)) (run_before kind log t k a) (run_before other log t k b)
+      (refreshed_reannotated (log.version t k) (log.version t (suc k)) (run kind log t k a) (run other log t k b) (run_reannotated log t k))
+
+  before_reannotated : (log : Log) (t k : ℕ) → Reannotates h (run_before kind log t k a) (run_before other log t k b)
+  before_reannotated log t k =
+      refreshed_reannotated (log.version t k) (log.version t (suc k)) (run kind log t k a) (run other log t k b) (run_reannotated log t k)
 
   pub at_commit_reannotated : (log : Log) (t before : ℕ) → Reannotates h (at_commit kind log t before a) (at_commit other log t before b)
   at_commit_reannotated log t before =
-      publish_reannotated h (a (log.begin_version t)) (run kind log t (log.statement_count t) a) (a before)
-      (b (log.begin_version t)) (run other log t (log.statement_count t) b) (b before)
-      (are (log.begin_version t)) (run_reannotated log t (log.statement_count t)) (are before)
+      let last = log.version t (log.statement_count t) in
+      publish_reannotated h (a last) (run kind log t (log.statement_count t) a) (a before)
+      (b last) (run other log t (log.statement_count t) b) (b before)
+      (are last) (run_reannotated log t (log.statement_count t)) (are before)
 
   pub at_point_reannotated : (entries : List Entry) (point : y.State) → Reannotates h (at_point kind entries point a) (at_point other entries point b)
   at_point_reannotated entries (y.as_of version) = are version
@@ -88,7 +103,7 @@ module _ {M N : Type 0} (kind : Annotations M) (other : Annotations N) (h : M �
     run_stop_reannotated zero = refl
     run_stop_reannotated (suc k) =
         let earlier = run_stop_reannotated k in
-        let now = statement_stop_reannotated (suc k) (log.statement t (suc k)) (run kind log t k a) (run other log t k b) (run_reannotated log t k) in
+        let now = statement_stop_reannotated (suc k) (log.statement t (suc k)) (run_before kind log t k a) (run_before other log t k b) (before_reannotated log t k) in
         λ i. option_or (earlier i) (now i)
 
 -- ---- rows without their annotations

@@ -13,7 +13,7 @@ use Rattle.gp_base.specs.declared.refusal.Refusal.{Refusal}
 use Rattle.gp_base.specs.declared.refusal.Refusal.TheVariants.{E24, E27}
 use Rattle.gp_machine.proofs.AskedLemmas.{asked}
 use Rattle.gp_machine.proofs.HeldPoints.{committed_stops, never_stops, simulated, version_is}
-use Rattle.gp_machine.proofs.LogLemmas.{begun_le}
+use Rattle.gp_machine.proofs.LogLemmas.{versions_le}
 use Rattle.gp_machine.proofs.ReachedLemmas.{all_reached}
 use Rattle.gp_machine.proofs.Simulation.{consistent}
 use Rattle.gp_machine.specs.Annotating.{annotated_versions, computed, identified}
@@ -42,7 +42,7 @@ module _ {M : Type 0} (kind : Annotations M) (limits : Limits) (lines : List Lin
 
     needed : (point : y.State) → IsAsked state.entries point → needed_version state.entries point ≤ versions_in state.entries
     needed (y.as_of version) (to_version l) = l
-    needed (y.after t k) (to_statement {version = version} e l) = begun_le t state.entries
+    needed (y.after t k) (to_statement {version = version} e l) = versions_le t k state.entries
     needed (y.State.commit t) (to_commit {version = version} e) =
         let i = version_is t version state.entries e in
         let w = i.within in

@@ -1,5 +1,5 @@
 -- Publishing a view puts the rows that were written in place of those of a later table, and the first committer wins, so a commit may publish.
-use Rattle.std.proofs.Common.{◌≡◌, ℕ, Bool, true, false, cond, List, [], ◌∷◌, ◌++◌, refl, sym, ap, ◌∙◌, subst, arith, map, None}
+use Rattle.std.proofs.Common.{◌≡◌, ℕ, ◌<◌, ◌≤◌, Bool, true, false, cond, List, [], ◌∷◌, ◌++◌, refl, sym, ap, ◌∙◌, subst, arith, map, None}
 use Rattle.std.specs.Prelude.{◌||◌, ◌&&◌, not}
 use Rattle.std.specs.List.{AllByRecursion, filter}
 use Rattle.std.proofs.lemmas.List.{append-nil, map-append}
@@ -7,16 +7,18 @@ use Rattle.std.proofs.lemmas.List.Elements.{filter-append}
 use Rattle.gp_algebra.specs.Effects.{Written}
 use Rattle.gp_base.specs.Annotated.{Annotated, Annotations, Database}
 use Rattle.gp_base.specs.Identities.{Identity, same_identity}
+use Rattle.gp_machine.proofs.BaseLemmas.{found}
 use Rattle.gp_machine.proofs.CommitLemmas.{holds_since}
-use Rattle.gp_machine.proofs.Distinct.{each_all, each_filter, each_weaker, filter-filter, filter_each, filter_none}
-use Rattle.gp_machine.proofs.LogLemmas.{begun_le}
+use Rattle.gp_machine.proofs.Distinct.{each_all, each_both, each_filter, each_weaker, filter-filter, filter_each, filter_none}
 use Rattle.gp_machine.proofs.Made.{same_equal}
 use Rattle.gp_machine.proofs.PublishLemmas.{publish_is}
 use Rattle.gp_machine.proofs.ReachedLemmas.{not_lost}
 use Rattle.gp_machine.proofs.ViewLemmas.{holds_each, unique_merged}
+use Rattle.gp_machine.specs.Bases.{Based, pairs}
 use Rattle.gp_machine.specs.Committed.{cleared, is_written, next_version, unmarked}
-use Rattle.gp_machine.specs.Entries.{begin_version, log_of, versions_in}
+use Rattle.gp_machine.specs.Entries.{log_of, versions_in}
 use Rattle.gp_machine.specs.Event.{conflict_of}
+use Rattle.gp_machine.specs.Histories.{IsFirst}
 use Rattle.gp_machine.specs.Limits.{Limits}
 use Rattle.gp_machine.specs.Publishing.{holds, publish}
 use Rattle.gp_machine.specs.Replacing.{AddsNoneOf, Replaces, rows_with}
@@ -94,11 +96,13 @@ module _ {M : Type 0} where
       → cleared (publish base view later) table ≡ next_version later view written table
   published_next t k base view later written is table none = ap (map unmarked) (published_is (λ id. is_written table id written) base view later table (is.tables table) none)
 
--- the newest version, against the begin version of a transaction whose commit is not lost
-pub won_adds_none : {M : Type 0} (kind : Annotations M) (limits : Limits) (state : State M) → IsReached kind limits state → (active : Active M) → conflict_of state active ≡ None → (table : ℕ)
-    → AddsNoneOf (λ id. is_written table id active.written) (state.committed (begin_version active.transaction state.entries) table) (state.committed (versions_in state.entries) table)
-won_adds_none kind limits state reached active won table id e f =
-    let begun = begin_version active.transaction state.entries in
+-- the newest version, against one that is not before the bases of the rows that a transaction wrote, whose commit is not lost
+pub won_adds_none : {M : Type 0} (kind : Annotations M) (limits : Limits) (state : State M) → IsReached kind limits state → (active : Active M) → conflict_of state active ≡ None
+    → (version : ℕ) → version ≤ versions_in state.entries → AllByRecursion (λ (based : Based). based.base ≤ version) active.seen.written
+    → (table : ℕ) → AddsNoneOf (λ id. is_written table id (pairs active.seen.written)) (state.committed version table) (state.committed (versions_in state.entries) table)
+won_adds_none kind limits state reached active won version l bases table id e f =
     let n = versions_in state.entries in
-    let l = begun_le active.transaction state.entries in
-    sym (holds_since kind (log_of state.entries) state.committed state.written reached.history n begun table id l (omega arith) (λ w a b. not_lost state.written begun n active.written l won w table id a b e)) ∙ f
+    let first : AllByRecursion (IsFirst state.written n) active.seen.written = not_lost state.written n active.seen.written won in
+    sym (holds_since kind (log_of state.entries) state.committed state.written reached.history n version table id l (omega arith)
+    (found (λ table id. (v : ℕ) → version < v → v ≤ n → is_written table id (state.written v) ≡ false) active.seen.written table id
+    (each_both _ _ _ (λ based b f v c d. f v (omega arith) d) active.seen.written bases first) e)) ∙ f

@@ -1,5 +1,5 @@
 -- Worked histories. The expected replies, spans and provenance are written out from the rules.
-use Rattle.std.proofs.Common.{◌≡◌, ℕ, zero, false, List, [], ◌∷◌, refl, Some, None, Result, Ok, Err}
+use Rattle.std.proofs.Common.{◌≡◌, ℕ, zero, suc, Bool, true, false, List, [], ◌∷◌, refl, Some, None, Result, Ok, Err}
 use Rattle.std.specs.Prelude.{codes, pos}
 use Rattle.gp_base.specs.declared.cell.Cell.{Cell}
 use Rattle.gp_base.specs.declared.cell.Cell.TheVariants.{Int}
@@ -13,14 +13,14 @@ use Rattle.gp_base.specs.Annotated.{monomials}
 use Rattle.gp_base.specs.Identities.{Identity, identity, no_sources}
 use Rattle.gp_base.specs.Tokens.{Monomial}
 use Rattle.gp_expr.specs.declared.expr.Cmp.TheVariants.{Eq}
-use Rattle.gp_expr.specs.Expressions.{col, constant, add, always, compare}
+use Rattle.gp_expr.specs.Expressions.{col, constant, add, mul, always, compare}
 use Rattle.gp_grammar.specs.Syntax as y
 use Rattle.gp_grammar.specs.Syntax.{Command}
 use Rattle.gp_algebra.specs.Statements.{Statement, insert, update, delete, read}
 use Rattle.gp_machine.specs.declared.reply.Reply.{Reply}
 use Rattle.gp_machine.specs.declared.reply.Reply.TheVariants as reply
 use Rattle.gp_machine.specs.Annotating.{annotated_versions}
-use Rattle.gp_machine.specs.Entries.{begin_version, committer_of, statement_count, version_of}
+use Rattle.gp_machine.specs.Entries.{begin_version, committer_of, statement_count, statement_version, version_of}
 use Rattle.gp_machine.specs.Event.{Line, line_event, after}
 use Rattle.gp_machine.specs.HistorySpans.{state_spans}
 use Rattle.gp_machine.specs.Limits.{Limits}
@@ -80,17 +80,17 @@ abbrev line : ℕ → ℕ → Command → Line
 line number session command = record { number = number; session = session; command = command }
 
 -- the replies to lines
-abbrev replies : State Monomial → List Line → List Reply
-replies state [] = []
-replies state (line ∷ lines) = (line_event monomials numbers state line).1 ∷ replies (line_event monomials numbers state line).0 lines
+abbrev replies : Limits → State Monomial → List Line → List Reply
+replies limits state [] = []
+replies limits state (line ∷ lines) = (line_event monomials limits state line).1 ∷ replies limits (line_event monomials limits state line).0 lines
 
 -- ---- the first committer wins: sessions 1 and 2 update one row, and session 1 commits first
 
 abbrev conflict : List Line
 conflict =
-    line 1 1 (y.create r) ∷ line 2 1 y.begin ∷ line 3 1 (insert_rows (pair 1 10 ∷ pair 2 20 ∷ [])) ∷ line 4 1 y.Command.commit
-    ∷ line 5 1 y.begin ∷ line 6 2 y.begin ∷ line 7 1 increment ∷ line 8 2 set_ten ∷ line 9 1 y.Command.commit ∷ line 10 2 y.Command.commit
-    ∷ line 11 1 (y.create r) ∷ line 12 1 y.begin ∷ line 13 3 y.Command.commit ∷ line 14 2 y.rollback ∷ []
+    line 1 1 (y.create r) ∷ line 2 1 (y.begin false) ∷ line 3 1 (insert_rows (pair 1 10 ∷ pair 2 20 ∷ [])) ∷ line 4 1 y.Command.commit
+    ∷ line 5 1 (y.begin false) ∷ line 6 2 (y.begin false) ∷ line 7 1 increment ∷ line 8 2 set_ten ∷ line 9 1 y.Command.commit ∷ line 10 2 y.Command.commit
+    ∷ line 11 1 (y.create r) ∷ line 12 1 (y.begin false) ∷ line 13 3 y.Command.commit ∷ line 14 2 y.rollback ∷ []
 
 abbrev first : Identity
 first = identity 1 1 1 no_sources
@@ -98,7 +98,7 @@ first = identity 1 1 1 no_sources
 abbrev second : Identity
 second = identity 1 1 2 no_sources
 
-conflict_replies : replies start conflict
+conflict_replies : replies numbers start conflict
     ≡ reply.Created 0 ∷ reply.Began 1 0 ∷ reply.Wrote 2 ∷ reply.Committed 1 1
     ∷ reply.Began 2 1 ∷ reply.Began 3 1 ∷ reply.Wrote 1 ∷ reply.Wrote 1 ∷ reply.Committed 2 2 ∷ reply.Refused (E11 3 2 (codes "r") first)
     ∷ reply.Refused (E14 limit.Tables) ∷ reply.Refused (E14 limit.Transactions) ∷ reply.Refused E10 ∷ reply.Refused E10 ∷ []
@@ -157,13 +157,13 @@ missing_version = refl
 
 abbrev crowded : List Line
 crowded =
-    line 1 1 (y.create r) ∷ line 2 1 y.begin ∷ line 3 1 y.begin ∷ line 4 1 (y.create r)
+    line 1 1 (y.create r) ∷ line 2 1 (y.begin false) ∷ line 3 1 (y.begin false) ∷ line 4 1 (y.create r)
     ∷ line 5 1 (insert_rows (pair 1 1 ∷ pair 2 2 ∷ pair 3 3 ∷ pair 4 4 ∷ [])) ∷ line 6 1 (insert_rows (pair 1 1 ∷ pair 2 2 ∷ pair 3 3 ∷ []))
     ∷ line 7 1 select_all ∷ line 8 1 (insert_rows (pair 4 4 ∷ [])) ∷ line 9 1 increment ∷ line 10 1 increment ∷ line 11 1 y.Command.commit
-    ∷ line 12 1 y.begin ∷ line 13 1 increment ∷ line 14 1 y.Command.commit ∷ line 15 1 y.begin ∷ line 16 1 increment ∷ line 17 1 increment
+    ∷ line 12 1 (y.begin false) ∷ line 13 1 increment ∷ line 14 1 y.Command.commit ∷ line 15 1 (y.begin false) ∷ line 16 1 increment ∷ line 17 1 increment
     ∷ line 18 1 y.Command.commit ∷ line 19 1 y.rollback ∷ []
 
-crowded_replies : replies start crowded
+crowded_replies : replies numbers start crowded
     ≡ reply.Created 0 ∷ reply.Began 1 0 ∷ reply.Refused E09 ∷ reply.Refused E09
     ∷ reply.Refused (E12 (codes "r")) ∷ reply.Wrote 3
     ∷ reply.Refused E27 ∷ reply.Refused (E12 (codes "r")) ∷ reply.Wrote 1 ∷ reply.Refused (E14 limit.Steps) ∷ reply.Committed 1 1
@@ -173,7 +173,72 @@ crowded_replies = refl
 
 -- a row that its transaction made and deleted itself begins no span, and a version may write nothing
 abbrev undone : List Line
-undone = line 1 1 (y.create r) ∷ line 2 1 y.begin ∷ line 3 1 (insert_rows (pair 1 1 ∷ [])) ∷ line 4 1 delete_all ∷ line 5 1 y.Command.commit ∷ []
+undone = line 1 1 (y.create r) ∷ line 2 1 (y.begin false) ∷ line 3 1 (insert_rows (pair 1 1 ∷ [])) ∷ line 4 1 delete_all ∷ line 5 1 y.Command.commit ∷ []
 
 undone_spans : state_spans (after monomials numbers start undone) 0 ≡ []
 undone_spans = refl
+
+-- ---- a read committed transaction: its second statement reads what another transaction committed since its first
+
+abbrev bigger : ℕ → ℕ → Statement
+bigger number a = update 0 (record { col = 2; expr = add (col 2) (constant (Int (pos number))) } ∷ []) (compare Eq (col 1) (constant (Int (pos a))))
+
+-- a check that knows these updates, by the first byte of the name that they give to r
+abbrev updates : List Table → Command → Result Statement Refusal
+updates tables (y.insert name rows) = Ok (insert 0 rows)
+updates tables (y.update (zero ∷ name) sets cond) = Ok (bigger 1 1)
+updates tables (y.update (suc zero ∷ name) sets cond) = Ok (bigger 5 2)
+updates tables (y.update (suc (suc zero) ∷ name) sets cond) = Ok (bigger 5 1)
+updates tables (y.update name sets cond) = Ok (update 0 (record { col = 2; expr = mul (col 2) (constant (number 2)) } ∷ []) always)
+updates tables command = Err E07
+
+abbrev ample : Limits
+ample = record numbers { checked = updates; transactions = 9; steps = 9; statements = 9; rows = 9; answer = 9; published = 9 }
+
+abbrev set_by : ℕ → Command
+set_by n = y.update (n ∷ []) [] None
+
+-- the kind of the first transaction, and the row that the second one updates
+abbrev isolated : Bool → ℕ → List Line
+isolated read_committed other =
+    line 1 1 (y.create r) ∷ line 2 1 (y.begin false) ∷ line 3 1 (insert_rows (pair 1 10 ∷ pair 2 20 ∷ [])) ∷ line 4 1 y.Command.commit
+    ∷ line 5 1 (y.begin read_committed) ∷ line 6 1 (set_by 0) ∷ line 7 2 (y.begin false) ∷ line 8 2 (set_by other) ∷ line 9 2 y.Command.commit
+    ∷ line 10 1 (set_by 9) ∷ line 11 1 y.Command.commit ∷ []
+
+isolated_replies : replies ample start (isolated true 1)
+    ≡ reply.Created 0 ∷ reply.Began 1 0 ∷ reply.Wrote 2 ∷ reply.Committed 1 1 ∷ reply.Began 2 1 ∷ reply.Wrote 1 ∷ reply.Began 3 1 ∷ reply.Wrote 1
+    ∷ reply.Committed 3 2 ∷ reply.Wrote 2 ∷ reply.Committed 2 3 ∷ []
+isolated_replies = refl
+
+abbrev isolated_state : State Monomial
+isolated_state = after monomials ample start (isolated true 1)
+
+isolated_spans : state_spans isolated_state 0
+    ≡ record { id = first; from = 1; to = Some 3; row = pair 1 10 } ∷ record { id = second; from = 1; to = Some 2; row = pair 2 20 }
+    ∷ record { id = second; from = 2; to = Some 3; row = pair 2 25 }
+    ∷ record { id = second; from = 3; to = None; row = pair 2 50 } ∷ record { id = first; from = 3; to = None; row = pair 1 22 } ∷ []
+isolated_spans = refl
+
+-- its statements read versions 1 and 2
+isolated_versions : (statement_version 2 0 isolated_state.entries ∷ statement_version 2 1 isolated_state.entries ∷ statement_version 2 2 isolated_state.entries ∷ []) ≡ 1 ∷ 1 ∷ 2 ∷ []
+isolated_versions = refl
+
+-- run again over the spans, it reads what it read, with its provenance
+isolated_reads : at_point monomials isolated_state.entries (y.after 2 2) (annotated_versions monomials isolated_state.entries (state_spans isolated_state)) 0
+    ≡ held_at isolated_state (y.after 2 2) 0
+isolated_reads = refl
+
+isolated_computed : annotated_versions monomials isolated_state.entries (state_spans isolated_state) 3 0 ≡ isolated_state.committed 3 0
+isolated_computed = refl
+
+abbrev last_reply : List Reply → Reply
+last_reply [] = reply.Refused E10
+last_reply (one ∷ []) = one
+last_reply (one ∷ (other ∷ rest)) = last_reply (other ∷ rest)
+
+-- a snapshot transaction loses by the row that both updated, and so does a read committed one, if the other commits after its own first write of the row
+snapshot_loses : last_reply (replies ample start (isolated false 1)) ≡ reply.Refused (E11 2 3 (codes "r") second)
+snapshot_loses = refl
+
+read_committed_loses : last_reply (replies ample start (isolated true 2)) ≡ reply.Refused (E11 2 3 (codes "r") first)
+read_committed_loses = refl

@@ -1,5 +1,5 @@
 -- Machinery: what an engine does with a line, in terms of what it keeps. Each definition is the contract of one method of an engine.
-use Rattle.std.specs.Prelude.{◌&&◌, ◌≡◌, ℕ, zero, suc, ◌+◌, ◌++◌, nat_le, nat_lt, Bool, true, false, List, [], ◌∷◌, length, filter, Option, Some, None, Result, Ok, Err}
+use Rattle.std.specs.Prelude.{◌≡◌, option_and_then, ℕ, zero, suc, ◌+◌, ◌++◌, nat_le, nat_lt, Bool, true, false, List, [], ◌∷◌, length, filter, Option, Some, None, Result, Ok, Err}
 use Rattle.gp_base.specs.declared.limit.Limit.TheVariants as limit
 use Rattle.gp_base.specs.declared.refusal.Refusal.{Refusal}
 use Rattle.gp_base.specs.declared.refusal.Refusal.TheVariants.{E09, E10, E11, E14}
@@ -9,9 +9,8 @@ use Rattle.gp_grammar.specs.Syntax.{Command}
 use Rattle.gp_versions.specs.declared.span.Write.{Write}
 use Rattle.gp_versions.specs.Commits.{after_commit}
 use Rattle.gp_versions.specs.Spans.{written_after}
-use Rattle.gp_base.specs.Identities.{Identity, same_identity}
+use Rattle.gp_base.specs.Identities.{Identity}
 use Rattle.gp_algebra.specs.Effects.{Written}
-use Rattle.std.specs.List.{list_any}
 use Rattle.std.specs.Ordering.{is_gt}
 use Rattle.gp_algebra.specs.Statements.{Statement}
 use Rattle.gp_machine.specs.declared.reply.Reply.{Reply}
@@ -21,7 +20,7 @@ use Rattle.gp_machine.specs.Conflicts.{Conflict, written_cmp}
 use Rattle.gp_machine.specs.Entries.{begin_version, End, RolledBack, Lost, Created, Began, Ran, Committed, Ended, committer_of}
 use Rattle.gp_machine.specs.Event.{Line, line_event, after, conflict_of, name_at, creation_refusal, count_refusal, refusal_of, reply_of}
 use Rattle.gp_machine.specs.Limits.{Limits}
-use Rattle.gp_machine.specs.Represents.{Represents, RepresentsActive, PlainDatabase, Overlay, Kept, base_of, view_of, AreWritesOf, IsNew, Applied}
+use Rattle.gp_machine.specs.Represents.{Represents, RepresentsActive, PlainDatabase, Overlay, Kept, base_in, version_to_read, view_at, view_of, AreWritesOf, IsNew, Applied}
 use Rattle.gp_machine.specs.State.{Active, State, start, with_value}
 
 -- the marked rows of the first tables, this many: those that a commit publishes
@@ -45,35 +44,40 @@ module _ (limits : Limits) (kept : Kept) (line session : ℕ) (new : Kept) (answ
       × (answer ≡ reply.Created (length kept.catalogue))
 
   -- BEGIN, unless there are too many transactions
-  abbrev pub Begins : Bool → Type 0
-  Begins true = Refuses (E14 limit.Transactions)
-  Begins false =
-      (overlay : Overlay) × IsNew (base_of kept.spans overlay) overlay × (overlay.transaction ≡ suc kept.transactions) × (overlay.begin ≡ kept.versions)
+  abbrev pub Begins : Bool → Bool → Type 0
+  Begins read_committed true = Refuses (E14 limit.Transactions)
+  Begins read_committed false =
+      (overlay : Overlay) × IsNew kept.spans overlay × (overlay.transaction ≡ suc kept.transactions)
+      × (overlay.read_committed ≡ read_committed) × (overlay.begin ≡ kept.versions)
       × (new ≡ record kept {
-        entries = Began line session (suc kept.transactions) ∷ kept.entries;
+        entries = Began line session (suc kept.transactions) read_committed ∷ kept.entries;
         transactions = suc kept.transactions;
         sessions = with_value session (Some overlay) kept.sessions;
       })
       × (answer ≡ reply.Began (suc kept.transactions) kept.versions)
 
+  -- the version that a statement reads
+  abbrev pub now : Overlay → ℕ
+  now overlay = version_to_read overlay kept.versions
+
   -- a statement that was checked, by the first limit that it passes
   abbrev pub Applies : Overlay → Command → Statement → Option Refusal → Type 0
   Applies overlay command statement (Some refusal) = Refuses refusal
   Applies overlay command statement None =
-      (after : Overlay) × Applied statement (base_of kept.spans overlay) overlay after
+      (after : Overlay) × Applied statement kept.spans (now overlay) overlay after
       × (new ≡ record kept {
         entries = Ran line session command overlay.transaction statement ∷ kept.entries;
         statements = suc kept.statements;
         sessions = with_value session (Some after) kept.sessions;
       })
-      × (answer ≡ reply_of plain overlay.transaction (suc overlay.statements) statement (view_of kept.spans overlay))
+      × (answer ≡ reply_of plain overlay.transaction (suc overlay.statements) statement (view_at kept.spans overlay (now overlay)))
 
   -- a statement, by the first count that it passes, and by the check
   abbrev pub RunsStatement : Overlay → Command → Option Refusal → Result Statement Refusal → Type 0
   RunsStatement overlay command (Some refusal) checked = Refuses refusal
   RunsStatement overlay command None (Err refusal) = Refuses refusal
   RunsStatement overlay command None (Ok statement) =
-      Applies overlay command statement (refusal_of plain limits kept.catalogue overlay.transaction (suc overlay.statements) statement (view_of kept.spans overlay))
+      Applies overlay command statement (refusal_of plain limits kept.catalogue overlay.transaction (suc overlay.statements) statement (view_at kept.spans overlay (now overlay)))
 
   abbrev pub Ends : Overlay → End → Reply → Type 0
   Ends overlay end expected =
@@ -100,12 +104,12 @@ module _ (limits : Limits) (kept : Kept) (line session : ℕ) (new : Kept) (answ
   -- what an action does in a session with these writes, or without a transaction, given the conflict of a transaction
   abbrev pub Answers : (Overlay → Option Conflict) → Option Overlay → Action → Type 0
   Answers conflict None (Create table) = Creates table (creation_refusal limits kept.catalogue table)
-  Answers conflict None Begin = Begins (nat_le limits.transactions kept.transactions)
+  Answers conflict None (Begin read_committed) = Begins read_committed (nat_le limits.transactions kept.transactions)
   Answers conflict None Commit = Refuses E10
   Answers conflict None Rollback = Refuses E10
   Answers conflict None (Run command) = Refuses E10
   Answers conflict (Some overlay) (Create table) = Refuses E09
-  Answers conflict (Some overlay) Begin = Refuses E09
+  Answers conflict (Some overlay) (Begin read_committed) = Refuses E09
   Answers conflict (Some overlay) Commit = Commits overlay (conflict overlay) (nat_lt limits.published (rows_after kept overlay))
   Answers conflict (Some overlay) Rollback = Ends overlay RolledBack (reply.RolledBack overlay.transaction)
   Answers conflict (Some overlay) (Run command) =
@@ -117,23 +121,16 @@ FindsConflict kept state session conflict =
     (overlay : Overlay) (active : Active (Unit {0})) → kept.sessions session ≡ Some overlay → state.active session ≡ Some active
     → RepresentsActive kept.spans (begin_version active.transaction state.entries) overlay active → conflict overlay ≡ conflict_of state active
 
--- a row of the begin version that the transaction has written
-abbrev pub is_named : Kept → Overlay → ℕ → Identity → Bool
-is_named kept overlay place id =
-    list_any (λ row. same_identity row.identity id) (base_of kept.spans overlay place) && overlay.names (base_of kept.spans overlay) place id
-
--- the version that wrote it next
+-- the first version after the base of a row that wrote the row, if the transaction has written it
 abbrev pub next_write : Kept → Overlay → ℕ → Identity → Option ℕ
-next_write kept overlay place id = written_after id overlay.begin (kept.spans place)
+next_write kept overlay place id = option_and_then (λ base. written_after id base (kept.spans place)) (base_in kept.spans overlay place id)
 
--- The conflict that the spans show: the least of the written rows of the begin version that was written since.
+-- The conflict that the spans show: the least of the written rows that was written after its base.
 abbrev pub ShowsConflict : Kept → Overlay → Option Conflict → Type 0
-ShowsConflict kept overlay None = (place : ℕ) (id : Identity) → is_named kept overlay place id ≡ true → next_write kept overlay place id ≡ None
+ShowsConflict kept overlay None = (place : ℕ) (id : Identity) → next_write kept overlay place id ≡ None
 ShowsConflict kept overlay (Some conflict) =
-    (is_named kept overlay conflict.pair.table conflict.pair.identity ≡ true)
-    × ((next_write kept overlay conflict.pair.table conflict.pair.identity ≡ Some conflict.version)
-    × ((pair : Written) (version : ℕ) → is_named kept overlay pair.table pair.identity ≡ true → next_write kept overlay pair.table pair.identity ≡ Some version
-    → is_gt (written_cmp conflict.pair pair) ≡ false))
+    (next_write kept overlay conflict.pair.table conflict.pair.identity ≡ Some conflict.version)
+    × ((pair : Written) (version : ℕ) → next_write kept overlay pair.table pair.identity ≡ Some version → is_gt (written_cmp conflict.pair pair) ≡ false)
 
 -- An engine follows the history machine at a line: whatever lines came before, if it represents the state that they left, then it represents the
 -- state that they leave with this one, and its answer is the reply.

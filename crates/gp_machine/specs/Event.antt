@@ -1,6 +1,7 @@
 -- Part of the statement: what the command of a line does to the state, and the reply to it. Under snapshot isolation (Berenson and others, SIGMOD
--- 1995) a transaction reads the version that was newest when it began, and its own writes; its commit makes the next version. A refused line
--- leaves the state unchanged, but a COMMIT that is lost ends its transaction.
+-- 1995) a transaction reads the version that was newest when it began, and its own writes; its commit makes the next version. A read committed
+-- transaction reads at each statement the version that is the newest then, and its own writes. A refused line leaves the state unchanged, but a COMMIT
+-- that is lost ends its transaction.
 use Rattle.std.specs.Prelude.{ℕ, zero, suc, ◌+◌, nat_le, nat_lt, Bool, true, false, List, [], ◌∷◌, ◌++◌, length, filter, Option, Some, None, Result, Ok, Err, slice_get, if◌then◌else◌}
 use Rattle.std.specs.Option.{option_map_or}
 use Rattle.gp_base.specs.declared.limit.Limit.TheVariants as limit
@@ -11,14 +12,16 @@ use Rattle.gp_base.specs.Annotated.{Annotations, Database}
 use Rattle.gp_grammar.specs.Syntax.{Command}
 use Rattle.gp_algebra.specs.Statements.{Statement, insert, insert_select, update, delete, read}
 use Rattle.gp_algebra.specs.Answers.{answer, cells_of}
-use Rattle.gp_algebra.specs.Effects.{step, wrote, is_over_rows, is_over_nodes}
+use Rattle.gp_algebra.specs.Effects.{wrote, is_over_rows, is_over_nodes}
 use Rattle.gp_machine.specs.declared.reply.Reply.{Reply}
 use Rattle.gp_machine.specs.declared.reply.Reply.TheVariants as reply
 use Rattle.gp_machine.specs.Actions.{Action, Create, Begin, Commit, Rollback, Run, action_of}
+use Rattle.gp_machine.specs.Bases.{pairs}
 use Rattle.gp_machine.specs.Committed.{is_written, next_version}
 use Rattle.gp_machine.specs.Conflicts.{Conflict, least_conflict}
-use Rattle.gp_machine.specs.Entries.{End, RolledBack, Lost, Created, Began, Ran, Committed, Ended, versions_in, transactions_in, statements_in, begin_version, committer_of}
+use Rattle.gp_machine.specs.Entries.{End, RolledBack, Lost, Created, Began, Ran, Committed, Ended, versions_in, transactions_in, statements_in, committer_of}
 use Rattle.gp_machine.specs.Limits.{Limits}
+use Rattle.gp_machine.specs.Reading.{Seen, next_seen, started}
 use Rattle.gp_machine.specs.State.{Active, State, with_value}
 
 -- a line that was read: its number, from 1, its session and its command
@@ -92,57 +95,78 @@ module _ {M : Type 0} (state : State M) (line session : ℕ) where
   creating table (Some refusal) = refused state refusal
   creating table None = (created table, reply.Created (length state.catalogue))
 
-  -- BEGIN: the next transaction reads the newest version
-  abbrev pub began : State M
-  began =
+  -- BEGIN: the next transaction, of this kind, reads the newest version
+  abbrev pub began : Bool → State M
+  began read_committed =
       let t = suc (transactions_in state.entries) in
-      let view = state.committed (versions_in state.entries) in
+      let version = versions_in state.entries in
+      let view = state.committed version in
       record state {
-        entries = Began line session t ∷ state.entries;
+        entries = Began line session t read_committed ∷ state.entries;
         views = with_value t (λ k. view) state.views;
-        active = with_value session (Some (record { transaction = t; statements = zero; view = view; written = [] })) state.active;
+        active = with_value session (Some (record {
+          transaction = t;
+          read_committed = read_committed;
+          version = version;
+          statements = zero;
+          seen = record { view = view; written = [] };
+        })) state.active;
       }
 
-  abbrev pub beginning : Bool → State M × Reply
-  beginning true = refused state (E14 limit.Transactions)
-  beginning false = (began, reply.Began (suc (transactions_in state.entries)) (versions_in state.entries))
+  abbrev pub beginning : Bool → Bool → State M × Reply
+  beginning read_committed true = refused state (E14 limit.Transactions)
+  beginning read_committed false = (began read_committed, reply.Began (suc (transactions_in state.entries)) (versions_in state.entries))
 
 -- ---- statements
 
+-- The version that the next statement of a transaction reads, and what the transaction reads there. A transaction that is not read committed has read
+-- no other version than the one that it began at.
+abbrev pub version_now : {M : Type 0} → State M → Active M → ℕ
+version_now state active = if active.read_committed then versions_in state.entries else active.version
+
+abbrev pub start_now : {M : Type 0} → State M → Active M → Database M
+start_now state active = started active.version (version_now state active) (state.committed (version_now state active)) active.seen
+
 module _ {M : Type 0} (kind : Annotations M) (state : State M) (line session : ℕ) (active : Active M) (command : Command) where
+  -- what the transaction has read and written after the statement
+  abbrev pub seen_next : Statement → Seen M
+  seen_next statement =
+      let now = version_now state active in
+      next_seen kind active.transaction (suc active.statements) active.version now (state.committed now) (Some statement) active.seen
+
   -- the transaction reads what the statement leaves from now on
   abbrev pub accepted : Statement → State M
   accepted statement =
       let t = active.transaction in
       let k = suc active.statements in
-      let view = step kind t k statement active.view in
+      let seen = seen_next statement in
       record state {
         entries = Ran line session command t statement ∷ state.entries;
-        views = with_value t (with_value k view (state.views t)) state.views;
-        active = with_value session (Some (record active { statements = k; view = view; written = active.written ++ wrote kind t k statement active.view })) state.active;
+        views = with_value t (with_value k seen.view (state.views t)) state.views;
+        active = with_value session (Some (record active { version = version_now state active; statements = k; seen = seen })) state.active;
       }
 
   abbrev pub ran : Statement → Option Refusal → State M × Reply
   ran statement (Some refusal) = refused state refusal
-  ran statement None = (accepted statement, reply_of kind active.transaction (suc active.statements) statement active.view)
+  ran statement None = (accepted statement, reply_of kind active.transaction (suc active.statements) statement (start_now state active))
 
   -- by the refusal of the counts, and by the check
   abbrev pub running : Limits → Option Refusal → Result Statement Refusal → State M × Reply
   running limits (Some refusal) checked = refused state refusal
   running limits None (Err refusal) = refused state refusal
   running limits None (Ok statement) =
-      ran statement (refusal_of kind limits state.catalogue active.transaction (suc active.statements) statement active.view)
+      ran statement (refusal_of kind limits state.catalogue active.transaction (suc active.statements) statement (start_now state active))
 
 -- ---- the end of a transaction
 
 -- the conflict that a commit is lost by, if there is one
 abbrev pub conflict_of : {M : Type 0} → State M → Active M → Option Conflict
-conflict_of state active = least_conflict state.written (begin_version active.transaction state.entries) (versions_in state.entries) active.written
+conflict_of state active = least_conflict state.written (versions_in state.entries) active.seen.written
 
 -- the rows that a commit publishes in the first tables, this many
 abbrev pub published_rows : {M : Type 0} → Active M → ℕ → ℕ
 published_rows active zero = zero
-published_rows active (suc table) = published_rows active table + length (filter (λ row. is_written table row.identity active.written) (active.view table))
+published_rows active (suc table) = published_rows active table + length (filter (λ row. is_written table row.identity (pairs active.seen.written)) (active.seen.view table))
 
 -- whether a commit would publish too many rows
 abbrev pub is_full : {M : Type 0} → Limits → State M → Active M → Bool
@@ -159,8 +183,8 @@ module _ {M : Type 0} (state : State M) (line session : ℕ) (active : Active M)
       let version = suc (versions_in state.entries) in
       record state {
         entries = Committed line session active.transaction ∷ state.entries;
-        committed = with_value version (next_version (state.committed (versions_in state.entries)) active.view active.written) state.committed;
-        written = with_value version active.written state.written;
+        committed = with_value version (next_version (state.committed (versions_in state.entries)) active.seen.view (pairs active.seen.written)) state.committed;
+        written = with_value version (pairs active.seen.written) state.written;
         rows = state.rows + published_rows active (length state.catalogue);
         active = with_value session None state.active;
       }
@@ -181,12 +205,12 @@ module _ {M : Type 0} (kind : Annotations M) (limits : Limits) where
   -- CREATE TABLE and BEGIN are allowed only outside a transaction, all else only inside one.
   abbrev pub answered : State M → ℕ → ℕ → Option (Active M) → Action → State M × Reply
   answered state line session None (Create table) = creating state line session table (creation_refusal limits state.catalogue table)
-  answered state line session None Begin = beginning state line session (nat_le limits.transactions (transactions_in state.entries))
+  answered state line session None (Begin read_committed) = beginning state line session read_committed (nat_le limits.transactions (transactions_in state.entries))
   answered state line session None Commit = refused state E10
   answered state line session None Rollback = refused state E10
   answered state line session None (Run command) = refused state E10
   answered state line session (Some active) (Create table) = refused state E09
-  answered state line session (Some active) Begin = refused state E09
+  answered state line session (Some active) (Begin read_committed) = refused state E09
   answered state line session (Some active) Commit = committing state line session active (conflict_of state active) (is_full limits state active)
   answered state line session (Some active) Rollback = (ended state line session active RolledBack, reply.RolledBack active.transaction)
   answered state line session (Some active) (Run command) =

@@ -3,15 +3,20 @@ use Rattle.std.specs.Prelude.{◌≡◌, ℕ, Option, Some, None, map}
 use Rattle.gp_base.specs.Annotated.{Database, Environment}
 use Rattle.gp_algebra.specs.Reannotation.{database_reannotated, forgotten, reannotated}
 use Rattle.gp_machine.specs.declared.reply.Reply.{Reply}
+use Rattle.gp_machine.specs.Reading.{Seen}
 use Rattle.gp_machine.specs.State.{Active, State}
 
 module _ {M N : Type 0} (h : M → N) where
+  abbrev pub seen_reannotated : Seen M → Seen N
+  seen_reannotated seen = record { view = database_reannotated h seen.view; written = seen.written }
+
   abbrev pub active_reannotated : Active M → Active N
   active_reannotated active = record {
     transaction = active.transaction;
+    read_committed = active.read_committed;
+    version = active.version;
     statements = active.statements;
-    view = database_reannotated h active.view;
-    written = active.written;
+    seen = seen_reannotated active.seen;
   }
 
   abbrev pub session_reannotated : Option (Active M) → Option (Active N)

@@ -17,27 +17,31 @@ ghost use Rattle.gp_algebra.specs.Statements.{Select, Statement};
 ghost use Rattle.gp_machine.specs.declared.reply.Reply.{Reply};
 ghost use Rattle.gp_machine.specs.Actions.{action_of};
 ghost use Rattle.gp_machine.specs.Annotating.{annotated, annotated_versions, computed, identified};
-ghost use Rattle.gp_machine.specs.Committed.{cleared, is_written, next_version, unmarked};
+ghost use Rattle.gp_machine.specs.Bases.{Based, pairs};
+ghost use Rattle.gp_machine.specs.Committed.{cleared, is_written, merged, next_version, unmarked};
 ghost use Rattle.gp_machine.specs.Committers.{CommittedBy};
-ghost use Rattle.gp_machine.specs.Conflicts.{Conflict, IsLeastConflict, least_conflict};
+ghost use Rattle.gp_machine.specs.Conflicts.{Conflict, HaveOneBase, IsLeastConflict, least_conflict};
 ghost use Rattle.gp_machine.specs.EngineLine.{Answers, FindsConflict, Follows, ShowsConflict};
 ghost use Rattle.gp_machine.specs.Entries.{Entry, Log, begin_version, committer_of, log_of, statement_count, version_of, versions_in};
 ghost use Rattle.gp_machine.specs.Event.{Line, after, conflict_of, line_event, published};
 ghost use Rattle.gp_machine.specs.HistorySpans.{as_of, next_written, span_after, span_count, spans_from, state_spans};
+ghost use Rattle.gp_machine.specs.Histories.{IsFirst};
 ghost use Rattle.gp_machine.specs.Limits.{ChecksTargets, Limits};
 ghost use Rattle.gp_machine.specs.Points.{IsAsked, at_point, held_at, run_stop};
-ghost use Rattle.gp_machine.specs.Publishing.{at_commit, publish};
+ghost use Rattle.gp_machine.specs.Publishing.{publish};
 ghost use Rattle.gp_machine.specs.Replacing.{AddsNoneOf, Replaces, rows_with};
 ghost use Rattle.gp_machine.specs.Questions.{AreAlike, annotated_answer, held_answer, rows_answer};
 ghost use Rattle.gp_machine.specs.Reached.{CountsAreWithin, IsReached};
 ghost use Rattle.gp_machine.specs.Recorded.{is_recorded};
 ghost use Rattle.gp_machine.specs.Represents.{Kept, Overlay, Represents, kept_start};
+ghost use Rattle.gp_machine.specs.Runs.{at_commit};
 ghost use Rattle.gp_machine.specs.State.{Active, State, start};
 ghost use Rattle.gp_machine.specs.StateReannotation.{AreEqualButForAnnotations, AreReannotated, IsReannotated, outcome_reannotated, state_reannotated};
 ghost use Rattle.gp_machine.specs.Views.{HaveDifferentIdentities, IsView, IsViewOf, unwritten};
 
-/// Every state that lines lead to is that of a history: its versions are what its commits published, a transaction begins
-/// before it commits, the first committer wins, and what each transaction reads is what its run gives.
+/// Every state that lines lead to is that of a history: its versions are what its commits published, a transaction commits once,
+/// and has read only older versions, no statement an older one than the statement before it; no version after the base of a row
+/// that a commit wrote, and before the commit, wrote the row too; and what each transaction reads is what its statements leave.
 pub fn reached_states_are_histories<M>()
     ensures start { (kind : Annotations M) (limits : Limits) → IsReached kind limits start }
     ensures event { (kind : Annotations M) (limits : Limits) (state : State M) (line : Line)
@@ -48,7 +52,10 @@ pub fn reached_states_are_histories<M>()
 {}
 
 /// A running transaction keeps its invariant. It holds at its BEGIN, if the version has no row twice, none marked, and none
-/// that the transaction made; every statement keeps it; and it holds of every active transaction of a reached state.
+/// that the transaction made; every statement keeps it, and so does a later such version, if its rows are read but for those
+/// that the transaction wrote (`refresh`); and it holds of every active transaction of a reached state, over the version that
+/// the transaction read last (`reached`). The bases of the rows that it wrote are versions that it has read: none is older than
+/// its begin version, and none newer than the one that it read last, which are one version unless it is read committed (`bases`).
 pub fn transactions_keep_their_invariant<M>()
     ensures begin { (t : ℕ) (base : Database M)
         → ((table : ℕ) → HaveDifferentIdentities (base table))
@@ -59,18 +66,30 @@ pub fn transactions_keep_their_invariant<M>()
         (base view : Database M) (written : List Written) → IsViewOf t k base view written
         → IsViewOf t (suc k) base (step kind t (suc k) statement view)
         (written ++ wrote kind t (suc k) statement view) }
+    ensures refresh { (t k : ℕ) (base view later : Database M) (written : List Written)
+        → IsViewOf t k base view written
+        → ((table : ℕ) → HaveDifferentIdentities (later table))
+        → ((table : ℕ) → AllByRecursion (λ row. row.mark ≡ false) (later table))
+        → ((table : ℕ) → AllByRecursion (λ row. transaction_of row.identity ≢ t) (later table))
+        → IsViewOf t k later (merged later view written) written }
     ensures reached { (kind : Annotations M) (limits : Limits) (state : State M)
         → IsReached kind limits state → (session : ℕ) (active : Active M)
         → state.active session ≡ Some active
         → IsViewOf active.transaction active.statements
-        (state.committed (begin_version active.transaction state.entries))
-        active.view active.written }
+        (state.committed active.version) active.seen.view (pairs active.seen.written) }
+    ensures bases { (kind : Annotations M) (limits : Limits) (state : State M)
+        → IsReached kind limits state → (session : ℕ) (active : Active M)
+        → state.active session ≡ Some active
+        → AllByRecursion
+        (λ (based : Based). (begin_version active.transaction state.entries ≤ based.base)
+        × (based.base ≤ active.version)) active.seen.written }
 {}
 
 /// Publishing a view puts the rows that its transaction wrote in place of those of a later database. The view satisfies the
 /// invariant of [`transactions_keep_their_invariant`] over its base, table by table, and of the written identities the later
-/// table has only such as the base has. That holds where the rows of these identities are unchanged (`unchanged`), and for the
-/// newest version of a reached state, if the commit is not lost (`won`). The published table is then, as a list, the later rows
+/// table has only such as the base has. That holds where the rows of these identities are unchanged (`unchanged`); and if the
+/// commit is not lost, for the newest version of a reached state over any version that is not older than the bases of the written
+/// rows, as the one that the transaction read last is not (`won`). The published table is then, as a list, the later rows
 /// that were not written and after them the marked rows of the view; so of every identity that was not written it has the later
 /// rows, and of every written one those of the view (`replaces`). With the marks cleared (`unmarked`) it is the table of the
 /// version that a commit makes (`commit`).
@@ -95,10 +114,11 @@ pub fn publishing_replaces_the_written_rows<M>()
         → AddsNoneOf among base later }
     ensures won { (kind : Annotations M) (limits : Limits) (state : State M)
         → IsReached kind limits state
-        → (active : Active M) → conflict_of state active ≡ None → (table : ℕ)
-        → AddsNoneOf (λ id. is_written table id active.written)
-        (state.committed (begin_version active.transaction state.entries) table)
-        (state.committed (versions_in state.entries) table) }
+        → (active : Active M) → conflict_of state active ≡ None
+        → (version : ℕ) → version ≤ versions_in state.entries
+        → AllByRecursion (λ (based : Based). based.base ≤ version) active.seen.written
+        → (table : ℕ) → AddsNoneOf (λ id. is_written table id (pairs active.seen.written))
+        (state.committed version table) (state.committed (versions_in state.entries) table) }
 {}
 
 /// The identity of a row of a version begins with the number of the transaction that made the row, which is 1 or more, and
@@ -210,7 +230,7 @@ pub fn spans_hold_the_versions<M>()
     ensures commit { (state : State M) (line session : ℕ) (active : Active M) (table : ℕ)
         → state_spans (published state line session active) table
         ≡ map (span_after (suc (versions_in state.entries))
-        (λ id. is_written table id active.written)) (state_spans state table)
+        (λ id. is_written table id (pairs active.seen.written))) (state_spans state table)
         ++ spans_from (suc (versions_in state.entries))
         (published state line session active).committed
         (published state line session active).written table
@@ -229,25 +249,18 @@ pub fn accepted_lines_are_recorded<M>()
         × ((line_event kind limits state line).0.entries ≡ entry ∷ state.entries) }
 {}
 
-/// A commit is lost exactly where a version after the begin version wrote one of the rows of the transaction. The conflict is
-/// the least such row, by table and then by identity, with the first such version, in whatever order the rows are tested.
+/// A commit is lost exactly where a version after the base of a row wrote the row too. The conflict is the least such row, by
+/// table and then by identity, with the first such version, in whatever order the rows are tested.
 pub fn conflicts_are_least()
-    ensures some { (written : ℕ → List Written) (begin versions : ℕ) (pairs : List Written)
-        (conflict : Conflict) → begin ≤ versions
-        → least_conflict written begin versions pairs ≡ Some conflict
-        → IsLeastConflict written begin versions pairs conflict }
-    ensures none { (written : ℕ → List Written) (begin versions : ℕ) (pairs : List Written)
-        → begin ≤ versions → least_conflict written begin versions pairs ≡ None
-        → (version table : ℕ) (id : Identity) → begin < version → version ≤ versions
-        → is_written table id pairs ≡ true → is_written table id (written version) ≡ false }
-    ensures same { (written : ℕ → List Written) (begin versions : ℕ) (pairs others : List Written)
-        → begin ≤ versions
-        → ((pair : Written) (version : ℕ) → begin < version → version ≤ versions
-        → is_written pair.table pair.identity (written version) ≡ true
-        → is_written pair.table pair.identity pairs
-        ≡ is_written pair.table pair.identity others)
-        → least_conflict written begin versions pairs
-        ≡ least_conflict written begin versions others }
+    ensures some { (written : ℕ → List Written) (versions : ℕ) (all : List Based)
+        (conflict : Conflict) → least_conflict written versions all ≡ Some conflict
+        → IsLeastConflict written versions all conflict }
+    ensures none { (written : ℕ → List Written) (versions : ℕ) (all : List Based)
+        → least_conflict written versions all ≡ None
+        → AllByRecursion (IsFirst written versions) all }
+    ensures same { (written : ℕ → List Written) (versions : ℕ) (all : List Based)
+        (one other : Conflict) → HaveOneBase all → IsLeastConflict written versions all one
+        → IsLeastConflict written versions all other → one ≡ other }
 {}
 
 /// The log and the spans of a history, in whatever order, hold the history: its versions with their annotations, what a

@@ -14,4 +14,4 @@ pub returns-clause-unchanged : goal.returns-clause-unchanged
 returns-clause-unchanged g c among base later same = unchanged_adds_none among base later same
 
 pub returns-clause-won : goal.returns-clause-won
-returns-clause-won g c kind limits state reached active won table = won_adds_none kind limits state reached active won table
+returns-clause-won g c kind limits state reached active won version l bases table = won_adds_none kind limits state reached active won version l bases table
