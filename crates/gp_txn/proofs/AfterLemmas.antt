@@ -1,79 +1,111 @@
 -- After a commit: its writes, the number of spans, and whose rows they are.
-use Rattle.std.proofs.Common.{◌≡◌, ◌≢◌, ℕ, zero, suc, ◌+◌, ◌≤◌, List, [], ◌∷◌, ◌++◌, map, drop, length, Option, Some, None, refl, ap, sym, ◌∙◌, subst, arith, inl, inr}
+use Rattle.std.proofs.Common.{◌≡◌, ◌≢◌, ℕ, zero, suc, ◌+◌, ◌≤◌, Bool, true, false, not, ◌||◌, List, [], ◌∷◌, ◌++◌, map, length, Option, Some, None, refl, ap, sym, ◌∙◌, subst, arith, inl, inr}
 use Rattle.std.specs.List.{filter, filter_map, cons_option, AllByRecursion}
-use Rattle.std.specs.Option.{option_map}
-use Rattle.std.proofs.lemmas.Bool.{cases_lt}
+use Rattle.std.specs.Option.{is_none, is_some, option_map}
+use Rattle.std.proofs.lemmas.Bool.{cases_lt, false≢true}
+use Rattle.std.proofs.lemmas.List.Folds.{list_any-append}
 use Rattle.std.proofs.Math.ListN.{get_or-eq_default}
 use Rattle.gp_base.specs.declared.cell.Cell.{Cell}
 use Rattle.gp_base.specs.declared.stored.Stored.{Stored}
 use Rattle.gp_base.specs.Annotated.{plain}
-use Rattle.gp_base.specs.Identities.{Identity, transaction_of}
+use Rattle.gp_base.specs.Identities.{Identity, same_identity, transaction_of}
 use Rattle.gp_versions.specs.declared.span.Span.{Span}
 use Rattle.gp_versions.specs.declared.span.Write.{Write}
 use Rattle.gp_versions.specs.Commits.{after_commit, begun, ended, is_written, live_rows}
-use Rattle.gp_versions.specs.Spans.{Versions, row_of, spans_at}
+use Rattle.gp_versions.specs.Spans.{Versions}
 use Rattle.gp_versions.proofs.SpanLemmas.{ended_id}
-use Rattle.gp_txn.specs.declared.overlay.Slot.{Slot}
-use Rattle.gp_txn.specs.declared.overlay.Slot.TheVariants.{Same, Put, Dropped}
-use Rattle.gp_txn.specs.Committing.{Commits, commit_of, spans_left, unmarked}
+use Rattle.gp_versions.proofs.SameLemmas.{same-exact}
+use Rattle.gp_txn.specs.declared.carried.Carried.{Carried}
+use Rattle.gp_txn.specs.declared.overlay.TableWrites.{TableWrites}
+use Rattle.gp_txn.specs.Committing.{Commits, commit_of, spans_left, unmarked, view_below}
 use Rattle.gp_txn.specs.Counts.{count_rows, count_spans}
-use Rattle.gp_txn.specs.Overlay.{AreOthers, HoldsOthers, HoldsOwn, Writes, base_writes, database_at, head_slot, names, no_table, overlaid, own_row, own_write, slot_write, table_at, view_of, writes_at}
-use Rattle.gp_txn.proofs.CommitLemmas.{AreMadeBy, inserted-own, others-held}
+use Rattle.gp_txn.specs.Bases.{table_view}
+use Rattle.gp_txn.specs.Overlay.{PlainRow, carried_row, carried_write, own_row, own_write, rows_below, slot_writes, table_writes}
+use Rattle.gp_txn.specs.Prepared.{AreWritesOf}
+use Rattle.gp_txn.specs.Transactions.{AreOthers, AreThere, HoldsOthers, HoldsOwn, HoldsThere, Writes, base_at, database_below, has_span, no_table, table_at, view_at, writes_at}
+use Rattle.gp_txn.proofs.CommitLemmas.{AreMadeBy, inserted-own, slots-all, writes-own}
 use Rattle.gp_txn.proofs.CountLemmas.{count-after, length-map}
-use Rattle.gp_txn.proofs.VersionLemmas.{live-view, named}
+use Rattle.gp_txn.proofs.PairLemmas.{all-weaker}
+use Rattle.gp_txn.proofs.RebaseLemmas.{view-nowhere}
+use Rattle.gp_txn.proofs.VersionLemmas.{live-view, unwritten-none}
 
 -- ---- what a transaction commits to a table
 
+none-behind : (xs ys : List PlainRow) → xs ++ ys ≡ [] → ys ≡ []
+none-behind [] ys none = none
+none-behind (x ∷ xs) ys none = absurd (cc)
+
+no-own : (own : List Stored) → map own_row own ≡ [] → own ≡ []
+no-own [] none = refl
+no-own (stored ∷ own) none = absurd (cc)
+
+no-carried : (carried : List Carried) → AreThere [] carried → carried ≡ []
+no-carried [] there = refl
+no-carried (row ∷ rows) there = absurd (false≢true there.0)
+
+-- a table without row versions, of which the transaction sees no rows
+table-none : (table : TableWrites) (version : ℕ) → AreThere [] table.carried → table_view table [] version ≡ [] → table_writes table (rows_below table []) ≡ []
+table-none table version there none =
+    let own = no-own table.own (none-behind (filter_map carried_row table.carried) (map own_row table.own) (sym (view-nowhere table version) ∙ none)) in
+    rw (own, no-carried table.carried there) refl
+
 module _ (writes : Writes) (versions : List Versions) where
+  some-none : (base : Option ℕ) → is_some base ≡ not (is_none base)
+  some-none None = refl
+  some-none (Some version) = refl
+
+  not-not : (b : Bool) → b ≡ not (not b)
+  not-not true = refl
+  not-not false = refl
+
   -- of the rows of others, those that it has written
-  pub commit-names : HoldsOwn writes → (place : ℕ) (id : Identity) → transaction_of id ≢ writes.t
-      → is_written (commit_of writes.tables versions writes.begin place) id ≡ names writes (database_at writes.begin versions) place id
-  commit-names own place id other =
+  pub commit-bases : HoldsOwn writes → (place : ℕ) (id : Identity) → transaction_of id ≢ writes.t
+      → is_written (commit_of writes.tables versions place) id ≡ is_some (base_at writes.tables versions place id)
+  commit-bases own place id other =
       let table = writes_at place writes.tables in
-      named (base_writes table.slots (database_at writes.begin versions place)) table.own writes.t id other (inserted-own writes.t writes.last table.own (own place)).0
+      let base = database_below writes.tables versions place in
+      not-not (is_written (commit_of writes.tables versions place) id)
+      ∙ ap not (unwritten-none table base writes.t (inserted-own writes.t writes.last table.own (own place).own).0 id other)
+      ∙ sym (some-none (base_at writes.tables versions place id))
 
   -- it leaves the marked rows of what it sees
-  pub commit-rows : (place : ℕ) → live_rows plain (commit_of writes.tables versions writes.begin place) ≡ map unmarked (filter (λ row. row.mark) (view_of writes versions place))
-  commit-rows place = live-view (writes_at place writes.tables) writes.begin (table_at place versions).spans
+  pub commit-rows : (place : ℕ) → live_rows plain (commit_of writes.tables versions place) ≡ map unmarked (filter (λ row. row.mark) (view_below writes.tables versions place))
+  commit-rows place = live-view (writes_at place writes.tables) (table_at place versions).spans
 
   -- they are so many, where `count` counts the marked rows of the first tables
-  pub commit-count : (count : ℕ → ℕ) → count zero ≡ 0 → ((place : ℕ) → count (suc place) ≡ count place + length (filter (λ row. row.mark) (view_of writes versions place)))
-      → (n : ℕ) → count_rows (commit_of writes.tables versions writes.begin) n ≡ count n
+  pub commit-count : (count : ℕ → ℕ) → count zero ≡ 0 → ((place : ℕ) → count (suc place) ≡ count place + length (filter (λ row. row.mark) (view_below writes.tables versions place)))
+      → (n : ℕ) → count_rows (commit_of writes.tables versions) n ≡ count n
   commit-count count none more zero = sym none
   commit-count count none more (suc place) =
       let rest = commit-count count none more place in
-      let here = ap length (commit-rows place) ∙ length-map unmarked (filter (λ row. row.mark) (view_of writes versions place)) in
+      let here = ap length (commit-rows place) ∙ length-map unmarked (filter (λ row. row.mark) (view_below writes.tables versions place)) in
       omega (arith, rest, here, more place)
 
-  no-own : (own : List Stored) → map own_row own ≡ [] → map own_write own ≡ []
-  no-own [] none = refl
-  no-own (stored ∷ own) none = absurd cc
-
   -- nothing, where there is no table and it sees no rows
-  pub commit-none : (place : ℕ) → length versions ≤ place → view_of writes versions place ≡ [] → commit_of writes.tables versions writes.begin place ≡ []
-  commit-none place high empty =
+  pub commit-none : (place version : ℕ) → length versions ≤ place → HoldsThere writes.tables versions → view_at writes.tables versions version place ≡ [] → commit_of writes.tables versions place ≡ []
+  commit-none place version high there none =
       let table = writes_at place writes.tables in
-      let none : (table_at place versions).spans ≡ [] = ap (λ (held : Versions). held.spans) (get_or-eq_default versions no_table high) in
-      let own : map own_row table.own ≡ [] = subst (λ spans. overlaid table.slots (map (row_of plain) (spans_at writes.begin spans)) ++ map own_row table.own ≡ []) none empty in
-      ap (λ spans. base_writes table.slots (map (row_of plain) (spans_at writes.begin spans)) ++ map own_write table.own) none ∙ no-own table.own own
+      let spans : (table_at place versions).spans ≡ [] = ap (λ (held : Versions). held.spans) (get_or-eq_default versions no_table high) in
+      ap (λ some. table_writes table (rows_below table some)) spans
+      ∙ table-none table version (subst (λ some. AreThere some table.carried) spans (there place)) (subst (λ some. table_view table some version ≡ []) spans none)
 
 -- ---- the spans afterwards
 
 module _ (version : ℕ) (writes : Writes) (old new : List Versions) (same : length new ≡ length old) (commits : Commits version writes old new) where
   -- also where there is no table, if the transaction sees no rows there
-  pub spans-everywhere : ((place : ℕ) → length old ≤ place → view_of writes old place ≡ [])
-      → (place : ℕ) → (table_at place new).spans ≡ after_commit version (commit_of writes.tables old writes.begin place) (table_at place old).spans
-  spans-everywhere empty place =
+  pub spans-everywhere : HoldsThere writes.tables old → (read : ℕ) → ((place : ℕ) → length old ≤ place → view_at writes.tables old read place ≡ [])
+      → (place : ℕ) → (table_at place new).spans ≡ after_commit version (commit_of writes.tables old place) (table_at place old).spans
+  spans-everywhere there read empty place =
       elim (cases_lt place (length old)) [
         | inl low ↦ commits.spans place low
         | inr high ↦
             ap (λ (held : Versions). held.spans) (get_or-eq_default new no_table (subst (λ n. n ≤ place) (sym same) high))
-            ∙ sym (λ i. after_commit version (commit-none writes old place high (empty place high) i) (get_or-eq_default old no_table high i).spans)
+            ∙ sym (λ i. after_commit version (commit-none writes old place read high there (empty place high) i) (get_or-eq_default old no_table high i).spans)
       ]
 
   -- one more for each row that the commit leaves
-  pub spans-counted : count_spans new (length old) ≡ spans_left writes old
-  spans-counted = count-after version (commit_of writes.tables old writes.begin) old new (length old) commits.spans
+  pub spans-counted : count_spans new (length old) ≡ spans_left writes.tables old
+  spans-counted = count-after version (commit_of writes.tables old) old new (length old) commits.spans
 
 -- ---- whose rows they are
 
@@ -102,32 +134,81 @@ module _ (u : ℕ) where
   writes-both [] ys left right = right
   writes-both (x ∷ xs) ys left right = (left.0, writes-both xs ys left.1 right)
 
-  slot-cons : (slot : Slot) (span : Span) (rest : List Write) → transaction_of span.id ≢ u → AreWritesOfOthers rest → AreWritesOfOthers (cons_option (slot_write slot (row_of plain span)) rest)
-  slot-cons Same span rest other all = all
-  slot-cons (Put cells) span rest other all = (other, all)
-  slot-cons Dropped span rest other all = (other, all)
-
-  others-base : (slots : List Slot) (spans : List Span) → AreOthers u spans → AreWritesOfOthers (base_writes slots (map (row_of plain) spans))
-  others-base slots [] all = tt
-  others-base slots (span ∷ spans) all = slot-cons (head_slot slots) span (base_writes (drop 1 slots) (map (row_of plain) spans)) all.0 (others-base (drop 1 slots) spans all.1)
+  others-carried : (carried : List Carried) → AllByRecursion (λ (row : Carried). transaction_of row.id ≢ u) carried → AreWritesOfOthers (map carried_write carried)
+  others-carried [] all = tt
+  others-carried (row ∷ rows) all = (all.0, others-carried rows all.1)
 
   others-own : (t : ℕ) (own : List Stored) → u ≢ t → AreMadeBy t own → AreWritesOfOthers (map own_write own)
   others-own t [] differ all = tt
   others-own t (stored ∷ own) differ all = ((λ is. differ (sym is ∙ all.0)), others-own t own differ all.1)
 
+  there-other : (spans : List Span) (id : Identity) → AreOthers u spans → has_span spans id ≡ true → transaction_of id ≢ u
+  there-other [] id others is = absurd (false≢true is)
+  there-other (span ∷ spans) id others is =
+      elim (same_identity span.id id) as (λ b. same_identity span.id id ≡ b → (b || has_span spans id) ≡ true → transaction_of id ≢ u) [
+        | true ↦ λ same is. subst (λ other. transaction_of other ≢ u) (same-exact span.id id same) others.0
+        | false ↦ λ other is. there-other spans id others.1 is
+      ] refl is
+
+  carried-others : (spans : List Span) (carried : List Carried) → AreOthers u spans → AreThere spans carried → AllByRecursion (λ (row : Carried). transaction_of row.id ≢ u) carried
+  carried-others spans carried others there = all-weaker (λ (row : Carried). has_span spans row.id ≡ true) (λ (row : Carried). transaction_of row.id ≢ u) (λ row is. there-other spans row.id others is) carried there
+
+  others-table : (t : ℕ) (table : TableWrites) (spans : List Span) → u ≢ t → AreOthers u spans → AreThere spans table.carried → AreWritesOf t table → AreWritesOfOthers (table_writes table (rows_below table spans))
+  others-table t table spans differ others there mine =
+      writes-both (slot_writes table (rows_below table spans)) (map carried_write table.carried ++ map own_write table.own) (slots-all (λ id. transaction_of id ≢ u) table spans others)
+      (writes-both (map carried_write table.carried) (map own_write table.own) (others-carried table.carried (carried-others spans table.carried others there)) (others-own t table.own differ mine.inserted.0))
+
 -- no span is of a row of another transaction that had none
-pub others-after : (u version : ℕ) (writes : Writes) (old new : List Versions) → length new ≡ length old → HoldsOwn writes → Commits version writes old new → u ≢ writes.t → HoldsOthers u old → HoldsOthers u new
-others-after u version writes old new same own commits differ others place =
+pub others-after : (u version : ℕ) (writes : Writes) (old new : List Versions) → length new ≡ length old → HoldsOwn writes → HoldsThere writes.tables old → Commits version writes old new → u ≢ writes.t
+    → HoldsOthers u old → HoldsOthers u new
+others-after u version writes old new same own there commits differ others place =
     let table = writes_at place writes.tables in
     let held = (table_at place old).spans in
     elim (cases_lt place (length old)) [
       | inl low ↦
           subst (AreOthers u) (sym (commits.spans place low))
-          (others-both u (map (ended version (commit_of writes.tables old writes.begin place)) held) (filter_map (begun version) (commit_of writes.tables old writes.begin place))
-          (others-ended u version (commit_of writes.tables old writes.begin place) held (others place))
-          (others-begun u version (commit_of writes.tables old writes.begin place)
-          (writes-both u (base_writes table.slots (database_at writes.begin old place)) (map own_write table.own)
-          (others-base u table.slots (spans_at writes.begin held) (others-held u writes.begin held (others place)))
-          (others-own u writes.t table.own differ (inserted-own writes.t writes.last table.own (own place)).0))))
+          (others-both u (map (ended version (commit_of writes.tables old place)) held) (filter_map (begun version) (commit_of writes.tables old place))
+          (others-ended u version (commit_of writes.tables old place) held (others place))
+          (others-begun u version (commit_of writes.tables old place)
+          (others-table u writes.t table held differ (others place) (there place) (writes-own writes.t writes.last table (own place)))))
       | inr high ↦ subst (AreOthers u) (sym (ap (λ (table : Versions). table.spans) (get_or-eq_default new no_table (subst (λ n. n ≤ place) (sym same) high)))) tt
     ]
+
+-- ---- the rows of the tables stay there
+
+module _ (version : ℕ) (writes : List Write) where
+  span-ended : (spans : List Span) (id : Identity) → has_span (map (ended version writes) spans) id ≡ has_span spans id
+  span-ended [] id = refl
+  span-ended (span ∷ spans) id = (λ i. same_identity (ended_id version writes span i) id || span-ended spans id i)
+
+  or-left : (a b : Bool) → a ≡ true → (a || b) ≡ true
+  or-left true b is = refl
+  or-left false b is = absurd (cc)
+
+  span-after : (spans : List Span) (id : Identity) → has_span spans id ≡ true → has_span (after_commit version writes spans) id ≡ true
+  span-after spans id is =
+      list_any-append (λ (span : Span). same_identity span.id id) (map (ended version writes) spans) (filter_map (begun version) writes)
+      ∙ or-left (has_span (map (ended version writes) spans) id) (has_span (filter_map (begun version) writes) id) (span-ended spans id ∙ is)
+
+  there-spans : (spans : List Span) (carried : List Carried) → AreThere spans carried → AreThere (after_commit version writes spans) carried
+  there-spans spans carried there = all-weaker (λ (row : Carried). has_span spans row.id ≡ true) (λ (row : Carried). has_span (after_commit version writes spans) row.id ≡ true) (λ row is. span-after spans row.id is) carried there
+
+-- also those that any other transaction wrote over earlier versions
+pub there-after : (tables : List TableWrites) (version : ℕ) (writes : Writes) (old new : List Versions) → length new ≡ length old → Commits version writes old new → HoldsThere tables old → HoldsThere tables new
+there-after tables version writes old new same commits there place =
+    let carried = (writes_at place tables).carried in
+    elim (cases_lt place (length old)) [
+      | inl low ↦ subst (λ spans. AreThere spans carried) (sym (commits.spans place low)) (there-spans version (commit_of writes.tables old place) (table_at place old).spans carried (there place))
+      | inr high ↦
+          subst (λ spans. AreThere spans carried)
+          (ap (λ (table : Versions). table.spans) (get_or-eq_default old no_table high) ∙ sym (ap (λ (table : Versions). table.spans) (get_or-eq_default new no_table (subst (λ n. n ≤ place) (sym same) high)))) (there place)
+    ]
+
+-- ---- tables that are not there
+
+-- what the transaction sees of a table without row versions does not depend on the version
+pub view-beyond : (tables : List TableWrites) (versions : List Versions) (place version other : ℕ) → length versions ≤ place → view_at tables versions version place ≡ view_at tables versions other place
+view-beyond tables versions place version other high =
+    let table = writes_at place tables in
+    let spans : (table_at place versions).spans ≡ [] = ap (λ (held : Versions). held.spans) (get_or-eq_default versions no_table high) in
+    subst (λ some. table_view table some version ≡ table_view table some other) (sym spans) (view-nowhere table version ∙ sym (view-nowhere table other))

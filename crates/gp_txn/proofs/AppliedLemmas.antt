@@ -1,5 +1,5 @@
 -- A statement that leaves these writes of its table was applied.
-use Rattle.std.proofs.Common.{◌≡◌, ◌≢◌, ℕ, suc, ◌+◌, ◌<◌, ◌≤◌, nat_lt, Ok, Bool, false, cond, ◌||◌, List, [], ◌∷◌, ◌++◌, map, length, refl, ap, sym, ◌∙◌, subst, inl, inr}
+use Rattle.std.proofs.Common.{◌≡◌, ◌≢◌, ℕ, suc, ◌+◌, ◌<◌, ◌≤◌, nat_lt, Ok, false, cond, ◌⊎◌, Option, slice_set, List, [], ◌∷◌, ◌++◌, map, length, refl, ap, sym, ◌∙◌, subst, inl, inr}
 use Rattle.std.specs.List.{AllByRecursion}
 use Rattle.std.proofs.lemmas.Bool.{cases_eq, eq-eqb, ne_eqb}
 use Rattle.std.proofs.lemmas.List.{length-append, get_or-set_same, get_or-set_other}
@@ -11,79 +11,113 @@ use Rattle.gp_algebra.specs.Answers.{answer}
 use Rattle.gp_algebra.specs.Statements.{Select, Statement, insert, insert_select}
 use Rattle.gp_algebra.specs.Effects.{Written, given_from, made, step, wrote, with_rows, written_in}
 use Rattle.gp_exec.specs.declared.limit.TheConstants.{MAX_TABLE_ROWS}
-use Rattle.gp_versions.specs.Commits.{is_written}
-use Rattle.gp_versions.specs.Spans.{Versions}
+use Rattle.gp_versions.specs.declared.span.Span.{Span}
+use Rattle.gp_versions.specs.Spans.{NoOverlap, Versions, rows_at}
+use Rattle.gp_txn.specs.declared.carried.Carried.{Carried}
 use Rattle.gp_txn.specs.declared.overlay.TableWrites.{TableWrites}
 use Rattle.gp_txn.specs.Changes.{Change, update, delete, statement_at, rows_after, touched}
-use Rattle.gp_txn.specs.Overlay.{PlainRow, Writes, Applied, IsOwn, AreOwn, HoldsOwn, database_at, view_of, view_rows, own_row, base_writes, has_written, no_writes, writes_at}
+use Rattle.gp_txn.specs.Bases.{base_after, base_of, table_view}
+use Rattle.gp_txn.specs.Overlay.{PlainRow, no_writes, own_row, rows_below, view_rows}
+use Rattle.gp_txn.specs.Rebasing.{IsMoved, or_writes, writes_over}
+use Rattle.gp_txn.specs.Transactions.{Applied, AreOthers, AreOwn, AreThere, HoldsOwn, KeepsOwn, Writes, base_at, has_written, table_at, view_at, writes_at}
 use Rattle.gp_txn.specs.Applying.{Wrote, has_too_many_rows, has_too_many_nodes}
 use Rattle.gp_txn.specs.Inserting.{Prepares}
-use Rattle.gp_txn.specs.Slots.{changed_table, count_touched, put_table, with_own}
+use Rattle.gp_txn.specs.Slots.{changed_carried, changed_table, count_touched, put_table, with_own}
+use Rattle.gp_txn.proofs.BaseLemmas.{base-changed}
+use Rattle.gp_txn.proofs.CommitLemmas.{AreMadeBy, inserted-own}
 use Rattle.gp_txn.proofs.DistinctLemmas.{IsMade, given_rows-made, made_rows-made}
 use Rattle.gp_txn.proofs.OverlayLemmas.{view-changed, view-more}
 use Rattle.gp_txn.proofs.OwnLemmas.{own-later}
 use Rattle.gp_txn.proofs.PairLemmas.{all-weaker}
-use Rattle.gp_txn.proofs.WrittenLemmas.{written-here, written-elsewhere, own-identity, written-changed, view-touched, or-nothing}
+use Rattle.gp_txn.proofs.RebaseLemmas.{after-none, base-over, keeps-over, moved-is, own-over, there-over, version-over, view-over}
+use Rattle.gp_txn.proofs.WrittenLemmas.{has_identity, own-identity, written-elsewhere, written-here}
 
 -- ---- one table is put
 
 put-here : (k place : ℕ) (new : TableWrites) (old : Writes) → place < length old.tables → writes_at place (put_table k place new old).tables ≡ new
-put-here k place new old within = get_or-set_same old.tables place new no_writes within
+put-here k place new old within = get_or-set_same old.tables place new (no_writes 0) within
 
 put-other : (k place other : ℕ) (new : TableWrites) (old : Writes) → other ≢ place → writes_at other (put_table k place new old).tables ≡ writes_at other old.tables
-put-other k place other new old apart = get_or-set_other old.tables place other new no_writes apart
+put-other k place other new old apart = get_or-set_other old.tables place other new (no_writes 0) apart
 
--- the inserted rows of all tables stay the transaction's own
-pub put-owns : (k place : ℕ) (new : TableWrites) (old : Writes) → place < length old.tables → old.last ≤ k → HoldsOwn old → AreOwn old.t k new.own → HoldsOwn (put_table k place new old)
-put-owns k place new old within later holds mine p =
+-- the rows that a transaction keeps are still its own at a later statement
+keeps-later : (t last k : ℕ) (writes : TableWrites) → last ≤ k → KeepsOwn t last writes → KeepsOwn t k writes
+keeps-later t last k writes later keeps = record { own = own-later t last k writes.own later keeps.own; carried = keeps.carried }
+
+-- what holds of the writes of each table
+put-all : (P : ℕ → TableWrites → Type 0) (k place : ℕ) (new : TableWrites) (old : Writes) → place < length old.tables → P place new → ((p : ℕ) → p ≢ place → P p (writes_at p old.tables)) → (p : ℕ) → P p (writes_at p (put_table k place new old).tables)
+put-all P k place new old within here others p =
     elim (cases_eq p place) [
-      | inl same ↦ subst (λ q. AreOwn old.t k (writes_at q (put_table k place new old).tables).own) (sym same) (subst (λ (w : TableWrites). AreOwn old.t k w.own) (sym (put-here k place new old within)) mine)
-      | inr apart ↦ subst (λ (w : TableWrites). AreOwn old.t k w.own) (sym (put-other k place p new old apart)) (own-later old.t old.last k (writes_at p old.tables).own later (holds p))
+      | inl same ↦ subst (λ q. P q (writes_at q (put_table k place new old).tables)) (sym same) (subst (P place) (sym (put-here k place new old within)) here)
+      | inr apart ↦ subst (P p) (sym (put-other k place p new old apart)) (others p apart)
     ]
 
-module _ (k place : ℕ) (statement : Statement) (versions : List Versions) (old : Writes) (new : TableWrites) (within : place < length old.tables) where
-  abbrev base : Database (Unit {0})
-  base = database_at old.begin versions
+-- the rows of all tables stay the transaction's own
+pub put-owns : (k place : ℕ) (new : TableWrites) (old : Writes) → place < length old.tables → old.last ≤ k → HoldsOwn old → KeepsOwn old.t k new → HoldsOwn (put_table k place new old)
+put-owns k place new old within later holds mine =
+    put-all (λ p. KeepsOwn old.t k) k place new old within mine (λ p apart. keeps-later old.t old.last k (writes_at p old.tables) later (holds p))
 
+-- the same of the tables alone
+pub keeps-set : (t last k place : ℕ) (tables : List TableWrites) (new : TableWrites) → place < length tables → last ≤ k → ((p : ℕ) → KeepsOwn t last (writes_at p tables)) → KeepsOwn t k new
+    → (p : ℕ) → KeepsOwn t k (writes_at p (slice_set tables place new))
+keeps-set t last k place tables new within later holds mine p =
+    elim (cases_eq p place) [
+      | inl same ↦ subst (λ q. KeepsOwn t k (writes_at q (slice_set tables place new))) (sym same) (subst (KeepsOwn t k) (sym (get_or-set_same tables place new (no_writes 0) within)) mine)
+      | inr apart ↦ subst (KeepsOwn t k) (sym (get_or-set_other tables place p new (no_writes 0) apart)) (keeps-later t last k (writes_at p tables) later (holds p))
+    ]
+
+-- the writes of a table with more inserted rows, once they were moved
+pub inserted-keeps : (t last k version : ℕ) (table before now : TableWrites) (moved : Option TableWrites) (spans : List Span) (new : List Stored) → last ≤ k → NoOverlap spans → AreOthers t spans → KeepsOwn t last table
+    → IsMoved version spans table moved → before ≡ table → now ≡ with_own new (or_writes moved before) → AreOwn t k (table.own ++ new) → KeepsOwn t k now
+inserted-keeps t last k version table before now moved spans new later apart others keeps is same made mine =
+    let over : now ≡ with_own new (writes_over version spans table) = made ∙ ap (λ (w : TableWrites). with_own new (or_writes moved w)) same ∙ ap (with_own new) (moved-is version table spans moved is) in
+    subst (KeepsOwn t k) (sym over) (record {
+      own = subst (λ own. AreOwn t k (own ++ new)) (sym (own-over version table spans)) mine;
+      carried = (keeps-over version table spans t last apart others keeps).carried;
+    })
+
+module _ (k version place : ℕ) (statement : Statement) (versions : List Versions) (old : Writes) (within : place < length old.tables) where
   abbrev next : Database (Unit {0})
-  next = step plain old.t k statement (view_of old versions)
+  next = step plain old.t k statement (view_at old.tables versions version)
 
   abbrev pairs : List Written
-  pairs = wrote plain old.t k statement (view_of old versions)
+  pairs = wrote plain old.t k statement (view_at old.tables versions version)
 
-  abbrev was_written : ℕ → Identity → Bool
-  was_written p id = is_written (base_writes (writes_at p old.tables).slots (base p)) id
+  abbrev spans : ℕ → List Span
+  spans p = (table_at p versions).spans
 
-  view-put : view_rows new (base place) ≡ next place → ((p : ℕ) → p ≢ place → next p ≡ view_of old versions p) → (p : ℕ) → view_of (put_table k place new old) versions p ≡ next p
-  view-put here others p =
-      elim (cases_eq p place) [
-        | inl same ↦ subst (λ q. view_of (put_table k place new old) versions q ≡ next q) (sym same) (ap (λ w. view_rows w (base place)) (put-here k place new old within) ∙ here)
-        | inr apart ↦ ap (λ w. view_rows w (base p)) (put-other k place p new old apart) ∙ sym (others p apart)
-      ]
+  -- the writes of its table that the statement changes
+  abbrev writes : TableWrites
+  writes = writes_over version (spans place) (writes_at place old.tables)
 
-  written-put : ((id : Identity) → transaction_of id ≢ old.t → is_written (base_writes new.slots (base place)) id ≡ (was_written place id || has_written pairs place id))
-      → ((p : ℕ) (id : Identity) → p ≢ place → has_written pairs p id ≡ false)
-      → (p : ℕ) (id : Identity) → transaction_of id ≢ old.t → is_written (base_writes (writes_at p (put_table k place new old).tables).slots (base p)) id ≡ (was_written p id || has_written pairs p id)
-  written-put here others p id other =
-      elim (cases_eq p place) [
-        | inl same ↦ subst (λ q. is_written (base_writes (writes_at q (put_table k place new old).tables).slots (base q)) id ≡ (was_written q id || has_written pairs q id)) (sym same)
-            (ap (λ (w : TableWrites). is_written (base_writes w.slots (base place)) id) (put-here k place new old within) ∙ here id other)
-        | inr apart ↦
-            ap (λ (w : TableWrites). is_written (base_writes w.slots (base p)) id) (put-other k place p new old apart)
-            ∙ sym (ap (λ b. was_written p id || b) (others p id apart) ∙ or-nothing (was_written p id))
-      ]
+  abbrev base : List PlainRow
+  base = rows_at plain version (spans place)
 
-  pub applied-put : view_rows new (base place) ≡ next place → ((p : ℕ) → p ≢ place → next p ≡ view_of old versions p)
-      → ((id : Identity) → transaction_of id ≢ old.t → is_written (base_writes new.slots (base place)) id ≡ (was_written place id || has_written pairs place id))
-      → ((p : ℕ) (id : Identity) → p ≢ place → has_written pairs p id ≡ false)
-      → Applied k statement versions old (put_table k place new old)
-  applied-put here others written elsewhere = record {
-    t = refl;
-    begin = refl;
-    last = refl;
-    view = view-put here others;
-    written = written-put written elsewhere;
-  }
+  module _ (new : TableWrites) (same : new.version ≡ version) where
+    same-view : table_view new (spans place) version ≡ view_rows new base
+    same-view = rw (same, eq-eqb version version refl) refl
+
+    same-base : (id : Identity) → base_of new (rows_below new (spans place)) id ≡ base_of new base id
+    same-base id = ap (λ v. base_of new (rows_at plain v (spans place)) id) same
+
+    pub applied-put : view_rows new base ≡ next place → ((p : ℕ) → p ≢ place → next p ≡ view_at old.tables versions version p)
+        → ((id : Identity) → transaction_of id ≢ old.t → base_of new base id ≡ base_after version (has_written pairs place id) (base_of writes base id))
+        → ((p : ℕ) (id : Identity) → p ≢ place → has_written pairs p id ≡ false)
+        → (AreThere (spans place) writes.carried → AreThere (spans place) new.carried)
+        → Applied k version statement versions old (put_table k place new old)
+    applied-put here others bases elsewhere there = record {
+      t = refl;
+      read_committed = refl;
+      begin = refl;
+      last = refl;
+      view = put-all (λ p table. table_view table (spans p) version ≡ next p) k place new old within (same-view ∙ here) (λ p apart. sym (others p apart));
+      base = λ p id other.
+          put-all (λ q table. base_of table (rows_below table (spans q)) id ≡ base_after version (has_written pairs q id) (base_at old.tables versions q id)) k place new old within
+          (same-base id ∙ bases id other ∙ ap (base_after version (has_written pairs place id)) (base-over version (writes_at place old.tables) (spans place) id))
+          (λ q apart. sym (ap (λ b. base_after version b (base_at old.tables versions q id)) (elsewhere q id apart) ∙ after-none version (base_at old.tables versions q id))) p;
+      below = put-all (λ p table. (table.version ≡ (writes_at p old.tables).version) ⊎ (table.version ≡ version)) k place new old within (inr same) (λ p apart. inl refl);
+      there = λ holds. put-all (λ p table. AreThere (spans p) table.carried) k place new old within (there (there-over version (writes_at place old.tables) (spans place) (holds place))) (λ p apart. holds p);
+    }
 
 -- ---- UPDATE and DELETE
 
@@ -101,46 +135,58 @@ rows-here place rows db = ap (λ b. cond b rows (db place)) (eq-eqb place place 
 rows-other : (place p : ℕ) (rows : List PlainRow) (db : Database (Unit {0})) → p ≢ place → with_rows place rows db p ≡ db p
 rows-other place p rows db apart = ap (λ b. cond b rows (db p)) (ne_eqb p place apart)
 
-own-transactions : (t last : ℕ) (own : List Stored) → AreOwn t last own → AllByRecursion (λ (stored : Stored). transaction_of stored.id ≡ t) own
-own-transactions t last own mine = all-weaker (IsOwn t last) (λ (stored : Stored). transaction_of stored.id ≡ t) (λ stored is. is.0) own mine.0
+there-changed : (spans : List Span) (change : Change) (carried : List Carried) → AreThere spans carried → AreThere spans (changed_carried change carried)
+there-changed spans change [] all = tt
+there-changed spans change (row ∷ rows) all = (all.0, there-changed spans change rows all.1)
 
-pub applied-change : (k place : ℕ) (change : Change) (versions : List Versions) (old : Writes) → place < length old.tables → AreOwn old.t old.last (writes_at place old.tables).own
-    → Applied k (statement_at place change) versions old (put_table k place (changed_table change (writes_at place old.tables) (database_at old.begin versions place)) old)
-applied-change k place change versions old within own =
-    let db = view_of old versions in
-    let base = database_at old.begin versions place in
-    let writes = writes_at place old.tables in
-    applied-put k place (statement_at place change) versions old (changed_table change writes base) within
-    (view-changed old.t k change writes.slots writes.own base ∙ sym (step-change old.t k place change db place ∙ rows-here place (rows_after plain old.t k change (db place)) db))
+pub applied-change : (k version place : ℕ) (change : Change) (versions : List Versions) (old : Writes) → place < length old.tables → KeepsOwn old.t old.last (writes_at place old.tables)
+    → Applied k version (statement_at place change) versions old
+    (put_table k place (changed_table change (writes_over version (table_at place versions).spans (writes_at place old.tables)) (rows_at plain version (table_at place versions).spans)) old)
+applied-change k version place change versions old within keeps =
+    let db = view_at old.tables versions version in
+    let spans = (table_at place versions).spans in
+    let base = rows_at plain version spans in
+    let writes = writes_over version spans (writes_at place old.tables) in
+    let shown = view-over version (writes_at place old.tables) spans in
+    let same = version-over version (writes_at place old.tables) spans in
+    let made : AreMadeBy old.t writes.own =
+    subst (AreMadeBy old.t) (sym (own-over version (writes_at place old.tables) spans)) (inserted-own old.t old.last (writes_at place old.tables).own keeps.own).0 in
+    applied-put k version place (statement_at place change) versions old within (changed_table change writes base) same
+    (view-changed old.t k change writes base
+    ∙ ap (rows_after plain old.t k change) (sym shown)
+    ∙ sym (step-change old.t k place change db place ∙ rows-here place (rows_after plain old.t k change (db place)) db))
     (λ p apart. step-change old.t k place change db p ∙ rows-other place p (rows_after plain old.t k change (db place)) db apart)
     (λ id other.
-    written-changed change writes.slots base id
-    ∙ ap (λ b. is_written (base_writes writes.slots base) id || b)
-    (sym (ap (λ pairs. has_written pairs place id) (wrote-change old.t k place change db)
-    ∙ written-here place (touched change (db place)) id
-    ∙ view-touched old.t change writes.slots writes.own base id other (own-transactions old.t old.last writes.own own))))
+    base-changed old.t change writes base id other made
+    ∙ (λ i. base_after (same i) (has_identity (touched change (sym shown i)) id) (base_of writes base id))
+    ∙ ap (λ b. base_after version b (base_of writes base id))
+    (sym (ap (λ pairs. has_written pairs place id) (wrote-change old.t k place change db) ∙ written-here place (touched change (db place)) id)))
     (λ p id apart. ap (λ pairs. has_written pairs p id) (wrote-change old.t k place change db) ∙ written-elsewhere place p (touched change (db place)) id apart)
+    (there-changed spans change writes.carried)
 
 -- ---- INSERT
 
-pub applied-insert : (k place : ℕ) (statement : Statement) (rows : List PlainRow) (new : List Stored) (versions : List Versions) (old : Writes) → place < length old.tables
+pub applied-insert : (k version place : ℕ) (statement : Statement) (rows : List PlainRow) (new : List Stored) (versions : List Versions) (old : Writes) → place < length old.tables
     → map own_row new ≡ rows → AllByRecursion (IsMade plain old.t k) rows
-    → ((p : ℕ) → step plain old.t k statement (view_of old versions) p ≡ with_rows place (view_of old versions place ++ rows) (view_of old versions) p)
-    → wrote plain old.t k statement (view_of old versions) ≡ written_in place rows
-    → Applied k statement versions old (put_table k place (with_own new (writes_at place old.tables)) old)
-applied-insert k place statement rows new versions old within are made steps writes_are =
-    let db = view_of old versions in
-    let base = database_at old.begin versions place in
-    let writes = writes_at place old.tables in
-    applied-put k place statement versions old (with_own new writes) within
-    (view-more writes.slots writes.own new base ∙ ap (λ others. db place ++ others) are ∙ sym (steps place ∙ rows-here place (db place ++ rows) db))
+    → ((p : ℕ) → step plain old.t k statement (view_at old.tables versions version) p ≡ with_rows place (view_at old.tables versions version place ++ rows) (view_at old.tables versions version) p)
+    → wrote plain old.t k statement (view_at old.tables versions version) ≡ written_in place rows
+    → Applied k version statement versions old (put_table k place (with_own new (writes_over version (table_at place versions).spans (writes_at place old.tables))) old)
+applied-insert k version place statement rows new versions old within are made steps writes_are =
+    let db = view_at old.tables versions version in
+    let spans = (table_at place versions).spans in
+    let base = rows_at plain version spans in
+    let writes = writes_over version spans (writes_at place old.tables) in
+    let shown = view-over version (writes_at place old.tables) spans in
+    applied-put k version place statement versions old within (with_own new writes) (version-over version (writes_at place old.tables) spans)
+    (view-more writes new base ∙ (λ i. sym shown i ++ are i) ∙ sym (steps place ∙ rows-here place (db place ++ rows) db))
     (λ p apart. steps p ∙ rows-other place p (db place ++ rows) db apart)
     (λ id other.
-    sym (ap (λ b. is_written (base_writes writes.slots base) id || b)
+    sym (ap (λ b. base_after version b (base_of writes base id))
     (ap (λ pairs. has_written pairs place id) writes_are ∙ written-here place rows id
     ∙ own-identity old.t rows id other (all-weaker (IsMade plain old.t k) (λ (row : PlainRow). transaction_of row.identity ≡ old.t) (λ row is. is.0) rows made))
-    ∙ or-nothing (is_written (base_writes writes.slots base) id)))
+    ∙ after-none version (base_of writes base id)))
     (λ p id apart. ap (λ pairs. has_written pairs p id) writes_are ∙ written-elsewhere place p rows id apart)
+    (λ there. there)
 
 -- ---- what is answered
 
@@ -148,49 +194,49 @@ length-map : {X Y : Type 0} (f : X → Y) (xs : List X) → length (map f xs) �
 length-map f [] = refl
 length-map f (x ∷ xs) = ap suc (length-map f xs)
 
-few-rows : (k place : ℕ) (change : Change) (versions : List Versions) (old : Writes) → has_too_many_rows k (statement_at place change) versions old ≡ false
-few-rows k place (update sets c) versions old = refl
-few-rows k place (delete c) versions old = refl
+few-rows : (k version place : ℕ) (change : Change) (versions : List Versions) (old : Writes) → has_too_many_rows k version (statement_at place change) versions old ≡ false
+few-rows k version place (update sets c) versions old = refl
+few-rows k version place (delete c) versions old = refl
 
-few-nodes : (k place : ℕ) (change : Change) (versions : List Versions) (old : Writes) → has_too_many_nodes k (statement_at place change) versions old ≡ false
-few-nodes k place (update sets c) versions old = refl
-few-nodes k place (delete c) versions old = refl
+few-nodes : (k version place : ℕ) (change : Change) (versions : List Versions) (old : Writes) → has_too_many_nodes k version (statement_at place change) versions old ≡ false
+few-nodes k version place (update sets c) versions old = refl
+few-nodes k version place (delete c) versions old = refl
 
 -- an UPDATE and a DELETE pass no limit
-pub change-wrote : (k place : ℕ) (change : Change) (versions : List Versions) (old : Writes) (count : ℕ) → place < length old.tables → AreOwn old.t old.last (writes_at place old.tables).own
-    → count ≡ count_touched change (view_of old versions place)
-    → Wrote k (statement_at place change) versions old (put_table k place (changed_table change (writes_at place old.tables) (database_at old.begin versions place)) old) count
-change-wrote k place change versions old count within own is = record {
-  applied = applied-change k place change versions old within own;
-  number = is ∙ sym (ap length (wrote-change old.t k place change (view_of old versions)) ∙ length-map (λ (row : PlainRow). record { table = place; identity = row.identity }) (touched change (view_of old versions place)));
-  few_rows = few-rows k place change versions old;
-  few_nodes = few-nodes k place change versions old;
+pub change-wrote : (k version place : ℕ) (change : Change) (versions : List Versions) (old : Writes) (count : ℕ) → place < length old.tables → KeepsOwn old.t old.last (writes_at place old.tables)
+    → count ≡ count_touched change (view_at old.tables versions version place)
+    → Wrote k version (statement_at place change) versions old (put_table k place (changed_table change (writes_over version (table_at place versions).spans (writes_at place old.tables)) (rows_at plain version (table_at place versions).spans)) old) count
+change-wrote k version place change versions old count within own is = record {
+  applied = applied-change k version place change versions old within own;
+  number = is ∙ sym (ap length (wrote-change old.t k place change (view_at old.tables versions version)) ∙ length-map (λ (row : PlainRow). record { table = place; identity = row.identity }) (touched change (view_at old.tables versions version place)));
+  few_rows = few-rows k version place change versions old;
+  few_nodes = few-nodes k version place change versions old;
 }
 
 -- the number of rows that an INSERT leaves
 pub rows-many : (place most : ℕ) (rows : List PlainRow) (db : Database (Unit {0})) → nat_lt most (length (with_rows place (db place ++ rows) db place)) ≡ nat_lt most (length (db place) + length rows)
 rows-many place most rows db = ap (λ (all : List PlainRow). nat_lt most (length all)) (rows-here place (db place ++ rows) db) ∙ ap (λ n. nat_lt most n) (length-append (db place) rows)
 
-pub insert-wrote : (k place : ℕ) (given : List (List Cell)) (new : List Stored) (versions : List Versions) (old : Writes) (count : ℕ) → place < length old.tables
-    → Prepares (Ok new) (length (view_of old versions place)) (given_from plain old.t k 1 given) → count ≡ length new
-    → Wrote k (insert place given) versions old (put_table k place (with_own new (writes_at place old.tables)) old) count
-insert-wrote k place given new versions old count within prepared is =
+pub insert-wrote : (k version place : ℕ) (given : List (List Cell)) (new : List Stored) (versions : List Versions) (old : Writes) (count : ℕ) → place < length old.tables
+    → Prepares (Ok new) (length (view_at old.tables versions version place)) (given_from plain old.t k 1 given) → count ≡ length new
+    → Wrote k version (insert place given) versions old (put_table k place (with_own new (writes_over version (table_at place versions).spans (writes_at place old.tables))) old) count
+insert-wrote k version place given new versions old count within prepared is =
     let rows = given_from plain old.t k 1 given in
     record {
-      applied = applied-insert k place (insert place given) rows new versions old within prepared.1 (given_rows-made plain old.t k 1 given) (λ p. refl) refl;
+      applied = applied-insert k version place (insert place given) rows new versions old within prepared.1 (given_rows-made plain old.t k 1 given) (λ p. refl) refl;
       number = is ∙ sym (length-map (λ (row : PlainRow). record { table = place; identity = row.identity }) rows ∙ ap (λ (all : List PlainRow). length all) (sym prepared.1) ∙ length-map own_row new);
-      few_rows = rows-many place MAX_TABLE_ROWS rows (view_of old versions) ∙ prepared.0;
+      few_rows = rows-many place MAX_TABLE_ROWS rows (view_at old.tables versions version) ∙ prepared.0;
       few_nodes = prepared.2;
     }
 
-pub insert_select-wrote : (k place : ℕ) (select : Select) (new : List Stored) (versions : List Versions) (old : Writes) (count : ℕ) → place < length old.tables
-    → Prepares (Ok new) (length (view_of old versions place)) (map (made plain old.t k) (answer plain select (view_of old versions))) → count ≡ length new
-    → Wrote k (insert_select place select) versions old (put_table k place (with_own new (writes_at place old.tables)) old) count
-insert_select-wrote k place select new versions old count within prepared is =
-    let rows = map (made plain old.t k) (answer plain select (view_of old versions)) in
+pub insert_select-wrote : (k version place : ℕ) (select : Select) (new : List Stored) (versions : List Versions) (old : Writes) (count : ℕ) → place < length old.tables
+    → Prepares (Ok new) (length (view_at old.tables versions version place)) (map (made plain old.t k) (answer plain select (view_at old.tables versions version))) → count ≡ length new
+    → Wrote k version (insert_select place select) versions old (put_table k place (with_own new (writes_over version (table_at place versions).spans (writes_at place old.tables))) old) count
+insert_select-wrote k version place select new versions old count within prepared is =
+    let rows = map (made plain old.t k) (answer plain select (view_at old.tables versions version)) in
     record {
-      applied = applied-insert k place (insert_select place select) rows new versions old within prepared.1 (made_rows-made plain old.t k (answer plain select (view_of old versions))) (λ p. refl) refl;
+      applied = applied-insert k version place (insert_select place select) rows new versions old within prepared.1 (made_rows-made plain old.t k (answer plain select (view_at old.tables versions version))) (λ p. refl) refl;
       number = is ∙ sym (length-map (λ (row : PlainRow). record { table = place; identity = row.identity }) rows ∙ ap (λ (all : List PlainRow). length all) (sym prepared.1) ∙ length-map own_row new);
-      few_rows = rows-many place MAX_TABLE_ROWS rows (view_of old versions) ∙ prepared.0;
+      few_rows = rows-many place MAX_TABLE_ROWS rows (view_at old.tables versions version) ∙ prepared.0;
       few_nodes = prepared.2;
     }

@@ -1,48 +1,46 @@
 -- The writes of a commit: of different identities, and with the rows that the transaction wrote and sees.
-use Rattle.std.proofs.Common.{◌≡◌, ◌≢◌, ℕ, ◌+◌, ◌<◌, true, false, cond, List, [], ◌∷◌, ◌++◌, map, drop, length, get_or, Option, Some, None, refl, ap, sym, ◌∙◌}
-use Rattle.std.specs.List.{cons_option, AllByRecursion}
+use Rattle.std.proofs.Common.{◌≡◌, ◌≢◌, ℕ, ◌+◌, ◌<◌, true, false, cond, not, ◌||◌, List, [], ◌∷◌, ◌++◌, map, drop, length, get_or, Option, Some, None, refl, ap, sym, ◌∙◌, subst}
+use Rattle.std.specs.List.{cons_option, filter, AllByRecursion}
 use Rattle.std.specs.Option.{option_to_list}
 use Rattle.std.proofs.lemmas.Bool.{or_from, or_parts, false_from_ne_true}
-use Rattle.std.proofs.lemmas.List.{append_assoc, drop-drop}
+use Rattle.std.proofs.lemmas.List.{append_assoc, drop-drop, map-append}
 use Rattle.gp_base.specs.declared.stored.Stored.{Stored}
-use Rattle.gp_base.specs.Annotated.{plain}
+use Rattle.gp_base.specs.Annotated.{Annotated, plain}
 use Rattle.gp_base.specs.Identities.{Identity, same_identity, transaction_of}
 use Rattle.gp_versions.specs.declared.span.Span.{Span}
 use Rattle.gp_versions.specs.declared.span.Write.{Write}
 use Rattle.gp_versions.specs.Commits.{AreDistinct, is_written}
-use Rattle.gp_versions.specs.Spans.{AreOfDifferentRows, NoOverlap, holds_at, row_of, rows_at, spans_at}
+use Rattle.gp_versions.specs.Spans.{AreOfDifferentRows, NoOverlap, holds_at, row_of, spans_at}
 use Rattle.gp_versions.proofs.HeldLemmas.{held-differ}
 use Rattle.gp_versions.proofs.SameLemmas.{same-exact, same-sym}
+use Rattle.gp_txn.specs.declared.carried.Carried.{Carried}
 use Rattle.gp_txn.specs.declared.overlay.Slot.{Slot}
 use Rattle.gp_txn.specs.declared.overlay.Slot.TheVariants.{Same, Put, Dropped}
 use Rattle.gp_txn.specs.declared.overlay.TableWrites.{TableWrites}
-use Rattle.gp_txn.specs.Overlay.{AreOthers, AreOwn, IsOwn, base_writes, head_slot, own_write, slot_write, table_writes}
-use Rattle.gp_txn.specs.Prepared.{AreInserted}
-use Rattle.gp_txn.proofs.ConflictLemmas.{split-at}
+use Rattle.gp_txn.specs.Overlay.{base_writes, carried_write, has_slot, head_slot, is_carried, own_write, rows_below, slot_write, slot_writes, slotted_spans, table_writes}
+use Rattle.gp_txn.specs.Prepared.{AreInserted, AreWritesOf}
+use Rattle.gp_txn.specs.Rebasing.{carried_of, carried_over}
+use Rattle.gp_txn.specs.Transactions.{AreCarried, AreOthers, AreOwn, IsOwn, KeepsOwn}
+use Rattle.gp_txn.proofs.PairLemmas.{all-append, all-filter, all-map}
+use Rattle.gp_txn.proofs.SlottedLemmas.{rows-held, rows-passed, rows-spans, slotted_at}
 
 -- ---- the loop over the spans of a table
-
-rows-held : (v : ℕ) (spans : List Span) (i : ℕ) (span : Span) → i < length spans → span ≡ get_or spans i span → holds_at v span ≡ true → rows_at plain v (drop i spans) ≡ row_of plain span ∷ rows_at plain v (drop (i + 1) spans)
-rows-held v spans i span within at held = ap (rows_at plain v) (split-at spans i span within at) ∙ rw held refl
-
-rows-passed : (v : ℕ) (spans : List Span) (i : ℕ) (span : Span) → i < length spans → span ≡ get_or spans i span → holds_at v span ≡ false → rows_at plain v (drop i spans) ≡ rows_at plain v (drop (i + 1) spans)
-rows-passed v spans i span within at passed = ap (rows_at plain v) (split-at spans i span within at) ∙ rw passed refl
 
 cons_option-is : {X : Type 0} (x : Option X) (xs : List X) → cons_option x xs ≡ option_to_list x ++ xs
 cons_option-is None xs = refl
 cons_option-is (Some x) xs = refl
 
-pub write-held : (done : List Write) (slots : List Slot) (place v : ℕ) (spans : List Span) (i : ℕ) (span : Span) → i < length spans → span ≡ get_or spans i span → holds_at v span ≡ true
-    → done ++ base_writes (drop place slots) (rows_at plain v (drop i spans)) ≡ (done ++ option_to_list (slot_write (head_slot (drop place slots)) (row_of plain span))) ++ base_writes (drop (place + 1) slots) (rows_at plain v (drop (i + 1) spans))
-write-held done slots place v spans i span within at held =
-    ap (λ rows. done ++ base_writes (drop place slots) rows) (rows-held v spans i span within at held)
-    ∙ ap (λ others. done ++ cons_option (slot_write (head_slot (drop place slots)) (row_of plain span)) (base_writes others (rows_at plain v (drop (i + 1) spans)))) (drop-drop 1 place slots)
-    ∙ ap (λ others. done ++ others) (cons_option-is (slot_write (head_slot (drop place slots)) (row_of plain span)) (base_writes (drop (place + 1) slots) (rows_at plain v (drop (i + 1) spans))))
-    ∙ sym (append_assoc done (option_to_list (slot_write (head_slot (drop place slots)) (row_of plain span))) (base_writes (drop (place + 1) slots) (rows_at plain v (drop (i + 1) spans))))
+pub write-held : (done : List Write) (slots : List Slot) (carried : List Carried) (place v : ℕ) (spans : List Span) (i : ℕ) (span : Span) → i < length spans → span ≡ get_or spans i span → has_slot carried v span ≡ true
+    → done ++ base_writes (drop place slots) (slotted_at carried v (drop i spans)) ≡ (done ++ option_to_list (slot_write (head_slot (drop place slots)) (row_of plain span))) ++ base_writes (drop (place + 1) slots) (slotted_at carried v (drop (i + 1) spans))
+write-held done slots carried place v spans i span within at held =
+    ap (λ rows. done ++ base_writes (drop place slots) rows) (rows-held carried v spans i span within at held)
+    ∙ ap (λ others. done ++ cons_option (slot_write (head_slot (drop place slots)) (row_of plain span)) (base_writes others (slotted_at carried v (drop (i + 1) spans)))) (drop-drop 1 place slots)
+    ∙ ap (λ others. done ++ others) (cons_option-is (slot_write (head_slot (drop place slots)) (row_of plain span)) (base_writes (drop (place + 1) slots) (slotted_at carried v (drop (i + 1) spans))))
+    ∙ sym (append_assoc done (option_to_list (slot_write (head_slot (drop place slots)) (row_of plain span))) (base_writes (drop (place + 1) slots) (slotted_at carried v (drop (i + 1) spans))))
 
-pub write-passed : (done : List Write) (slots : List Slot) (v : ℕ) (spans : List Span) (i : ℕ) (span : Span) → i < length spans → span ≡ get_or spans i span → holds_at v span ≡ false
-    → done ++ base_writes slots (rows_at plain v (drop i spans)) ≡ done ++ base_writes slots (rows_at plain v (drop (i + 1) spans))
-write-passed done slots v spans i span within at passed = ap (λ rows. done ++ base_writes slots rows) (rows-passed v spans i span within at passed)
+pub write-passed : (done : List Write) (slots : List Slot) (carried : List Carried) (v : ℕ) (spans : List Span) (i : ℕ) (span : Span) → i < length spans → span ≡ get_or spans i span → has_slot carried v span ≡ false
+    → done ++ base_writes slots (slotted_at carried v (drop i spans)) ≡ done ++ base_writes slots (slotted_at carried v (drop (i + 1) spans))
+write-passed done slots carried v spans i span within at passed = ap (λ rows. done ++ base_writes slots rows) (rows-passed carried v spans i span within at passed)
 
 -- ---- the writes of a table are of different identities
 
@@ -110,11 +108,111 @@ pub others-held : (t v : ℕ) (spans : List Span) → AreOthers t spans → AreO
 others-held t v [] all = tt
 others-held t v (span ∷ spans) all = elim (holds_at v span) as (λ b. AreOthers t (cond b (span ∷ spans_at v spans) (spans_at v spans))) [ true ↦ (all.0, others-held t v spans all.1) | false ↦ others-held t v spans all.1 ]
 
-pub distinct-table : (writes : TableWrites) (spans : List Span) (begin t : ℕ) → NoOverlap spans → AreOthers t spans → AreInserted t writes.own → AreDistinct (table_writes writes (rows_at plain begin spans))
-distinct-table writes spans begin t apart others own =
-    distinct-append (base_writes writes.slots (rows_at plain begin spans)) (map own_write writes.own)
-    (distinct-base writes.slots (spans_at begin spans) (held-differ begin spans apart)) own.1
-    (across-own t writes.slots writes.own (spans_at begin spans) (others-held t begin spans others) own.0)
+-- ---- the rows that are carried over
+
+pub carried-written : (carried : List Carried) (id : Identity) → is_written (map carried_write carried) id ≡ is_carried carried id
+carried-written [] id = refl
+carried-written (row ∷ rows) id = ap (λ b. same_identity row.id id || b) (carried-written rows id)
+
+module _ (carried : List Carried) where
+  abbrev unslotted : List Span → List Span
+  unslotted spans = filter (λ (span : Span). not (is_carried carried span.id)) spans
+
+  abbrev IsUncarried : Span → Type 0
+  IsUncarried span = is_carried carried span.id ≡ false
+
+  all-uncarried : (spans : List Span) → AllByRecursion IsUncarried (unslotted spans)
+  all-uncarried [] = tt
+  all-uncarried (span ∷ spans) =
+      elim (is_carried carried span.id) as (λ b. is_carried carried span.id ≡ b → AllByRecursion IsUncarried (cond (not b) (span ∷ unslotted spans) (unslotted spans))) [
+        | true ↦ λ is. all-uncarried spans
+        | false ↦ λ is. (is, all-uncarried spans)
+      ] refl
+
+  across-carried : (slots : List Slot) (spans : List Span) → AllByRecursion IsUncarried spans → AreUnwritten (map carried_write carried) (base_writes slots (map (row_of plain) spans))
+  across-carried slots [] all = tt
+  across-carried slots (span ∷ spans) all =
+      across-cons (head_slot slots) span (base_writes (drop 1 slots) (map (row_of plain) spans)) (map carried_write carried) (carried-written carried span.id ∙ all.0) (across-carried (drop 1 slots) spans all.1)
+
+  differ-all : (span : Span) (spans : List Span) → AllByRecursion (λ (other : Span). same_identity span.id other.id ≡ false) spans → AllByRecursion (λ (other : Span). same_identity span.id other.id ≡ false) (unslotted spans)
+  differ-all span spans all = all-filter (λ (other : Span). same_identity span.id other.id ≡ false) (λ (other : Span). not (is_carried carried other.id)) spans all
+
+  differ-unslotted : (spans : List Span) → AreOfDifferentRows spans → AreOfDifferentRows (unslotted spans)
+  differ-unslotted [] all = tt
+  differ-unslotted (span ∷ spans) all =
+      elim (is_carried carried span.id) as (λ b. AreOfDifferentRows (cond (not b) (span ∷ unslotted spans) (unslotted spans))) [ true ↦ differ-unslotted spans all.1 | false ↦ (differ-all span spans all.0, differ-unslotted spans all.1) ]
+
+  pub others-slotted : (t v : ℕ) (spans : List Span) → AreOthers t spans → AreOthers t (slotted_spans carried v spans)
+  others-slotted t v spans all = all-filter (λ (span : Span). transaction_of span.id ≢ t) (λ (span : Span). not (is_carried carried span.id)) (spans_at v spans) (others-held t v spans all)
+
+-- what holds of the identities of rows holds of each one that was written
+slot-all : (P : Identity → Type 0) (slot : Slot) (span : Span) (rest : List Write) → P span.id → AllByRecursion (λ (write : Write). P write.id) rest → AllByRecursion (λ (write : Write). P write.id) (cons_option (slot_write slot (row_of plain span)) rest)
+slot-all P Same span rest this all = all
+slot-all P (Put cells) span rest this all = (this, all)
+slot-all P Dropped span rest this all = (this, all)
+
+base-all : (P : Identity → Type 0) (slots : List Slot) (spans : List Span) → AllByRecursion (λ (span : Span). P span.id) spans → AllByRecursion (λ (write : Write). P write.id) (base_writes slots (map (row_of plain) spans))
+base-all P slots [] all = tt
+base-all P slots (span ∷ spans) all = slot-all P (head_slot slots) span (base_writes (drop 1 slots) (map (row_of plain) spans)) all.0 (base-all P (drop 1 slots) spans all.1)
+
+-- of a table
+pub slots-all : (P : Identity → Type 0) (writes : TableWrites) (spans : List Span) → AllByRecursion (λ (span : Span). P span.id) spans → AllByRecursion (λ (write : Write). P write.id) (slot_writes writes (rows_below writes spans))
+slots-all P writes spans all =
+    subst (λ (rows : List (Annotated (Unit {0}))). AllByRecursion (λ (write : Write). P write.id) (base_writes writes.slots rows)) (sym (rows-spans writes.carried writes.version spans))
+    (base-all P writes.slots (slotted_spans writes.carried writes.version spans)
+    (all-filter (λ (span : Span). P span.id) (λ (span : Span). not (is_carried writes.carried span.id)) (spans_at writes.version spans) (all-filter (λ (span : Span). P span.id) (holds_at writes.version) spans all)))
+
+-- and of each one that is carried over
+pub over-all : (P : Identity → Type 0) (writes : TableWrites) (spans : List Span) → AllByRecursion (λ (span : Span). P span.id) spans → AllByRecursion (λ (row : Carried). P row.id) writes.carried
+    → AllByRecursion (λ (row : Carried). P row.id) (carried_over writes (rows_below writes spans))
+over-all P writes spans all mine =
+    all-append (λ (row : Carried). P row.id) (map (carried_of writes.version) (slot_writes writes (rows_below writes spans))) writes.carried
+    (all-map (carried_of writes.version) (λ (write : Write). P write.id) (λ (row : Carried). P row.id) (λ write this. this) (slot_writes writes (rows_below writes spans)) (slots-all P writes spans all)) mine
+
+-- a row that is carried over is not the transaction's own
+own-uncarried : (t : ℕ) (own : List Stored) (carried : List Carried) → AreMadeBy t own → AllByRecursion (λ (row : Carried). transaction_of row.id ≢ t) carried → AreUnwritten (map own_write own) (map carried_write carried)
+own-uncarried t own [] made all = tt
+own-uncarried t own (row ∷ rows) made all = (own-unwritten t row.id own all.0 made, own-uncarried t own rows made all.1)
+
+across-both : (left right writes : List Write) → AreUnwritten left writes → AreUnwritten right writes → AreUnwritten (left ++ right) writes
+across-both left right [] first second = tt
+across-both left right (write ∷ writes) first second = (unwritten-append write.id left right first.0 second.0, across-both left right writes first.1 second.1)
+
+module _ (writes : TableWrites) (spans : List Span) (t : ℕ) (apart : NoOverlap spans) (others : AreOthers t spans) where
+  abbrev held : List Span
+  held = slotted_spans writes.carried writes.version spans
+
+  same-writes : base_writes writes.slots (map (row_of plain) held) ≡ slot_writes writes (rows_below writes spans)
+  same-writes = ap (base_writes writes.slots) (sym (rows-spans writes.carried writes.version spans))
+
+  distinct-slots : AreDistinct (slot_writes writes (rows_below writes spans))
+  distinct-slots = subst AreDistinct same-writes (distinct-base writes.slots held (differ-unslotted writes.carried (spans_at writes.version spans) (held-differ writes.version spans apart)))
+
+  across-slots : AreUnwritten (map carried_write writes.carried) (slot_writes writes (rows_below writes spans))
+  across-slots = subst (AreUnwritten (map carried_write writes.carried)) same-writes (across-carried writes.carried writes.slots held (all-uncarried writes.carried (spans_at writes.version spans)))
+
+  pub distinct-table : AreWritesOf t writes → AreDistinct (table_writes writes (rows_below writes spans))
+  distinct-table mine =
+      let rows = map carried_write writes.carried in
+      let own = map own_write writes.own in
+      distinct-append (slot_writes writes (rows_below writes spans)) (rows ++ own) distinct-slots
+      (distinct-append rows own mine.carried.1 mine.inserted.1 (own-uncarried t writes.own writes.carried mine.inserted.0 mine.carried.0))
+      (across-both rows own (slot_writes writes (rows_below writes spans)) across-slots
+      (subst (AreUnwritten own) same-writes (across-own t writes.slots writes.own held (others-slotted writes.carried t writes.version spans others) mine.inserted.0)))
+
+  -- ---- the rows to be carried over to another version
+
+  back : (list : List Write) → map carried_write (map (carried_of writes.version) list) ≡ list
+  back [] = refl
+  back (write ∷ list) = ap (λ (rest : List Write). write ∷ rest) (back list)
+
+  pub carried-keeps : AreCarried t writes.carried → AreCarried t (carried_over writes (rows_below writes spans))
+  carried-keeps mine =
+      let list = slot_writes writes (rows_below writes spans) in
+      let new = map (carried_of writes.version) list in (
+        over-all (λ id. transaction_of id ≢ t) writes spans others mine.0,
+        rw (map-append carried_write new writes.carried, back list) (distinct-append list (map carried_write writes.carried) distinct-slots mine.1 across-slots),
+      )
 
 made-by : (t last : ℕ) (own : List Stored) → AllByRecursion (IsOwn t last) own → AreMadeBy t own
 made-by t last [] all = tt
@@ -122,3 +220,6 @@ made-by t last (stored ∷ own) all = (all.0.0, made-by t last own all.1)
 
 pub inserted-own : (t last : ℕ) (own : List Stored) → AreOwn t last own → AreInserted t own
 inserted-own t last own all = (made-by t last own all.0, all.1)
+
+pub writes-own : (t last : ℕ) (writes : TableWrites) → KeepsOwn t last writes → AreWritesOf t writes
+writes-own t last writes keeps = record { inserted = inserted-own t last writes.own keeps.own; carried = keeps.carried }

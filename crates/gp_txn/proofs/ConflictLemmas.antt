@@ -1,39 +1,49 @@
 -- The least row that a transaction and a later commit wrote.
-use Rattle.std.proofs.Common.{◌≡◌, ℕ, suc, ◌+◌, ◌<◌, true, false, cond, List, [], ◌∷◌, ◌++◌, drop, length, get_or, Option, Some, None, refl, ap, sym, ◌∙◌, subst, add-one, inl, inr}
-use Rattle.std.specs.List.{cons_option}
+use Rattle.std.proofs.Common.{◌≡◌, ℕ, ◌+◌, ◌<◌, true, false, cond, List, [], ◌∷◌, ◌++◌, drop, length, get_or, Option, Some, None, refl, ap, sym, ◌∙◌, subst, inl, inr}
+use Rattle.std.specs.List.{cons_option, filter_map}
 use Rattle.std.specs.Option.{option_to_list}
 use Rattle.std.specs.declared.cmp.Ordering.{Ordering}
 use Rattle.std.specs.declared.cmp.Ordering.TheVariants.{Less, Equal, Greater}
 use Rattle.std.specs.Ordering.{is_gt, ordering_reverse}
-use Rattle.std.proofs.Math.Seq.{drop-cons}
 use Rattle.std.proofs.lemmas.List.{drop-drop}
 use Rattle.std.proofs.lemmas.Bool.{false≢true}
 use Rattle.std.proofs.lemmas.Cmp.{upto, tied_itself}
 use Rattle.gp_base.specs.Identities.{identity_cmp}
 use Rattle.gp_base.specs.IdentityOrder.{identity_cmp_total}
 use Rattle.gp_versions.specs.declared.span.Span.{Span}
-use Rattle.gp_versions.specs.Spans.{holds_at, spans_at}
+use Rattle.gp_txn.specs.declared.carried.Carried.{Carried}
 use Rattle.gp_txn.specs.declared.overlay.Slot.{Slot}
 use Rattle.gp_txn.specs.declared.conflict.Late.{Late}
-use Rattle.gp_txn.specs.Overlay.{head_slot}
-use Rattle.gp_txn.specs.Conflicts.{IsLeast, late_of, lates}
-use Rattle.gp_txn.specs.LeastSoFar.{least_from, lesser}
+use Rattle.gp_txn.specs.Overlay.{has_slot, head_slot, slotted_spans}
+use Rattle.gp_txn.specs.Conflicts.{IsLeast, carried_late, late_of, slot_lates}
+use Rattle.gp_txn.specs.LeastSoFar.{least_of, lesser}
+use Rattle.gp_txn.proofs.SlottedLemmas.{spans-held, spans-passed}
 
--- ---- the loop
+-- ---- the loops
 
-pub split-at : (spans : List Span) (i : ℕ) (span : Span) → i < length spans → span ≡ get_or spans i span → drop i spans ≡ span ∷ drop (i + 1) spans
-split-at spans i span within at = rw add-one (drop-cons spans i span within ∙ ap (λ (s : Span). s ∷ drop (suc i) spans) (sym at))
+pub least-cons : (found late : Option Late) (lates : List Late) → least_of found (cons_option late lates) ≡ least_of (lesser found late) lates
+least-cons None None lates = refl
+least-cons (Some first) None lates = refl
+least-cons found (Some late) lates = refl
 
-pub least-held : (found : Option Late) (slots : List Slot) (place v : ℕ) (spans : List Span) (i : ℕ) (span : Span) → i < length spans → span ≡ get_or spans i span → holds_at v span ≡ true
-    → least_from found (drop place slots) (spans_at v (drop i spans)) ≡ least_from (lesser found (late_of (head_slot (drop place slots)) span)) (drop (place + 1) slots) (spans_at v (drop (i + 1) spans))
-least-held found slots place v spans i span within at held =
-    ap (λ some. least_from found (drop place slots) (spans_at v some)) (split-at spans i span within at)
-    ∙ rw held (ap (λ others. least_from (lesser found (late_of (head_slot (drop place slots)) span)) others (spans_at v (drop (i + 1) spans))) (drop-drop 1 place slots))
+pub least-append : (found : Option Late) (xs ys : List Late) → least_of found (xs ++ ys) ≡ least_of (least_of found xs) ys
+least-append found [] ys = refl
+least-append found (x ∷ xs) ys = least-append (lesser found (Some x)) xs ys
 
-pub least-passed : (found : Option Late) (slots : List Slot) (v : ℕ) (spans : List Span) (i : ℕ) (span : Span) → i < length spans → span ≡ get_or spans i span → holds_at v span ≡ false
-    → least_from found slots (spans_at v (drop i spans)) ≡ least_from found slots (spans_at v (drop (i + 1) spans))
-least-passed found slots v spans i span within at passed =
-    ap (λ some. least_from found slots (spans_at v some)) (split-at spans i span within at) ∙ rw passed refl
+pub least-held : (found : Option Late) (slots : List Slot) (carried : List Carried) (place v : ℕ) (spans : List Span) (i : ℕ) (span : Span) → i < length spans → span ≡ get_or spans i span → has_slot carried v span ≡ true
+    → least_of found (slot_lates (drop place slots) (slotted_spans carried v (drop i spans)))
+    ≡ least_of (lesser found (late_of (head_slot (drop place slots)) span)) (slot_lates (drop (place + 1) slots) (slotted_spans carried v (drop (i + 1) spans)))
+least-held found slots carried place v spans i span within at held =
+    ap (λ some. least_of found (slot_lates (drop place slots) some)) (spans-held carried v spans i span within at held)
+    ∙ least-cons found (late_of (head_slot (drop place slots)) span) (slot_lates (drop 1 (drop place slots)) (slotted_spans carried v (drop (i + 1) spans)))
+    ∙ ap (λ others. least_of (lesser found (late_of (head_slot (drop place slots)) span)) (slot_lates others (slotted_spans carried v (drop (i + 1) spans)))) (drop-drop 1 place slots)
+
+pub least-passed : (found : Option Late) (slots : List Slot) (carried : List Carried) (v : ℕ) (spans : List Span) (i : ℕ) (span : Span) → i < length spans → span ≡ get_or spans i span → has_slot carried v span ≡ false
+    → least_of found (slot_lates slots (slotted_spans carried v (drop i spans))) ≡ least_of found (slot_lates slots (slotted_spans carried v (drop (i + 1) spans)))
+least-passed found slots carried v spans i span within at passed = ap (λ some. least_of found (slot_lates slots some)) (spans-passed carried v spans i span within at passed)
+
+pub least-carried : (found : Option Late) (spans : List Span) (row : Carried) (rows : List Carried) → least_of found (filter_map (carried_late spans) (row ∷ rows)) ≡ least_of (lesser found (carried_late spans row)) (filter_map (carried_late spans) rows)
+least-carried found spans row rows = least-cons found (carried_late spans row) (filter_map (carried_late spans) rows)
 
 -- ---- the least
 
@@ -54,26 +64,24 @@ add-behind f l rest (Some r) le least = (
   (least.1.0, (upto identity_cmp_total r.id f.id l.id least.1.0 le, least.1.1)),
 )
 
-abbrev Keeps : List Slot → List Span → Type 0
-Keeps slots spans = (found : Option Late) → IsLeast (option_to_list found ++ lates slots spans) (least_from found slots spans)
+abbrev Keeps : List Late → Type 0
+Keeps lates = (found : Option Late) → IsLeast (option_to_list found ++ lates) (least_of found lates)
 
 least-alone : (late : Late) → IsLeast (late ∷ []) (Some late)
 least-alone late = (inl refl, (ap is_gt (tied_itself identity_cmp_total late.id), tt))
 
-least-more : (slots : List Slot) (spans : List Span) → Keeps slots spans → (found late : Option Late) → IsLeast (option_to_list found ++ cons_option late (lates slots spans)) (least_from (lesser found late) slots spans)
-least-more slots spans keeps None None = keeps None
-least-more slots spans keeps (Some first) None = keeps (Some first)
-least-more slots spans keeps None (Some late) = keeps (Some late)
-least-more slots spans keeps (Some first) (Some late) =
-    elim (is_gt (identity_cmp first.id late.id)) as (λ b. is_gt (identity_cmp first.id late.id) ≡ b → IsLeast (first ∷ late ∷ lates slots spans) (least_from (cond b (Some late) (Some first)) slots spans)) [
-      | true ↦ λ is. add-first first late (lates slots spans) (least_from (Some late) slots spans) (subst (λ o. is_gt o ≡ false) (sym (identity_cmp_total.antisymm late.id first.id)) (gt-turned (identity_cmp first.id late.id) is)) (keeps (Some late))
-      | false ↦ λ is. add-behind first late (lates slots spans) (least_from (Some first) slots spans) is (keeps (Some first))
+least-more : (lates : List Late) → Keeps lates → (found : Option Late) (late : Late) → IsLeast (option_to_list found ++ late ∷ lates) (least_of (lesser found (Some late)) lates)
+least-more lates keeps None late = keeps (Some late)
+least-more lates keeps (Some first) late =
+    elim (is_gt (identity_cmp first.id late.id)) as (λ b. is_gt (identity_cmp first.id late.id) ≡ b → IsLeast (first ∷ late ∷ lates) (least_of (cond b (Some late) (Some first)) lates)) [
+      | true ↦ λ is. add-first first late lates (least_of (Some late) lates) (subst (λ o. is_gt o ≡ false) (sym (identity_cmp_total.antisymm late.id first.id)) (gt-turned (identity_cmp first.id late.id) is)) (keeps (Some late))
+      | false ↦ λ is. add-behind first late lates (least_of (Some first) lates) is (keeps (Some first))
     ] refl
 
-least-all : (slots : List Slot) (spans : List Span) → Keeps slots spans
-least-all slots [] None = refl
-least-all slots [] (Some late) = least-alone late
-least-all slots (span ∷ spans) found = least-more (drop 1 slots) spans (least-all (drop 1 slots) spans) found (late_of (head_slot slots) span)
+least-all : (lates : List Late) → Keeps lates
+least-all [] None = refl
+least-all [] (Some late) = least-alone late
+least-all (late ∷ lates) found = least-more lates (least-all lates) found late
 
-pub least-lates : (slots : List Slot) (spans : List Span) → IsLeast (lates slots spans) (least_from None slots spans)
-least-lates slots spans = least-all slots spans None
+pub least-is : (lates : List Late) → IsLeast lates (least_of None lates)
+least-is lates = least-all lates None

@@ -1,8 +1,8 @@
 -- How many spans a commit leaves: those that were there, and one for each row that its writes leave.
-use Rattle.std.proofs.Common.{◌≡◌, ℕ, zero, suc, ◌+◌, ◌<◌, ◌≤◌, true, false, List, [], ◌∷◌, ◌++◌, map, length, Option, Some, None, refl, ap, sym, ◌∙◌, arith, inl, inr}
+use Rattle.std.proofs.Common.{◌≡◌, ℕ, zero, suc, ◌+◌, ◌<◌, ◌≤◌, true, List, [], ◌∷◌, ◌++◌, map, length, Option, Some, None, refl, ap, sym, ◌∙◌, arith, inl, inr}
 use Rattle.std.specs.Prelude.{nat_lt}
 use Rattle.std.specs.List.{filter_map}
-use Rattle.std.proofs.lemmas.Bool.{cases_lt, lt-ltb, ltb-false, ltb-true}
+use Rattle.std.proofs.lemmas.Bool.{cases_lt, lt-ltb}
 use Rattle.gp_base.specs.declared.cell.Cell.{Cell}
 use Rattle.gp_base.specs.Annotated.{plain}
 use Rattle.gp_base.specs.Identities.{Identity}
@@ -11,8 +11,8 @@ use Rattle.gp_versions.specs.declared.span.Write.{Write}
 use Rattle.gp_versions.specs.Commits.{after_commit, begun, ended, live_rows}
 use Rattle.gp_versions.specs.Spans.{Versions}
 use Rattle.gp_txn.specs.declared.counting.TheConstants.{MAX_SPANS}
-use Rattle.gp_txn.specs.Overlay.{table_at}
-use Rattle.gp_txn.specs.Counts.{count_rows, count_spans, spans_after}
+use Rattle.gp_txn.specs.Transactions.{table_at}
+use Rattle.gp_txn.specs.Counts.{count_spans, spans_after}
 
 -- ---- one table
 

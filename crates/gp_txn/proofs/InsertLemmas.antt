@@ -10,10 +10,13 @@ use Rattle.gp_algebra.specs.Effects.{given_from, made}
 use Rattle.gp_versions.specs.Spans.{Versions}
 use Rattle.gp_txn.specs.Inserting.{AreApart, AreNew, Makes, are_large}
 use Rattle.gp_txn.specs.declared.error.StmtStop.{StmtStop}
-use Rattle.gp_txn.specs.Overlay.{PlainRow, Writes, HoldsOwn, HoldsOthers, own_row, table_at, view_of, writes_at}
+use Rattle.gp_txn.specs.Overlay.{PlainRow, own_row}
+use Rattle.gp_txn.specs.Rebasing.{writes_over}
+use Rattle.gp_txn.specs.Transactions.{HoldsOthers, HoldsOwn, Writes, table_at, view_at, writes_at}
 use Rattle.gp_txn.proofs.PairLemmas.{Pairwise}
 use Rattle.gp_txn.proofs.DistinctLemmas.{RowsDiffer, IsMade, given_rows-differ, given_rows-made, made_rows-differ, made_rows-made}
 use Rattle.gp_txn.proofs.OwnLemmas.{new-rows, view-differ}
+use Rattle.gp_txn.proofs.RebaseLemmas.{keeps-over, view-over}
 
 pub given-small : (t k n : ℕ) (rows : List (List Cell)) → are_large (given_from plain t k n rows) ≡ false
 given-small t k n [] = refl
@@ -28,16 +31,19 @@ given-new t k rows new are =
     new-rows t k new (subst (Pairwise RowsDiffer) (sym are) (given_rows-differ plain t k 1 rows)) (subst (AllByRecursion (IsMade plain t k)) (sym are) (given_rows-made plain t k 1 rows))
 
 -- no two rows that a transaction sees of a table are of one identity
-pub views-differ : (writes : Writes) (versions : List Versions) → HoldsOwn writes → HoldsOthers writes.t versions → AreApart versions → (place : ℕ) → Pairwise RowsDiffer (view_of writes versions place)
-views-differ writes versions own others apart place =
-    view-differ writes.t writes.last writes.begin (writes_at place writes.tables).slots (writes_at place writes.tables).own (table_at place versions).spans (apart place) (others place) (own place)
+pub views-differ : (writes : Writes) (versions : List Versions) (version : ℕ) → HoldsOwn writes → HoldsOthers writes.t versions → AreApart versions → (place : ℕ) → Pairwise RowsDiffer (view_at writes.tables versions version place)
+views-differ writes versions version own others apart place =
+    let table = writes_at place writes.tables in
+    let spans = (table_at place versions).spans in
+    subst (Pairwise RowsDiffer) (sym (view-over version table spans))
+    (view-differ writes.t writes.last (writes_over version spans table) version spans (apart place) (others place) (keeps-over version table spans writes.t writes.last (apart place) (others place) (own place)))
 
-pub made-new : (k : ℕ) (select : Select) (writes : Writes) (versions : List Versions) (new : List Stored) → HoldsOwn writes → HoldsOthers writes.t versions → AreApart versions
-    → map own_row new ≡ map (made plain writes.t k) (answer plain select (view_of writes versions)) → AreNew writes.t k new
-made-new k select writes versions new own others apart are =
+pub made-new : (k version : ℕ) (select : Select) (writes : Writes) (versions : List Versions) (new : List Stored) → HoldsOwn writes → HoldsOthers writes.t versions → AreApart versions
+    → map own_row new ≡ map (made plain writes.t k) (answer plain select (view_at writes.tables versions version)) → AreNew writes.t k new
+made-new k version select writes versions new own others apart are =
     new-rows writes.t k new
-    (subst (Pairwise RowsDiffer) (sym are) (made_rows-differ plain writes.t k select (view_of writes versions) (views-differ writes versions own others apart)))
-    (subst (AllByRecursion (IsMade plain writes.t k)) (sym are) (made_rows-made plain writes.t k (answer plain select (view_of writes versions))))
+    (subst (Pairwise RowsDiffer) (sym are) (made_rows-differ plain writes.t k select (view_at writes.tables versions version) (views-differ writes versions version own others apart)))
+    (subst (AllByRecursion (IsMade plain writes.t k)) (sym are) (made_rows-made plain writes.t k (answer plain select (view_at writes.tables versions version))))
 
 pub not-is : (b c : Bool) → not b ≡ c → b ≡ not c
 not-is true c is = ap not is

@@ -1,5 +1,7 @@
 pub mod AfterLemmas
 pub mod AppliedLemmas
+pub mod BaseLemmas
+pub mod CarriedLemmas
 pub mod CommitLemmas
 pub mod ConflictLemmas
 pub mod CountLemmas
@@ -12,6 +14,8 @@ pub mod OwnLemmas
 pub mod PairLemmas
 pub mod PutLemmas
 pub mod ReadLemmas
+pub mod RebaseLemmas
+pub mod SlottedLemmas
 pub mod StepLemmas
 pub mod VersionLemmas
 pub mod ViewLemmas

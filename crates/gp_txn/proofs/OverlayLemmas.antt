@@ -1,33 +1,26 @@
 -- What a transaction sees over its writes after an UPDATE, a DELETE or an INSERT.
-use Rattle.std.proofs.Common.{◌≡◌, ℕ, suc, ◌+◌, ◌<◌, Bool, true, false, cond, not, List, [], ◌∷◌, ◌++◌, map, drop, length, get_or, refl, ap, sym, ◌∙◌, arith, add-one, add_assoc}
-use Rattle.std.specs.List.{cons_option}
-use Rattle.std.proofs.Math.Seq.{drop-cons}
+use Rattle.std.proofs.Common.{◌≡◌, ℕ, ◌+◌, ◌<◌, Bool, true, false, cond, not, ◌||◌, Option, Some, None, List, [], ◌∷◌, ◌++◌, map, drop, length, get_or, refl, ap, sym, ◌∙◌, arith, add_assoc}
+use Rattle.std.specs.List.{cons_option, filter, filter_map}
+use Rattle.std.specs.Option.{option_to_list}
 use Rattle.std.proofs.lemmas.List.{map-append, drop-drop, append_assoc, length-append}
 use Rattle.std.proofs.lemmas.List.Elements.{filter-append}
 use Rattle.gp_base.specs.declared.cell.Cell.{Cell}
 use Rattle.gp_base.specs.declared.stored.Stored.{Stored}
 use Rattle.gp_base.specs.Annotated.{plain}
+use Rattle.gp_base.specs.Identities.{Identity, same_identity}
 use Rattle.gp_expr.specs.Values.{passes}
 use Rattle.gp_algebra.specs.Effects.{assigned}
 use Rattle.gp_algebra.specs.Effects as algebra
 use Rattle.gp_versions.specs.declared.span.Span.{Span}
-use Rattle.gp_versions.specs.Spans.{holds_at, row_of, rows_at}
+use Rattle.gp_versions.specs.Spans.{row_of}
+use Rattle.gp_txn.specs.declared.carried.Carried.{Carried}
 use Rattle.gp_txn.specs.declared.overlay.Slot.{Slot}
 use Rattle.gp_txn.specs.declared.overlay.Slot.TheVariants.{Same, Put, Dropped}
 use Rattle.gp_txn.specs.Changes.{Change, update, delete, cond_of, rows_after, touched}
-use Rattle.gp_txn.specs.Overlay.{PlainRow, head_slot, shown, overlaid, own_row}
-use Rattle.gp_txn.specs.Slots.{effect, is_touched, changed_slot, changed_slots, stored_after, changed_own, count_touched, one_if}
-
--- ---- the rows of a version, span by span
-
-split-at : (spans : List Span) (i : ℕ) (span : Span) → i < length spans → span ≡ get_or spans i span → drop i spans ≡ span ∷ drop (i + 1) spans
-split-at spans i span within at = rw add-one (drop-cons spans i span within ∙ ap (λ (s : Span). s ∷ drop (suc i) spans) (sym at))
-
-pub rows-held : (v : ℕ) (spans : List Span) (i : ℕ) (span : Span) → i < length spans → span ≡ get_or spans i span → holds_at v span ≡ true → rows_at plain v (drop i spans) ≡ row_of plain span ∷ rows_at plain v (drop (i + 1) spans)
-rows-held v spans i span within at held = ap (rows_at plain v) (split-at spans i span within at) ∙ rw held refl
-
-pub rows-passed : (v : ℕ) (spans : List Span) (i : ℕ) (span : Span) → i < length spans → span ≡ get_or spans i span → holds_at v span ≡ false → rows_at plain v (drop i spans) ≡ rows_at plain v (drop (i + 1) spans)
-rows-passed v spans i span within at passed = ap (rows_at plain v) (split-at spans i span within at) ∙ rw passed refl
+use Rattle.gp_txn.specs.declared.overlay.TableWrites.{TableWrites}
+use Rattle.gp_txn.specs.Overlay.{PlainRow, carried_row, has_slot, is_carried, head_slot, shown, slotted, overlaid, own_row, view_rows}
+use Rattle.gp_txn.specs.Slots.{carried_after, changed_carried, changed_table, effect, is_touched, changed_slot, changed_slots, passes_seen, stored_after, changed_own, count_touched, one_if, with_own}
+use Rattle.gp_txn.proofs.SlottedLemmas.{rows-held, rows-passed, slotted_at}
 
 -- ---- UPDATE and DELETE
 
@@ -78,12 +71,46 @@ own-changed t k change (stored ∷ own) =
     let rest = own-changed t k change own in
     own-after (effect change stored.row) stored (changed_own change own) ∙ (cc) ∙ sym (rows_after-append t k change (own_row stored ∷ []) (map own_row own))
 
-pub view-changed : (t k : ℕ) (change : Change) (slots : List Slot) (own : List Stored) (base : List PlainRow)
-    → overlaid (changed_slots change slots base) base ++ map own_row (changed_own change own) ≡ rows_after plain t k change (overlaid slots base ++ map own_row own)
-view-changed t k change slots own base =
-    let over = overlaid-changed t k change slots base in
-    let rows = own-changed t k change own in
-    (cc) ∙ sym (rows_after-append t k change (overlaid slots base) (map own_row own))
+carried-one : (t k : ℕ) (change : Change) (carried : Carried) (cells : Option (List Cell)) → carried.row ≡ cells
+    → option_to_list (carried_row (carried_after change carried)) ≡ rows_after plain t k change (option_to_list (carried_row carried))
+carried-one t k change carried None is = rw is (sym (rows_after-none t k change))
+carried-one t k (update sets c) carried (Some cells) is =
+    rw is (elim (passes c cells) as (λ b. option_to_list (carried_row (record { id = carried.id; base = carried.base; row = cond b (Some (assigned sets cells)) (Some cells) }))
+    ≡ cond b (record { identity = carried.id; cells = assigned sets cells; mark = true; annotation = tt }) (record { identity = carried.id; cells = cells; mark = true; annotation = tt }) ∷ []) [ true ↦ refl | false ↦ refl ])
+carried-one t k (delete c) carried (Some cells) is =
+    rw is (elim (passes c cells) as (λ b. option_to_list (carried_row (record { id = carried.id; base = carried.base; row = cond b None (Some cells) }))
+    ≡ cond (not b) (record { identity = carried.id; cells = cells; mark = true; annotation = tt } ∷ []) []) [ true ↦ refl | false ↦ refl ])
+
+pub filter_map-one : {X Y : Type 0} (f : X → Option Y) (x : X) (xs : List X) → filter_map f (x ∷ xs) ≡ option_to_list (f x) ++ filter_map f xs
+filter_map-one f x xs = elim (f x) as (λ y. cons_option y (filter_map f xs) ≡ option_to_list y ++ filter_map f xs) [ None ↦ refl | Some y ↦ refl ]
+
+carried-changed : (t k : ℕ) (change : Change) (carried : List Carried) → filter_map carried_row (changed_carried change carried) ≡ rows_after plain t k change (filter_map carried_row carried)
+carried-changed t k change [] = sym (rows_after-none t k change)
+carried-changed t k change (row ∷ rows) =
+    filter_map-one carried_row (carried_after change row) (changed_carried change rows)
+    ∙ (λ i. carried-one t k change row row.row refl i ++ carried-changed t k change rows i)
+    ∙ sym (rows_after-append t k change (option_to_list (carried_row row)) (filter_map carried_row rows))
+    ∙ ap (rows_after plain t k change) (sym (filter_map-one carried_row row rows))
+
+pub carried-same : (change : Change) (carried : List Carried) (id : Identity) → is_carried (changed_carried change carried) id ≡ is_carried carried id
+carried-same change [] id = refl
+carried-same change (row ∷ rows) id = ap (λ b. same_identity row.id id || b) (carried-same change rows id)
+
+-- the same rows have a slot
+pub slotted-same : (change : Change) (carried : List Carried) (base : List PlainRow) → slotted (changed_carried change carried) base ≡ slotted carried base
+slotted-same change carried base = λ i. filter (λ (row : PlainRow). not (carried-same change carried row.identity i)) base
+
+pub view-changed : (t k : ℕ) (change : Change) (writes : TableWrites) (base : List PlainRow)
+    → view_rows (changed_table change writes base) base ≡ rows_after plain t k change (view_rows writes base)
+view-changed t k change writes base =
+    let slots = overlaid writes.slots (slotted writes.carried base) in
+    let rows = filter_map carried_row writes.carried in
+    let own = map own_row writes.own in
+    (λ i. overlaid (changed_slots change writes.slots (slotted writes.carried base)) (slotted-same change writes.carried base i)
+    ++ (filter_map carried_row (changed_carried change writes.carried) ++ map own_row (changed_own change writes.own)))
+    ∙ (λ i. overlaid-changed t k change writes.slots (slotted writes.carried base) i ++ (carried-changed t k change writes.carried i ++ own-changed t k change writes.own i))
+    ∙ ap (λ others. rows_after plain t k change slots ++ others) (sym (rows_after-append t k change rows own))
+    ∙ sym (rows_after-append t k change slots (rows ++ own))
 
 -- ---- how many rows they write
 
@@ -99,31 +126,36 @@ count-shown change Same row = count-one change row
 count-shown change (Put now) row = count-one change (put_row now row)
 count-shown change Dropped row = refl
 
+-- of a row that was written over an earlier version
+pub count-carried : (change : Change) (carried : Carried) (cells : Option (List Cell)) → carried.row ≡ cells → count_touched change (option_to_list (carried_row carried)) ≡ one_if (passes_seen change cells)
+count-carried change carried None is = rw is refl
+count-carried change carried (Some cells) is = rw is (count-one change (record { identity = carried.id; cells = cells; mark = true; annotation = tt }))
+
 -- ---- turns of loops
 
-pub turn-held : (change : Change) (done : List Slot) (slots : List Slot) (place v : ℕ) (spans : List Span) (i : ℕ) (span : Span) → i < length spans → span ≡ get_or spans i span → holds_at v span ≡ true
-    → done ++ changed_slots change (drop place slots) (rows_at plain v (drop i spans)) ≡ (done ++ changed_slot change (head_slot (drop place slots)) span.row ∷ []) ++ changed_slots change (drop (place + 1) slots) (rows_at plain v (drop (i + 1) spans))
-turn-held change done slots place v spans i span within at held =
-    ap (λ rows. done ++ changed_slots change (drop place slots) rows) (rows-held v spans i span within at held)
-    ∙ ap (λ others. done ++ changed_slot change (head_slot (drop place slots)) span.row ∷ changed_slots change others (rows_at plain v (drop (i + 1) spans))) (drop-drop 1 place slots)
-    ∙ sym (append_assoc done (changed_slot change (head_slot (drop place slots)) span.row ∷ []) (changed_slots change (drop (place + 1) slots) (rows_at plain v (drop (i + 1) spans))))
+pub turn-held : (change : Change) (done : List Slot) (slots : List Slot) (carried : List Carried) (place v : ℕ) (spans : List Span) (i : ℕ) (span : Span) → i < length spans → span ≡ get_or spans i span → has_slot carried v span ≡ true
+    → done ++ changed_slots change (drop place slots) (slotted_at carried v (drop i spans)) ≡ (done ++ changed_slot change (head_slot (drop place slots)) span.row ∷ []) ++ changed_slots change (drop (place + 1) slots) (slotted_at carried v (drop (i + 1) spans))
+turn-held change done slots carried place v spans i span within at held =
+    ap (λ rows. done ++ changed_slots change (drop place slots) rows) (rows-held carried v spans i span within at held)
+    ∙ ap (λ others. done ++ changed_slot change (head_slot (drop place slots)) span.row ∷ changed_slots change others (slotted_at carried v (drop (i + 1) spans))) (drop-drop 1 place slots)
+    ∙ sym (append_assoc done (changed_slot change (head_slot (drop place slots)) span.row ∷ []) (changed_slots change (drop (place + 1) slots) (slotted_at carried v (drop (i + 1) spans))))
 
-pub turn-passed : (change : Change) (done : List Slot) (slots : List Slot) (v : ℕ) (spans : List Span) (i : ℕ) (span : Span) → i < length spans → span ≡ get_or spans i span → holds_at v span ≡ false
-    → done ++ changed_slots change slots (rows_at plain v (drop i spans)) ≡ done ++ changed_slots change slots (rows_at plain v (drop (i + 1) spans))
-turn-passed change done slots v spans i span within at passed = ap (λ rows. done ++ changed_slots change slots rows) (rows-passed v spans i span within at passed)
+pub turn-passed : (change : Change) (done : List Slot) (slots : List Slot) (carried : List Carried) (v : ℕ) (spans : List Span) (i : ℕ) (span : Span) → i < length spans → span ≡ get_or spans i span → has_slot carried v span ≡ false
+    → done ++ changed_slots change slots (slotted_at carried v (drop i spans)) ≡ done ++ changed_slots change slots (slotted_at carried v (drop (i + 1) spans))
+turn-passed change done slots carried v spans i span within at passed = ap (λ rows. done ++ changed_slots change slots rows) (rows-passed carried v spans i span within at passed)
 
-pub count-held : (change : Change) (count : ℕ) (slots : List Slot) (place v : ℕ) (spans : List Span) (i : ℕ) (span : Span) → i < length spans → span ≡ get_or spans i span → holds_at v span ≡ true
-    → count + count_touched change (overlaid (drop place slots) (rows_at plain v (drop i spans))) ≡ (count + one_if (is_touched change (head_slot (drop place slots)) span.row)) + count_touched change (overlaid (drop (place + 1) slots) (rows_at plain v (drop (i + 1) spans)))
-count-held change count slots place v spans i span within at held =
-    ap (λ rows. count + count_touched change (overlaid (drop place slots) rows)) (rows-held v spans i span within at held)
-    ∙ ap (λ others. count + count_touched change (shown (head_slot (drop place slots)) (row_of plain span) ++ overlaid others (rows_at plain v (drop (i + 1) spans)))) (drop-drop 1 place slots)
-    ∙ ap (λ n. count + n) (count-append change (shown (head_slot (drop place slots)) (row_of plain span)) (overlaid (drop (place + 1) slots) (rows_at plain v (drop (i + 1) spans))))
-    ∙ ap (λ n. count + (n + count_touched change (overlaid (drop (place + 1) slots) (rows_at plain v (drop (i + 1) spans))))) (count-shown change (head_slot (drop place slots)) (row_of plain span))
-    ∙ sym (add_assoc count (one_if (is_touched change (head_slot (drop place slots)) span.row)) (count_touched change (overlaid (drop (place + 1) slots) (rows_at plain v (drop (i + 1) spans)))))
+pub count-held : (change : Change) (count : ℕ) (slots : List Slot) (carried : List Carried) (place v : ℕ) (spans : List Span) (i : ℕ) (span : Span) → i < length spans → span ≡ get_or spans i span → has_slot carried v span ≡ true
+    → count + count_touched change (overlaid (drop place slots) (slotted_at carried v (drop i spans))) ≡ (count + one_if (is_touched change (head_slot (drop place slots)) span.row)) + count_touched change (overlaid (drop (place + 1) slots) (slotted_at carried v (drop (i + 1) spans)))
+count-held change count slots carried place v spans i span within at held =
+    ap (λ rows. count + count_touched change (overlaid (drop place slots) rows)) (rows-held carried v spans i span within at held)
+    ∙ ap (λ others. count + count_touched change (shown (head_slot (drop place slots)) (row_of plain span) ++ overlaid others (slotted_at carried v (drop (i + 1) spans)))) (drop-drop 1 place slots)
+    ∙ ap (λ n. count + n) (count-append change (shown (head_slot (drop place slots)) (row_of plain span)) (overlaid (drop (place + 1) slots) (slotted_at carried v (drop (i + 1) spans))))
+    ∙ ap (λ n. count + (n + count_touched change (overlaid (drop (place + 1) slots) (slotted_at carried v (drop (i + 1) spans))))) (count-shown change (head_slot (drop place slots)) (row_of plain span))
+    ∙ sym (add_assoc count (one_if (is_touched change (head_slot (drop place slots)) span.row)) (count_touched change (overlaid (drop (place + 1) slots) (slotted_at carried v (drop (i + 1) spans)))))
 
-pub count-passed : (change : Change) (count : ℕ) (slots : List Slot) (v : ℕ) (spans : List Span) (i : ℕ) (span : Span) → i < length spans → span ≡ get_or spans i span → holds_at v span ≡ false
-    → count + count_touched change (overlaid slots (rows_at plain v (drop i spans))) ≡ count + count_touched change (overlaid slots (rows_at plain v (drop (i + 1) spans)))
-count-passed change count slots v spans i span within at passed = ap (λ rows. count + count_touched change (overlaid slots rows)) (rows-passed v spans i span within at passed)
+pub count-passed : (change : Change) (count : ℕ) (slots : List Slot) (carried : List Carried) (v : ℕ) (spans : List Span) (i : ℕ) (span : Span) → i < length spans → span ≡ get_or spans i span → has_slot carried v span ≡ false
+    → count + count_touched change (overlaid slots (slotted_at carried v (drop i spans))) ≡ count + count_touched change (overlaid slots (slotted_at carried v (drop (i + 1) spans)))
+count-passed change count slots carried v spans i span within at passed = ap (λ rows. count + count_touched change (overlaid slots rows)) (rows-passed carried v spans i span within at passed)
 
 pub one_if-few : (b : Bool) → one_if b < 2
 one_if-few true = omega arith
@@ -131,5 +163,11 @@ one_if-few false = omega arith
 
 -- ---- INSERT
 
-pub view-more : (slots : List Slot) (own new : List Stored) (base : List PlainRow) → overlaid slots base ++ map own_row (own ++ new) ≡ (overlaid slots base ++ map own_row own) ++ map own_row new
-view-more slots own new base = ap (λ others. overlaid slots base ++ others) (map-append own_row own new) ∙ sym (append_assoc (overlaid slots base) (map own_row own) (map own_row new))
+pub view-more : (writes : TableWrites) (new : List Stored) (base : List PlainRow) → view_rows (with_own new writes) base ≡ view_rows writes base ++ map own_row new
+view-more writes new base =
+    let slots = overlaid writes.slots (slotted writes.carried base) in
+    let rows = filter_map carried_row writes.carried in
+    let own = map own_row writes.own in
+    ap (λ others. slots ++ (rows ++ others)) (map-append own_row writes.own new)
+    ∙ ap (λ others. slots ++ others) (sym (append_assoc rows own (map own_row new)))
+    ∙ sym (append_assoc slots (rows ++ own) (map own_row new))

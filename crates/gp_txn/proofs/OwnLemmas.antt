@@ -1,8 +1,9 @@
 -- The identities of the rows that a transaction inserted, and of all rows that it sees.
-use Rattle.std.proofs.Common.{◌≡◌, ◌≢◌, ℕ, ◌<◌, ◌≤◌, true, false, List, [], ◌∷◌, ◌++◌, map, drop, refl, ap, sym, ◌∙◌, subst, arith}
-use Rattle.std.specs.List.{cons_option, AllByRecursion}
+use Rattle.std.proofs.Common.{◌≡◌, ◌≢◌, ℕ, ◌<◌, ◌≤◌, true, false, not, ◌||◌, List, [], ◌∷◌, ◌++◌, map, drop, Option, Some, None, refl, ap, sym, ◌∙◌, subst, arith}
+use Rattle.std.specs.List.{cons_option, filter_map, AllByRecursion}
 use Rattle.std.proofs.lemmas.Bool.{or_from, or_parts, false_from_ne_true}
 use Rattle.std.proofs.lemmas.List.{map-append}
+use Rattle.gp_base.specs.declared.cell.Cell.{Cell}
 use Rattle.gp_base.specs.declared.stored.Stored.{Stored}
 use Rattle.gp_base.specs.Annotated.{plain}
 use Rattle.gp_base.specs.Identities.{Identity, same_identity, transaction_of, statement_of}
@@ -11,13 +12,18 @@ use Rattle.gp_versions.specs.Commits.{AreDistinct, is_written}
 use Rattle.gp_versions.specs.Spans.{AreOfDifferentRows, NoOverlap, holds_at, row_of, rows_at, spans_at}
 use Rattle.gp_versions.proofs.HeldLemmas.{held-differ}
 use Rattle.gp_versions.proofs.SameLemmas.{same-exact, same-itself}
+use Rattle.gp_txn.specs.declared.carried.Carried.{Carried}
 use Rattle.gp_txn.specs.declared.overlay.Slot.{Slot}
 use Rattle.gp_txn.specs.declared.overlay.Slot.TheVariants.{Same, Put, Dropped}
 use Rattle.gp_txn.specs.Changes.{Change}
-use Rattle.gp_txn.specs.Overlay.{PlainRow, IsOwn, AreOwn, AreOthers, head_slot, shown, overlaid, own_row, own_write}
+use Rattle.gp_txn.specs.declared.overlay.TableWrites.{TableWrites}
+use Rattle.gp_txn.specs.Overlay.{PlainRow, carried_row, carried_write, head_slot, is_carried, shown, slotted, overlaid, own_row, own_write, view_rows}
+use Rattle.gp_txn.specs.Transactions.{AreCarried, AreOthers, AreOwn, IsOwn, KeepsOwn}
 use Rattle.gp_txn.specs.Inserting.{AreNew}
-use Rattle.gp_txn.specs.Slots.{effect, stored_after, changed_own}
-use Rattle.gp_txn.proofs.PairLemmas.{Pairwise, all-append, all-filter, all-map, all-weaker, pairwise-append}
+use Rattle.gp_txn.specs.Slots.{changed_carried, changed_own, changed_table, effect, stored_after}
+use Rattle.gp_txn.proofs.BaseLemmas.{all-slotted}
+use Rattle.gp_txn.proofs.CommitLemmas.{carried-written}
+use Rattle.gp_txn.proofs.PairLemmas.{Pairwise, all-append, all-filter, all-map, all-weaker, pairwise-append, pairwise-filter}
 use Rattle.gp_txn.proofs.DistinctLemmas.{RowsDiffer, IsMade, IsEarlier, inserted-differ}
 
 true-false : true ≡ false → ⊥
@@ -57,12 +63,32 @@ distinct-own : (change : Change) (own : List Stored) → AreDistinct (map own_wr
 distinct-own change [] distinct = tt
 distinct-own change (stored ∷ own) distinct = distinct-one (effect change stored.row) stored (changed_own change own) (none-own change own stored.id distinct.0) (distinct-own change own distinct.1)
 
+-- ---- the rows that are carried over
+
+all-after : (t : ℕ) (change : Change) (carried : List Carried) → AllByRecursion (λ (row : Carried). transaction_of row.id ≢ t) carried → AllByRecursion (λ (row : Carried). transaction_of row.id ≢ t) (changed_carried change carried)
+all-after t change [] all = tt
+all-after t change (row ∷ rows) all = (all.0, all-after t change rows all.1)
+
+same-carried : (change : Change) (carried : List Carried) (id : Identity) → is_written (map carried_write (changed_carried change carried)) id ≡ is_written (map carried_write carried) id
+same-carried change [] id = refl
+same-carried change (row ∷ rows) id = ap (λ b. same_identity row.id id || b) (same-carried change rows id)
+
+distinct-after : (change : Change) (carried : List Carried) → AreDistinct (map carried_write carried) → AreDistinct (map carried_write (changed_carried change carried))
+distinct-after change [] distinct = tt
+distinct-after change (row ∷ rows) distinct = (same-carried change rows row.id ∙ distinct.0, distinct-after change rows distinct.1)
+
+pub carried-after : (t : ℕ) (change : Change) (carried : List Carried) → AreCarried t carried → AreCarried t (changed_carried change carried)
+carried-after t change carried mine = (all-after t change carried mine.0, distinct-after change carried mine.1)
+
 -- up to a later statement
 pub own-later : (t last k : ℕ) (own : List Stored) → last ≤ k → AreOwn t last own → AreOwn t k own
 own-later t last k own later mine = (all-weaker (IsOwn t last) (IsOwn t k) (λ stored is. (is.0, omega (arith, later, is.1))) own mine.0, mine.1)
 
 pub own-changed : (t last k : ℕ) (change : Change) (own : List Stored) → last ≤ k → AreOwn t last own → AreOwn t k (changed_own change own)
 own-changed t last k change own later mine = own-later t last k (changed_own change own) later (all-own t last change own mine.0, distinct-own change own mine.1)
+
+pub keeps-changed : (t last k : ℕ) (change : Change) (writes : TableWrites) (base : List PlainRow) → last ≤ k → KeepsOwn t last writes → KeepsOwn t k (changed_table change writes base)
+keeps-changed t last k change writes base later keeps = record { own = own-changed t last k change writes.own later keeps.own; carried = carried-after t change writes.carried keeps.carried }
 
 -- ---- from tests to facts, and back
 
@@ -149,11 +175,56 @@ others-rows t v spans others =
 other-apart : (t last : ℕ) (row : PlainRow) (own : List Stored) → transaction_of row.identity ≢ t → AllByRecursion (IsOwn t last) own → AllByRecursion (RowsDiffer row) (map own_row own)
 other-apart t last row own other all = all-map own_row (IsOwn t last) (RowsDiffer row) (λ stored is same. other (ap transaction_of same ∙ is.0)) own all
 
+carried-apart-one : (P : Identity → Type 0) (row : Carried) (cells : Option (List Cell)) (others : List PlainRow) → row.row ≡ cells → P row.id → AllByRecursion (λ (other : PlainRow). P other.identity) others
+    → AllByRecursion (λ (other : PlainRow). P other.identity) (cons_option (carried_row row) others)
+carried-apart-one P row None others is this all = rw is all
+carried-apart-one P row (Some cells) others is this all = rw is (this, all)
+
+-- what holds of the identities of the rows that are carried over holds of those that are seen
+all-carried : (P : Identity → Type 0) (carried : List Carried) → AllByRecursion (λ (row : Carried). P row.id) carried → AllByRecursion (λ (row : PlainRow). P row.identity) (filter_map carried_row carried)
+all-carried P [] all = tt
+all-carried P (row ∷ rows) all = carried-apart-one P row row.row (filter_map carried_row rows) refl all.0 (all-carried P rows all.1)
+
+others-apart : (id : Identity) (carried : List Carried) → is_written (map carried_write carried) id ≡ false → AllByRecursion (λ (row : Carried). id ≢ row.id) carried
+others-apart id [] none = tt
+others-apart id (row ∷ rows) none =
+    let parts = or_parts (same_identity row.id id) (is_written (map carried_write rows) id) none in
+    (λ same. absurd (true-false (sym (subst (λ other. same_identity row.id other ≡ true) (sym same) (same-itself row.id)) ∙ parts.0)), others-apart id rows parts.1)
+
+carried-differ-one : (row : Carried) (cells : Option (List Cell)) (others : List PlainRow) → row.row ≡ cells → AllByRecursion (λ (other : PlainRow). row.id ≢ other.identity) others → Pairwise RowsDiffer others
+    → Pairwise RowsDiffer (cons_option (carried_row row) others)
+carried-differ-one row None others is apart differ = rw is differ
+carried-differ-one row (Some cells) others is apart differ = rw is (apart, differ)
+
+carried-differ : (carried : List Carried) → AreDistinct (map carried_write carried) → Pairwise RowsDiffer (filter_map carried_row carried)
+carried-differ [] distinct = tt
+carried-differ (row ∷ rows) distinct =
+    carried-differ-one row row.row (filter_map carried_row rows) refl (all-carried (λ id. row.id ≢ id) rows (others-apart row.id rows distinct.0)) (carried-differ rows distinct.1)
+
+all-both : (slots rows own : List PlainRow) → AllByRecursion (λ row. AllByRecursion (RowsDiffer row) rows) slots → AllByRecursion (λ row. AllByRecursion (RowsDiffer row) own) slots
+    → AllByRecursion (λ row. AllByRecursion (RowsDiffer row) (rows ++ own)) slots
+all-both [] rows own left right = tt
+all-both (row ∷ slots) rows own left right = (all-append (RowsDiffer row) rows own left.0 right.0, all-both slots rows own left.1 right.1)
+
+-- a row with a slot is none of those that are carried over
+slot-apart : (carried : List Carried) (id : Identity) → is_carried carried id ≡ false → AllByRecursion (λ (row : Carried). id ≢ row.id) carried
+slot-apart carried id none = others-apart id carried (carried-written carried id ∙ none)
+
 -- no two rows of a table are of one identity
-pub view-differ : (t last v : ℕ) (slots : List Slot) (own : List Stored) (spans : List Span) → NoOverlap spans → AreOthers t spans → AreOwn t last own → Pairwise RowsDiffer (overlaid slots (rows_at plain v spans) ++ map own_row own)
-view-differ t last v slots own spans apart others mine =
-    pairwise-append RowsDiffer (overlaid slots (rows_at plain v spans)) (map own_row own)
-    (overlaid-differ slots (rows_at plain v spans) (spans-differ (spans_at v spans) (held-differ v spans apart)))
-    (distinct-rows own mine.1)
-    (all-weaker (λ (row : PlainRow). transaction_of row.identity ≢ t) (λ row. AllByRecursion (RowsDiffer row) (map own_row own)) (λ row other. other-apart t last row own other mine.0) (overlaid slots (rows_at plain v spans))
-    (all-overlaid (λ id. transaction_of id ≢ t) slots (rows_at plain v spans) (others-rows t v spans others)))
+pub view-differ : (t last : ℕ) (writes : TableWrites) (v : ℕ) (spans : List Span) → NoOverlap spans → AreOthers t spans → KeepsOwn t last writes → Pairwise RowsDiffer (view_rows writes (rows_at plain v spans))
+view-differ t last writes v spans apart others keeps =
+    let base = slotted writes.carried (rows_at plain v spans) in
+    let slots = overlaid writes.slots base in
+    let rows = filter_map carried_row writes.carried in
+    let own = map own_row writes.own in
+    let differ = pairwise-filter RowsDiffer (λ (row : PlainRow). not (is_carried writes.carried row.identity)) (rows_at plain v spans) (spans-differ (spans_at v spans) (held-differ v spans apart)) in
+    let other = all-filter (λ (row : PlainRow). transaction_of row.identity ≢ t) (λ (row : PlainRow). not (is_carried writes.carried row.identity)) (rows_at plain v spans) (others-rows t v spans others) in
+    let uncarried = all-overlaid (λ id. is_carried writes.carried id ≡ false) writes.slots base (all-slotted writes.carried (rows_at plain v spans)) in
+    let behind = pairwise-append RowsDiffer rows own (carried-differ writes.carried keeps.carried.1) (distinct-rows writes.own keeps.own.1)
+    (all-weaker (λ (row : PlainRow). transaction_of row.identity ≢ t) (λ row. AllByRecursion (RowsDiffer row) own) (λ row is. other-apart t last row writes.own is keeps.own.0) rows
+    (all-carried (λ id. transaction_of id ≢ t) writes.carried keeps.carried.0)) in
+    let across = all-weaker (λ (row : PlainRow). is_carried writes.carried row.identity ≡ false) (λ row. AllByRecursion (RowsDiffer row) rows)
+    (λ row none. all-carried (λ id. row.identity ≢ id) writes.carried (slot-apart writes.carried row.identity none)) slots uncarried in
+    let across_own = all-weaker (λ (row : PlainRow). transaction_of row.identity ≢ t) (λ row. AllByRecursion (RowsDiffer row) own) (λ row is. other-apart t last row writes.own is keeps.own.0) slots
+    (all-overlaid (λ id. transaction_of id ≢ t) writes.slots base other) in
+    pairwise-append RowsDiffer slots (rows ++ own) (overlaid-differ writes.slots base differ) behind (all-both slots rows own across across_own)

@@ -1,7 +1,9 @@
 -- The answer of a query depends on the identities and the cells of the tables that it reads, and on nothing else.
-use Rattle.std.proofs.Common.{◌≡◌, ℕ, suc, ◌<◌, ◌==◌, Bool, true, false, ◌||◌, ltb, List, [], ◌∷◌, map, refl, ap, ◌∙◌, subst}
+use Rattle.std.proofs.Common.{◌≡◌, ℕ, suc, ◌+◌, ◌<◌, ◌==◌, Bool, true, false, ◌||◌, ltb, List, [], ◌∷◌, ◌++◌, map, length, get_or, refl, ap, sym, ◌∙◌, subst, arith, inl, inr}
+use Rattle.std.proofs.Math.ListN.{get_or-append}
+use Rattle.std.proofs.Math.Seq.{get_or-append_seam}
 use Rattle.std.specs.List.{filter, flat_map, list_all}
-use Rattle.std.proofs.lemmas.Bool.{and_parts, eq-eqb, eqb-true, ltb-true}
+use Rattle.std.proofs.lemmas.Bool.{and_parts, cases_lt, eq-eqb, eqb-true, ltb-true}
 use Rattle.gp_base.specs.declared.stored.Stored.{Stored}
 use Rattle.gp_base.specs.Annotated.{plain, Database}
 use Rattle.gp_algebra.specs.Statements.{Branch, Select}
@@ -72,3 +74,19 @@ below-read count p [] all is = absurd (cc)
 below-read count p (branch ∷ select) all is =
     let parts = and_parts (list_all (λ q. ltb q count) branch.from) (reads_below count select) all in
     either (names_table p branch.from) (reads_table p select) (p < count) (below-named count p branch.from parts.0) (below-read count p select parts.1) is
+
+-- ---- one more table
+
+pub up-to : (Q : ℕ → Type 0) (n : ℕ) → ((p : ℕ) → p < n → Q p) → Q n → (p : ℕ) → p < n + 1 → Q p
+up-to Q n each last p low =
+    elim (cases_lt p n) [
+      | inl early ↦ each p early
+      | inr late ↦ let same : n ≡ p = omega (arith, low, late) in subst Q same last
+    ]
+
+pub each-more : (P : ℕ → List Stored → Type 0) (tables : List (List Stored)) (rows : List Stored) (n : ℕ) → length tables ≡ n → ((p : ℕ) → p < n → P p (get_or tables p [])) → P n rows
+    → (p : ℕ) → p < n + 1 → P p (get_or (tables ++ rows ∷ []) p [])
+each-more P tables rows n len each last =
+    up-to (λ p. P p (get_or (tables ++ rows ∷ []) p [])) n
+    (λ p early. subst (P p) (sym (get_or-append tables (rows ∷ []) [] p (omega (arith, early, len)))) (each p early))
+    (subst (λ q. P q (get_or (tables ++ rows ∷ []) q [])) len (subst (P (length tables)) (sym (get_or-append_seam tables rows [] [])) (subst (λ q. P q rows) (sym len) last)))

@@ -1,28 +1,33 @@
 -- The version that a commit makes: the rows that the transaction did not write, and then those that it wrote and sees.
-use Rattle.std.proofs.Common.{◌≡◌, ◌≢◌, drop, ℕ, ◌+◌, ◌-◌, ◌<◌, ◌≤◌, Bool, true, false, cond, not, ◌||◌, List, [], ◌∷◌, ◌++◌, map, length, None, refl, ap, sym, ◌∙◌, subst, inl, inr}
-use Rattle.std.specs.List.{filter, cons_option}
+use Rattle.std.proofs.Common.{◌≡◌, ◌≢◌, drop, ℕ, ◌+◌, ◌-◌, ◌<◌, ◌≤◌, Bool, true, false, cond, not, List, [], ◌∷◌, ◌++◌, map, length, Option, Some, None, refl, ap, sym, ◌∙◌, subst, inl, inr}
+use Rattle.std.specs.List.{filter, filter_map, cons_option}
+use Rattle.std.specs.Option.{is_none}
 use Rattle.std.proofs.lemmas.Bool.{cases_lt}
 use Rattle.std.proofs.lemmas.List.{map-append}
 use Rattle.std.proofs.lemmas.List.Elements.{filter-append, filter_map-append}
-use Rattle.std.proofs.lemmas.List.Folds.{list_any-append}
 use Rattle.std.proofs.Math.ListN.{get_or-eq_default}
+use Rattle.gp_base.specs.declared.cell.Cell.{Cell}
 use Rattle.gp_base.specs.declared.stored.Stored.{Stored}
 use Rattle.gp_base.specs.Annotated.{plain}
-use Rattle.gp_base.specs.Identities.{Identity, same_identity, transaction_of}
+use Rattle.gp_base.specs.Identities.{Identity, transaction_of}
 use Rattle.gp_versions.specs.declared.span.Span.{Span}
 use Rattle.gp_versions.specs.declared.span.Write.{Write}
 use Rattle.gp_versions.specs.Commits.{AreBelow, after_commit, is_written, live_row, live_rows, unwritten_rows}
 use Rattle.gp_versions.specs.Spans.{Versions, row_of, rows_at, spans_at}
 use Rattle.gp_versions.proofs.SpanLemmas.{below-after, rows-before, rows-new-at}
 use Rattle.gp_txn.specs.declared.counting.TheConstants.{MAX_SPANS}
+use Rattle.gp_txn.specs.declared.carried.Carried.{Carried}
 use Rattle.gp_txn.specs.declared.overlay.Slot.{Slot}
 use Rattle.gp_txn.specs.declared.overlay.Slot.TheVariants.{Same, Put, Dropped}
 use Rattle.gp_txn.specs.declared.overlay.TableWrites.{TableWrites}
-use Rattle.gp_txn.specs.Committing.{Commits, commit_of, lates_of, spans_left, unmarked}
+use Rattle.gp_txn.specs.Bases.{base_of}
+use Rattle.gp_txn.specs.Committing.{Commits, commit_of, spans_left, unmarked, view_below}
 use Rattle.gp_txn.specs.Conflicts.{IsFirstConflict, lates_at}
-use Rattle.gp_txn.specs.Counts.{spans_after}
-use Rattle.gp_txn.specs.Overlay.{AreOthers, HoldsOthers, HoldsOwn, PlainRow, Writes, base_writes, database_at, head_slot, names, no_table, overlaid, own_row, own_write, shown, slot_write, table_at, table_writes, view_of, view_rows, writes_at}
-use Rattle.gp_txn.proofs.CommitLemmas.{AreMadeBy, inserted-own, others-held, own-unwritten}
+use Rattle.gp_txn.specs.Overlay.{PlainRow, base_writes, carried_row, carried_write, head_slot, overlaid, own_row, own_write, rows_below, shown, slot_write, slot_writes, slotted, slotted_spans, table_writes, view_rows}
+use Rattle.gp_txn.specs.Transactions.{AreOthers, HoldsOthers, HoldsOwn, Writes, base_at, database_at, no_table, table_at, writes_at}
+use Rattle.gp_txn.proofs.BaseLemmas.{base-none, table-written}
+use Rattle.gp_txn.proofs.CommitLemmas.{AreMadeBy, inserted-own, others-held}
+use Rattle.gp_txn.proofs.SlottedLemmas.{rows-spans}
 
 -- ---- the rows that the writes leave are the marked rows of the view
 
@@ -49,41 +54,51 @@ live-own : (own : List Stored) → live_rows plain (map own_write own) ≡ marke
 live-own [] = refl
 live-own (stored ∷ own) = ap (λ rows. record { identity = stored.id; cells = stored.row; mark = false; annotation = tt } ∷ rows) (live-own own)
 
-pub live-view : (writes : TableWrites) (begin : ℕ) (spans : List Span) → live_rows plain (table_writes writes (rows_at plain begin spans)) ≡ marked (view_rows writes (rows_at plain begin spans))
-live-view writes begin spans =
-    filter_map-append (live_row plain) (base_writes writes.slots (rows_at plain begin spans)) (map own_write writes.own)
-    ∙ (λ i. live-base writes.slots (spans_at begin spans) i ++ live-own writes.own i)
-    ∙ sym (marked-append (overlaid writes.slots (rows_at plain begin spans)) (map own_row writes.own))
+live-carried-one : (row : Carried) (cells : Option (List Cell)) (writes : List Write) (rows : List PlainRow) → row.row ≡ cells → live_rows plain writes ≡ marked rows → live_rows plain (carried_write row ∷ writes) ≡ marked (cons_option (carried_row row) rows)
+live-carried-one row None writes rows is rest = rw is rest
+live-carried-one row (Some cells) writes rows is rest = rw is (ap (λ (others : List PlainRow). record { identity = row.id; cells = cells; mark = false; annotation = tt } ∷ others) rest)
 
--- ---- no row of a version is one that the transaction inserted
+live-carried : (carried : List Carried) → live_rows plain (map carried_write carried) ≡ marked (filter_map carried_row carried)
+live-carried [] = refl
+live-carried (row ∷ rows) = live-carried-one row row.row (map carried_write rows) (filter_map carried_row rows) refl (live-carried rows)
 
-or-none : (b : Bool) → (b || false) ≡ b
-or-none true = refl
-or-none false = refl
+live-slots : (writes : TableWrites) (spans : List Span) → live_rows plain (slot_writes writes (rows_below writes spans)) ≡ marked (overlaid writes.slots (slotted writes.carried (rows_below writes spans)))
+live-slots writes spans =
+    subst (λ (rows : List PlainRow). live_rows plain (base_writes writes.slots rows) ≡ marked (overlaid writes.slots rows)) (sym (rows-spans writes.carried writes.version spans)) (live-base writes.slots (slotted_spans writes.carried writes.version spans))
 
-pub named : (base : List Write) (own : List Stored) (t : ℕ) (id : Identity) → transaction_of id ≢ t → AreMadeBy t own → is_written (base ++ map own_write own) id ≡ is_written base id
-named base own t id other made =
-    list_any-append (λ (write : Write). same_identity write.id id) base (map own_write own)
-    ∙ ap (λ b. is_written base id || b) (own-unwritten t id own other made)
-    ∙ or-none (is_written base id)
+pub live-view : (writes : TableWrites) (spans : List Span) → live_rows plain (table_writes writes (rows_below writes spans)) ≡ marked (view_rows writes (rows_below writes spans))
+live-view writes spans =
+    let rows = filter_map carried_row writes.carried in
+    let own = map own_row writes.own in
+    filter_map-append (live_row plain) (slot_writes writes (rows_below writes spans)) (map carried_write writes.carried ++ map own_write writes.own)
+    ∙ ap (λ (others : List PlainRow). live_rows plain (slot_writes writes (rows_below writes spans)) ++ others) (filter_map-append (live_row plain) (map carried_write writes.carried) (map own_write writes.own))
+    ∙ (λ i. live-slots writes spans i ++ (live-carried writes.carried i ++ live-own writes.own i))
+    ∙ ap (λ (others : List PlainRow). marked (overlaid writes.slots (slotted writes.carried (rows_below writes spans))) ++ others) (sym (marked-append rows own))
+    ∙ sym (marked-append (overlaid writes.slots (slotted writes.carried (rows_below writes spans))) (rows ++ own))
 
-left : (base : List Write) (own : List Stored) (t : ℕ) (spans : List Span) → AreOthers t spans → AreMadeBy t own
-    → unwritten_rows (base ++ map own_write own) (map (row_of plain) spans) ≡ map unmarked (filter (λ row. not (is_written base row.identity)) (map (row_of plain) spans))
-left base own t [] others made = refl
-left base own t (span ∷ spans) others made =
-    let rest = left base own t spans others.1 made in
-    rw (named base own t span.id others.0 made)
-    (elim (is_written base span.id) as (λ b. cond (not b) (row_of plain span ∷ unwritten_rows (base ++ map own_write own) (map (row_of plain) spans)) (unwritten_rows (base ++ map own_write own) (map (row_of plain) spans))
-    ≡ map unmarked (cond (not b) (row_of plain span ∷ filter (λ row. not (is_written base row.identity)) (map (row_of plain) spans)) (filter (λ row. not (is_written base row.identity)) (map (row_of plain) spans)))) [
-      | true ↦ rest
-      | false ↦ ap (λ rows. row_of plain span ∷ rows) rest
-    ])
+-- ---- the rows that are left are those that have no base
+
+module _ (writes : TableWrites) (base : List PlainRow) (t : ℕ) (made : AreMadeBy t writes.own) where
+  pub unwritten-none : (id : Identity) → transaction_of id ≢ t → not (is_written (table_writes writes base) id) ≡ is_none (base_of writes base id)
+  unwritten-none id other = ap not (table-written writes base t id other made) ∙ sym (base-none writes base id)
+
+  left-one : (b c : Bool) (span : Span) (rest others : List PlainRow) → b ≡ c → rest ≡ map unmarked others → cond b (row_of plain span ∷ rest) rest ≡ map unmarked (cond c (row_of plain span ∷ others) others)
+  left-one true true span rest others same are = ap (λ rows. row_of plain span ∷ rows) are
+  left-one true false span rest others same are = absurd (cc)
+  left-one false true span rest others same are = absurd (cc)
+  left-one false false span rest others same are = are
+
+  left : (spans : List Span) → AreOthers t spans → unwritten_rows (table_writes writes base) (map (row_of plain) spans) ≡ map unmarked (filter (λ row. is_none (base_of writes base row.identity)) (map (row_of plain) spans))
+  left [] others = refl
+  left (span ∷ spans) others =
+      left-one (not (is_written (table_writes writes base) span.id)) (is_none (base_of writes base span.id)) span (unwritten_rows (table_writes writes base) (map (row_of plain) spans))
+      (filter (λ row. is_none (base_of writes base row.identity)) (map (row_of plain) spans)) (unwritten-none span.id others.0) (left spans others.1)
 
 -- ---- all of a commit
 
 module _ (version : ℕ) (writes : Writes) (old new : List Versions) (first : 1 ≤ version) (own : HoldsOwn writes) (others : HoldsOthers writes.t old)
     (above : (place : ℕ) → AreBelow version (table_at place old).spans) (same : length new ≡ length old)
-    (spans : (place : ℕ) → place < length old → (table_at place new).spans ≡ after_commit version (commit_of writes.tables old writes.begin place) (table_at place old).spans) where
+    (spans : (place : ℕ) → place < length old → (table_at place new).spans ≡ after_commit version (commit_of writes.tables old place) (table_at place old).spans) where
   -- where there is no table, there are no spans
   beyond : (place : ℕ) → length old ≤ place → (table_at place new).spans ≡ (table_at place old).spans
   beyond place high =
@@ -93,37 +108,34 @@ module _ (version : ℕ) (writes : Writes) (old new : List Versions) (first : 1 
   older : (v place : ℕ) → v < version → database_at v new place ≡ database_at v old place
   older v place early =
       elim (cases_lt place (length old)) [
-        | inl low ↦ ap (rows_at plain v) (spans place low) ∙ rows-before plain v version (commit_of writes.tables old writes.begin place) (table_at place old).spans early
+        | inl low ↦ ap (rows_at plain v) (spans place low) ∙ rows-before plain v version (commit_of writes.tables old place) (table_at place old).spans early
         | inr high ↦ ap (rows_at plain v) (beyond place high)
       ]
 
   newest : (place : ℕ) → place < length old
       → database_at version new place
-      ≡ map unmarked (filter (λ row. not (names writes (database_at writes.begin old) place row.identity)) (database_at (version - 1) old place)
-      ++ filter (λ row. row.mark) (view_of writes old place))
+      ≡ map unmarked (filter (λ row. is_none (base_at writes.tables old place row.identity)) (database_at (version - 1) old place)
+      ++ filter (λ row. row.mark) (view_below writes.tables old place))
   newest place low =
       let table = writes_at place writes.tables in
       let held = (table_at place old).spans in
-      let base = base_writes table.slots (database_at writes.begin old place) in
+      let base = rows_below table held in
       ap (rows_at plain version) (spans place low)
-      ∙ rows-new-at plain version (commit_of writes.tables old writes.begin place) held first (above place)
-      ∙ (λ i. left base table.own writes.t (spans_at (version - 1) held) (others-held writes.t (version - 1) held (others place)) (inserted-own writes.t writes.last table.own (own place)).0 i ++ live-view table writes.begin held i)
-      ∙ sym (map-append unmarked (filter (λ row. not (is_written base row.identity)) (database_at (version - 1) old place)) (filter (λ row. row.mark) (view_of writes old place)))
+      ∙ rows-new-at plain version (commit_of writes.tables old place) held first (above place)
+      ∙ (λ i. left table base writes.t (inserted-own writes.t writes.last table.own (own place).own).0 (spans_at (version - 1) held) (others-held writes.t (version - 1) held (others place)) i ++ live-view table held i)
+      ∙ sym (map-append unmarked (filter (λ row. is_none (base_of table base row.identity)) (database_at (version - 1) old place)) (filter (λ row. row.mark) (view_below writes.tables old place)))
 
   below : (place : ℕ) → AreBelow (version + 1) (table_at place new).spans
   below place =
       elim (cases_lt place (length old)) [
-        | inl low ↦ subst (AreBelow (version + 1)) (sym (spans place low)) (below-after version (commit_of writes.tables old writes.begin place) (table_at place old).spans (above place))
+        | inl low ↦ subst (AreBelow (version + 1)) (sym (spans place low)) (below-after version (commit_of writes.tables old place) (table_at place old).spans (above place))
         | inr high ↦ subst (AreBelow (version + 1)) (sym (ap (λ (table : Versions). table.spans) (get_or-eq_default new no_table (subst (λ n. n ≤ place) (sym same) high)))) tt
       ]
 
-  pub commits : IsFirstConflict (length old) (lates_of writes old) None → spans_left writes old ≤ MAX_SPANS → Commits version writes old new
+  pub commits : IsFirstConflict (length old) (lates_at writes.tables old) None → spans_left writes.tables old ≤ MAX_SPANS → Commits version writes old new
   commits none few = record { first = none; few = few; spans = spans; older = older; newest = newest; below = below }
 
-  -- the same of the tables and the begin version that the code took from the transaction
-  pub commits-of : (tables : List TableWrites) (begin : ℕ) → tables ≡ writes.tables → begin ≡ writes.begin
-      → IsFirstConflict (length old) (lates_at tables old begin) None → spans_after old (commit_of tables old begin) (length old) ≤ MAX_SPANS
-      → Commits version writes old new
-  commits-of tables begin of-tables of-begin none few =
-      commits (λ place low. sym (λ i. lates_at (of-tables i) old (of-begin i) place) ∙ none place low)
-      (subst (λ n. n ≤ MAX_SPANS) (λ i. spans_after old (commit_of (of-tables i) old (of-begin i)) (length old)) few)
+  -- the same of the tables that the code took from the transaction
+  pub commits-of : (tables : List TableWrites) → tables ≡ writes.tables → IsFirstConflict (length old) (lates_at tables old) None → spans_left tables old ≤ MAX_SPANS → Commits version writes old new
+  commits-of tables of-tables none few =
+      commits (λ place low. sym (λ i. lates_at (of-tables i) old place) ∙ none place low) (subst (λ n. n ≤ MAX_SPANS) (λ i. spans_left (of-tables i) old) few)

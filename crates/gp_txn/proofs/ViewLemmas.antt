@@ -1,5 +1,7 @@
 -- Loops that make the rows that a transaction sees, and that count them.
 use Rattle.std.proofs.Common.{◌≡◌, ℕ, ◌+◌, ◌<◌, true, false, List, [], ◌∷◌, ◌++◌, map, drop, length, get_or, refl, ap, sym, ◌∙◌, arith, add_assoc, Option, None}
+use Rattle.std.specs.List.{filter_map}
+use Rattle.std.specs.Option.{option_to_list}
 use Rattle.std.proofs.lemmas.List.{map-append, drop-drop, append_assoc, length-append}
 use Rattle.std.proofs.lemmas.List.Elements.{filter-append}
 use Rattle.gp_base.specs.declared.stored.Stored.{Stored}
@@ -8,13 +10,17 @@ use Rattle.gp_expr.specs.Expressions.{Cond}
 use Rattle.gp_algebra.specs.Answers.{passes_where}
 use Rattle.gp_algebra.proofs.Lists.{filter-map}
 use Rattle.gp_versions.specs.declared.span.Span.{Span}
-use Rattle.gp_versions.specs.Spans.{holds_at, row_of, rows_at}
+use Rattle.gp_versions.specs.Spans.{row_of}
+use Rattle.gp_txn.specs.declared.carried.Carried.{Carried}
 use Rattle.gp_txn.specs.declared.overlay.Slot.{Slot}
 use Rattle.gp_txn.specs.declared.overlay.Slot.TheVariants.{Same, Put, Dropped}
-use Rattle.gp_txn.specs.Overlay.{PlainRow, head_slot, shown, overlaid, own_row, stored_of}
+use Rattle.gp_txn.specs.declared.overlay.TableWrites.{TableWrites}
+use Rattle.gp_txn.specs.Overlay.{PlainRow, carried_row, has_slot, head_slot, shown, slotted, overlaid, own_row, stored_of, view_rows}
 use Rattle.gp_txn.specs.Slots.{shown_count}
+use Rattle.gp_txn.proofs.CountLemmas.{length-map}
 use Rattle.gp_txn.specs.Wanted.{wanted, wanted_own}
-use Rattle.gp_txn.proofs.OverlayLemmas.{rows-held, rows-passed}
+use Rattle.gp_txn.proofs.OverlayLemmas.{filter_map-one}
+use Rattle.gp_txn.proofs.SlottedLemmas.{rows-held, rows-passed, slotted_at}
 
 pub wanted-all : (rows : List PlainRow) → wanted None rows ≡ rows
 wanted-all [] = refl
@@ -23,17 +29,17 @@ wanted-all (row ∷ rows) = ap (λ (others : List PlainRow). row ∷ others) (wa
 wanted-append : (c : Option Cond) (xs ys : List PlainRow) → map stored_of (wanted c (xs ++ ys)) ≡ map stored_of (wanted c xs) ++ map stored_of (wanted c ys)
 wanted-append c xs ys = ap (λ (rows : List PlainRow). map stored_of rows) (filter-append (λ (row : PlainRow). passes_where c row.cells) xs ys) ∙ map-append stored_of (wanted c xs) (wanted c ys)
 
-pub seen-held : (c : Option Cond) (done : List Stored) (slots : List Slot) (place v : ℕ) (spans : List Span) (i : ℕ) (span : Span) → i < length spans → span ≡ get_or spans i span → holds_at v span ≡ true
-    → done ++ map stored_of (wanted c (overlaid (drop place slots) (rows_at plain v (drop i spans)))) ≡ (done ++ map stored_of (wanted c (shown (head_slot (drop place slots)) (row_of plain span)))) ++ map stored_of (wanted c (overlaid (drop (place + 1) slots) (rows_at plain v (drop (i + 1) spans))))
-seen-held c done slots place v spans i span within at held =
-    ap (λ rows. done ++ map stored_of (wanted c (overlaid (drop place slots) rows))) (rows-held v spans i span within at held)
-    ∙ ap (λ others. done ++ map stored_of (wanted c (shown (head_slot (drop place slots)) (row_of plain span) ++ overlaid others (rows_at plain v (drop (i + 1) spans))))) (drop-drop 1 place slots)
-    ∙ ap (λ (rows : List Stored). done ++ rows) (wanted-append c (shown (head_slot (drop place slots)) (row_of plain span)) (overlaid (drop (place + 1) slots) (rows_at plain v (drop (i + 1) spans))))
-    ∙ sym (append_assoc done (map stored_of (wanted c (shown (head_slot (drop place slots)) (row_of plain span)))) (map stored_of (wanted c (overlaid (drop (place + 1) slots) (rows_at plain v (drop (i + 1) spans))))))
+pub seen-held : (c : Option Cond) (done : List Stored) (slots : List Slot) (carried : List Carried) (place v : ℕ) (spans : List Span) (i : ℕ) (span : Span) → i < length spans → span ≡ get_or spans i span → has_slot carried v span ≡ true
+    → done ++ map stored_of (wanted c (overlaid (drop place slots) (slotted_at carried v (drop i spans)))) ≡ (done ++ map stored_of (wanted c (shown (head_slot (drop place slots)) (row_of plain span)))) ++ map stored_of (wanted c (overlaid (drop (place + 1) slots) (slotted_at carried v (drop (i + 1) spans))))
+seen-held c done slots carried place v spans i span within at held =
+    ap (λ rows. done ++ map stored_of (wanted c (overlaid (drop place slots) rows))) (rows-held carried v spans i span within at held)
+    ∙ ap (λ others. done ++ map stored_of (wanted c (shown (head_slot (drop place slots)) (row_of plain span) ++ overlaid others (slotted_at carried v (drop (i + 1) spans))))) (drop-drop 1 place slots)
+    ∙ ap (λ (rows : List Stored). done ++ rows) (wanted-append c (shown (head_slot (drop place slots)) (row_of plain span)) (overlaid (drop (place + 1) slots) (slotted_at carried v (drop (i + 1) spans))))
+    ∙ sym (append_assoc done (map stored_of (wanted c (shown (head_slot (drop place slots)) (row_of plain span)))) (map stored_of (wanted c (overlaid (drop (place + 1) slots) (slotted_at carried v (drop (i + 1) spans))))))
 
-pub seen-passed : (c : Option Cond) (done : List Stored) (slots : List Slot) (v : ℕ) (spans : List Span) (i : ℕ) (span : Span) → i < length spans → span ≡ get_or spans i span → holds_at v span ≡ false
-    → done ++ map stored_of (wanted c (overlaid slots (rows_at plain v (drop i spans)))) ≡ done ++ map stored_of (wanted c (overlaid slots (rows_at plain v (drop (i + 1) spans))))
-seen-passed c done slots v spans i span within at passed = ap (λ rows. done ++ map stored_of (wanted c (overlaid slots rows))) (rows-passed v spans i span within at passed)
+pub seen-passed : (c : Option Cond) (done : List Stored) (slots : List Slot) (carried : List Carried) (v : ℕ) (spans : List Span) (i : ℕ) (span : Span) → i < length spans → span ≡ get_or spans i span → has_slot carried v span ≡ false
+    → done ++ map stored_of (wanted c (overlaid slots (slotted_at carried v (drop i spans)))) ≡ done ++ map stored_of (wanted c (overlaid slots (slotted_at carried v (drop (i + 1) spans))))
+seen-passed c done slots carried v spans i span within at passed = ap (λ rows. done ++ map stored_of (wanted c (overlaid slots rows))) (rows-passed carried v spans i span within at passed)
 
 own-stored : (own : List Stored) → map stored_of (map own_row own) ≡ own
 own-stored [] = refl
@@ -42,26 +48,45 @@ own-stored (stored ∷ own) = ap (λ (others : List Stored). stored ∷ others) 
 own-wanted : (c : Option Cond) (own : List Stored) → map stored_of (wanted c (map own_row own)) ≡ wanted_own c own
 own-wanted c own = ap (λ (rows : List PlainRow). map stored_of rows) (filter-map (λ (row : PlainRow). passes_where c row.cells) own_row own) ∙ own-stored (wanted_own c own)
 
-pub view-stored : (c : Option Cond) (slots : List Slot) (own : List Stored) (base : List PlainRow) → map stored_of (wanted c (overlaid slots base ++ map own_row own)) ≡ map stored_of (wanted c (overlaid slots base)) ++ wanted_own c own
-view-stored c slots own base = wanted-append c (overlaid slots base) (map own_row own) ∙ ap (λ (rows : List Stored). map stored_of (wanted c (overlaid slots base)) ++ rows) (own-wanted c own)
+pub carried-wanted : (c : Option Cond) (carried : Carried) (others : List Carried)
+    → map stored_of (wanted c (filter_map carried_row (carried ∷ others))) ≡ map stored_of (wanted c (option_to_list (carried_row carried))) ++ map stored_of (wanted c (filter_map carried_row others))
+carried-wanted c carried others =
+    ap (λ (rows : List PlainRow). map stored_of (wanted c rows)) (filter_map-one carried_row carried others) ∙ wanted-append c (option_to_list (carried_row carried)) (filter_map carried_row others)
+
+pub view-stored : (c : Option Cond) (writes : TableWrites) (base : List PlainRow)
+    → map stored_of (wanted c (view_rows writes base))
+    ≡ (map stored_of (wanted c (overlaid writes.slots (slotted writes.carried base))) ++ map stored_of (wanted c (filter_map carried_row writes.carried))) ++ wanted_own c writes.own
+view-stored c writes base =
+    let slots = overlaid writes.slots (slotted writes.carried base) in
+    let rows = filter_map carried_row writes.carried in
+    wanted-append c slots (rows ++ map own_row writes.own)
+    ∙ ap (λ (others : List Stored). map stored_of (wanted c slots) ++ others) (wanted-append c rows (map own_row writes.own) ∙ ap (λ (others : List Stored). map stored_of (wanted c rows) ++ others) (own-wanted c writes.own))
+    ∙ sym (append_assoc (map stored_of (wanted c slots)) (map stored_of (wanted c rows)) (wanted_own c writes.own))
+
+-- how many rows it sees
+pub view-counted : (writes : TableWrites) (base : List PlainRow) → length (view_rows writes base) ≡ length (overlaid writes.slots (slotted writes.carried base)) + length (filter_map carried_row writes.carried) + length writes.own
+view-counted writes base =
+    let slots = overlaid writes.slots (slotted writes.carried base) in
+    let rows = filter_map carried_row writes.carried in
+    omega (arith, length-append slots (rows ++ map own_row writes.own), length-append rows (map own_row writes.own), length-map own_row writes.own)
 
 length-shown : (slot : Slot) (row : PlainRow) → length (shown slot row) ≡ shown_count slot
 length-shown Same row = refl
 length-shown (Put cells) row = refl
 length-shown Dropped row = refl
 
-pub length-held : (count : ℕ) (slots : List Slot) (place v : ℕ) (spans : List Span) (i : ℕ) (span : Span) → i < length spans → span ≡ get_or spans i span → holds_at v span ≡ true
-    → count + length (overlaid (drop place slots) (rows_at plain v (drop i spans))) ≡ (count + shown_count (head_slot (drop place slots))) + length (overlaid (drop (place + 1) slots) (rows_at plain v (drop (i + 1) spans)))
-length-held count slots place v spans i span within at held =
-    ap (λ rows. count + length (overlaid (drop place slots) rows)) (rows-held v spans i span within at held)
-    ∙ ap (λ others. count + length (shown (head_slot (drop place slots)) (row_of plain span) ++ overlaid others (rows_at plain v (drop (i + 1) spans)))) (drop-drop 1 place slots)
-    ∙ ap (λ n. count + n) (length-append (shown (head_slot (drop place slots)) (row_of plain span)) (overlaid (drop (place + 1) slots) (rows_at plain v (drop (i + 1) spans))))
-    ∙ ap (λ n. count + (n + length (overlaid (drop (place + 1) slots) (rows_at plain v (drop (i + 1) spans))))) (length-shown (head_slot (drop place slots)) (row_of plain span))
-    ∙ sym (add_assoc count (shown_count (head_slot (drop place slots))) (length (overlaid (drop (place + 1) slots) (rows_at plain v (drop (i + 1) spans)))))
+pub length-held : (count : ℕ) (slots : List Slot) (carried : List Carried) (place v : ℕ) (spans : List Span) (i : ℕ) (span : Span) → i < length spans → span ≡ get_or spans i span → has_slot carried v span ≡ true
+    → count + length (overlaid (drop place slots) (slotted_at carried v (drop i spans))) ≡ (count + shown_count (head_slot (drop place slots))) + length (overlaid (drop (place + 1) slots) (slotted_at carried v (drop (i + 1) spans)))
+length-held count slots carried place v spans i span within at held =
+    ap (λ rows. count + length (overlaid (drop place slots) rows)) (rows-held carried v spans i span within at held)
+    ∙ ap (λ others. count + length (shown (head_slot (drop place slots)) (row_of plain span) ++ overlaid others (slotted_at carried v (drop (i + 1) spans)))) (drop-drop 1 place slots)
+    ∙ ap (λ n. count + n) (length-append (shown (head_slot (drop place slots)) (row_of plain span)) (overlaid (drop (place + 1) slots) (slotted_at carried v (drop (i + 1) spans))))
+    ∙ ap (λ n. count + (n + length (overlaid (drop (place + 1) slots) (slotted_at carried v (drop (i + 1) spans))))) (length-shown (head_slot (drop place slots)) (row_of plain span))
+    ∙ sym (add_assoc count (shown_count (head_slot (drop place slots))) (length (overlaid (drop (place + 1) slots) (slotted_at carried v (drop (i + 1) spans)))))
 
-pub length-passed : (count : ℕ) (slots : List Slot) (v : ℕ) (spans : List Span) (i : ℕ) (span : Span) → i < length spans → span ≡ get_or spans i span → holds_at v span ≡ false
-    → count + length (overlaid slots (rows_at plain v (drop i spans))) ≡ count + length (overlaid slots (rows_at plain v (drop (i + 1) spans)))
-length-passed count slots v spans i span within at passed = ap (λ rows. count + length (overlaid slots rows)) (rows-passed v spans i span within at passed)
+pub length-passed : (count : ℕ) (slots : List Slot) (carried : List Carried) (v : ℕ) (spans : List Span) (i : ℕ) (span : Span) → i < length spans → span ≡ get_or spans i span → has_slot carried v span ≡ false
+    → count + length (overlaid slots (slotted_at carried v (drop i spans))) ≡ count + length (overlaid slots (slotted_at carried v (drop (i + 1) spans)))
+length-passed count slots carried v spans i span within at passed = ap (λ rows. count + length (overlaid slots rows)) (rows-passed carried v spans i span within at passed)
 
 pub shown-few : (slot : Slot) → shown_count slot < 2
 shown-few Same = omega arith

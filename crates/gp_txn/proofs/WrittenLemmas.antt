@@ -1,4 +1,4 @@
--- Which rows of its snapshot a transaction has written after a statement.
+-- Which rows that have a slot a transaction has written after a statement.
 use Rattle.std.proofs.Common.{◌≡◌, ◌≢◌, ℕ, Bool, true, false, cond, ◌&&◌, ◌||◌, List, [], ◌∷◌, ◌++◌, map, drop, Option, Some, None, refl, ap, sym, ◌∙◌}
 use Rattle.std.specs.List.{cons_option, list_any, AllByRecursion}
 use Rattle.std.specs.Option.{option_to_list}
@@ -15,7 +15,8 @@ use Rattle.gp_versions.proofs.SameLemmas.{same-exact}
 use Rattle.gp_txn.specs.declared.overlay.Slot.{Slot}
 use Rattle.gp_txn.specs.declared.overlay.Slot.TheVariants.{Same, Put, Dropped}
 use Rattle.gp_txn.specs.Changes.{Change, update, delete, cond_of, touched}
-use Rattle.gp_txn.specs.Overlay.{PlainRow, head_slot, shown, overlaid, own_row, slot_write, base_writes, has_written}
+use Rattle.gp_txn.specs.Overlay.{PlainRow, head_slot, shown, overlaid, own_row, slot_write, base_writes}
+use Rattle.gp_txn.specs.Transactions.{has_written}
 use Rattle.gp_txn.specs.Slots.{changed_slot, changed_slots}
 
 -- whether a row of this identity is among these
@@ -87,7 +88,12 @@ slot-changed (delete c) (Put now) row id =
     ]
 slot-changed change Dropped row id = or-one (same_identity row.identity id)
 
--- the rows of the snapshot that were written, after the statement
+pub touched-append : (change : Change) (xs ys : List PlainRow) (id : Identity) → has_identity (touched change (xs ++ ys)) id ≡ (has_identity (touched change xs) id || has_identity (touched change ys) id)
+touched-append change xs ys id =
+    ap (λ (some : List PlainRow). has_identity some id) (filter-append (λ (r : PlainRow). passes (cond_of change) r.cells) xs ys)
+    ∙ list_any-append (λ (r : PlainRow). same_identity r.identity id) (touched change xs) (touched change ys)
+
+-- the rows with a slot that were written, after the statement
 pub written-changed : (change : Change) (slots : List Slot) (rows : List PlainRow) (id : Identity)
     → is_written (base_writes (changed_slots change slots rows) rows) id ≡ (is_written (base_writes slots rows) id || has_identity (touched change (overlaid slots rows)) id)
 written-changed change slots [] id = refl
@@ -96,15 +102,14 @@ written-changed change slots (row ∷ rows) id =
     let here = slot-changed change slot row id in
     let rest = written-changed change (drop 1 slots) rows id in
     let split : has_identity (touched change (shown slot row ++ overlaid (drop 1 slots) rows)) id ≡ (has_identity (touched change (shown slot row)) id || has_identity (touched change (overlaid (drop 1 slots) rows)) id) =
-    ap (λ (some : List PlainRow). has_identity some id) (filter-append (λ (r : PlainRow). passes (cond_of change) r.cells) (shown slot row) (overlaid (drop 1 slots) rows))
-    ∙ list_any-append (λ (r : PlainRow). same_identity r.identity id) (touched change (shown slot row)) (touched change (overlaid (drop 1 slots) rows)) in
+    touched-append change (shown slot row) (overlaid (drop 1 slots) rows) id in
     let old = written-cons (slot_write slot row) (base_writes (drop 1 slots) rows) id in
     written-cons (slot_write (changed_slot change slot row.cells) row) (base_writes (changed_slots change (drop 1 slots) rows) rows) id
     ∙ (cc (here, rest))
     ∙ or-swap (has_identity (touched change (shown slot row)) id) (is_written (option_to_list (slot_write slot row)) id) (has_identity (touched change (overlaid (drop 1 slots) rows)) id) (is_written (base_writes (drop 1 slots) rows) id)
     ∙ (cc (split, old))
 
-all-touched : (P : PlainRow → Type 0) (change : Change) (rows : List PlainRow) → AllByRecursion P rows → AllByRecursion P (touched change rows)
+pub all-touched : (P : PlainRow → Type 0) (change : Change) (rows : List PlainRow) → AllByRecursion P rows → AllByRecursion P (touched change rows)
 all-touched P change [] all = tt
 all-touched P change (row ∷ rows) all =
     elim (passes (cond_of change) row.cells) as (λ b. AllByRecursion P (cond b (row ∷ touched change rows) (touched change rows))) [ true ↦ (all.0, all-touched P change rows all.1) | false ↦ all-touched P change rows all.1 ]
@@ -113,15 +118,6 @@ pub or-nothing : (b : Bool) → (b || false) ≡ b
 or-nothing true = refl
 or-nothing false = refl
 
-own-rows : (t : ℕ) (own : List Stored) → AllByRecursion (λ (stored : Stored). transaction_of stored.id ≡ t) own → AllByRecursion (λ (row : PlainRow). transaction_of row.identity ≡ t) (map own_row own)
+pub own-rows : (t : ℕ) (own : List Stored) → AllByRecursion (λ (stored : Stored). transaction_of stored.id ≡ t) own → AllByRecursion (λ (row : PlainRow). transaction_of row.identity ≡ t) (map own_row own)
 own-rows t [] all = tt
 own-rows t (stored ∷ own) all = (all.0, own-rows t own all.1)
-
--- of the rows that are not its own, a transaction writes those of its snapshot
-pub view-touched : (t : ℕ) (change : Change) (slots : List Slot) (own : List Stored) (base : List PlainRow) (id : Identity) → transaction_of id ≢ t → AllByRecursion (λ (stored : Stored). transaction_of stored.id ≡ t) own
-    → has_identity (touched change (overlaid slots base ++ map own_row own)) id ≡ has_identity (touched change (overlaid slots base)) id
-view-touched t change slots own base id other all =
-    ap (λ (some : List PlainRow). has_identity some id) (filter-append (λ (r : PlainRow). passes (cond_of change) r.cells) (overlaid slots base) (map own_row own))
-    ∙ list_any-append (λ (r : PlainRow). same_identity r.identity id) (touched change (overlaid slots base)) (touched change (map own_row own))
-    ∙ ap (λ b. has_identity (touched change (overlaid slots base)) id || b) (own-identity t (touched change (map own_row own)) id other (all-touched (λ (row : PlainRow). transaction_of row.identity ≡ t) change (map own_row own) (own-rows t own all)))
-    ∙ or-nothing (has_identity (touched change (overlaid slots base)) id)

@@ -16,7 +16,7 @@ use Rattle.gp_exec.specs.declared.limit.TheConstants.{MAX_TABLE_ROWS}
 use Rattle.gp_versions.specs.Spans.{Versions}
 use Rattle.gp_txn.specs.declared.error.StmtStop.{StmtStop}
 use Rattle.gp_txn.specs.declared.error.StmtStop.TheVariants.{Rows, Ancestry, NoMemory}
-use Rattle.gp_txn.specs.Overlay.{Writes, Applied, view_of}
+use Rattle.gp_txn.specs.Transactions.{Writes, Applied, view_at}
 
 -- ---- statements that can be applied
 
@@ -38,27 +38,27 @@ is_applicable count (read select) = false
 
 -- ---- answers
 
-abbrev pub has_too_many_rows : ℕ → Statement → List Versions → Writes → Bool
-has_too_many_rows k statement versions old = is_over_rows plain MAX_TABLE_ROWS old.t k statement (view_of old versions)
+abbrev pub has_too_many_rows : ℕ → ℕ → Statement → List Versions → Writes → Bool
+has_too_many_rows k version statement versions old = is_over_rows plain MAX_TABLE_ROWS old.t k statement (view_at old.tables versions version)
 
-abbrev pub has_too_many_nodes : ℕ → Statement → List Versions → Writes → Bool
-has_too_many_nodes k statement versions old = is_over_nodes plain MAX_NODES old.t k statement (view_of old versions)
+abbrev pub has_too_many_nodes : ℕ → ℕ → Statement → List Versions → Writes → Bool
+has_too_many_nodes k version statement versions old = is_over_nodes plain MAX_NODES old.t k statement (view_at old.tables versions version)
 
 -- it was applied, and this is the number of rows that it wrote
-pub record Wrote (k : ℕ) (statement : Statement) (versions : List Versions) (old new : Writes) (count : ℕ) : Type 0 where
-  pub applied : Applied k statement versions old new
-  pub number : count ≡ length (wrote plain old.t k statement (view_of old versions))
-  pub few_rows : has_too_many_rows k statement versions old ≡ false
-  pub few_nodes : has_too_many_nodes k statement versions old ≡ false
+pub record Wrote (k version : ℕ) (statement : Statement) (versions : List Versions) (old new : Writes) (count : ℕ) : Type 0 where
+  pub applied : Applied k version statement versions old new
+  pub number : count ≡ length (wrote plain old.t k statement (view_at old.tables versions version))
+  pub few_rows : has_too_many_rows k version statement versions old ≡ false
+  pub few_nodes : has_too_many_nodes k version statement versions old ≡ false
 
 -- The limit of rows comes before that of nodes, and each is tested over the whole statement. Where the statement is refused, and where memory ran
 -- out, nothing is changed.
-abbrev pub Applies : Result ℕ StmtStop → ℕ → Statement → List Versions → Writes → Writes → Type 0
-Applies (Ok count) k statement versions old new = Wrote k statement versions old new count
-Applies (Err Rows) k statement versions old new = (new ≡ old) × (has_too_many_rows k statement versions old ≡ true)
-Applies (Err Ancestry) k statement versions old new =
-    (new ≡ old) × (has_too_many_rows k statement versions old ≡ false) × (has_too_many_nodes k statement versions old ≡ true)
-Applies (Err NoMemory) k statement versions old new = new ≡ old
+abbrev pub Applies : Result ℕ StmtStop → ℕ → ℕ → Statement → List Versions → Writes → Writes → Type 0
+Applies (Ok count) k version statement versions old new = Wrote k version statement versions old new count
+Applies (Err Rows) k version statement versions old new = (new ≡ old) × (has_too_many_rows k version statement versions old ≡ true)
+Applies (Err Ancestry) k version statement versions old new =
+    (new ≡ old) × (has_too_many_rows k version statement versions old ≡ false) × (has_too_many_nodes k version statement versions old ≡ true)
+Applies (Err NoMemory) k version statement versions old new = new ≡ old
 
 -- what a SELECT answers: the rows of the answer, unless there are more than `most`; running out of memory says nothing
 abbrev pub Selects : Result (List (List Cell)) ChooseStop → ℕ → List (Element (Unit {0})) → Type 0

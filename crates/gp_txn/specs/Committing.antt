@@ -1,6 +1,7 @@
 -- Part of the statement: what a commit does, and why one does nothing. It is lost by a conflict, or refused as the row versions would be too many;
 -- else it makes a version, which later transactions read.
-use Rattle.std.specs.Prelude.{◌≡◌, ℕ, ◌+◌, ◌-◌, ◌<◌, ◌≤◌, List, ◌++◌, false, filter, length, map, not, Some, None}
+use Rattle.std.specs.Prelude.{◌≡◌, ℕ, ◌+◌, ◌-◌, ◌<◌, ◌≤◌, List, ◌++◌, false, filter, length, map, Some, None}
+use Rattle.std.specs.Option.{is_none}
 use Rattle.gp_versions.specs.declared.span.Write.{Write}
 use Rattle.gp_versions.specs.Commits.{AreBelow, after_commit}
 use Rattle.gp_versions.specs.Spans.{Versions}
@@ -11,19 +12,20 @@ use Rattle.gp_txn.specs.declared.counting.TheConstants.{MAX_SPANS}
 use Rattle.gp_txn.specs.declared.overlay.TableWrites.{TableWrites}
 use Rattle.gp_txn.specs.Conflicts.{IsFirstConflict, lates_at}
 use Rattle.gp_txn.specs.Counts.{spans_after}
-use Rattle.gp_txn.specs.Overlay.{PlainRow, Writes, database_at, names, table_at, table_writes, view_of, writes_at}
+use Rattle.gp_txn.specs.Overlay.{PlainRow, table_writes, view_rows}
+use Rattle.gp_txn.specs.Transactions.{Writes, base_at, database_at, database_below, table_at, writes_at}
 
 -- what a transaction with these writes commits to each table
-abbrev pub commit_of : List TableWrites → List Versions → ℕ → ℕ → List Write
-commit_of tables versions begin place = table_writes (writes_at place tables) (database_at begin versions place)
+abbrev pub commit_of : List TableWrites → List Versions → ℕ → List Write
+commit_of tables versions place = table_writes (writes_at place tables) (database_below tables versions place)
 
--- its written rows that a later commit wrote, by table
-abbrev pub lates_of : Writes → List Versions → ℕ → List Late
-lates_of writes versions = lates_at writes.tables versions writes.begin
+-- what it sees of each table at the version that its writes of the table lie over
+abbrev pub view_below : List TableWrites → List Versions → ℕ → List PlainRow
+view_below tables versions place = view_rows (writes_at place tables) (database_below tables versions place)
 
 -- how many spans there are after it
-abbrev pub spans_left : Writes → List Versions → ℕ
-spans_left writes versions = spans_after versions (commit_of writes.tables versions writes.begin) (length versions)
+abbrev pub spans_left : List TableWrites → List Versions → ℕ
+spans_left tables versions = spans_after versions (commit_of tables versions) (length versions)
 
 -- no running transaction wrote the row
 abbrev pub unmarked : PlainRow → PlainRow
@@ -31,20 +33,20 @@ unmarked row = record row { mark = false }
 
 -- the transaction has made the version
 pub record Commits (version : ℕ) (writes : Writes) (old new : List Versions) : Type 0 where
-  -- no later commit wrote a row that it updated or deleted
-  pub first : IsFirstConflict (length old) (lates_of writes old) None
+  -- no commit above the base of a row that it updated or deleted wrote the row
+  pub first : IsFirstConflict (length old) (lates_at writes.tables old) None
   -- the row versions are not too many
-  pub few : spans_left writes old ≤ MAX_SPANS
+  pub few : spans_left writes.tables old ≤ MAX_SPANS
   -- the open spans of its written rows have ended, and those of the rows that it leaves have begun
   pub spans : (place : ℕ) → place < length old
-      → (table_at place new).spans ≡ after_commit version (commit_of writes.tables old writes.begin place) (table_at place old).spans
+      → (table_at place new).spans ≡ after_commit version (commit_of writes.tables old place) (table_at place old).spans
   -- earlier versions have the rows that they had
   pub older : (v place : ℕ) → v < version → database_at v new place ≡ database_at v old place
   -- the version has the rows of the one before it that the transaction did not write, and then those that it wrote and sees
   pub newest : (place : ℕ) → place < length old
       → database_at version new place
-      ≡ map unmarked (filter (λ row. not (names writes (database_at writes.begin old) place row.identity)) (database_at (version - 1) old place)
-      ++ filter (λ row. row.mark) (view_of writes old place))
+      ≡ map unmarked (filter (λ row. is_none (base_at writes.tables old place row.identity)) (database_at (version - 1) old place)
+      ++ filter (λ row. row.mark) (view_below writes.tables old place))
   -- no span begins or ends after it
   pub below : (place : ℕ) → AreBelow (version + 1) (table_at place new).spans
 

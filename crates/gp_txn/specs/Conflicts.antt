@@ -1,22 +1,23 @@
 -- Part of the statement: which row a commit is lost by. The first committer wins (Berenson and others, SIGMOD 1995): a commit is lost where a row that
--- the transaction updated or deleted was written by a commit since its BEGIN. The span of such a row holds the snapshot, and ends at the first
--- commit that wrote it.
-use Rattle.std.specs.Prelude.{Bool, ◌≡◌, ◌⊎◌, ℕ, ◌<◌, true, false, List, [], ◌∷◌, drop, Option, Some, None}
-use Rattle.std.specs.List.{cons_option, AllByRecursion}
-use Rattle.std.specs.Option.{option_map}
+-- the transaction updated or deleted was written by a commit later than the row's base. The span of a row with a slot holds the version that the
+-- statement read, and ends at the first commit that wrote the row; a row that is carried over is looked up by its identity.
+use Rattle.std.specs.Prelude.{◌≡◌, ◌⊎◌, ℕ, ◌<◌, false, List, [], ◌∷◌, ◌++◌, drop, Option, Some, None}
+use Rattle.std.specs.List.{cons_option, filter_map, AllByRecursion}
+use Rattle.std.specs.Option.{option_and_then, option_map}
 use Rattle.std.specs.Ordering.{is_gt, nat_cmp, on, then_cmp}
 use Rattle.std.specs.declared.cmp.Ordering.{Ordering}
 use Rattle.gp_base.specs.Identities.{Identity, identity_cmp}
 use Rattle.gp_algebra.specs.Effects.{Written}
 use Rattle.gp_versions.specs.declared.span.Span.{Span}
-use Rattle.gp_versions.specs.Commits.{is_written}
-use Rattle.gp_versions.specs.Spans.{Versions, spans_at, written_after}
+use Rattle.gp_versions.specs.Spans.{Versions, written_after}
+use Rattle.gp_txn.specs.declared.carried.Carried.{Carried}
 use Rattle.gp_txn.specs.declared.overlay.Slot.{Slot}
 use Rattle.gp_txn.specs.declared.overlay.Slot.TheVariants.{Same, Put, Dropped}
 use Rattle.gp_txn.specs.declared.overlay.TableWrites.{TableWrites}
 use Rattle.gp_txn.specs.declared.conflict.Conflict.{Conflict}
 use Rattle.gp_txn.specs.declared.conflict.Late.{Late}
-use Rattle.gp_txn.specs.Overlay.{base_writes, database_at, head_slot, table_at, writes_at}
+use Rattle.gp_txn.specs.Overlay.{head_slot, slotted_spans}
+use Rattle.gp_txn.specs.Transactions.{base_at, table_at, writes_at}
 
 -- ---- one table
 
@@ -29,10 +30,18 @@ late_version Dropped span = span.to
 abbrev pub late_of : Slot → Span → Option Late
 late_of slot span = option_map (λ to. record { id = span.id; version = to }) (late_version slot span)
 
--- the rows that the transaction wrote and a later commit too, given the spans that hold the snapshot
-abbrev pub lates : List Slot → List Span → List Late
-lates slots [] = []
-lates slots (span ∷ spans) = cons_option (late_of (head_slot slots) span) (lates (drop 1 slots) spans)
+-- of the rows with these spans, those that the transaction wrote and a later commit too
+abbrev pub slot_lates : List Slot → List Span → List Late
+slot_lates slots [] = []
+slot_lates slots (span ∷ spans) = cons_option (late_of (head_slot slots) span) (slot_lates (drop 1 slots) spans)
+
+-- a row that is carried over, if a commit above its base wrote it
+abbrev pub carried_late : List Span → Carried → Option Late
+carried_late spans carried = option_map (λ version. record { id = carried.id; version = version }) (written_after carried.id carried.base spans)
+
+-- the rows that the transaction wrote and a later commit too
+abbrev pub lates : TableWrites → List Span → List Late
+lates writes spans = slot_lates writes.slots (slotted_spans writes.carried writes.version spans) ++ filter_map (carried_late spans) writes.carried
 
 abbrev pub IsAmong : Late → List Late → Type 0
 IsAmong late [] = ⊥
@@ -50,8 +59,8 @@ IsLeast others (Some late) = IsAmong late others × IsBeforeAll late others
 -- ---- all tables
 
 -- those of the table at a place
-abbrev pub lates_at : List TableWrites → List Versions → ℕ → ℕ → List Late
-lates_at tables versions begin place = lates (writes_at place tables).slots (spans_at begin (table_at place versions).spans)
+abbrev pub lates_at : List TableWrites → List Versions → ℕ → List Late
+lates_at tables versions place = lates (writes_at place tables) (table_at place versions).spans
 
 -- the least row of the first table that has any, given the number of tables
 abbrev pub IsFirstConflict : ℕ → (ℕ → List Late) → Option Conflict → Type 0
@@ -65,19 +74,12 @@ IsFirstConflict count lates (Some conflict) =
 abbrev pub written_cmp : Written → Written → Ordering
 written_cmp = then_cmp (on (λ (row : Written). row.table) nat_cmp) (on (λ (row : Written). row.identity) identity_cmp)
 
--- whether the transaction updated or deleted a row of its snapshot
-abbrev pub was_written : List TableWrites → List Versions → ℕ → Written → Bool
-was_written tables versions begin row =
-    is_written (base_writes (writes_at row.table tables).slots (database_at begin versions row.table)) row.identity
+-- the first version above the base of a row that the transaction wrote at which a commit wrote it: a span of it begins or ends there
+abbrev pub next_write : List TableWrites → List Versions → ℕ → Identity → Option ℕ
+next_write tables versions place id = option_and_then (λ base. written_after id base (table_at place versions).spans) (base_at tables versions place id)
 
--- the first version above the snapshot that wrote a row: a span of it begins or ends there
-abbrev pub next_version : List Versions → ℕ → ℕ → Identity → Option ℕ
-next_version versions begin place id = written_after id begin (table_at place versions).spans
-
--- given the next version that wrote a row: the transaction wrote this one, a later commit wrote it first at this version, and no lesser row was written
--- by both
-pub record IsLost (tables : List TableWrites) (versions : List Versions) (begin : ℕ) (next : ℕ → Identity → Option ℕ) (conflict : Conflict) : Type 0 where
-  pub written : was_written tables versions begin (record { table = conflict.place; identity = conflict.late.id }) ≡ true
+-- given the first version above the base of a row that wrote it too: this row was written by both, and no lesser one was
+pub record IsLost (next : ℕ → Identity → Option ℕ) (conflict : Conflict) : Type 0 where
   pub later : next conflict.place conflict.late.id ≡ Some conflict.late.version
-  pub least : (other : Written) (version : ℕ) → was_written tables versions begin other ≡ true → next other.table other.identity ≡ Some version
+  pub least : (other : Written) (version : ℕ) → next other.table other.identity ≡ Some version
       → is_gt (written_cmp (record { table = conflict.place; identity = conflict.late.id }) other) ≡ false

@@ -4,7 +4,7 @@ use Rattle.gp_base.specs.Annotated.{plain}
 use Rattle.gp_versions.specs.declared.span.Write.{Write}
 use Rattle.gp_versions.specs.Commits.{live_rows}
 use Rattle.gp_versions.specs.Spans.{Versions}
-use Rattle.gp_txn.specs.Overlay.{table_at}
+use Rattle.gp_txn.specs.Transactions.{table_at}
 
 -- the spans of the first tables, given their number
 abbrev pub count_spans : List Versions → ℕ → ℕ

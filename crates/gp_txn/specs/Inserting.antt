@@ -8,7 +8,8 @@ use Rattle.gp_algebra.specs.Statements.{Branch, Select}
 use Rattle.gp_exec.specs.declared.limit.TheConstants.{MAX_TABLE_ROWS}
 use Rattle.gp_txn.specs.declared.error.StmtStop.{StmtStop}
 use Rattle.gp_txn.specs.declared.error.StmtStop.TheVariants.{Rows, Ancestry, NoMemory}
-use Rattle.gp_txn.specs.Overlay.{PlainRow, own_row, own_write, table_at}
+use Rattle.gp_txn.specs.Overlay.{PlainRow, own_row, own_write}
+use Rattle.gp_txn.specs.Transactions.{table_at}
 use Rattle.gp_versions.specs.Commits.{AreDistinct}
 use Rattle.gp_versions.specs.Spans.{NoOverlap, Versions}
 

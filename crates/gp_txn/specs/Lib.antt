@@ -1,4 +1,6 @@
 pub mod Applying
+pub mod Bases
+pub mod CarriedCode
 pub mod Changes
 pub mod Committing
 pub mod Conflicts
@@ -7,7 +9,9 @@ pub mod Inserting
 pub mod LeastSoFar
 pub mod Overlay
 pub mod Prepared
+pub mod Rebasing
 pub mod Slots
 pub mod Stops
+pub mod Transactions
 pub mod Wanted
 pub mod WritesCode

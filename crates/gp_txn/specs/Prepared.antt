@@ -6,7 +6,9 @@ use Rattle.gp_base.specs.Identities.{transaction_of}
 use Rattle.gp_versions.specs.declared.span.Write.{Write}
 use Rattle.gp_versions.specs.Commits.{AreBelow, AreDistinct}
 use Rattle.gp_versions.specs.Spans.{Versions}
+use Rattle.gp_txn.specs.declared.overlay.TableWrites.{TableWrites}
 use Rattle.gp_txn.specs.Overlay.{own_write}
+use Rattle.gp_txn.specs.Transactions.{AreCarried}
 
 abbrev pub prepared_at : List (List Write) → ℕ → List Write
 prepared_at prepared place = slice_index_or prepared place []
@@ -21,3 +23,8 @@ pub record IsReady (version : ℕ) (table : Versions) (writes : List Write) : Ty
 -- the rows that a transaction inserted, whatever the statement
 abbrev pub AreInserted : ℕ → List Stored → Type 0
 AreInserted t own = AllByRecursion (λ (stored : Stored). transaction_of stored.id ≡ t) own × AreDistinct (map own_write own)
+
+-- the writes of a table of this transaction
+pub record AreWritesOf (t : ℕ) (writes : TableWrites) : Type 0 where
+  pub inserted : AreInserted t writes.own
+  pub carried : AreCarried t writes.carried

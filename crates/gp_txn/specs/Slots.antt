@@ -1,15 +1,17 @@
--- Machinery: the slots and the inserted rows of a table after an UPDATE or a DELETE.
-use Rattle.std.specs.Prelude.{ℕ, Bool, false, List, [], ◌∷◌, ◌++◌, drop, slice_set, length, Option, Some, None, if◌then◌else◌}
+-- Machinery: the writes of a table after an UPDATE or a DELETE.
+use Rattle.std.specs.Prelude.{ℕ, Bool, false, List, [], ◌∷◌, ◌++◌, drop, map, slice_set, length, Option, Some, None, if◌then◌else◌}
 use Rattle.std.specs.List.{filter_map}
 use Rattle.gp_base.specs.declared.cell.Cell.{Cell}
 use Rattle.gp_base.specs.declared.stored.Stored.{Stored}
 use Rattle.gp_expr.specs.Values.{passes}
 use Rattle.gp_algebra.specs.Effects.{assigned}
+use Rattle.gp_txn.specs.declared.carried.Carried.{Carried}
 use Rattle.gp_txn.specs.declared.overlay.Slot.{Slot}
 use Rattle.gp_txn.specs.declared.overlay.Slot.TheVariants.{Same, Put, Dropped}
 use Rattle.gp_txn.specs.declared.overlay.TableWrites.{TableWrites}
 use Rattle.gp_txn.specs.Changes.{Change, update, delete, cond_of, touched}
-use Rattle.gp_txn.specs.Overlay.{PlainRow, Writes, head_slot}
+use Rattle.gp_txn.specs.Overlay.{PlainRow, head_slot, slotted}
+use Rattle.gp_txn.specs.Transactions.{Writes}
 
 -- what the statement does to a row of these cells that passes its condition
 abbrev pub slot_for : Change → List Cell → Slot
@@ -67,17 +69,45 @@ stored_after Dropped stored = None
 abbrev pub changed_own : Change → List Stored → List Stored
 changed_own change own = filter_map (λ (stored : Stored). stored_after (effect change stored.row) stored) own
 
--- the writes of a table after the statement, over the rows of the snapshot
+-- the cells of a row after the statement, which writes it
+abbrev pub cells_for : Change → List Cell → Option (List Cell)
+cells_for (update sets cond) cells = Some (assigned sets cells)
+cells_for (delete cond) cells = None
+
+-- the cells of a row that was written over an earlier version, after the statement
+abbrev pub cells_after : Change → Option (List Cell) → Option (List Cell)
+cells_after change None = None
+cells_after change (Some cells) = if passes (cond_of change) cells then cells_for change cells else Some cells
+
+-- the row keeps its base
+abbrev pub carried_after : Change → Carried → Carried
+carried_after change carried = record { id = carried.id; base = carried.base; row = cells_after change carried.row }
+
+abbrev pub changed_carried : Change → List Carried → List Carried
+changed_carried change carried = map (carried_after change) carried
+
+-- the writes of a table after the statement, over the rows of the version below
 abbrev pub changed_table : Change → TableWrites → List PlainRow → TableWrites
-changed_table change writes base = record { slots = changed_slots change writes.slots base; own = changed_own change writes.own }
+changed_table change writes base = record {
+  version = writes.version;
+  slots = changed_slots change writes.slots (slotted writes.carried base);
+  carried = changed_carried change writes.carried;
+  own = changed_own change writes.own;
+}
 
 -- what a transaction keeps after statement k, which left these writes of a table
 abbrev pub put_table : ℕ → ℕ → TableWrites → Writes → Writes
-put_table k place table writes = record { t = writes.t; begin = writes.begin; last = k; tables = slice_set writes.tables place table }
+put_table k place table writes = record {
+  t = writes.t;
+  read_committed = writes.read_committed;
+  begin = writes.begin;
+  last = k;
+  tables = slice_set writes.tables place table;
+}
 
 -- the writes of a table with more inserted rows
 abbrev pub with_own : List Stored → TableWrites → TableWrites
-with_own new table = record { slots = table.slots; own = table.own ++ new }
+with_own new table = record { version = table.version; slots = table.slots; carried = table.carried; own = table.own ++ new }
 
 -- how many rows it writes
 abbrev pub count_touched : Change → List PlainRow → ℕ

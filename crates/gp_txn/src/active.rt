@@ -1,18 +1,20 @@
 //! Running transactions.
 
-ghost use Rattle.std.specs.Prelude.{◌≡◌, ◌<◌, ◌≤◌, ◌++◌, ℕ, true, IfOk, OnOk, OnErr, [], length, map};
+ghost use Rattle.std.specs.Prelude.{◌≡◌, ◌<◌, ◌≤◌, ◌++◌, ℕ, true, IfOk, OnOk, OnErr, length, map};
 ghost use Rattle.std.specs.Option.{option_map};
 ghost use Rattle.gp_base.specs.declared.catalog.TheConstants.{MAX_TABLES};
-ghost use Rattle.gp_txn.specs.Overlay.{AreOwn, HoldsOwn, no_writes, stored_of, table_at, view_of, view_rows, writes_at};
+ghost use Rattle.gp_txn.specs.Bases.{table_view};
+ghost use Rattle.gp_txn.specs.Overlay.{no_writes, stored_of};
+ghost use Rattle.gp_txn.specs.Rebasing.{writes_over};
 ghost use Rattle.gp_txn.specs.Slots.{put_table, with_own};
+ghost use Rattle.gp_txn.specs.Transactions.{AreOthers, AreOwn, HoldsOwn, IsUnwritten, KeepsOwn, snapshot_of, table_at, view_at, writes_at};
 ghost use Rattle.gp_txn.specs.Wanted.{wanted};
 ghost use Rattle.gp_expr.specs.Views.{cond_view};
 ghost use Rattle.gp_algebra.specs.Simple.{where_is_simple};
-ghost use Rattle.gp_base.specs.Annotated.{plain};
-ghost use Rattle.gp_versions.specs.Spans.{NoOverlap, rows_at};
+ghost use Rattle.gp_versions.specs.Spans.{NoOverlap};
 
-use crate::overlay::{Slot, TableWrites};
-use crate::viewing::{count_rows, view_rows};
+use crate::overlay::TableWrites;
+use crate::rebasing::{append_own, count_at, view_at, writes_for};
 use gp_base::{MAX_TABLES, NoMemory, Sequence, Stored};
 use gp_expr::Cond;
 use gp_versions::{Span, VersionTable};
@@ -23,12 +25,15 @@ use std::marker::Model;
 /// The number of tables that it may write.
 const TABLE_COUNT: usize = MAX_TABLES as usize;
 
-/// A running transaction: what it wrote of each table, over the rows of the version that is its snapshot. Rows that it
-/// inserted have identities of its own, and no two of a table are equal.
+/// A running transaction: what it wrote of each table, over the rows of a version. In a transaction of the snapshot kind, that
+/// is the version at which it began. A statement of a read committed transaction reads the newest version, and the writes of
+/// the table that it writes then lie over that one. Rows that it inserted have identities of its own, and no two of a table
+/// are equal.
 #[derive(Drop)]
 pub struct Active {
     alloc: Global,
     t: u32,
+    read_committed: bool,
     begin: u32,
     last: u32,
     tables: [TableWrites; TABLE_COUNT],
@@ -37,17 +42,29 @@ pub struct Active {
 impl Model for Active {
     ghost use Rattle.std.specs.Prelude.{◌≡◌, length};
     ghost use Rattle.gp_base.specs.declared.catalog.TheConstants.{MAX_TABLES};
-    ghost use Rattle.gp_txn.specs.Overlay.{HoldsOwn, Writes};
+    ghost use Rattle.gp_txn.specs.Transactions.{HoldsOwn, Writes};
     ghost use Rattle.gp_txn.specs.WritesCode.{writes_code};
 
     ghost Value = { Writes };
 
     ghost coded = { writes_code };
 
-    ghost view = { λ a. record { t = a.t; begin = a.begin; last = a.last; tables = a.tables } };
+    ghost view = { λ a. record {
+      t = a.t;
+      read_committed = a.read_committed;
+      begin = a.begin;
+      last = a.last;
+      tables = a.tables;
+    } };
 
     ghost invariant = { λ a. (length a.tables ≡ MAX_TABLES)
-        × HoldsOwn (record { t = a.t; begin = a.begin; last = a.last; tables = a.tables }) };
+        × HoldsOwn (record {
+          t = a.t;
+          read_committed = a.read_committed;
+          begin = a.begin;
+          last = a.last;
+          tables = a.tables;
+        }) };
 }
 
 /// The spans of a table; none if it is not there.
@@ -62,19 +79,24 @@ pub fn spans_of(versions: &[VersionTable], table: u32) -> &[Span]
 }
 
 impl Active {
-    /// A transaction that has written nothing, with this number and the version that is its snapshot.
-    pub fn begin(alloc: Global, t: u32, version: u32) -> Active
+    /// A transaction that has written nothing, with this number, the version at which it begins, and its kind.
+    pub fn begin(alloc: Global, t: u32, version: u32, read_committed: bool) -> Active
         ensures t { result.t ≡ t }
+        ensures kind { result.read_committed ≡ read_committed }
         ensures begin { result.begin ≡ version }
         ensures last { result.last ≡ 0 }
-        ensures tables { (place : ℕ) → writes_at place result.tables ≡ no_writes }
+        ensures tables { (place : ℕ) → IsUnwritten version (writes_at place result.tables) }
+        ensures over { (place : ℕ) → place < MAX_TABLES
+            → (writes_at place result.tables).version ≡ version }
+        ensures count { length result.tables ≡ MAX_TABLES }
     {
         Active {
             alloc,
             t,
+            read_committed,
             begin: version,
             last: 0,
-            tables: array::from_fn(|_| TableWrites::new(alloc)),
+            tables: array::from_fn(|_| TableWrites::new(alloc, version)),
         }
     }
 
@@ -86,11 +108,12 @@ impl Active {
         self.t
     }
 
-    /// The version that is its snapshot.
-    pub fn begin_version(&self) -> u32
-        ensures { result ≡ self.now.begin }
+    /// The version that its next statement reads, where this is the newest one: the version at which it began, but for a
+    /// read committed transaction.
+    pub fn snapshot(&self, now: u32) -> u32
+        ensures { result ≡ snapshot_of self.now now }
     {
-        self.begin
+        if self.read_committed { now } else { self.begin }
     }
 
     /// Its writes of each table.
@@ -107,70 +130,77 @@ impl Active {
         self.alloc
     }
 
-    /// What it did to the rows of its snapshot of a table.
-    pub(crate) fn slots(&self, table: u32) -> &[Slot]
-        ensures { result.now ≡ (writes_at table self.now.tables).slots }
+    /// Its writes of a table.
+    pub(crate) fn writes(&self, table: u32) -> &TableWrites
+        requires { table < MAX_TABLES }
+        ensures writes { result.now ≡ writes_at table self.now.tables }
+        ensures own { KeepsOwn self.now.t self.now.last result.now }
+    {
+        &self.tables[table as usize]
+    }
+
+    /// Its writes of a table, or none if it can write no table at this place.
+    fn writes_or<'a>(&'a self, table: u32, none: &'a TableWrites) -> &'a TableWrites
+        requires { none.now ≡ no_writes 0 }
+        ensures { result.now ≡ writes_at table self.now.tables }
     {
         match self.tables.get(table as usize) {
-            Some(writes) => writes.slots.as_slice(),
-            None => &[],
+            Some(writes) => writes,
+            None => none,
         }
     }
 
-    /// The rows that it inserted into a table and that it sees.
-    pub(crate) fn own(&self, table: u32) -> &[Stored]
-        ensures rows { result.now ≡ (writes_at table self.now.tables).own }
-        ensures own { AreOwn self.now.t self.now.last result.now }
+    /// The rows of a table that it sees at a version, in order, with their identities.
+    pub fn view(
+        &self,
+        table: u32,
+        version: u32,
+        versions: &[VersionTable],
+    ) -> Result<Sequence<Stored>, NoMemory>
+        ensures { IfOk result (λ rows. rows
+            ≡ map stored_of (view_at self.now.tables versions.now version table)) }
     {
-        match self.tables.get(table as usize) {
-            Some(writes) => writes.own.as_slice(),
-            None => &[],
-        }
+        self.view_over(table, version, spans_of(versions, table), None)
     }
 
-    /// The rows of a table that it sees, in order, with their identities.
-    pub fn view(&self, table: u32, versions: &[VersionTable]) -> Result<Sequence<Stored>, NoMemory>
-        ensures { IfOk result
-            (λ rows. rows ≡ map stored_of (view_of self.now versions.now table)) }
-    {
-        self.view_over(table, spans_of(versions, table), None)
-    }
-
-    /// The rows of a table that it sees, over these spans: all of them, or those that pass a condition.
+    /// The rows of a table that it sees at a version, over these spans: all of them, or those that pass a condition.
     pub(crate) fn view_over(
         &self,
         table: u32,
+        version: u32,
         spans: &[Span],
         cond: Option<&Cond>,
     ) -> Result<Sequence<Stored>, NoMemory>
         requires { where_is_simple (option_map (λ c. cond_view c.now) cond) ≡ true }
         ensures { IfOk result (λ rows. rows
             ≡ map stored_of (wanted (option_map (λ c. cond_view c.now) cond.entry)
-            (view_rows (writes_at table self.now.tables) (rows_at plain self.now.begin spans.now)))) }
+            (table_view (writes_at table self.now.tables) spans.now version))) }
     {
-        view_rows(
-            self.alloc,
-            self.slots(table),
-            self.own(table),
-            spans,
-            self.begin,
-            cond,
-        )
+        let none = TableWrites::new(self.alloc, 0);
+        let writes = self.writes_or(table, &none);
+        view_at(self.alloc, writes, spans, version, cond)
     }
 
-    /// How many rows of a table it sees. It takes no memory.
-    pub(crate) fn count(&self, table: u32, versions: &[VersionTable]) -> usize
-        ensures { result ≡ length (view_of self.now versions.now table) }
+    /// How many rows of a table it sees at a version.
+    pub(crate) fn count(
+        &self,
+        table: u32,
+        version: u32,
+        versions: &[VersionTable],
+    ) -> Result<usize, NoMemory>
+        requires { table < MAX_TABLES }
+        ensures { IfOk result
+            (λ count. count ≡ length (view_at self.now.tables versions.now version table)) }
     {
         let spans = spans_of(versions, table);
-        count_rows(self.slots(table), self.own(table), spans, self.begin)
+        count_at(self.alloc, self.writes(table), spans, version)
     }
 
     /// Keeps these writes of a table, which statement k left.
     pub(crate) fn put(&mut self, k: u32, table: u32, writes: TableWrites)
         requires table { table < MAX_TABLES }
         requires later { self.old.last ≤ k }
-        requires own { AreOwn self.old.t k writes.own }
+        requires own { KeepsOwn self.old.t k writes }
         ensures new { self.new ≡ put_table k table writes self.old }
         ensures tables { length self.old.tables ≡ MAX_TABLES }
     {
@@ -178,24 +208,30 @@ impl Active {
         self.last = k;
     }
 
-    /// Keeps the rows that statement k inserted into a table. Gives their number.
+    /// Keeps the rows that statement k, which read this version, inserted into a table. Gives their number.
     pub(crate) fn insert_rows(
         &mut self,
         k: u32,
         table: u32,
+        version: u32,
+        spans: &[Span],
         new: Sequence<Stored>,
     ) -> Result<u32, NoMemory>
         requires table { table < MAX_TABLES }
         requires later { self.old.last ≤ k }
         requires own { AreOwn self.old.t k ((writes_at table self.old.tables).own ++ new) }
+        requires others { AreOthers self.old.t spans.now }
+        requires apart { NoOverlap spans.now }
         ensures count { IfOk result (λ count. count ≡ length new) }
-        ensures ok { OnOk result (self.new
-            ≡ put_table k table (with_own new (writes_at table self.old.tables)) self.old) }
+        ensures ok { OnOk result (self.new ≡ put_table k table
+            (with_own new (writes_over version spans.now (writes_at table self.old.tables)))
+            self.old) }
         ensures tables { OnOk result (length self.old.tables ≡ MAX_TABLES) }
         ensures err { OnErr result (self.new ≡ self.old) }
     {
         let count = number(new.as_slice().len())?;
-        self.tables[table as usize].own.append(new)?;
+        let moved = writes_for(self.alloc, self.writes(table), spans, version)?;
+        append_own(&mut self.tables[table as usize], moved, new)?;
         self.last = k;
         Ok(count)
     }

@@ -10,58 +10,67 @@ ghost use Rattle.gp_exec.specs.declared.limit.TheConstants.{MAX_ANSWER_ROWS};
 ghost use Rattle.gp_exec.specs.Choosing.{Chooses, chosen_view};
 ghost use Rattle.gp_txn.specs.Applying.{Selects, is_readable};
 ghost use Rattle.gp_txn.specs.Inserting.{AreApart, reads_table};
-ghost use Rattle.gp_txn.specs.Overlay.{stored_of, view_of, view_rows, writes_at};
+ghost use Rattle.gp_txn.specs.Overlay.{stored_of};
+ghost use Rattle.gp_txn.specs.Transactions.{table_at, view_at};
 ghost use Rattle.gp_txn.specs.Wanted.{row_where, wanted};
-ghost use Rattle.gp_versions.specs.Spans.{rows_at};
+ghost use Rattle.gp_versions.specs.Spans.{NoOverlap};
 
 use crate::active::{Active, spans_of};
 use crate::reading::{reads_table, row_where, rows_of};
 use gp_algebra::Select;
 use gp_base::{NoMemory, Row, Sequence, Stored};
 use gp_exec::{ChooseStop, Chosen, MAX_ANSWER_ROWS, Views, choose};
-use gp_versions::{Span, VersionTable};
+use gp_versions::VersionTable;
 
 impl Active {
-    /// The rows of a table that it sees and the query wants, if the query reads the table, else none.
+    /// The rows of a table that it sees at a version and the query wants, if the query reads the table, else none.
     fn view_read(
         &self,
         select: &Select,
         table: u32,
-        spans: &[Span],
+        version: u32,
+        versions: &[VersionTable],
     ) -> Result<Sequence<Stored>, NoMemory>
         requires { select_is_simple (select_view select.now) ≡ true }
-        ensures { IfOk result (λ rows. reads_table table (select_view select.now) ≡ true
+        ensures rows { IfOk result (λ rows. reads_table table (select_view select.now) ≡ true
             → rows ≡ map stored_of (wanted (row_where (select_view select.now))
-            (view_rows (writes_at table self.now.tables) (rows_at plain self.now.begin spans.now)))) }
+            (view_at self.now.tables versions.now version table))) }
+        ensures apart { NoOverlap (table_at table versions.now).spans }
     {
+        let spans = spans_of(versions, table);
         if reads_table(select, table) {
-            return self.view_over(table, spans, row_where(select));
+            return self.view_over(table, version, spans, row_where(select));
         }
         Ok(Sequence::new(self.alloc()))
     }
 
     /// The rows that the query wants of the tables that it reads. The other tables are empty here.
-    fn views(&self, select: &Select, versions: &[VersionTable]) -> Result<Views, NoMemory>
+    fn views(
+        &self,
+        select: &Select,
+        version: u32,
+        versions: &[VersionTable],
+    ) -> Result<Views, NoMemory>
         requires few { length versions.now ≤ MAX_TABLES }
         requires simple { select_is_simple (select_view select.now) ≡ true }
         ensures rows { IfOk result (λ views. (p : ℕ) → p < length versions.now
             → reads_table p (select_view select.now) ≡ true
             → get_or views.tables p [] ≡ map stored_of (wanted (row_where (select_view select.now))
-            (view_of self.now versions.now p))) }
+            (view_at self.now.tables versions.now version p))) }
         ensures apart { IfOk result (λ views. AreApart versions.now) }
     {
         let mut tables = Sequence::new(self.alloc());
         for place in 0..versions.len() {
-            let spans = spans_of(versions, place as u32);
-            tables.push(self.view_read(select, place as u32, spans)?)?;
+            tables.push(self.view_read(select, place as u32, version, versions)?)?;
         }
         Ok(Views { tables })
     }
 
-    /// The answer of a query over what the transaction sees.
+    /// The answer of a query over what the transaction sees at a version.
     pub(crate) fn chosen(
         &self,
         select: &Select,
+        version: u32,
         versions: &[VersionTable],
         most: usize,
     ) -> Result<Vec<Chosen>, ChooseStop>
@@ -69,25 +78,26 @@ impl Active {
         requires readable { is_readable (length versions.now) (select_view select.now) ≡ true }
         ensures apart { IfOk result (λ chosen. AreApart versions.now) }
         ensures rows { Chooses (λ found. map chosen_view found.items) result most
-            (answer plain (select_view select.now) (view_of self.now versions.now)) }
+            (answer plain (select_view select.now) (view_at self.now.tables versions.now version)) }
     {
-        let views = self.views(select, versions)?;
+        let views = self.views(select, version, versions)?;
         choose(self.alloc(), select, &views, most)
     }
 
-    /// The rows of a query over what the transaction sees, in the order of nested loops. TooMany exactly if there are more
-    /// than [`MAX_ANSWER_ROWS`].
+    /// The rows of a query over what the transaction sees at a version, in the order of nested loops. TooMany exactly if there
+    /// are more than [`MAX_ANSWER_ROWS`]. For a statement, `version` is what [`Active::snapshot`] gives.
     pub fn select(
         &self,
         select: &Select,
+        version: u32,
         versions: &[VersionTable],
     ) -> Result<Sequence<Row>, ChooseStop>
         requires few { length versions.now ≤ MAX_TABLES }
         requires readable { is_readable (length versions.now) (select_view select.now) ≡ true }
         ensures { Selects result MAX_ANSWER_ROWS
-            (answer plain (select_view select.now) (view_of self.now versions.now)) }
+            (answer plain (select_view select.now) (view_at self.now.tables versions.now version)) }
     {
-        let chosen = self.chosen(select, versions, MAX_ANSWER_ROWS)?;
+        let chosen = self.chosen(select, version, versions, MAX_ANSWER_ROWS)?;
         Ok(rows_of(self.alloc(), chosen)?)
     }
 }

@@ -2,12 +2,11 @@
 
 ghost use Rattle.std.specs.Prelude.{◌≡◌, ℕ, ◌<◌, ◌≤◌, IfErr, IfOk, None, OnErr, OnOk, length};
 ghost use Rattle.gp_base.specs.declared.catalog.TheConstants.{MAX_TABLES};
-ghost use Rattle.gp_txn.specs.Committing.{Commits, HasCause, commit_of, lates_of, spans_left};
+ghost use Rattle.gp_txn.specs.Committing.{Commits, HasCause, commit_of, spans_left};
 ghost use Rattle.gp_txn.specs.Conflicts.{IsFirstConflict, lates_at};
-ghost use Rattle.gp_txn.specs.Counts.{spans_after};
 ghost use Rattle.gp_txn.specs.declared.counting.TheConstants.{MAX_SPANS};
-ghost use Rattle.gp_txn.specs.Overlay.{AreOthers, HoldsOthers, table_at, writes_at};
-ghost use Rattle.gp_txn.specs.Prepared.{AreInserted, IsReady, prepared_at};
+ghost use Rattle.gp_txn.specs.Prepared.{AreWritesOf, IsReady, prepared_at};
+ghost use Rattle.gp_txn.specs.Transactions.{AreOthers, HoldsOthers, table_at, writes_at};
 ghost use Rattle.gp_versions.specs.Commits.{AreBelow, AreDistinct, after_commit};
 
 use crate::active::Active;
@@ -20,20 +19,39 @@ use gp_base::NoMemory;
 use gp_versions::{VersionTable, Writes};
 use std::alloc::Global;
 
+/// Enters the spans of a table, if the transaction wrote rows of it over earlier versions.
+fn enter_one(writes: &TableWrites, table: &mut VersionTable) -> Result<(), NoMemory>
+    ensures { table.new ≡ table.old }
+{
+    if !writes.carried.as_slice().is_empty() {
+        table.enter()?;
+    }
+    Ok(())
+}
+
+/// Enters the spans of the tables of which the transaction wrote rows over earlier versions, as the later writes of these
+/// rows are looked up. A table is entered once, and then the spans that began since. Contracts do not see which spans are
+/// entered.
+fn enter_spans(tables: &[TableWrites], versions: &mut [VersionTable]) -> Result<(), NoMemory>
+    requires { length versions.old ≤ length tables.now }
+    ensures { versions.new ≡ versions.old }
+{
+    for place in 0..versions.len() {
+        enter_one(&tables[place], &mut versions[place])?;
+    }
+    Ok(())
+}
+
 /// Stops a commit that a conflict loses.
-fn check_conflict(
-    tables: &[TableWrites],
-    versions: &[VersionTable],
-    begin: u32,
-) -> Result<(), CommitStop>
+fn check_conflict(tables: &[TableWrites], versions: &[VersionTable]) -> Result<(), CommitStop>
     requires fit { length versions.now ≤ length tables.now }
     requires few { length versions.now ≤ MAX_TABLES }
     ensures first { OnOk result
-        (IsFirstConflict (length versions.now) (lates_at tables.now versions.now begin) None) }
+        (IsFirstConflict (length versions.now) (lates_at tables.now versions.now) None) }
     ensures cause { IfErr result (λ stop. (spans : ℕ)
-        → HasCause stop (length versions.now) (lates_at tables.now versions.now begin) spans) }
+        → HasCause stop (length versions.now) (lates_at tables.now versions.now) spans) }
 {
-    match first_conflict(tables, versions, begin)? {
+    match first_conflict(tables, versions)? {
         None => Ok(()),
         Some(Conflict { place, late }) => Err(CommitStop::Conflict {
             version: late.version,
@@ -49,29 +67,25 @@ fn prepare_few(
     t: u32,
     tables: &[TableWrites],
     versions: &[VersionTable],
-    begin: u32,
 ) -> Result<Vec<Writes>, CommitStop>
     requires fit { length versions.now ≤ length tables.now }
-    requires own { (place : ℕ) → AreInserted t (writes_at place tables.now).own }
+    requires own { (place : ℕ) → AreWritesOf t (writes_at place tables.now) }
     requires others { (place : ℕ) → AreOthers t (table_at place versions.now).spans }
     requires first { IsFirstConflict
-        (length versions.now) (lates_at tables.now versions.now begin) None }
+        (length versions.now) (lates_at tables.now versions.now) None }
     ensures len { IfOk result (λ all. length all.items ≡ length versions.now) }
     ensures each { IfOk result (λ all. (place : ℕ) → place < length versions.now
-        → prepared_at all.items place ≡ commit_of tables.now versions.now begin place) }
+        → prepared_at all.items place ≡ commit_of tables.now versions.now place) }
     ensures distinct { IfOk result (λ all. (place : ℕ) → place < length versions.now
         → AreDistinct (prepared_at all.items place)) }
-    ensures few { OnOk result (spans_after
-        versions.now (commit_of tables.now versions.now begin) (length versions.now) ≤ MAX_SPANS) }
-    ensures cause { IfErr result (λ stop. HasCause stop
-        (length versions.now) (lates_at tables.now versions.now begin)
-        (spans_after
-        versions.now (commit_of tables.now versions.now begin) (length versions.now))) }
+    ensures few { OnOk result (spans_left tables.now versions.now ≤ MAX_SPANS) }
+    ensures cause { IfErr result (λ stop. HasCause stop (length versions.now)
+        (lates_at tables.now versions.now) (spans_left tables.now versions.now)) }
 {
-    if is_full(tables, versions, begin) {
+    if is_full(tables, versions) {
         return Err(CommitStop::Full);
     }
-    Ok(prepare(alloc, t, tables, versions, begin)?)
+    Ok(prepare(alloc, t, tables, versions)?)
 }
 
 /// Makes room for the writes, and then the version.
@@ -97,46 +111,73 @@ fn publish_prepared(
     Ok(())
 }
 
-/// Commits the writes of a transaction. Everything that can fail comes before the first change.
+/// Commits the writes of a transaction, where the spans that are looked up are entered. Everything that can fail comes
+/// before the first change.
+fn commit_entered(
+    alloc: Global,
+    t: u32,
+    tables: &[TableWrites],
+    versions: &mut [VersionTable],
+    version: u32,
+) -> Result<(), CommitStop>
+    requires fit { length versions.old ≤ length tables.now }
+    requires few { length versions.old ≤ MAX_TABLES }
+    requires own { (place : ℕ) → AreWritesOf t (writes_at place tables.now) }
+    requires others { (place : ℕ) → AreOthers t (table_at place versions.old).spans }
+    requires first { 1 ≤ version }
+    requires above { (place : ℕ) → AreBelow version (table_at place versions.old).spans }
+    ensures first { OnOk result
+        (IsFirstConflict (length versions.old) (lates_at tables.now versions.old) None) }
+    ensures few { OnOk result (spans_left tables.now versions.old ≤ MAX_SPANS) }
+    ensures spans { OnOk result ((place : ℕ) → place < length versions.old
+        → (table_at place versions.new).spans ≡ after_commit version
+        (commit_of tables.now versions.old place) (table_at place versions.old).spans) }
+    ensures cause { IfErr result (λ stop. HasCause stop (length versions.old)
+        (lates_at tables.now versions.old) (spans_left tables.now versions.old)) }
+    ensures unchanged { OnErr result ((place : ℕ)
+        → (table_at place versions.new).spans ≡ (table_at place versions.old).spans) }
+{
+    check_conflict(tables, versions)?;
+    let mut prepared = prepare_few(alloc, t, tables, versions)?;
+    publish_prepared(alloc, versions, version, &mut prepared)?;
+    Ok(())
+}
+
+/// Commits the writes of a transaction.
 fn commit_writes(
     alloc: Global,
     t: u32,
     tables: &[TableWrites],
     versions: &mut [VersionTable],
-    begin: u32,
     version: u32,
 ) -> Result<(), CommitStop>
     requires fit { length versions.old ≤ length tables.now }
     requires few { length versions.old ≤ MAX_TABLES }
-    requires own { (place : ℕ) → AreInserted t (writes_at place tables.now).own }
+    requires own { (place : ℕ) → AreWritesOf t (writes_at place tables.now) }
     requires others { (place : ℕ) → AreOthers t (table_at place versions.old).spans }
     requires first { 1 ≤ version }
     requires above { (place : ℕ) → AreBelow version (table_at place versions.old).spans }
     ensures first { OnOk result
-        (IsFirstConflict (length versions.old) (lates_at tables.now versions.old begin) None) }
-    ensures few { OnOk result (spans_after
-        versions.old (commit_of tables.now versions.old begin) (length versions.old) ≤ MAX_SPANS) }
+        (IsFirstConflict (length versions.old) (lates_at tables.now versions.old) None) }
+    ensures few { OnOk result (spans_left tables.now versions.old ≤ MAX_SPANS) }
     ensures spans { OnOk result ((place : ℕ) → place < length versions.old
         → (table_at place versions.new).spans ≡ after_commit version
-        (commit_of tables.now versions.old begin place) (table_at place versions.old).spans) }
-    ensures cause { IfErr result (λ stop. HasCause stop
-        (length versions.old) (lates_at tables.now versions.old begin)
-        (spans_after
-        versions.old (commit_of tables.now versions.old begin) (length versions.old))) }
+        (commit_of tables.now versions.old place) (table_at place versions.old).spans) }
+    ensures cause { IfErr result (λ stop. HasCause stop (length versions.old)
+        (lates_at tables.now versions.old) (spans_left tables.now versions.old)) }
     ensures unchanged { OnErr result ((place : ℕ)
         → (table_at place versions.new).spans ≡ (table_at place versions.old).spans) }
 {
-    check_conflict(tables, versions, begin)?;
-    let mut prepared = prepare_few(alloc, t, tables, versions, begin)?;
-    publish_prepared(alloc, versions, version, &mut prepared)?;
+    enter_spans(tables, versions)?;
+    commit_entered(alloc, t, tables, versions, version)?;
     Ok(())
 }
 
 impl Active {
     /// COMMIT: makes this version of the tables. It is above all versions at which a span begins or ends, and no span is of
-    /// a row that the transaction inserted. The first committer of a row wins: the commit is lost if a later commit wrote a
-    /// row that the transaction updated or deleted. A conflict is found before the spans are counted, and an error leaves
-    /// all spans unchanged.
+    /// a row that the transaction inserted. The first committer of a row wins: the commit is lost if a commit above the
+    /// row's base wrote a row that the transaction updated or deleted. A conflict is found before the spans are counted, and
+    /// an error leaves all spans unchanged.
     pub fn commit(&self, versions: &mut [VersionTable], version: u32) -> Result<(), CommitStop>
         requires few { length versions.old ≤ MAX_TABLES }
         requires first { 1 ≤ version }
@@ -144,18 +185,11 @@ impl Active {
         requires others { HoldsOthers self.now.t versions.old }
         ensures ok { OnOk result (Commits version self.now versions.old versions.new) }
         ensures cause { IfErr result (λ stop. HasCause stop (length versions.old)
-            (lates_of self.now versions.old) (spans_left self.now versions.old)) }
+            (lates_at self.now.tables versions.old) (spans_left self.now.tables versions.old)) }
         ensures unchanged { OnErr result ((place : ℕ)
             → (table_at place versions.new).spans ≡ (table_at place versions.old).spans) }
     {
-        commit_writes(
-            self.alloc(),
-            self.t(),
-            self.tables(),
-            versions,
-            self.begin_version(),
-            version,
-        )?;
+        commit_writes(self.alloc(), self.t(), self.tables(), versions, version)?;
         Ok(())
     }
 }

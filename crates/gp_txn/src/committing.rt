@@ -3,9 +3,10 @@
 ghost use Rattle.std.specs.Prelude.{◌≡◌, ◌++◌, IfOk, OnOk, drop, map};
 ghost use Rattle.std.specs.Option.{option_to_list};
 ghost use Rattle.gp_base.specs.Annotated.{plain};
-ghost use Rattle.gp_txn.specs.Overlay.{base_writes, head_slot, own_write, slot_write, table_writes};
+ghost use Rattle.gp_txn.specs.Overlay.{base_writes, carried_write, head_slot, own_write, rows_below, slot_write, slot_writes, slotted, table_writes};
 ghost use Rattle.gp_versions.specs.Spans.{row_of, rows_at};
 
+use crate::carried::{Carried, CarriedRows, has_slot};
 use crate::overlay::{Slot, TableWrites};
 use gp_base::{NoMemory, Row, RowId, Stored};
 use gp_versions::{Span, Write};
@@ -20,7 +21,7 @@ fn put(id: &RowId, cells: &Row) -> Result<Write, NoMemory>
     Ok(Write { id, row })
 }
 
-/// What a commit writes of a row of the snapshot.
+/// What a commit writes of the row with the slot at this place.
 fn slot_write(slots: &[Slot], place: usize, span: &Span) -> Result<Option<Write>, NoMemory>
     ensures { IfOk result (λ write. write
         ≡ slot_write (head_slot (drop place slots.now)) (row_of plain span.now)) }
@@ -35,7 +36,7 @@ fn slot_write(slots: &[Slot], place: usize, span: &Span) -> Result<Option<Write>
     }
 }
 
-/// Adds what a commit writes of a row of the snapshot.
+/// Adds what a commit writes of the row with the slot at this place.
 fn push_write(
     writes: &mut Vec<Write>,
     slots: &[Slot],
@@ -51,25 +52,63 @@ fn push_write(
     Ok(())
 }
 
-/// What a commit writes of the rows of the snapshot.
+/// What a commit writes of the rows of version v that have a slot.
 fn base_writes(
     alloc: Global,
     slots: &[Slot],
+    carried: &CarriedRows,
     spans: &[Span],
-    begin: u32,
+    v: u32,
 ) -> Result<Vec<Write>, NoMemory>
-    ensures { IfOk result
-        (λ writes. writes.items ≡ base_writes slots.now (rows_at plain begin spans.now)) }
+    ensures { IfOk result (λ writes. writes.items
+        ≡ base_writes slots.now (slotted carried.now (rows_at plain v spans.now))) }
 {
     let mut writes = Vec::new(alloc);
     let mut place = 0usize;
     for span in spans {
-        if span.holds(begin) {
+        if has_slot(carried, v, span) {
             push_write(&mut writes, slots, place, span)?;
             place += 1;
         }
     }
     Ok(writes)
+}
+
+/// What a commit writes of the rows of the version below the writes of a table.
+pub fn slot_writes(
+    alloc: Global,
+    writes: &TableWrites,
+    spans: &[Span],
+) -> Result<Vec<Write>, NoMemory>
+    ensures { IfOk result
+        (λ list. list.items ≡ slot_writes writes.now (rows_below writes.now spans.now)) }
+{
+    let slots = writes.slots.as_slice();
+    base_writes(alloc, slots, &writes.carried, spans, writes.version)
+}
+
+/// What a commit writes of a row that was written over an earlier version.
+fn carried_write(carried: &Carried) -> Result<Write, NoMemory>
+    ensures { IfOk result (λ write. write ≡ carried_write carried.now) }
+{
+    match &carried.row {
+        Some(cells) => put(&carried.id, cells),
+        None => Ok(Write {
+            id: carried.id.clone()?,
+            row: None,
+        }),
+    }
+}
+
+/// Adds the rows that were written over earlier versions.
+fn push_carried(writes: &mut Vec<Write>, carried: &[Carried]) -> Result<(), NoMemory>
+    ensures { OnOk result
+        (writes.new.items ≡ writes.old.items ++ map carried_write carried.now) }
+{
+    for row in carried {
+        writes.push(carried_write(row)?)?;
+    }
+    Ok(())
 }
 
 /// Adds the rows that the transaction inserted.
@@ -87,12 +126,12 @@ pub fn table_writes(
     alloc: Global,
     writes: &TableWrites,
     spans: &[Span],
-    begin: u32,
 ) -> Result<Vec<Write>, NoMemory>
     ensures { IfOk result
-        (λ list. list.items ≡ table_writes writes.now (rows_at plain begin spans.now)) }
+        (λ list. list.items ≡ table_writes writes.now (rows_below writes.now spans.now)) }
 {
-    let mut list = base_writes(alloc, writes.slots.as_slice(), spans, begin)?;
+    let mut list = slot_writes(alloc, writes, spans)?;
+    push_carried(&mut list, writes.carried.as_slice())?;
     push_own(&mut list, writes.own.as_slice())?;
     Ok(list)
 }

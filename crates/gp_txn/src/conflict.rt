@@ -1,27 +1,28 @@
 //! Rows that a transaction and a later commit wrote.
 
-ghost use Rattle.std.specs.Prelude.{◌≡◌, ◌≤◌, IfOk, None, drop, length};
+ghost use Rattle.std.specs.Prelude.{◌≡◌, ◌≤◌, IfOk, None, Some, drop, length};
+ghost use Rattle.std.specs.List.{filter_map};
 ghost use Rattle.gp_base.specs.declared.catalog.TheConstants.{MAX_TABLES};
-ghost use Rattle.gp_txn.specs.Conflicts.{IsFirstConflict, IsLeast, late_of, late_version, lates, lates_at};
-ghost use Rattle.gp_txn.specs.LeastSoFar.{least_from, lesser};
-ghost use Rattle.gp_txn.specs.Overlay.{head_slot};
-ghost use Rattle.gp_versions.specs.Spans.{spans_at};
+ghost use Rattle.gp_txn.specs.Conflicts.{IsFirstConflict, IsLeast, carried_late, late_of, late_version, lates, lates_at, slot_lates};
+ghost use Rattle.gp_txn.specs.LeastSoFar.{least_of, lesser};
+ghost use Rattle.gp_txn.specs.Overlay.{head_slot, slotted_spans};
 
+use crate::carried::{Carried, CarriedRows, has_slot};
 use crate::overlay::{Slot, TableWrites};
 use gp_base::{NoMemory, RowId};
 use gp_versions::{Span, VersionTable};
 use std::cmp::Ordering;
 
-/// A row of the snapshot that a later commit wrote.
+/// A row that the transaction wrote, and that a commit above its base wrote too.
 #[derive(Drop)]
 pub struct Late {
     /// The identity of the row.
     pub id: RowId,
-    /// The first later version that wrote it.
+    /// The first version above its base that wrote it.
     pub version: u32,
 }
 
-/// A row that the transaction wrote, and that a later commit wrote too.
+/// The same, with its table.
 #[derive(Drop)]
 pub struct Conflict {
     /// The place of its table.
@@ -30,7 +31,7 @@ pub struct Conflict {
     pub late: Late,
 }
 
-/// The version at which the span of a row of the snapshot ended, if the transaction wrote the row.
+/// The version at which the span of the row with the slot at this place ended, if the transaction wrote the row.
 fn late_version(slots: &[Slot], place: usize, span: &Span) -> Option<u32>
     ensures { result ≡ late_version (head_slot (drop place slots.now)) span.now }
 {
@@ -40,8 +41,22 @@ fn late_version(slots: &[Slot], place: usize, span: &Span) -> Option<u32>
     }
 }
 
-/// The lesser of what was found so far and a row of the snapshot.
-fn lesser(
+/// The lesser of what was found so far and a row that a commit wrote at this version.
+fn lesser(found: Option<Late>, id: &RowId, version: u32) -> Result<Option<Late>, NoMemory>
+    ensures { IfOk result
+        (λ now. now ≡ lesser found (Some (record { id = id.now; version = version }))) }
+{
+    if let Some(first) = &found
+        && first.id.compare(id) != Ordering::Greater
+    {
+        return Ok(found);
+    }
+    let id = id.clone()?;
+    Ok(Some(Late { id, version }))
+}
+
+/// The lesser of what was found so far and the row with the slot at this place.
+fn lesser_slot(
     found: Option<Late>,
     slots: &[Slot],
     place: usize,
@@ -50,57 +65,88 @@ fn lesser(
     ensures { IfOk result
         (λ now. now ≡ lesser found (late_of (head_slot (drop place slots.now)) span.now)) }
 {
-    let Some(version) = late_version(slots, place, span) else {
-        return Ok(found);
-    };
-    if let Some(first) = &found
-        && first.id.compare(&span.id) != Ordering::Greater
-    {
-        return Ok(found);
+    match late_version(slots, place, span) {
+        None => Ok(found),
+        Some(version) => lesser(found, &span.id, version),
     }
-    let id = span.id.clone()?;
-    Ok(Some(Late { id, version }))
 }
 
-/// The lesser of each two rows in turn.
-fn least(slots: &[Slot], spans: &[Span], begin: u32) -> Result<Option<Late>, NoMemory>
-    ensures { IfOk result
-        (λ found. found ≡ least_from None slots.now (spans_at begin spans.now)) }
+/// The least of the rows of version v that have a slot.
+fn least_slot(
+    slots: &[Slot],
+    carried: &CarriedRows,
+    spans: &[Span],
+    v: u32,
+) -> Result<Option<Late>, NoMemory>
+    ensures { IfOk result (λ found. found
+        ≡ least_of None (slot_lates slots.now (slotted_spans carried.now v spans.now))) }
 {
     let mut found = None;
     let mut place = 0usize;
     for span in spans {
-        if span.holds(begin) {
-            found = lesser(found, slots, place, span)?;
+        if has_slot(carried, v, span) {
+            found = lesser_slot(found, slots, place, span)?;
             place += 1;
         }
     }
     Ok(found)
 }
 
-/// The least row of a table that the transaction wrote, and that a later commit wrote too.
-fn table_conflict(slots: &[Slot], spans: &[Span], begin: u32) -> Result<Option<Late>, NoMemory>
+/// The lesser of what was found so far and a row that was written over an earlier version.
+fn lesser_carried(
+    found: Option<Late>,
+    row: &Carried,
+    table: &VersionTable,
+) -> Result<Option<Late>, NoMemory>
     ensures { IfOk result
-        (λ found. IsLeast (lates slots.now (spans_at begin spans.now)) found) }
+        (λ now. now ≡ lesser found (carried_late table.now.spans row.now)) }
 {
-    Ok(least(slots, spans, begin)?)
+    match table.written_after(&row.id, row.base) {
+        None => Ok(found),
+        Some(version) => lesser(found, &row.id, version),
+    }
 }
 
-/// The conflict that a commit is lost by: the least row of the first table that has one, with the first later version that
-/// wrote it. One pass over the spans finds it, as the span of a row of the snapshot ends at the next write of the row.
+/// The least of what was found so far and the rows that were written over earlier versions.
+fn least_carried(
+    mut found: Option<Late>,
+    carried: &[Carried],
+    table: &VersionTable,
+) -> Result<Option<Late>, NoMemory>
+    ensures { IfOk result (λ now. now
+        ≡ least_of found (filter_map (carried_late table.now.spans) carried.now)) }
+{
+    for row in carried {
+        found = lesser_carried(found, row, table)?;
+    }
+    Ok(found)
+}
+
+/// The least row of a table that the transaction wrote, and that a commit above its base wrote too.
+fn table_conflict(writes: &TableWrites, table: &VersionTable) -> Result<Option<Late>, NoMemory>
+    ensures { IfOk result (λ found. IsLeast (lates writes.now table.now.spans) found) }
+{
+    let carried = &writes.carried;
+    let slots = writes.slots.as_slice();
+    let found = least_slot(slots, carried, table.as_slice(), writes.version)?;
+    Ok(least_carried(found, carried.as_slice(), table)?)
+}
+
+/// The conflict that a commit is lost by: the least row of the first table that has one, with the first version above its
+/// base that wrote it. For a row with a slot, a pass over the spans finds that version, as the span of a row ends at the
+/// next write of the row. A row that was written over an earlier version is looked up by its identity: its table has to have
+/// entered its spans for that to be fast.
 pub fn first_conflict(
     tables: &[TableWrites],
     versions: &[VersionTable],
-    begin: u32,
 ) -> Result<Option<Conflict>, NoMemory>
     requires fit { length versions.now ≤ length tables.now }
     requires few { length versions.now ≤ MAX_TABLES }
     ensures { IfOk result (λ found. IsFirstConflict
-        (length versions.now) (lates_at tables.now versions.now begin) found) }
+        (length versions.now) (lates_at tables.now versions.now) found) }
 {
     for place in 0..versions.len() {
-        let slots = tables[place].slots.as_slice();
-        if let Some(late) = table_conflict(slots, versions[place].as_slice(), begin)? {
+        if let Some(late) = table_conflict(&tables[place], &versions[place])? {
             return Ok(Some(Conflict {
                 place: place as u32,
                 late,

@@ -3,20 +3,21 @@
 
 ghost use Rattle.std.specs.Prelude.{◌≡◌, ◌≤◌, drop, length, nat_lt};
 ghost use Rattle.gp_base.specs.Annotated.{plain};
-ghost use Rattle.gp_txn.specs.Committing.{commit_of};
-ghost use Rattle.gp_txn.specs.Counts.{spans_after};
-ghost use Rattle.gp_txn.specs.Overlay.{base_writes, head_slot, table_writes};
+ghost use Rattle.gp_txn.specs.Committing.{commit_of, spans_left};
+ghost use Rattle.gp_txn.specs.Overlay.{base_writes, head_slot, rows_below, slotted, table_writes};
 ghost use Rattle.gp_txn.specs.Slots.{put_count};
 ghost use Rattle.gp_versions.specs.Commits.{live_rows};
 ghost use Rattle.gp_versions.specs.Spans.{rows_at};
 
+use crate::carried::{CarriedRows, has_slot};
 use crate::overlay::{Slot, TableWrites};
+use crate::viewing::count_carried;
 use gp_versions::{Span, VersionTable};
 
 /// All tables together have at most this many spans.
 pub const MAX_SPANS: u32 = 100_000;
 
-/// How many rows a commit puts in place of a row of the snapshot.
+/// How many rows a commit puts in place of the row with the slot at this place.
 fn count_put(slots: &[Slot], place: usize) -> usize
     ensures { result ≡ put_count (head_slot (drop place slots.now)) }
 {
@@ -26,16 +27,16 @@ fn count_put(slots: &[Slot], place: usize) -> usize
     }
 }
 
-/// How many rows a commit puts in place of rows of the snapshot.
-fn count_base(slots: &[Slot], spans: &[Span], begin: u32) -> usize
+/// How many rows a commit puts in place of the rows of version v that have a slot.
+fn count_base(slots: &[Slot], carried: &CarriedRows, spans: &[Span], v: u32) -> usize
     ensures count { result ≡ length
-        (live_rows plain (base_writes slots.now (rows_at plain begin spans.now))) }
+        (live_rows plain (base_writes slots.now (slotted carried.now (rows_at plain v spans.now)))) }
     ensures few { result ≤ length spans.now }
 {
     let mut count = 0usize;
     let mut place = 0usize;
     for span in spans {
-        if span.holds(begin) {
+        if has_slot(carried, v, span) {
             count += count_put(slots, place);
             place += 1;
         }
@@ -44,25 +45,26 @@ fn count_base(slots: &[Slot], spans: &[Span], begin: u32) -> usize
 }
 
 /// How many of the writes of a commit to a table have a row.
-fn count_live(writes: &TableWrites, spans: &[Span], begin: u32) -> usize
+fn count_live(writes: &TableWrites, spans: &[Span]) -> usize
     ensures { result ≡ length
-        (live_rows plain (table_writes writes.now (rows_at plain begin spans.now))) }
+        (live_rows plain (table_writes writes.now (rows_below writes.now spans.now))) }
 {
-    count_base(writes.slots.as_slice(), spans, begin) + writes.own.as_slice().len()
+    let carried = &writes.carried;
+    let base = count_base(writes.slots.as_slice(), carried, spans, writes.version);
+    base + count_carried(carried.as_slice()) + writes.own.as_slice().len()
 }
 
 /// Whether the tables would have more than [`MAX_SPANS`] spans after the commit. It counts down from the limit, so that no
 /// sum can overflow.
-pub fn is_full(tables: &[TableWrites], versions: &[VersionTable], begin: u32) -> bool
+pub fn is_full(tables: &[TableWrites], versions: &[VersionTable]) -> bool
     requires { length versions.now ≤ length tables.now }
-    ensures { result ≡ nat_lt MAX_SPANS
-        (spans_after versions.now (commit_of tables.now versions.now begin) (length versions.now)) }
+    ensures { result ≡ nat_lt MAX_SPANS (spans_left tables.now versions.now) }
 {
     let mut left = MAX_SPANS as usize;
     for place in 0..versions.len() {
         let table = &versions[place];
         let old = table.len();
-        let new = count_live(&tables[place], table.as_slice(), begin);
+        let new = count_live(&tables[place], table.as_slice());
         if old > left || new > left - old {
             return true;
         }

@@ -1,30 +1,38 @@
-//! A running transaction: its statements over the version of the database that is its snapshot.
+//! A running transaction: its statements over versions of the database, and its COMMIT.
 //!
-//! In reading order: an [`Active`] is a running transaction. It keeps the [`TableWrites`] of each table, which lie over
-//! the rows of its snapshot: a [`Slot`] for each row, in order, and the rows that it inserted. [`Active::apply`] applies an
+//! A transaction of the snapshot kind reads the version at which it began, and its own writes. Each statement of a read
+//! committed transaction reads the newest version at that statement, and the transaction's own writes.
+//!
+//! In reading order: an [`Active`] is a running transaction. It keeps the [`TableWrites`] of each table, which lie over the
+//! rows of a version: a [`Slot`] for each row, in order, the [`Carried`] rows that it wrote over earlier versions, and the
+//! rows that it inserted. [`Active::snapshot`] is the version that the next statement reads. [`Active::apply`] applies an
 //! INSERT, an UPDATE or a DELETE and gives the number of rows that it writes, or a [`StmtStop`]. [`Active::select`] answers a
-//! query and [`Active::view`] gives the rows of a table, both over what the transaction sees. A statement that is refused,
-//! or for which memory runs out, changes nothing. [`Active::commit`] makes a version of what the transaction wrote, or gives
-//! a [`CommitStop`] and changes nothing: the commit is lost to a later commit of one of its rows, or there would be more than
-//! [`MAX_SPANS`] spans. [`the_first_committer_wins`] is a law of the definitions in `specs/`, which the contracts cite.
+//! query and [`Active::view`] gives the rows of a table, both over what the transaction sees at a version. A statement that
+//! is refused, or for which memory runs out, changes nothing. [`Active::commit`] makes a version of what the transaction
+//! wrote, or gives a [`CommitStop`] and changes nothing: the commit is lost to a commit of one of its rows above the row's
+//! base, or there would be more than [`MAX_SPANS`] spans. [`the_first_committer_wins`] is a law of the definitions in
+//! `specs/`, which the contracts cite.
 //!
 //! Inside, `updating` is UPDATE and DELETE, and `assigning` the rows that an UPDATE makes; `inserting` makes the rows of an
-//! INSERT, and `applying` puts both behind one call. `viewing` makes the rows that a transaction sees, `choosing` answers
-//! queries over them, and `reading` tells which tables and rows they want. Of a commit, `conflict` finds the row that
-//! it is lost by, `committing` copies the writes of a table, `counting` counts the spans that they leave, and
-//! `publishing` makes room for them and then the version.
+//! INSERT, and `applying` puts both behind one call. `viewing` makes the rows that a transaction sees over the version that
+//! its writes lie over, and `rebasing` moves the writes of a table to another version. `choosing` answers queries, and
+//! `reading` tells which tables and rows they want. Of a commit, `conflict` finds the row that it is lost by, `committing`
+//! copies the writes of a table, `counting` counts the spans that they leave, and `publishing` makes room for them and then
+//! the version.
 //!
 //! ```text
-//! let mut active = Active::begin(alloc, 3, 2); // transaction 3, over version 2
-//! let count = active.apply(1, &statement, &versions)?; // its first statement
-//! let rows = active.select(&query, &versions)?; // sees what the statement wrote
-//! active.commit(&mut versions, 3)?; // version 3 has it too
+//! let mut active = Active::begin(alloc, 3, 2, true); // transaction 3, read committed, from version 2
+//! let version = active.snapshot(5); // the newest version: 2 for the snapshot kind
+//! let count = active.apply(1, version, &statement, &versions)?; // its first statement
+//! let rows = active.select(&query, version, &versions)?; // sees what the statement wrote
+//! active.commit(&mut versions, 6)?; // version 6 has it too
 //! ```
 #![tactic(auto)]
 
 mod active;
 mod applying;
 mod assigning;
+mod carried;
 mod change;
 mod choosing;
 mod commit;
@@ -37,10 +45,12 @@ mod laws;
 mod overlay;
 mod publishing;
 mod reading;
+mod rebasing;
 mod updating;
 mod viewing;
 
 pub use active::Active;
+pub use carried::{Carried, CarriedRows};
 pub use counting::MAX_SPANS;
 pub use error::{CommitStop, StmtStop};
 pub use laws::the_first_committer_wins;

@@ -3,10 +3,11 @@
 ghost use Rattle.std.specs.Prelude.{◌≡◌};
 ghost use Rattle.gp_txn.specs.Overlay.{no_writes};
 
+use crate::carried::CarriedRows;
 use gp_base::{Row, Sequence, Stored};
 use std::alloc::Global;
 
-/// What the transaction did to a row of its snapshot.
+/// What the transaction did to a row of the version that its writes lie over.
 #[derive(Drop)]
 pub enum Slot {
     /// Nothing.
@@ -17,23 +18,31 @@ pub enum Slot {
     Dropped,
 }
 
-/// What the transaction wrote of a table. A write is found by its place and not by its identity, so that statements and
-/// commits pass over a table once and search nothing.
+/// What the transaction wrote of a table, over the rows of a version: the last one that a statement read that wrote the
+/// table. A write over that version is found by its place and not by its identity, so that statements and commits pass over
+/// a table once and search nothing.
 #[derive(Drop)]
 pub struct TableWrites {
-    /// What it did to the rows of its snapshot, in their order. Rows behind the last slot are as they were.
+    /// The version.
+    pub version: u32,
+    /// What it did to the rows of the version that are not carried, in their order. Rows behind the last slot are as they
+    /// were.
     pub slots: Sequence<Slot>,
+    /// The rows that it wrote over earlier versions, with those of later ones first.
+    pub carried: CarriedRows,
     /// The rows that it inserted and that it sees.
     pub own: Sequence<Stored>,
 }
 
 impl TableWrites {
-    /// No writes.
-    pub fn new(alloc: Global) -> TableWrites
-        ensures { result ≡ no_writes }
+    /// No writes, over this version.
+    pub fn new(alloc: Global, version: u32) -> TableWrites
+        ensures { result ≡ no_writes version }
     {
         TableWrites {
+            version,
             slots: Sequence::new(alloc),
+            carried: CarriedRows::new(alloc),
             own: Sequence::new(alloc),
         }
     }

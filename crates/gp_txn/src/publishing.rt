@@ -1,12 +1,11 @@
 //! The changes of a commit. Everything that can fail comes first.
 
 ghost use Rattle.std.specs.Prelude.{◌≡◌, ℕ, ◌<◌, ◌≤◌, IfOk, OnOk, length};
-ghost use Rattle.gp_base.specs.Annotated.{plain};
 ghost use Rattle.gp_txn.specs.Committing.{commit_of};
-ghost use Rattle.gp_txn.specs.Overlay.{AreOthers, table_at, table_writes, writes_at};
-ghost use Rattle.gp_txn.specs.Prepared.{AreInserted, IsReady, prepared_at};
+ghost use Rattle.gp_txn.specs.Overlay.{rows_below, table_writes};
+ghost use Rattle.gp_txn.specs.Prepared.{AreWritesOf, IsReady, prepared_at};
+ghost use Rattle.gp_txn.specs.Transactions.{AreOthers, table_at, writes_at};
 ghost use Rattle.gp_versions.specs.Commits.{AreDistinct, after_commit};
-ghost use Rattle.gp_versions.specs.Spans.{rows_at};
 
 use crate::committing::table_writes;
 use crate::overlay::TableWrites;
@@ -21,15 +20,14 @@ fn prepare_one(
     t: u32,
     writes: &TableWrites,
     table: &VersionTable,
-    begin: u32,
 ) -> Result<Writes, NoMemory>
-    requires own { AreInserted t writes.now.own }
+    requires own { AreWritesOf t writes.now }
     requires others { AreOthers t table.now.spans }
     ensures value { IfOk result
-        (λ list. list ≡ table_writes writes.now (rows_at plain begin table.now.spans)) }
+        (λ list. list ≡ table_writes writes.now (rows_below writes.now table.now.spans)) }
     ensures distinct { IfOk result (λ list. AreDistinct list) }
 {
-    let list = table_writes(alloc, writes, table.as_slice(), begin)?;
+    let list = table_writes(alloc, writes, table.as_slice())?;
     Ok(Writes::from_vec(alloc, list)?)
 }
 
@@ -39,20 +37,19 @@ pub fn prepare(
     t: u32,
     tables: &[TableWrites],
     versions: &[VersionTable],
-    begin: u32,
 ) -> Result<Vec<Writes>, NoMemory>
     requires fit { length versions.now ≤ length tables.now }
-    requires own { (place : ℕ) → AreInserted t (writes_at place tables.now).own }
+    requires own { (place : ℕ) → AreWritesOf t (writes_at place tables.now) }
     requires others { (place : ℕ) → AreOthers t (table_at place versions.now).spans }
     ensures len { IfOk result (λ all. length all.items ≡ length versions.now) }
     ensures each { IfOk result (λ all. (place : ℕ) → place < length versions.now
-        → prepared_at all.items place ≡ commit_of tables.now versions.now begin place) }
+        → prepared_at all.items place ≡ commit_of tables.now versions.now place) }
     ensures distinct { IfOk result (λ all. (place : ℕ) → place < length versions.now
         → AreDistinct (prepared_at all.items place)) }
 {
     let mut all = Vec::new(alloc);
     for place in 0..versions.len() {
-        all.push(prepare_one(alloc, t, &tables[place], &versions[place], begin)?)?;
+        all.push(prepare_one(alloc, t, &tables[place], &versions[place])?)?;
     }
     Ok(all)
 }

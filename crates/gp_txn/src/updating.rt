@@ -1,15 +1,17 @@
 //! UPDATE and DELETE over the writes of a transaction. Both pass over the rows of a table once.
 
-ghost use Rattle.std.specs.Prelude.{◌≡◌, ◌≤◌, ◌++◌, length, true, map, drop, IfOk, OnOk};
+ghost use Rattle.std.specs.Prelude.{◌≡◌, ◌≤◌, ◌++◌, ◌∷◌, [], length, true, map, drop, IfOk, OnOk};
 ghost use Rattle.std.specs.Option.{option_map, option_to_list};
 ghost use Rattle.gp_base.specs.Annotated.{plain};
 ghost use Rattle.gp_expr.specs.Values as v;
 ghost use Rattle.gp_versions.specs.Spans.{rows_at};
 ghost use Rattle.gp_txn.specs.Changes.{change_is_simple, change_view, cond_of};
-ghost use Rattle.gp_txn.specs.Overlay.{head_slot, own_row, overlaid, view_rows};
-ghost use Rattle.gp_txn.specs.Slots.{changed_own, changed_slot, changed_slots, changed_table, count_touched, effect, is_touched, one_if, seen, slot_for, stored_after};
+ghost use Rattle.std.specs.List.{filter_map};
+ghost use Rattle.gp_txn.specs.Overlay.{carried_row, head_slot, own_row, overlaid, rows_below, slotted, view_rows};
+ghost use Rattle.gp_txn.specs.Slots.{carried_after, cells_after, cells_for, changed_carried, changed_own, changed_slot, changed_slots, changed_table, count_touched, effect, is_touched, one_if, passes_seen, seen, slot_for, stored_after};
 
 use crate::assigning::assigned;
+use crate::carried::{Carried, CarriedRows, has_slot};
 use crate::change::Change;
 use crate::overlay::{Slot, TableWrites};
 use crate::viewing::{copied_row, seen};
@@ -90,26 +92,112 @@ fn changed_slots(
     alloc: Global,
     change: &Change<'_>,
     slots: &[Slot],
+    carried: &CarriedRows,
     spans: &[Span],
     v: u32,
 ) -> Result<Counted<Sequence<Slot>>, NoMemory>
     requires { change_is_simple (change_view change.now) ≡ true }
     ensures slots { IfOk result (λ new. new.made
-        ≡ changed_slots (change_view change.now) slots.now (rows_at plain v spans.now)) }
+        ≡ changed_slots (change_view change.now) slots.now
+        (slotted carried.now (rows_at plain v spans.now))) }
     ensures count { IfOk result (λ new. new.count
-        ≡ count_touched (change_view change.now) (overlaid slots.now (rows_at plain v spans.now))) }
+        ≡ count_touched (change_view change.now)
+        (overlaid slots.now (slotted carried.now (rows_at plain v spans.now)))) }
     ensures few { IfOk result (λ new. new.count ≤ length spans.now) }
 {
     let mut new = Sequence::new(alloc);
     let mut count = 0usize;
     let mut place = 0usize;
     for span in spans {
-        if span.holds(v) {
+        if has_slot(carried, v, span) {
             let slot = changed_slot(alloc, change, slots, place, &span.row)?;
             count += slot.count;
             new.push(slot.made)?;
             place += 1;
         }
+    }
+    Ok(Counted { made: new, count })
+}
+
+/// The cells of a row after the statement, which writes it.
+fn cells_for(alloc: Global, change: &Change<'_>, row: &Row) -> Result<Option<Row>, NoMemory>
+    requires { change_is_simple (change_view change.now) ≡ true }
+    ensures { IfOk result (λ new. new ≡ cells_for (change_view change.now) row.now) }
+{
+    match change {
+        Change::Update(sets, _) => Ok(Some(assigned(alloc, sets, row)?)),
+        Change::Delete(_) => Ok(None),
+    }
+}
+
+/// The cells after the statement of a row that was written over an earlier version, and whether the statement writes it.
+fn cells_after(
+    alloc: Global,
+    change: &Change<'_>,
+    row: &Option<Row>,
+) -> Result<Counted<Option<Row>>, NoMemory>
+    requires { change_is_simple (change_view change.now) ≡ true }
+    ensures row { IfOk result (λ new. new.made ≡ cells_after (change_view change.now) row.now) }
+    ensures count { IfOk result (λ new. new.count
+        ≡ one_if (passes_seen (change_view change.now) row.now)) }
+{
+    match row {
+        None => Ok(Counted {
+            made: None,
+            count: 0,
+        }),
+        Some(cells) if passes(change, cells) => Ok(Counted {
+            made: cells_for(alloc, change, cells)?,
+            count: 1,
+        }),
+        Some(cells) => Ok(Counted {
+            made: Some(cells.clone()?),
+            count: 0,
+        }),
+    }
+}
+
+/// Adds a row that was written over an earlier version, as it is after the statement. It keeps its base. Gives 1 if the
+/// statement writes it, else 0.
+fn push_carried(
+    alloc: Global,
+    new: &mut Vec<Carried>,
+    change: &Change<'_>,
+    carried: &Carried,
+) -> Result<usize, NoMemory>
+    requires { change_is_simple (change_view change.now) ≡ true }
+    ensures row { IfOk result (λ count. new.new.items ≡ new.old.items
+        ++ carried_after (change_view change.now) carried.now ∷ []) }
+    ensures count { IfOk result (λ count. count
+        ≡ one_if (passes_seen (change_view change.now) carried.now.row)) }
+{
+    let after = cells_after(alloc, change, &carried.row)?;
+    let id = carried.id.clone()?;
+    new.push(Carried {
+        id,
+        base: carried.base,
+        row: after.made,
+    })?;
+    Ok(after.count)
+}
+
+/// The rows that were written over earlier versions, after the statement.
+fn changed_carried(
+    alloc: Global,
+    change: &Change<'_>,
+    carried: &[Carried],
+) -> Result<Counted<Vec<Carried>>, NoMemory>
+    requires { change_is_simple (change_view change.now) ≡ true }
+    ensures rows { IfOk result (λ new. new.made.items
+        ≡ changed_carried (change_view change.now) carried.now) }
+    ensures count { IfOk result (λ new. new.count
+        ≡ count_touched (change_view change.now) (filter_map carried_row carried.now)) }
+    ensures few { IfOk result (λ new. new.count ≤ length carried.now) }
+{
+    let mut new = Vec::new(alloc);
+    let mut count = 0usize;
+    for row in carried {
+        count += push_carried(alloc, &mut new, change, row)?;
     }
     Ok(Counted { made: new, count })
 }
@@ -176,28 +264,37 @@ fn changed_own(
     Ok(Counted { made: new, count })
 }
 
-/// The writes of a table after an UPDATE or a DELETE, over the rows of version v.
+/// The writes of a table after an UPDATE or a DELETE, over the rows of the version below them.
 pub fn changed(
     alloc: Global,
-    slots: &[Slot],
-    own: &[Stored],
+    writes: &TableWrites,
     spans: &[Span],
-    v: u32,
     change: &Change<'_>,
 ) -> Result<Counted<TableWrites>, NoMemory>
     requires { change_is_simple (change_view change.now) ≡ true }
     ensures exact { IfOk result (λ new. new.made ≡ changed_table (change_view change.now)
-        (record { slots = slots.now; own = own.now }) (rows_at plain v spans.now)) }
+        writes.now (rows_below writes.now spans.now)) }
     ensures count { IfOk result (λ new. new.count ≡ count_touched (change_view change.now)
-        (view_rows (record { slots = slots.now; own = own.now }) (rows_at plain v spans.now))) }
+        (view_rows writes.now (rows_below writes.now spans.now))) }
 {
-    let slots = changed_slots(alloc, change, slots, spans, v)?;
-    let own = changed_own(alloc, change, own)?;
+    let version = writes.version;
+    let slots = changed_slots(
+        alloc,
+        change,
+        writes.slots.as_slice(),
+        &writes.carried,
+        spans,
+        version,
+    )?;
+    let carried = changed_carried(alloc, change, writes.carried.as_slice())?;
+    let own = changed_own(alloc, change, writes.own.as_slice())?;
     Ok(Counted {
         made: TableWrites {
+            version,
             slots: slots.made,
+            carried: CarriedRows::from_vec(alloc, carried.made)?,
             own: own.made,
         },
-        count: slots.count + own.count,
+        count: slots.count + carried.count + own.count,
     })
 }

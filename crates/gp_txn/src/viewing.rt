@@ -1,23 +1,25 @@
-//! What a transaction sees of a table.
+//! What a transaction sees of a table, over the version that its writes of the table lie over.
 
 ghost use Rattle.std.specs.Prelude.{◌≡◌, ◌≤◌, ◌++◌, ◌∷◌, [], true, length, map, drop, IfOk, OnOk};
-ghost use Rattle.std.specs.Option.{option_map};
+ghost use Rattle.std.specs.List.{filter_map};
+ghost use Rattle.std.specs.Option.{option_map, option_to_list};
 ghost use Rattle.gp_base.specs.Annotated.{plain};
 ghost use Rattle.gp_expr.specs.Views.{cond_view};
 ghost use Rattle.gp_algebra.specs.Answers.{passes_where};
 ghost use Rattle.gp_algebra.specs.Simple.{where_is_simple};
 ghost use Rattle.gp_versions.specs.Spans.{row_of, rows_at};
-ghost use Rattle.gp_txn.specs.Overlay.{head_slot, overlaid, shown, stored_of, view_rows};
+ghost use Rattle.gp_txn.specs.Overlay.{carried_row, head_slot, overlaid, rows_below, shown, slotted, stored_of, view_rows};
 ghost use Rattle.gp_txn.specs.Slots.{seen, shown_count};
 ghost use Rattle.gp_txn.specs.Wanted.{wanted, wanted_own};
 
-use crate::overlay::Slot;
+use crate::carried::{Carried, CarriedRows, has_slot};
+use crate::overlay::{Slot, TableWrites};
 use gp_base::{NoMemory, Row, Sequence, Stored};
 use gp_expr::{Cond, truth};
 use gp_versions::Span;
 use std::alloc::Global;
 
-/// The cells that the transaction sees of a row of its snapshot.
+/// The cells that the transaction sees of the row with the slot at this place.
 pub fn seen<'a>(slots: &'a [Slot], place: usize, row: &'a Row) -> Option<&'a Row>
     ensures { option_map (λ cells. cells.now) result
         ≡ seen (head_slot (drop place slots.now)) row.now }
@@ -51,7 +53,7 @@ fn is_wanted(cond: Option<&Cond>, row: &Row) -> bool
     }
 }
 
-/// Adds what the transaction sees of a row of its snapshot, if it is wanted.
+/// Adds what the transaction sees of the row with the slot at this place, if it is wanted.
 fn push_seen(
     rows: &mut Sequence<Stored>,
     slots: &[Slot],
@@ -74,10 +76,11 @@ fn push_seen(
     }
 }
 
-/// What the transaction sees of the rows of version v, as far as it is wanted.
+/// What the transaction sees of the rows of version v that have a slot, as far as it is wanted.
 fn seen_rows(
     alloc: Global,
     slots: &[Slot],
+    carried: &CarriedRows,
     spans: &[Span],
     v: u32,
     cond: Option<&Cond>,
@@ -85,17 +88,55 @@ fn seen_rows(
     requires { where_is_simple (option_map (λ c. cond_view c.now) cond) ≡ true }
     ensures { IfOk result (λ rows. rows
         ≡ map stored_of (wanted (option_map (λ c. cond_view c.now) cond.entry)
-        (overlaid slots.now (rows_at plain v spans.now)))) }
+        (overlaid slots.now (slotted carried.now (rows_at plain v spans.now))))) }
 {
     let mut rows = Sequence::new(alloc);
     let mut place = 0usize;
     for span in spans {
-        if span.holds(v) {
+        if has_slot(carried, v, span) {
             push_seen(&mut rows, slots, place, span, cond)?;
             place += 1;
         }
     }
     Ok(rows)
+}
+
+/// Adds a row that was written over an earlier version, if the transaction sees it and it is wanted.
+fn push_carried(
+    rows: &mut Sequence<Stored>,
+    carried: &Carried,
+    cond: Option<&Cond>,
+) -> Result<(), NoMemory>
+    requires { where_is_simple (option_map (λ c. cond_view c.now) cond) ≡ true }
+    ensures { OnOk result (rows.new ≡ rows.old
+        ++ map stored_of (wanted (option_map (λ c. cond_view c.now) cond.entry)
+        (option_to_list (carried_row carried.now)))) }
+{
+    match &carried.row {
+        Some(cells) if is_wanted(cond, cells) => {
+            let id = carried.id.clone()?;
+            let row = cells.clone()?;
+            rows.push(Stored { id, row })
+        }
+        _ => Ok(()),
+    }
+}
+
+/// Adds the rows that were written over earlier versions, as far as the transaction sees them and they are wanted.
+fn push_all_carried(
+    rows: &mut Sequence<Stored>,
+    carried: &[Carried],
+    cond: Option<&Cond>,
+) -> Result<(), NoMemory>
+    requires { where_is_simple (option_map (λ c. cond_view c.now) cond) ≡ true }
+    ensures { OnOk result (rows.new ≡ rows.old
+        ++ map stored_of (wanted (option_map (λ c. cond_view c.now) cond.entry)
+        (filter_map carried_row carried.now))) }
+{
+    for row in carried {
+        push_carried(rows, row, cond)?;
+    }
+    Ok(())
 }
 
 /// Adds an inserted row, if it is wanted.
@@ -114,29 +155,44 @@ fn push_wanted(
     Ok(())
 }
 
-/// What the transaction sees of a table of which it keeps these slots and rows, over the rows of version v: all rows, or
-/// those that pass a condition.
+/// Adds the inserted rows, as far as they are wanted.
+fn push_all_own(
+    rows: &mut Sequence<Stored>,
+    own: &[Stored],
+    cond: Option<&Cond>,
+) -> Result<(), NoMemory>
+    requires { where_is_simple (option_map (λ c. cond_view c.now) cond) ≡ true }
+    ensures { OnOk result (rows.new
+        ≡ rows.old ++ wanted_own (option_map (λ c. cond_view c.now) cond.entry) own.now) }
+{
+    for stored in own {
+        push_wanted(rows, stored, cond)?;
+    }
+    Ok(())
+}
+
+/// What the transaction sees of a table, over the rows of the version below its writes: all rows, or those that pass a
+/// condition.
 pub fn view_rows(
     alloc: Global,
-    slots: &[Slot],
-    own: &[Stored],
+    writes: &TableWrites,
     spans: &[Span],
-    v: u32,
     cond: Option<&Cond>,
 ) -> Result<Sequence<Stored>, NoMemory>
     requires { where_is_simple (option_map (λ c. cond_view c.now) cond) ≡ true }
     ensures { IfOk result (λ rows. rows
         ≡ map stored_of (wanted (option_map (λ c. cond_view c.now) cond.entry)
-        (view_rows (record { slots = slots.now; own = own.now }) (rows_at plain v spans.now)))) }
+        (view_rows writes.now (rows_below writes.now spans.now)))) }
 {
-    let mut rows = seen_rows(alloc, slots, spans, v, cond)?;
-    for stored in own {
-        push_wanted(&mut rows, stored, cond)?;
-    }
+    let slots = writes.slots.as_slice();
+    let carried = &writes.carried;
+    let mut rows = seen_rows(alloc, slots, carried, spans, writes.version, cond)?;
+    push_all_carried(&mut rows, carried.as_slice(), cond)?;
+    push_all_own(&mut rows, writes.own.as_slice(), cond)?;
     Ok(rows)
 }
 
-/// How many rows the transaction sees of a row of its snapshot.
+/// How many rows the transaction sees of the row with the slot at this place.
 fn count_seen(slots: &[Slot], place: usize) -> usize
     ensures { result ≡ shown_count (head_slot (drop place slots.now)) }
 {
@@ -146,15 +202,16 @@ fn count_seen(slots: &[Slot], place: usize) -> usize
     }
 }
 
-/// How many rows the transaction sees of the rows of version v.
-fn count_base(slots: &[Slot], spans: &[Span], v: u32) -> usize
-    ensures count { result ≡ length (overlaid slots.now (rows_at plain v spans.now)) }
+/// How many rows the transaction sees of the rows of version v that have a slot.
+fn count_base(slots: &[Slot], carried: &CarriedRows, spans: &[Span], v: u32) -> usize
+    ensures count { result ≡ length
+        (overlaid slots.now (slotted carried.now (rows_at plain v spans.now))) }
     ensures few { result ≤ length spans.now }
 {
     let mut count = 0usize;
     let mut place = 0usize;
     for span in spans {
-        if span.holds(v) {
+        if has_slot(carried, v, span) {
             count += count_seen(slots, place);
             place += 1;
         }
@@ -162,10 +219,25 @@ fn count_base(slots: &[Slot], spans: &[Span], v: u32) -> usize
     count
 }
 
-/// How many rows the transaction sees of a table. It takes no memory.
-pub fn count_rows(slots: &[Slot], own: &[Stored], spans: &[Span], v: u32) -> usize
-    ensures { result ≡ length
-        (view_rows (record { slots = slots.now; own = own.now }) (rows_at plain v spans.now)) }
+/// How many of the rows that were written over earlier versions the transaction sees.
+pub fn count_carried(carried: &[Carried]) -> usize
+    ensures count { result ≡ length (filter_map carried_row carried.now) }
+    ensures few { result ≤ length carried.now }
 {
-    count_base(slots, spans, v) + own.len()
+    let mut count = 0usize;
+    for row in carried {
+        if row.row.is_some() {
+            count += 1;
+        }
+    }
+    count
+}
+
+/// How many rows the transaction sees of a table, over the rows of the version below its writes. It takes no memory.
+pub fn count_rows(writes: &TableWrites, spans: &[Span]) -> usize
+    ensures { result ≡ length (view_rows writes.now (rows_below writes.now spans.now)) }
+{
+    let carried = &writes.carried;
+    let base = count_base(writes.slots.as_slice(), carried, spans, writes.version);
+    base + count_carried(carried.as_slice()) + writes.own.as_slice().len()
 }

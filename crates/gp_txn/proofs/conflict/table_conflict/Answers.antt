@@ -1,6 +1,20 @@
-use Rattle.gp_versions.specs.Spans.{spans_at}
-use Rattle.gp_txn.proofs.ConflictLemmas.{least-lates}
+use Rattle.std.proofs.Common.{sym, None}
+use Rattle.std.specs.List.{filter_map}
+use Rattle.gp_txn.specs.Conflicts.{carried_late, lates, slot_lates}
+use Rattle.gp_txn.specs.Overlay.{slotted_spans}
+use Rattle.gp_txn.proofs.ConflictLemmas.{least-append, least-is}
 use Rattle.gp_txn.proofs.conflict.table_conflict.Goals as goal
 
 pub returns : goal.returns
-returns c = rw c.in_ok-least.ensures (least-lates c.args.slots.now (spans_at c.args.begin c.args.spans.now))
+returns c =
+    let writes = c.args.writes.now in
+    let spans = c.args.table.now.spans in
+    rw (
+      c.in_ok-least_carried.ensures,
+      c.in_ok-found.ensures,
+      c.as_slice-slots.ensures,
+      c.as_slice.ensures.spans,
+      c.as_slice-2.ensures,
+      sym (least-append None (slot_lates writes.slots (slotted_spans writes.carried writes.version spans)) (filter_map (carried_late spans) writes.carried)),
+    )
+    (least-is (lates writes spans))

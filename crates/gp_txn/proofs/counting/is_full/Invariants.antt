@@ -5,4 +5,4 @@ use Rattle.gp_txn.specs.Counts.{spans_after}
 use Rattle.gp_txn.proofs.counting.is_full.Given as goal
 
 abbrev pub invariant-loop-place : goal.invariant-loop-place
-invariant-loop-place l = l.left + spans_after l.versions (commit_of l.tables l.versions l.begin) l.place ≡ MAX_SPANS
+invariant-loop-place l = l.left + spans_after l.versions (commit_of l.tables l.versions) l.place ≡ MAX_SPANS

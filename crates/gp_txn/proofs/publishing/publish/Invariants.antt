@@ -1,6 +1,6 @@
 use Rattle.std.proofs.Common.{◌≡◌, ℕ, ◌<◌, ◌≤◌, length}
 use Rattle.gp_versions.specs.Commits.{after_commit}
-use Rattle.gp_txn.specs.Overlay.{table_at}
+use Rattle.gp_txn.specs.Transactions.{table_at}
 use Rattle.gp_txn.specs.Prepared.{prepared_at}
 use Rattle.gp_txn.proofs.publishing.publish.Given as goal
 

@@ -1,5 +1,5 @@
 use Rattle.std.proofs.Common.{◌≡◌, ℕ, ◌<◌, ◌≤◌, length}
-use Rattle.gp_txn.specs.Overlay.{table_at}
+use Rattle.gp_txn.specs.Transactions.{table_at}
 use Rattle.gp_txn.specs.Prepared.{prepared_at}
 use Rattle.gp_txn.proofs.publishing.reserve_all.Given as goal
 

@@ -5,7 +5,7 @@ use Rattle.gp_algebra.specs.Views.{select_view}
 use Rattle.gp_exec.specs.Choosing.{database_view, row_view}
 use Rattle.gp_txn.specs.Applying.{reads_below}
 use Rattle.gp_txn.specs.Inserting.{reads_table}
-use Rattle.gp_txn.specs.Overlay.{view_of}
+use Rattle.gp_txn.specs.Transactions.{view_at}
 use Rattle.gp_txn.specs.Wanted.{row_where}
 use Rattle.gp_txn.proofs.ReadLemmas.{answer-agree, below-read}
 use Rattle.gp_txn.proofs.WantedLemmas.{answer-wanted, wanted_of}
@@ -21,7 +21,7 @@ pub returns-clause-rows : goal.returns-clause-rows
 returns-clause-rows c =
     let select = select_view c.args.select.now in
     let views = c.in_ok-views.views in
-    let view = view_of c.args.self.now c.args.versions.now in
+    let view = view_at c.args.self.now.tables c.args.versions.now c.args.version in
     let same = answer-agree select (wanted_of (row_where select) view) (database_view views)
     (λ (p : ℕ) (is : reads_table p select ≡ true). ap (map row_view) (c.in_ok-views.ensures.rows p (below-read (length c.args.versions.now) p select (and_parts (select_is_simple select) (reads_below (length c.args.versions.now) select) c.requires.readable).1 is) is)) in
     rw (same, answer-wanted select view) at c.choose.ensures

@@ -1,0 +1,24 @@
+use Rattle.std.proofs.Common.{◌≡◌, ◌<◌, ◌≤◌, length, refl, ap, sym, ◌∙◌, subst, arith}
+use Rattle.std.proofs.lemmas.List.{get_or_read_under, length-set}
+use Rattle.gp_base.specs.declared.catalog.TheConstants.{MAX_TABLES}
+use Rattle.gp_txn.specs.Overlay.{no_writes}
+use Rattle.gp_txn.specs.Transactions.{Writes, writes_at}
+use Rattle.gp_txn.proofs.AppliedLemmas.{inserted-keeps, keeps-set}
+use Rattle.gp_txn.proofs.active.Active.insert_rows.Goals as goal
+
+pub invariant_of-self-2 : goal.invariant_of-self-2
+invariant_of-self-2 c =
+    let old = c.args.self.now in
+    let inside = c.self.inside in
+    let count : length inside.tables ≡ MAX_TABLES = c.self.invariant.0 in
+    let within : c.args.table < length inside.tables = omega (arith, c.requires.table, count) in
+    let later : inside.last ≤ c.args.k = subst (λ (w : Writes). w.last ≤ c.args.k) (sym c.self.view_is) c.requires.later in
+    let before : c.index-self-table.result ≡ writes_at c.args.table old.tables =
+    get_or_read_under inside.tables c.args.table (length inside.tables) c.index-self-table.result (no_writes 0) c.index-self-table.is within refl ∙ ap (λ (w : Writes). writes_at c.args.table w.tables) c.self.view_is in
+    let is = rw c.writes.ensures.writes at c.in_ok-moved.ensures.moved in
+    let own = rw c.writes.ensures.writes at c.writes.ensures.own in
+    let keeps = inserted-keeps old.t old.last c.args.k c.args.version (writes_at c.args.table old.tables) _ c.append_own.new.writes c.in_ok-moved.moved c.args.spans.now c.args.new c.requires.later c.requires.apart c.requires.others own is
+    (sym c.index-self-table.is ∙ before) c.in_ok-append_own.ensures.ok c.requires.own in (
+      length-set inside.tables c.args.table c.append_own.new.writes ∙ count,
+      keeps-set inside.t inside.last c.args.k c.args.table inside.tables c.append_own.new.writes within later c.self.invariant.1 (rw (sym c.self.view_is) at keeps),
+    )
