@@ -3,3 +3,7 @@ pub mod EntryLemmas
 pub mod IndexLemmas
 pub mod LineCommands
 pub mod NumberingLemmas
+pub mod ReadingLemmas
+pub mod SessionLemmas
+pub mod SteadyLemmas
+pub mod VersionLemmas

@@ -35,7 +35,7 @@ other_number n k outside = elim outside [ inl e ↦ grind (arith, nat_tests) | i
 pub statement-outside : (t k : ℕ) (log : List Entry) → (k ≡ 0) ⊎ (statement_count t log < k) → statement_at t k log ≡ None
 statement-outside t k [] outside = refl
 statement-outside t k (Created line session table ∷ older) outside = statement-outside t k older outside
-statement-outside t k (Began line session u ∷ older) outside = statement-outside t k older outside
+statement-outside t k (Began line session u level ∷ older) outside = statement-outside t k older outside
 statement-outside t k (Ran line session command u statement ∷ older) outside = go (u == t) outside (statement-outside t k older)
   where
     passed : (same : Bool) → same ≡ false → statement_at t k older ≡ None → cond same (Some statement) (statement_at t k older) ≡ None
@@ -52,7 +52,7 @@ statement-outside t k (Ended line session end u ∷ older) outside = statement-o
 pub no-statement : (t k : ℕ) (log : List Entry) → statement_at t k log ≡ None → (k ≡ 0) ⊎ (statement_count t log < k)
 no-statement t k [] e = none_outside k
 no-statement t k (Created line session table ∷ older) e = no-statement t k older e
-no-statement t k (Began line session u ∷ older) e = no-statement t k older e
+no-statement t k (Began line session u level ∷ older) e = no-statement t k older e
 no-statement t k (Ran line session command u statement ∷ older) e = go (u == t) (suc (statement_count t older) == k) refl e (no-statement t k older)
   where
     go : (own same : Bool) → (suc (statement_count t older) == k) ≡ same → cond (own && same) (Some statement) (statement_at t k older) ≡ None
@@ -65,38 +65,38 @@ no-statement t k (Ended line session end u ∷ older) e = no-statement t k older
 
 -- ---- the transactions that have statements
 
-abbrev refused : Flaw → Result Entry Flaw
+abbrev pub refused : Flaw → Result Entry Flaw
 refused flaw = Err flaw
 
-abbrev accepted : Entry → Result Entry Flaw
+abbrev pub accepted : Entry → Result Entry Flaw
 accepted entry = Ok entry
 
-refused_accepted : (flaw : Flaw) (entry : Entry) → refused flaw ≡ accepted entry → ⊥
+pub refused_accepted : (flaw : Flaw) (entry : Entry) → refused flaw ≡ accepted entry → ⊥
 refused_accepted flaw entry e = cc
 
-none_some : (t : ℕ) → None ≡ Some t → ⊥
+pub none_some : (t : ℕ) → None ≡ Some t → ⊥
 none_some t e = cc
 
-some_equal : (a b : ℕ) → Some a ≡ Some b → a ≡ b
+pub some_equal : (a b : ℕ) → Some a ≡ Some b → a ≡ b
 some_equal a b e = cc
 
 module _ (limits : Limits) where
-  begun_is : (older : List Entry) (line session t : ℕ) → IsNext limits older (Began line session t) → t ≡ suc (transactions_in older)
-  begun_is older line session t next = go (transaction_in session older) next.follows
+  pub begun_is : (older : List Entry) (line session t : ℕ) (level : Bool) → IsNext limits older (Began line session t level) → t ≡ suc (transactions_in older)
+  begun_is older line session t level next = go (transaction_in session older) _ next.follows
     where
-      same : (u : ℕ) → accepted (Began line session u) ≡ accepted (Began line session t) → t ≡ u
-      same u e = cc
+      same : (u : ℕ) (kind : Bool) → accepted (Began line session u kind) ≡ accepted (Began line session t level) → t ≡ u
+      same u kind e = cc
 
-      two : (b : Bool) → cond b (refused Disorder) (accepted (Began line session (suc (transactions_in older)))) ≡ accepted (Began line session t) → t ≡ suc (transactions_in older)
-      two true e = absurd (refused_accepted Disorder (Began line session t) e)
-      two false e = same (suc (transactions_in older)) e
+      two : (b kind : Bool) → cond b (refused Disorder) (accepted (Began line session (suc (transactions_in older)) kind)) ≡ accepted (Began line session t level) → t ≡ suc (transactions_in older)
+      two true kind e = absurd (refused_accepted Disorder (Began line session t level) e)
+      two false kind e = same (suc (transactions_in older)) kind e
 
-      go : (o : Option ℕ) → doing limits older line session o Begin ≡ Ok (Began line session t) → t ≡ suc (transactions_in older)
-      go None e = two (nat_le limits.transactions (transactions_in older)) e
-      go (Some u) e = absurd (refused_accepted Disorder (Began line session t) e)
+      go : (o : Option ℕ) (kind : Bool) → doing limits older line session o (Begin kind) ≡ Ok (Began line session t level) → t ≡ suc (transactions_in older)
+      go None kind e = two (nat_le limits.transactions (transactions_in older)) kind e
+      go (Some u) kind e = absurd (refused_accepted Disorder (Began line session t level) e)
 
   -- a statement is of the transaction of its session
-  ran_is : (older : List Entry) (line session : ℕ) (command : Command) (t : ℕ) (statement : Statement) → IsNext limits older (Ran line session command t statement) → transaction_in session older ≡ Some t
+  pub ran_is : (older : List Entry) (line session : ℕ) (command : Command) (t : ℕ) (statement : Statement) → IsNext limits older (Ran line session command t statement) → transaction_in session older ≡ Some t
   ran_is older line session command t statement next = go (transaction_in session older) (action_of command) next.follows
     where
       created : (table : Table) (o : Option Refusal) → creating limits older line session table o ≡ accepted (Ran line session command t statement) → ⊥
@@ -107,9 +107,9 @@ module _ (limits : Limits) where
       creates true table o e = cc
       creates false table o e = created table o e
 
-      begins : (b : Bool) (u : ℕ) → cond b (refused Disorder) (accepted (Began line session u)) ≡ accepted (Ran line session command t statement) → ⊥
-      begins true u e = cc
-      begins false u e = cc
+      begins : (b : Bool) (u : ℕ) (level : Bool) → cond b (refused Disorder) (accepted (Began line session u level)) ≡ accepted (Ran line session command t statement) → ⊥
+      begins true u level e = cc
+      begins false u level e = cc
 
       runs : (u : ℕ) (other : Command) (o : Option Refusal) (r : Result Statement Refusal) → running limits older line session u other o r ≡ accepted (Ran line session command t statement) → u ≡ t
       runs u other (Some refusal) r e = absurd (refused_accepted Disorder (Ran line session command t statement) e)
@@ -118,25 +118,25 @@ module _ (limits : Limits) where
 
       go : (o : Option ℕ) (a : Action) → doing limits older line session o a ≡ Ok (Ran line session command t statement) → o ≡ Some t
       go None (Create table) e = absurd (creates (nat_le limits.tables (length (tables_in older))) table (limits.created (tables_in older) table) e)
-      go None Begin e = absurd (begins (nat_le limits.transactions (transactions_in older)) (suc (transactions_in older)) e)
+      go None (Begin level) e = absurd (begins (nat_le limits.transactions (transactions_in older)) (suc (transactions_in older)) level e)
       go None Commit e = absurd (refused_accepted Disorder (Ran line session command t statement) e)
       go None Rollback e = absurd (refused_accepted Disorder (Ran line session command t statement) e)
       go None (Run other) e = absurd (refused_accepted Disorder (Ran line session command t statement) e)
       go (Some u) (Create table) e = absurd (refused_accepted Disorder (Ran line session command t statement) e)
-      go (Some u) Begin e = absurd (refused_accepted Disorder (Ran line session command t statement) e)
+      go (Some u) (Begin level) e = absurd (refused_accepted Disorder (Ran line session command t statement) e)
       go (Some u) Commit e = absurd (cc)
       go (Some u) Rollback e = absurd (cc)
       go (Some u) (Run other) e =
           ap Some (runs u other (count_refusal limits (statement_count u older) (statements_in older)) (limits.checked (tables_in older) other) e)
 
   -- an active transaction has the number of one that began
-  active_began : (entries : List Entry) → IsLog limits entries → (session t : ℕ) → transaction_in session entries ≡ Some t → (0 < t) × (t ≤ transactions_in entries)
+  pub active_began : (entries : List Entry) → IsLog limits entries → (session t : ℕ) → transaction_in session entries ≡ Some t → (0 < t) × (t ≤ transactions_in entries)
   active_began [] is session t e = absurd (none_some t e)
   active_began (Created line s table ∷ older) is session t e = active_began older is.1 session t e
-  active_began (Began line s u ∷ older) is session t e = go (session == s) e (active_began older is.1 session t)
+  active_began (Began line s u level ∷ older) is session t e = go (session == s) e (active_began older is.1 session t)
     where
       go : (b : Bool) → cond b (Some u) (transaction_in session older) ≡ Some t → (transaction_in session older ≡ Some t → (0 < t) × (t ≤ transactions_in older)) → (0 < t) × (t ≤ suc (transactions_in older))
-      go true e before = let own : u ≡ t = some_equal u t e in let next : u ≡ suc (transactions_in older) = begun_is older line s u is.0 in (omega arith, omega arith)
+      go true e before = let own : u ≡ t = some_equal u t e in let next : u ≡ suc (transactions_in older) = begun_is older line s u level is.0 in (omega arith, omega arith)
       go false e before = let h : (0 < t) × (t ≤ transactions_in older) = before e in (h.0, omega arith)
   active_began (Ran line s command u statement ∷ older) is session t e = active_began older is.1 session t e
   active_began (Committed line s u ∷ older) is session t e = go (session == s) e (active_began older is.1 session t)
@@ -153,7 +153,7 @@ module _ (limits : Limits) where
   pub none-ran : (entries : List Entry) → IsLog limits entries → (t : ℕ) → (t ≡ 0) ⊎ (transactions_in entries < t) → statement_count t entries ≡ 0
   none-ran [] is t outside = refl
   none-ran (Created line s table ∷ older) is t outside = none-ran older is.1 t outside
-  none-ran (Began line s u ∷ older) is t outside = none-ran older is.1 t (one_less (transactions_in older) t outside)
+  none-ran (Began line s u level ∷ older) is t outside = none-ran older is.1 t (one_less (transactions_in older) t outside)
   none-ran (Ran line s command u statement ∷ older) is t outside = go (u == t) refl (none-ran older is.1 t outside)
     where
       same : (u t : ℕ) → (u == t) ≡ true → u ≡ t

@@ -18,14 +18,14 @@ use Rattle.gp_log.specs.LogFacts.{tables_in}
 
 abbrev pub line_of : Entry → ℕ
 line_of (Created line session table) = line
-line_of (Began line session t) = line
+line_of (Began line session t level) = line
 line_of (Ran line session command t statement) = line
 line_of (Committed line session t) = line
 line_of (Ended line session end t) = line
 
 abbrev pub session_of : Entry → ℕ
 session_of (Created line session table) = session
-session_of (Began line session t) = session
+session_of (Began line session t level) = session
 session_of (Ran line session command t statement) = session
 session_of (Committed line session t) = session
 session_of (Ended line session end t) = session
@@ -33,7 +33,7 @@ session_of (Ended line session end t) = session
 -- the transaction of an entry; CREATE TABLE has none
 abbrev pub transaction_of : Entry → Option ℕ
 transaction_of (Created line session table) = None
-transaction_of (Began line session t) = Some t
+transaction_of (Began line session t level) = Some t
 transaction_of (Ran line session command t statement) = Some t
 transaction_of (Committed line session t) = Some t
 transaction_of (Ended line session end t) = Some t
@@ -45,7 +45,7 @@ pub data Said : Type 0 where
 
 abbrev pub said_by : Entry → Said
 said_by (Created line session table) = Does (y.create table)
-said_by (Began line session t) = Does y.begin
+said_by (Began line session t level) = Does (y.begin level)
 said_by (Ran line session command t statement) = Does command
 said_by (Committed line session t) = Does y.Command.commit
 said_by (Ended line session RolledBack t) = Does y.rollback
@@ -57,7 +57,7 @@ said_by (Ended line session Lost t) = Loses
 abbrev pub transaction_in : ℕ → List Entry → Option ℕ
 transaction_in session [] = None
 transaction_in session (Created line s table ∷ older) = transaction_in session older
-transaction_in session (Began line s t ∷ older) = if session == s then Some t else transaction_in session older
+transaction_in session (Began line s t level ∷ older) = if session == s then Some t else transaction_in session older
 transaction_in session (Ran line s command t statement ∷ older) = transaction_in session older
 transaction_in session (Committed line s t ∷ older) = if session == s then None else transaction_in session older
 transaction_in session (Ended line s end t ∷ older) = if session == s then None else transaction_in session older
@@ -83,13 +83,13 @@ module _ (limits : Limits) (older : List Entry) (line session : ℕ) where
   abbrev pub doing : Option ℕ → Action → Result Entry Flaw
   doing None (Create table) =
       if nat_le limits.tables (length (tables_in older)) then Err Disorder else creating table (limits.created (tables_in older) table)
-  doing None Begin =
-      if nat_le limits.transactions (transactions_in older) then Err Disorder else Ok (Began line session (suc (transactions_in older)))
+  doing None (Begin level) =
+      if nat_le limits.transactions (transactions_in older) then Err Disorder else Ok (Began line session (suc (transactions_in older)) level)
   doing None Commit = Err Disorder
   doing None Rollback = Err Disorder
   doing None (Run command) = Err Disorder
   doing (Some t) (Create table) = Err Disorder
-  doing (Some t) Begin = Err Disorder
+  doing (Some t) (Begin level) = Err Disorder
   doing (Some t) Commit = Ok (Committed line session t)
   doing (Some t) Rollback = Ok (Ended line session RolledBack t)
   doing (Some t) (Run command) =

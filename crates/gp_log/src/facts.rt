@@ -3,9 +3,9 @@
 ghost use Rattle.std.specs.Prelude.{◌≡◌, ◌<◌, ◌^◌, length};
 ghost use Rattle.std.specs.Option.{option_map};
 ghost use Rattle.gp_algebra.specs.Views.{statement_view};
-ghost use Rattle.gp_log.specs.LogFacts.{version_at};
+ghost use Rattle.gp_log.specs.LogFacts.{version_at, version_read};
 ghost use Rattle.gp_log.specs.Logs.{log_view};
-ghost use Rattle.gp_machine.specs.Entries.{begin_version, committer_of, fate_of, statement_at, statement_count, version_of};
+ghost use Rattle.gp_machine.specs.Entries.{begin_version, committer_of, fate_of, is_read_committed, statement_at, statement_count, version_of};
 
 use crate::entry::{Entry, What};
 use gp_algebra::Stmt;
@@ -20,12 +20,55 @@ pub fn begin_version(entries: &[Entry], t: u32) -> u32
     let mut begin = 0;
     for entry in entries {
         match entry.what {
-            What::Begin if entry.t == t => begin = version,
+            What::Begin { .. } if entry.t == t => begin = version,
             What::Commit => version += 1,
             _ => {}
         }
     }
     begin
+}
+
+/// Whether the transaction is read committed.
+pub fn is_read_committed(entries: &[Entry], t: u32) -> bool
+    ensures { result ≡ is_read_committed t (log_view entries.now) }
+{
+    let mut latest = false;
+    for entry in entries {
+        match entry.what {
+            What::Begin { read_committed } if entry.t == t => latest = read_committed,
+            _ => {}
+        }
+    }
+    latest
+}
+
+/// The version that the statement of this number in the transaction read.
+pub fn statement_version(entries: &[Entry], t: u32, k: u32) -> Option<u32>
+    requires { length entries.now < 2 ^ 32 }
+    ensures { result ≡ version_read t k (log_view entries.now) }
+{
+    let mut version = 0;
+    let mut begin = 0;
+    let mut latest = false;
+    let mut count = 0;
+    let mut found = None;
+    for entry in entries {
+        match entry.what {
+            What::Begin { read_committed } if entry.t == t => {
+                begin = version;
+                latest = read_committed;
+            }
+            What::Commit => version += 1,
+            What::Statement { .. } if entry.t == t => {
+                count += 1;
+                if count == k {
+                    found = Some(if latest { version } else { begin });
+                }
+            }
+            _ => {}
+        }
+    }
+    found
 }
 
 /// How many statements the transaction ran.

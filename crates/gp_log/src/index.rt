@@ -4,8 +4,9 @@ ghost use Rattle.std.specs.Prelude.{◌≡◌, ℕ, suc, ◌<◌, ◌∷◌, ◌
 ghost use Rattle.std.specs.Option.{IfSome};
 ghost use Rattle.gp_algebra.specs.Statements.{Statement};
 ghost use Rattle.gp_grammar.specs.Syntax.{Command};
-ghost use Rattle.gp_log.specs.Indexing.{IsIndex, begun, known_of};
+ghost use Rattle.gp_log.specs.Indexing.{AreSteady, IsIndex, begun, known_of};
 ghost use Rattle.gp_log.specs.Kinds.{HasNextNumber};
+ghost use Rattle.gp_log.specs.LogFacts.{numbered};
 ghost use Rattle.gp_log.specs.Logs.{what_view};
 ghost use Rattle.gp_machine.specs.Entries as m;
 ghost use Rattle.gp_machine.specs.Entries.{committer_of, fate_of_end, statement_count, versions_in};
@@ -19,12 +20,27 @@ use std::alloc::Global;
 pub struct Known {
     /// The newest version when it began.
     pub begin: u32,
+    /// Whether it is read committed.
+    pub read_committed: bool,
     /// How many statements it ran.
     pub ran: u32,
     /// What has become of it.
     pub fate: Fate,
     /// The version that it made, if it made one.
     pub version: Option<u32>,
+}
+
+impl Known {
+    /// The version that a statement of this number read, where each statement has read the begin version.
+    pub fn steady_version(&self, k: u32) -> Option<u32>
+        ensures { result ≡ numbered k self.now.ran self.now.begin }
+    {
+        if 0 < k && k <= self.ran {
+            Some(self.begin)
+        } else {
+            None
+        }
+    }
 }
 
 /// What is known of the transactions and versions of a log.
@@ -60,6 +76,7 @@ fn note_first(firsts: &mut [u32], t: u32, k: u32, place: u32) {
 
 impl Index {
     /// The index of an empty log, which takes no memory.
+    #[tactic(auto, using(crate::proofs::SteadyLemmas::steady_none))]
     pub fn new(alloc: Global) -> Index
         ensures { IsIndex result [] }
     {
@@ -71,10 +88,13 @@ impl Index {
         }
     }
 
-    /// What is known of a transaction, if the index has it.
+    /// What is known of a transaction, if the index has it. Then each transaction of the log that is not read committed has
+    /// read its begin version.
     pub fn known(&self, t: u32) -> Option<Known>
-        ensures { (log : List m.Entry) → IsIndex self.now log
+        ensures known { (log : List m.Entry) → IsIndex self.now log
             → IfSome result (λ known. known ≡ known_of t log) }
+        ensures steady { (log : List m.Entry) → IsIndex self.now log
+            → IfSome result (λ known. AreSteady log) }
     {
         match place_of(t, self.transactions.len()) {
             Some(place) if self.is_complete => Some(self.transactions[place]),
@@ -94,10 +114,10 @@ impl Index {
     }
 
     /// Makes a place for a transaction that begins at this version.
-    fn push(&mut self, version: u32) -> Result<(), NoMemory>
+    fn push(&mut self, version: u32, read_committed: bool) -> Result<(), NoMemory>
         ensures flag { self.new.is_complete ≡ self.old.is_complete }
         ensures transactions { OnOk result (self.new.transactions.items
-            ≡ self.old.transactions.items ++ begun version ∷ []) }
+            ≡ self.old.transactions.items ++ begun version read_committed ∷ []) }
         ensures committers { OnOk result (self.new.committers.items
             ≡ self.old.committers.items ++ 0 ∷ []) }
     {
@@ -105,6 +125,7 @@ impl Index {
         self.firsts.push(0)?;
         self.transactions.push(Known {
             begin: version,
+            read_committed,
             ran: 0,
             fate: Fate::Active,
             version: None,
@@ -114,21 +135,23 @@ impl Index {
 
     /// A transaction begins at this version. If it has another number than the next, or if memory runs out, the index is not
     /// complete any more.
-    fn begin(&mut self, t: u32, version: u32)
+    fn begin(&mut self, t: u32, version: u32, read_committed: bool)
         ensures { (log : List m.Entry) (line session : ℕ) → version ≡ versions_in log
-            → IsIndex self.old log → IsIndex self.new (m.Began line session t ∷ log) }
+            → IsIndex self.old log
+            → IsIndex self.new (m.Began line session t read_committed ∷ log) }
     {
         if t as usize != self.transactions.len() + 1 {
             self.is_complete = false;
             return;
         }
-        match self.push(version) {
+        match self.push(version, read_committed) {
             Ok(()) => {}
             Err(_) => self.is_complete = false,
         }
     }
 
     /// A transaction runs a statement of this number.
+    #[tactic(auto, using(crate::proofs::SteadyLemmas::steady_ran))]
     fn run(&mut self, t: u32, k: u32)
         ensures { (log : List m.Entry) (line session : ℕ) (command : Command) (statement : Statement)
             → k ≡ suc (statement_count t log) → IsIndex self.old log
@@ -141,6 +164,7 @@ impl Index {
     }
 
     /// A transaction ends without a version.
+    #[tactic(auto, using(crate::proofs::SteadyLemmas::steady_ended))]
     fn end(&mut self, t: u32, fate: Fate)
         ensures { (log : List m.Entry) (line session : ℕ) (how : m.End) → fate ≡ fate_of_end how
             → IsIndex self.old log → IsIndex self.new (m.Ended line session how t ∷ log) }
@@ -152,6 +176,7 @@ impl Index {
     }
 
     /// A transaction makes this version.
+    #[tactic(auto, using(crate::proofs::SteadyLemmas::steady_committed))]
     fn commit(&mut self, t: u32, version: u32)
         ensures { (log : List m.Entry) (line session : ℕ) → version ≡ suc (versions_in log)
             → IsIndex self.old log → IsIndex self.new (m.Committed line session t ∷ log) }
@@ -160,9 +185,15 @@ impl Index {
         let made = place_of(version, self.committers.len());
         match (place, made) {
             (Some(place), Some(made)) => {
-                let Known { begin, ran, .. } = self.transactions[place];
+                let Known {
+                    begin,
+                    read_committed,
+                    ran,
+                    ..
+                } = self.transactions[place];
                 self.transactions[place] = Known {
                     begin,
+                    read_committed,
                     ran,
                     fate: Fate::Committed(version),
                     version: Some(version),
@@ -182,7 +213,7 @@ impl Index {
     {
         match what {
             What::Create(_) => {}
-            What::Begin => self.begin(t, commits),
+            What::Begin { read_committed } => self.begin(t, commits, *read_committed),
             What::Statement { k, .. } => {
                 note_first(&mut self.firsts, t, *k, place);
                 self.run(t, *k);

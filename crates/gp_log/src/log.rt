@@ -7,7 +7,7 @@ ghost use Rattle.gp_log.specs.LogFacts.{numbered, open_in, tables_in, version_at
 ghost use Rattle.gp_log.specs.Logs.{log_view};
 ghost use Rattle.gp_log.specs.Indexing.{known_of};
 ghost use Rattle.gp_log.specs.Kinds.{begins, commits, created_by, creates, ends, is_statement, CreatesNew, IsAddable, IsNumbered};
-ghost use Rattle.gp_machine.specs.Entries.{begin_version, committer_of, fate_of, statement_at, statement_count, statements_in, transactions_in, version_of, versions_in};
+ghost use Rattle.gp_machine.specs.Entries.{begin_version, committer_of, fate_of, statement_at, statement_count, statement_version, statements_in, transactions_in, version_of, versions_in};
 
 use crate::entry::{Entry, What};
 use crate::facts;
@@ -62,7 +62,7 @@ fn begun_by(what: &What) -> u32
     ensures { result ≡ if begins what.now then 1 else 0 }
 {
     match what {
-        What::Begin => 1,
+        What::Begin { .. } => 1,
         _ => 0,
     }
 }
@@ -261,6 +261,7 @@ impl Log {
             Some(known) => known,
             None => Known {
                 begin: facts::begin_version(&self.entries, t),
+                read_committed: facts::is_read_committed(&self.entries, t),
                 ran: facts::statement_count(&self.entries, t),
                 fate: facts::fate(&self.entries, t),
                 version: facts::version_of(&self.entries, t),
@@ -330,6 +331,20 @@ impl Log {
             ≡ statement_at t k (log_view self.now.entries) }
     {
         facts::statement(&self.entries, t, k)
+    }
+
+    /// The version that the statement of this number in the transaction read: the newest one at its line, or the newest one when
+    /// the transaction began, if it is not read committed. None if there is no such statement.
+    #[tactic(auto, using(crate::proofs::VersionLemmas::version_read_is))]
+    pub fn statement_version(&self, t: u32, k: u32) -> Option<u32>
+        ensures { result ≡ option_map (λ s. statement_version t k (log_view self.now.entries))
+            (statement_at t k (log_view self.now.entries)) }
+    {
+        match self.index.known(t) {
+            // A pass over the entries for each statement would be slow in a history without the words.
+            Some(known) if !known.read_committed => known.steady_version(k),
+            _ => facts::statement_version(&self.entries, t, k),
+        }
     }
 
     /// The transaction that made the version, or None if no commit did.
