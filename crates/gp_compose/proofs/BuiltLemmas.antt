@@ -1,6 +1,6 @@
 -- Composed programs are well built.
-use Rattle.std.proofs.Common.{◌≡◌, ℕ, zero, suc, ◌+◌, ◌<◌, true, false, cond, List, [], ◌∷◌, ◌++◌, refl, sym, subst, arith, Option, Some, None}
-use Rattle.std.specs.Prelude.{◌==◌}
+use Rattle.std.proofs.Common.{◌≡◌, ℕ, zero, suc, ◌+◌, ◌<◌, ◌≤◌, true, false, cond, List, [], ◌∷◌, ◌++◌, refl, sym, ap, subst, arith, Option, Some, None}
+use Rattle.std.specs.Prelude.{◌-◌, ◌==◌}
 use Rattle.std.specs.List.{list_all}
 use Rattle.gp_base.specs.declared.table.Table.{Table}
 use Rattle.gp_algebra.specs.Statements.{Select, Statement}
@@ -15,7 +15,7 @@ use Rattle.gp_rewrite.proofs.Each.{both_true}
 use Rattle.gp_rewrite.proofs.FormLemmas.{query_answers, rewritten_step}
 use Rattle.gp_rewrite.proofs.ReadLemmas.{query_reads, rewritten_reads}
 use Rattle.gp_rewrite.proofs.SoundLemmas.{query_sound, rewritten_sound}
-use Rattle.gp_compose.specs.Composed.{after, as_of, commit, composed, contents, current, is_target, last_write, published, published_as, published_table, step_of, steps_of, writes}
+use Rattle.gp_compose.specs.Composed.{after, as_of, commit, composed, current, current_before, is_target, last_write, moved, onto, published, published_table, step_of, steps_of, writes}
 use Rattle.gp_compose.proofs.ComposedLemmas.{eq_from, none_some, some_equal}
 use Rattle.gp_compose.proofs.StepLists.{AreWithin, Stands, here, read_append, rising_append, sound_append, stands_among, stands_behind, stands_front, stands_table, steps_append, within_append}
 
@@ -58,13 +58,13 @@ module _ (columns : ℕ → ℕ) (log : Log) (t : ℕ) where
   composed_within : (k : ℕ) → AreWithin k (composed columns log t k)
   composed_within zero = tt
   composed_within (suc k) =
-      within_append k (suc k) (composed columns log t k) (step_of columns t (suc k) (current log t k) (log.statement t (suc k))) (omega arith) (composed_within k) (one_within (suc k) (current log t k) (log.statement t (suc k)))
+      within_append k (suc k) (composed columns log t k) (step_of columns t (suc k) (current_before log t k) (log.statement t (suc k))) (omega arith) (composed_within k) (one_within (suc k) (current_before log t k) (log.statement t (suc k)))
 
   composed_rises : (k : ℕ) → AreRising (composed columns log t k)
   composed_rises zero = tt
   composed_rises (suc k) =
-      rising_append k (composed columns log t k) (step_of columns t (suc k) (current log t k) (log.statement t (suc k))) (composed_rises k) (composed_within k)
-      (one_after k (current log t k) (log.statement t (suc k))) (one_rises (suc k) (current log t k) (log.statement t (suc k)))
+      rising_append k (composed columns log t k) (step_of columns t (suc k) (current_before log t k) (log.statement t (suc k))) (composed_rises k) (composed_within k)
+      (one_after k (current_before log t k) (log.statement t (suc k))) (one_rises (suc k) (current_before log t k) (log.statement t (suc k)))
 
   -- ---- what stands for a table
 
@@ -74,18 +74,18 @@ module _ (columns : ℕ → ℕ) (log : Log) (t : ℕ) where
   composed_stands (suc k) table j e = one (log.statement t (suc k)) e (composed_stands k table j)
     where
       one : (o : Option Statement) → cond (writes o table) (Some (suc k)) (last_write log t k table) ≡ Some j → (last_write log t k table ≡ Some j → Stands j table (composed columns log t k)) →
-          Stands j table (composed columns log t k ++ step_of columns t (suc k) (current log t k) o)
+          Stands j table (composed columns log t k ++ step_of columns t (suc k) (current_before log t k) o)
       one None e before = stands_front j table (composed columns log t k) [] (before e)
       one (Some statement) e before = two (target statement) e
         where
-          two : (own : Option ℕ) → cond (is_target own table) (Some (suc k)) (last_write log t k table) ≡ Some j → Stands j table (composed columns log t k ++ steps_of columns t (suc k) (current log t k) statement own)
+          two : (own : Option ℕ) → cond (is_target own table) (Some (suc k)) (last_write log t k table) ≡ Some j → Stands j table (composed columns log t k ++ steps_of columns t (suc k) (current_before log t k) statement own)
           two None e = stands_front j table (composed columns log t k) [] (before e)
           two (Some own) e =
-              elim (table == own) as (λ b. (table == own) ≡ b → cond b (Some (suc k)) (last_write log t k table) ≡ Some j → Stands j table (composed columns log t k ++ (record { j = suc k; table = own; query = rewritten columns t (suc k) statement (current log t k) } ∷ []))) [
+              elim (table == own) as (λ b. (table == own) ≡ b → cond b (Some (suc k)) (last_write log t k table) ≡ Some j → Stands j table (composed columns log t k ++ (record { j = suc k; table = own; query = rewritten columns t (suc k) statement (current_before log t k) } ∷ []))) [
                 | true ↦ λ same e. let last : suc k ≡ j = some_equal (suc k) j e in
-                    stands_behind k j table (composed columns log t k) (record { j = suc k; table = own; query = rewritten columns t (suc k) statement (current log t k) } ∷ []) (composed_within k) (omega arith)
-                    (here (record { j = suc k; table = own; query = rewritten columns t (suc k) statement (current log t k) }) [] last (sym (eq_from table own same)))
-                | false ↦ λ same e. stands_front j table (composed columns log t k) (record { j = suc k; table = own; query = rewritten columns t (suc k) statement (current log t k) } ∷ []) (before e)
+                    stands_behind k j table (composed columns log t k) (record { j = suc k; table = own; query = rewritten columns t (suc k) statement (current_before log t k) } ∷ []) (composed_within k) (omega arith)
+                    (here (record { j = suc k; table = own; query = rewritten columns t (suc k) statement (current_before log t k) }) [] last (sym (eq_from table own same)))
+                | false ↦ λ same e. stands_front j table (composed columns log t k) (record { j = suc k; table = own; query = rewritten columns t (suc k) statement (current_before log t k) } ∷ []) (before e)
               ] refl e
 
   -- and among the steps of more statements
@@ -93,66 +93,95 @@ module _ (columns : ℕ → ℕ) (log : Log) (t : ℕ) where
   stands_among_more k zero table j e = subst (λ n. Stands j table (composed columns log t n)) (sym (plus_zero k)) (composed_stands k table j e)
   stands_among_more k (suc more) table j e =
       subst (λ n. Stands j table (composed columns log t n)) (sym (plus_suc k more))
-      (stands_front j table (composed columns log t (k + more)) (step_of columns t (suc (k + more)) (current log t (k + more)) (log.statement t (suc (k + more)))) (stands_among_more k more table j e))
+      (stands_front j table (composed columns log t (k + more)) (step_of columns t (suc (k + more)) (current_before log t (k + more)) (log.statement t (suc (k + more)))) (stands_among_more k more table j e))
+
+  -- the step of a statement that writes a table, among the steps of more statements
+  stands_within : (n j table : ℕ) → suc j ≤ n → writes (log.statement t (suc j)) table ≡ true → Stands (suc j) table (composed columns log t n)
+  stands_within n j table within e =
+      let is : suc j + (n - suc j) ≡ n = omega arith in
+      subst (λ m. Stands (suc j) table (composed columns log t m)) is
+      (stands_among_more (suc j) (n - suc j) table (suc j) (ap (λ b. cond b (Some (suc j)) (last_write log t j table)) e))
+
+  -- what is said of scans, of steps and of what was moved is said of what stands for a table
+  moved_has : (P : Query → Type 0) (old new table : ℕ) (o : Option ℕ) (query : Query) → ((v : ℕ) → P (q.scan table v)) → ((old new : ℕ) (query : Query) → P query → P (q.publish (q.scan table old) query (q.scan table new)))
+      → P query → P (moved old new table o query)
+  moved_has P old new table None query scans moves has = elim (new == old) as (λ b. P (cond b query (q.scan table new))) [ true ↦ has | false ↦ scans new ]
+  moved_has P old new table (Some j) query scans moves has = elim (new == old) as (λ b. P (cond b query (q.publish (q.scan table old) query (q.scan table new)))) [ true ↦ has | false ↦ moves old new query has ]
+
+  current_has : (P : Query → Type 0) (table k : ℕ) → ((v : ℕ) → P (q.scan table v)) → ((old new : ℕ) (query : Query) → P query → P (q.publish (q.scan table old) query (q.scan table new)))
+      → ((j : ℕ) → suc j ≤ k → writes (log.statement t (suc j)) table ≡ true → P (q.step (suc j))) → P (current log t k table)
+  current_has P table zero scans moves steps = scans (log.version t zero)
+  current_has P table (suc k) scans moves steps =
+      elim (writes (log.statement t (suc k)) table) as (λ b. writes (log.statement t (suc k)) table ≡ b → P (cond b (q.step (suc k)) (current_before log t k table))) [
+        | true ↦ λ e. steps k (omega arith) e
+        | false ↦ λ e. moved_has P (log.version t k) (log.version t (suc k)) table (last_write log t k table) (current log t k table) scans moves (current_has P table k scans moves (λ j within. steps j (omega arith)))
+      ] refl
+
+  before_has : (P : Query → Type 0) (table k : ℕ) → ((v : ℕ) → P (q.scan table v)) → ((old new : ℕ) (query : Query) → P query → P (q.publish (q.scan table old) query (q.scan table new)))
+      → ((j : ℕ) → suc j ≤ k → writes (log.statement t (suc j)) table ≡ true → P (q.step (suc j))) → P (current_before log t k table)
+  before_has P table k scans moves steps = moved_has P (log.version t k) (log.version t (suc k)) table (last_write log t k table) (current log t k table) scans moves (current_has P table k scans moves steps)
 
   current_table : (k more table : ℕ) → IsTable columns (step_table (composed columns log t (k + more))) table (current log t k table)
-  current_table k more table = go (last_write log t k table) refl
-    where
-      go : (o : Option ℕ) → last_write log t k table ≡ o → IsTable columns (step_table (composed columns log t (k + more))) table (contents (log.begin_version t) table o)
-      go None e = refl
-      go (Some j) e = stands_table j table (composed columns log t (k + more)) (stands_among_more k more table j e)
+  current_table k more table = current_has (IsTable columns (step_table (composed columns log t (k + more))) table) table k (λ v. refl) (λ old new query is. (refl, is, refl))
+      (λ j within e. stands_table (suc j) table (composed columns log t (k + more)) (stands_within (k + more) j table (omega arith) e))
+
+  before_table : (k more table : ℕ) → IsTable columns (step_table (composed columns log t (k + more))) table (current_before log t k table)
+  before_table k more table = before_has (IsTable columns (step_table (composed columns log t (k + more))) table) table k (λ v. refl) (λ old new query is. (refl, is, refl))
+      (λ j within e. stands_table (suc j) table (composed columns log t (k + more)) (stands_within (k + more) j table (omega arith) e))
 
   current_sound : (k table : ℕ) → is_sound (current log t k table) ≡ true
-  current_sound k table = go (last_write log t k table)
-    where
-      go : (o : Option ℕ) → is_sound (contents (log.begin_version t) table o) ≡ true
-      go None = refl
-      go (Some j) = refl
+  current_sound k table = current_has (λ query. is_sound query ≡ true) table k (λ v. refl) (λ old new query is. both_true (is_sound query) true is refl) (λ j within e. refl)
+
+  before_sound : (k table : ℕ) → is_sound (current_before log t k table) ≡ true
+  before_sound k table = before_has (λ query. is_sound query ≡ true) table k (λ v. refl) (λ old new query is. both_true (is_sound query) true is refl) (λ j within e. refl)
 
   current_reads : (k table : ℕ) → reads_only (numbers_with [] (composed columns log t k)) (current log t k table) ≡ true
-  current_reads k table = go (last_write log t k table) refl
-    where
-      go : (o : Option ℕ) → last_write log t k table ≡ o → reads_only (numbers_with [] (composed columns log t k)) (contents (log.begin_version t) table o) ≡ true
-      go None e = refl
-      go (Some j) e = stands_among j table [] (composed columns log t k) (composed_stands k table j e)
+  current_reads k table = current_has (λ query. reads_only (numbers_with [] (composed columns log t k)) query ≡ true) table k (λ v. refl) (λ old new query is. both_true (reads_only (numbers_with [] (composed columns log t k)) query) true is refl)
+      (λ j within e. stands_among (suc j) table [] (composed columns log t k) (stands_within k j table within e))
+
+  before_reads : (k table : ℕ) → reads_only (numbers_with [] (composed columns log t k)) (current_before log t k table) ≡ true
+  before_reads k table = before_has (λ query. reads_only (numbers_with [] (composed columns log t k)) query ≡ true) table k (λ v. refl) (λ old new query is. both_true (reads_only (numbers_with [] (composed columns log t k)) query) true is refl)
+      (λ j within e. stands_among (suc j) table [] (composed columns log t k) (stands_within k j table within e))
 
   published_table_is : (before table : ℕ) → IsTable columns (step_table (composed columns log t (log.statement_count t))) table (published log t before table)
-  published_table_is before table = go (last_write log t (log.statement_count t) table) refl
+  published_table_is before table = go (last_write log t (log.statement_count t) table)
     where
-      go : (o : Option ℕ) → last_write log t (log.statement_count t) table ≡ o → IsTable columns (step_table (composed columns log t (log.statement_count t))) table (published_as (log.begin_version t) before table o)
-      go None e = refl
-      go (Some j) e = (refl, stands_table j table (composed columns log t (log.statement_count t)) (composed_stands (log.statement_count t) table j e), refl)
+      last : IsTable columns (step_table (composed columns log t (log.statement_count t))) table (current log t (log.statement_count t) table)
+      last = subst (λ n. IsTable columns (step_table (composed columns log t n)) table (current log t (log.statement_count t) table)) (plus_zero (log.statement_count t)) (current_table (log.statement_count t) 0 table)
+
+      go : (o : Option ℕ) → IsTable columns (step_table (composed columns log t (log.statement_count t))) table (onto (log.version t (log.statement_count t)) before table o (current log t (log.statement_count t) table))
+      go None = refl
+      go (Some j) = (refl, last, refl)
 
   published_sound : (before table : ℕ) → is_sound (published log t before table) ≡ true
   published_sound before table = go (last_write log t (log.statement_count t) table)
     where
-      go : (o : Option ℕ) → is_sound (published_as (log.begin_version t) before table o) ≡ true
+      go : (o : Option ℕ) → is_sound (onto (log.version t (log.statement_count t)) before table o (current log t (log.statement_count t) table)) ≡ true
       go None = refl
-      go (Some j) = refl
+      go (Some j) = both_true (is_sound (current log t (log.statement_count t) table)) true (current_sound (log.statement_count t) table) refl
 
   published_reads : (before table : ℕ) → reads_only (numbers_with [] (composed columns log t (log.statement_count t))) (published log t before table) ≡ true
-  published_reads before table = go (last_write log t (log.statement_count t) table) refl
+  published_reads before table = go (last_write log t (log.statement_count t) table)
     where
-      go : (o : Option ℕ) → last_write log t (log.statement_count t) table ≡ o → reads_only (numbers_with [] (composed columns log t (log.statement_count t))) (published_as (log.begin_version t) before table o) ≡ true
-      go None e = refl
-      go (Some j) e =
-          both_true (is_among (numbers_with [] (composed columns log t (log.statement_count t))) j) true (stands_among j table [] (composed columns log t (log.statement_count t)) (composed_stands (log.statement_count t) table j e)) refl
+      go : (o : Option ℕ) → reads_only (numbers_with [] (composed columns log t (log.statement_count t))) (onto (log.version t (log.statement_count t)) before table o (current log t (log.statement_count t) table)) ≡ true
+      go None = refl
+      go (Some j) = both_true (reads_only (numbers_with [] (composed columns log t (log.statement_count t))) (current log t (log.statement_count t) table)) true (current_reads (log.statement_count t) table) refl
 
   -- ---- what the steps read
 
-  one_reads : (k : ℕ) (o : Option Statement) → steps_read (numbers_with [] (composed columns log t k)) (step_of columns t (suc k) (current log t k) o) ≡ true
+  one_reads : (k : ℕ) (o : Option Statement) → steps_read (numbers_with [] (composed columns log t k)) (step_of columns t (suc k) (current_before log t k) o) ≡ true
   one_reads k None = refl
   one_reads k (Some statement) = go (target statement)
     where
-      go : (own : Option ℕ) → steps_read (numbers_with [] (composed columns log t k)) (steps_of columns t (suc k) (current log t k) statement own) ≡ true
+      go : (own : Option ℕ) → steps_read (numbers_with [] (composed columns log t k)) (steps_of columns t (suc k) (current_before log t k) statement own) ≡ true
       go None = refl
       go (Some own) =
-          both_true (reads_only (numbers_with [] (composed columns log t k)) (rewritten columns t (suc k) statement (current log t k))) true
-          (rewritten_reads (numbers_with [] (composed columns log t k)) (current log t k) (current_reads k) columns t (suc k) statement) refl
+          both_true (reads_only (numbers_with [] (composed columns log t k)) (rewritten columns t (suc k) statement (current_before log t k))) true
+          (rewritten_reads (numbers_with [] (composed columns log t k)) (current_before log t k) (before_reads k) columns t (suc k) statement) refl
 
   composed_reads : (k : ℕ) → steps_read [] (composed columns log t k) ≡ true
   composed_reads zero = refl
-  composed_reads (suc k) = read_append [] (composed columns log t k) (step_of columns t (suc k) (current log t k) (log.statement t (suc k))) (composed_reads k) (one_reads k (log.statement t (suc k)))
+  composed_reads (suc k) = read_append [] (composed columns log t k) (step_of columns t (suc k) (current_before log t k) (log.statement t (suc k))) (composed_reads k) (one_reads k (log.statement t (suc k)))
 
 -- ---- forms
 
@@ -162,37 +191,37 @@ module _ (catalogue : List Table) (log : Log) (t : ℕ) (some_transaction : 0 < 
   composed_forms : (k more : ℕ) → AreSteps (width_of catalogue) (step_table (composed (width_of catalogue) log t (k + more))) (composed (width_of catalogue) log t k)
   composed_forms zero more = tt
   composed_forms (suc k) more =
-      steps_append (width_of catalogue) of_step (composed (width_of catalogue) log t k) (step_of (width_of catalogue) t (suc k) (current log t k) (log.statement t (suc k)))
+      steps_append (width_of catalogue) of_step (composed (width_of catalogue) log t k) (step_of (width_of catalogue) t (suc k) (current_before log t k) (log.statement t (suc k)))
       (subst (λ n. AreSteps (width_of catalogue) (step_table (composed (width_of catalogue) log t n)) (composed (width_of catalogue) log t k)) (suc_plus k more) (composed_forms k (suc more)))
       (one (log.statement t (suc k)) refl)
     where
       of_step : ℕ → ℕ
       of_step = step_table (composed (width_of catalogue) log t (suc k + more))
 
-      tables : (table : ℕ) → IsTable (width_of catalogue) of_step table (current log t k table)
-      tables table = subst (λ n. IsTable (width_of catalogue) (step_table (composed (width_of catalogue) log t n)) table (current log t k table)) (suc_plus k more) (current_table (width_of catalogue) log t k (suc more) table)
+      tables : (table : ℕ) → IsTable (width_of catalogue) of_step table (current_before log t k table)
+      tables table = subst (λ n. IsTable (width_of catalogue) (step_table (composed (width_of catalogue) log t n)) table (current_before log t k table)) (suc_plus k more) (before_table (width_of catalogue) log t k (suc more) table)
 
-      one : (o : Option Statement) → log.statement t (suc k) ≡ o → AreSteps (width_of catalogue) of_step (step_of (width_of catalogue) t (suc k) (current log t k) o)
+      one : (o : Option Statement) → log.statement t (suc k) ≡ o → AreSteps (width_of catalogue) of_step (step_of (width_of catalogue) t (suc k) (current_before log t k) o)
       one None e = tt
       one (Some statement) e = two (target statement) refl
         where
-          two : (own : Option ℕ) → target statement ≡ own → AreSteps (width_of catalogue) of_step (steps_of (width_of catalogue) t (suc k) (current log t k) statement own)
+          two : (own : Option ℕ) → target statement ≡ own → AreSteps (width_of catalogue) of_step (steps_of (width_of catalogue) t (suc k) (current_before log t k) statement own)
           two None is = tt
-          two (Some own) is = (rewritten_step catalogue of_step (current log t k) tables t (suc k) own statement (fits k statement e) is, tt)
+          two (Some own) is = (rewritten_step catalogue of_step (current_before log t k) tables t (suc k) own statement (fits k statement e) is, tt)
 
   composed_sound : (k : ℕ) → list_all (λ (step : QueryStep). is_sound step.query) (composed (width_of catalogue) log t k) ≡ true
   composed_sound zero = refl
-  composed_sound (suc k) = sound_append (composed (width_of catalogue) log t k) (step_of (width_of catalogue) t (suc k) (current log t k) (log.statement t (suc k))) (composed_sound k) (one (log.statement t (suc k)) refl)
+  composed_sound (suc k) = sound_append (composed (width_of catalogue) log t k) (step_of (width_of catalogue) t (suc k) (current_before log t k) (log.statement t (suc k))) (composed_sound k) (one (log.statement t (suc k)) refl)
     where
-      one : (o : Option Statement) → log.statement t (suc k) ≡ o → list_all (λ (step : QueryStep). is_sound step.query) (step_of (width_of catalogue) t (suc k) (current log t k) o) ≡ true
+      one : (o : Option Statement) → log.statement t (suc k) ≡ o → list_all (λ (step : QueryStep). is_sound step.query) (step_of (width_of catalogue) t (suc k) (current_before log t k) o) ≡ true
       one None e = refl
       one (Some statement) e = two (target statement)
         where
-          two : (own : Option ℕ) → list_all (λ (step : QueryStep). is_sound step.query) (steps_of (width_of catalogue) t (suc k) (current log t k) statement own) ≡ true
+          two : (own : Option ℕ) → list_all (λ (step : QueryStep). is_sound step.query) (steps_of (width_of catalogue) t (suc k) (current_before log t k) statement own) ≡ true
           two None = refl
           two (Some own) =
-              both_true (is_sound (rewritten (width_of catalogue) t (suc k) statement (current log t k))) true
-              (rewritten_sound (current log t k) (current_sound (width_of catalogue) log t k) t (suc k) some_transaction (omega arith) catalogue statement (fits k statement e)) refl
+              both_true (is_sound (rewritten (width_of catalogue) t (suc k) statement (current_before log t k))) true
+              (rewritten_sound (current_before log t k) (before_sound (width_of catalogue) log t k) t (suc k) some_transaction (omega arith) catalogue statement (fits k statement e)) refl
 
   -- ---- programs
 

@@ -15,7 +15,7 @@ use Rattle.gp_log.specs.declared.entry.Entry.{Entry}
 use Rattle.gp_log.specs.declared.entry.What.{What}
 use Rattle.gp_log.specs.declared.entry.What.TheVariants as w
 use Rattle.gp_rewrite.proofs.PlaceLemmas.{both_true}
-use Rattle.gp_compose.specs.Composition.{own_fits, own_statement}
+use Rattle.gp_compose.specs.Composition.{own_fits, own_statement, ran_more}
 
 -- the log up to a place, with the entry there
 pub log-more : (entries : List Entry) (place : ℕ) (entry : Entry) → slice_get entries place ≡ Some entry
@@ -37,18 +37,13 @@ log-cut entries place entry is =
 
 -- ---- statements
 
--- how many statements of the transaction an entry is
-abbrev pub ran_more : Option Statement → ℕ → ℕ
-ran_more None n = n
-ran_more (Some statement) n = suc n
-
 own_by : (b : Bool) (statement : Statement) (n : ℕ) → cond b (suc n) n ≡ ran_more (cond b (Some statement) None) n
 own_by true statement n = refl
 own_by false statement n = refl
 
 pub count-more : (t : ℕ) (entry : m.Entry) (older : List m.Entry) → statement_count t (entry ∷ older) ≡ ran_more (own_statement t entry) (statement_count t older)
 count-more t (m.Created line session table) older = refl
-count-more t (m.Began line session u) older = refl
+count-more t (m.Began line session u level) older = refl
 count-more t (m.Ran line session command u statement) older = own_by (u == t) statement (statement_count t older)
 count-more t (m.Committed line session u) older = refl
 count-more t (m.Ended line session end u) older = refl
@@ -60,7 +55,7 @@ cond-least false n = omega arith
 count-least : (t : ℕ) (newer older : List m.Entry) → statement_count t older ≤ statement_count t (newer ++ older)
 count-least t [] older = omega arith
 count-least t (m.Created line session table ∷ newer) older = count-least t newer older
-count-least t (m.Began line session u ∷ newer) older = count-least t newer older
+count-least t (m.Began line session u level ∷ newer) older = count-least t newer older
 count-least t (m.Ran line session command u statement ∷ newer) older =
     omega (arith, count-least t newer older, cond-least (u == t) (statement_count t (newer ++ older)))
 count-least t (m.Committed line session u ∷ newer) older = count-least t newer older
@@ -78,7 +73,7 @@ passed false same here found wanted is e = e
 found-behind : (t k : ℕ) (newer older : List m.Entry) → k ≤ statement_count t older → statement_at t k (newer ++ older) ≡ statement_at t k older
 found-behind t k [] older most = refl
 found-behind t k (m.Created line session table ∷ newer) older most = found-behind t k newer older most
-found-behind t k (m.Began line session u ∷ newer) older most = found-behind t k newer older most
+found-behind t k (m.Began line session u level ∷ newer) older most = found-behind t k newer older most
 found-behind t k (m.Ran line session command u statement ∷ newer) older most =
     passed (u == t) (suc (statement_count t (newer ++ older)) == k) statement (statement_at t k (newer ++ older)) (statement_at t k older)
     (not_equal (suc (statement_count t (newer ++ older))) k (omega (arith, count-least t newer older, most))) (found-behind t k newer older most)
@@ -96,7 +91,7 @@ taken false same here statement found is e = absurd (cc)
 found-here : (t : ℕ) (entry : m.Entry) (older : List m.Entry) (statement : Statement) → own_statement t entry ≡ Some statement
     → statement_at t (suc (statement_count t older)) (entry ∷ older) ≡ Some statement
 found-here t (m.Created line session table) older statement is = absurd (cc)
-found-here t (m.Began line session u) older statement is = absurd (cc)
+found-here t (m.Began line session u level) older statement is = absurd (cc)
 found-here t (m.Ran line session command u here) older statement is =
     taken (u == t) (suc (statement_count t older) == suc (statement_count t older)) here statement (statement_at t (suc (statement_count t older)) older)
     (equal_here (suc (statement_count t older))) is
@@ -122,7 +117,7 @@ fits-cond tables false statement fits = refl
 
 fits-first : (tables : List Table) (t : ℕ) (entry : m.Entry) (older : List m.Entry) → statements_fit tables (entry ∷ older) ≡ true → own_fits tables (own_statement t entry) ≡ true
 fits-first tables t (m.Created line session table) older fit = refl
-fits-first tables t (m.Began line session u) older fit = refl
+fits-first tables t (m.Began line session u level) older fit = refl
 fits-first tables t (m.Ran line session command u statement) older fit =
     fits-cond tables (u == t) statement (both_true (statement_fits tables statement) (statements_fit tables older) fit).0
 fits-first tables t (m.Committed line session u) older fit = refl
@@ -131,7 +126,7 @@ fits-first tables t (m.Ended line session end u) older fit = refl
 fit-behind : (tables : List Table) (newer older : List m.Entry) → statements_fit tables (newer ++ older) ≡ true → statements_fit tables older ≡ true
 fit-behind tables [] older fit = fit
 fit-behind tables (m.Created line session table ∷ newer) older fit = fit-behind tables newer older fit
-fit-behind tables (m.Began line session u ∷ newer) older fit = fit-behind tables newer older fit
+fit-behind tables (m.Began line session u level ∷ newer) older fit = fit-behind tables newer older fit
 fit-behind tables (m.Ran line session command u statement ∷ newer) older fit =
     fit-behind tables newer older (both_true (statement_fits tables statement) (statements_fit tables (newer ++ older)) fit).1
 fit-behind tables (m.Committed line session u ∷ newer) older fit = fit-behind tables newer older fit

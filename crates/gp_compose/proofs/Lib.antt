@@ -4,8 +4,9 @@ pub mod ComposedLemmas
 pub mod EntryLemmas
 pub mod FittingLogs
 pub mod PartsLemmas
-pub mod PlacedLemmas
 pub mod ProgramLemmas
 pub mod PublishedLemmas
+pub mod PublishedLists
 pub mod ScanLemmas
 pub mod StepLists
+pub mod TableLemmas

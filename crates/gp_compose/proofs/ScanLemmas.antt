@@ -1,11 +1,7 @@
 -- The program of a state scans no version above the one that the state needs.
-use Rattle.std.proofs.Common.{◌≡◌, ℕ, zero, suc, ◌<◌, ◌≤◌, Bool, true, false, cond, List, [], ◌∷◌, ◌++◌, length, refl, ap, ◌∙◌, subst, arith, Option, Some, None}
-use Rattle.std.specs.Prelude.{◌==◌, nat_le, not, Contains, Result, Ok, Err}
-use Rattle.std.specs.Option.{is_none}
+use Rattle.std.proofs.Common.{◌≡◌, ℕ, zero, suc, ◌<◌, ◌≤◌, true, false, cond, List, [], ◌∷◌, ◌++◌, length, sym, subst, arith, Option, Some, None}
+use Rattle.std.specs.Prelude.{◌==◌, Contains}
 use Rattle.std.specs.List.{AllByRecursion}
-use Rattle.std.proofs.lemmas.Bool.Decides.{nat_tests}
-use Rattle.gp_base.specs.declared.refusal.Refusal.{Refusal}
-use Rattle.gp_base.specs.declared.refusal.Refusal.TheVariants.{E20, E21}
 use Rattle.gp_grammar.specs.Syntax as y
 use Rattle.gp_expr.specs.Expressions.{Cond}
 use Rattle.gp_algebra.specs.declared.plain.ScanAt.{ScanAt}
@@ -13,15 +9,16 @@ use Rattle.gp_algebra.specs.Statements.{Branch, Select, Statement, insert, inser
 use Rattle.gp_algebra.specs.AnnotatedQueries as q
 use Rattle.gp_algebra.specs.AnnotatedQueries.{Query, QueryStep}
 use Rattle.gp_algebra.specs.Scans.{annotated_program_scans, annotated_query_scans, annotated_steps_scans}
-use Rattle.gp_machine.specs.Actions.{Begin, Commit}
-use Rattle.gp_machine.specs.Entries.{Entry, Log, Created, Began, Ran, Committed, Ended, begin_version, fate_of, log_of, statement_count, transactions_in, version_of, versions_in}
+use Rattle.gp_machine.specs.Entries.{Entry, Log, log_of, statement_count, statement_version, version_of}
 use Rattle.gp_machine.specs.Limits.{Limits}
-use Rattle.gp_machine.specs.Points.{version_before}
-use Rattle.gp_machine.specs.Questions.{is_known, log_refusal, needed_version, transaction_refusal}
-use Rattle.gp_log.specs.Discipline.{Disorder, Flaw, IsLog, IsNext, doing, transaction_in}
+use Rattle.gp_machine.specs.Points.{IsAsked, to_commit, to_statement, to_version, version_before}
+use Rattle.gp_machine.specs.Questions.{log_refusal, needed_version}
+use Rattle.gp_machine.proofs.AskedLemmas.{asked}
+use Rattle.gp_log.specs.Discipline.{IsLog}
+use Rattle.gp_log.proofs.ReadingLemmas.{read_before, rising}
 use Rattle.gp_rewrite.specs.Rewriting.{branch_of, made_of, made_onto, product_of, product_onto, query_of, rewritten, selected_by, target, union_onto}
 use Rattle.gp_rewrite.proofs.Each.{each_append}
-use Rattle.gp_compose.specs.Composed.{composed, contents, current, last_write, program_at, published, published_as, step_of, steps_of}
+use Rattle.gp_compose.specs.Composed.{composed, current, current_before, last_write, moved, onto, program_at, published, step_of, steps_of, writes}
 
 -- ---- versions up to one
 
@@ -86,20 +83,42 @@ module _ (n : ℕ) (tables : ℕ → Query) (are : (table : ℕ) → ReadsUpTo n
 
 -- ---- composed programs
 
-module _ (n : ℕ) (columns : ℕ → ℕ) (log : Log) (t : ℕ) (begins : log.begin_version t ≤ n) where
-  current_up_to : (k table : ℕ) → ReadsUpTo n (current log t k table)
-  current_up_to k table = go (last_write log t k table)
-    where
-      go : (o : Option ℕ) → ReadsUpTo n (contents (log.begin_version t) table o)
-      go None = (begins, tt)
-      go (Some j) = tt
+-- the first statements, this many, read versions up to this one
+abbrev ReadUpTo : Log → ℕ → ℕ → ℕ → Type 0
+ReadUpTo log t k n = (j : ℕ) → j ≤ k → log.version t j ≤ n
 
-  published_up_to : (before table : ℕ) → before ≤ n → ReadsUpTo n (published log t before table)
-  published_up_to before table later = go (last_write log t (log.statement_count t) table)
+module _ (n : ℕ) (columns : ℕ → ℕ) (log : Log) (t : ℕ) where
+  moved_up_to : (old new table : ℕ) (o : Option ℕ) (query : Query) → old ≤ n → new ≤ n → ReadsUpTo n query → ReadsUpTo n (moved old new table o query)
+  moved_up_to old new table None query before later reads = elim (new == old) as (λ b. ReadsUpTo n (cond b query (q.scan table new))) [ true ↦ reads | false ↦ (later, tt) ]
+  moved_up_to old new table (Some j) query before later reads =
+      elim (new == old) as (λ b. ReadsUpTo n (cond b query (q.publish (q.scan table old) query (q.scan table new)))) [
+        | true ↦ reads
+        | false ↦ (before, each_append (IsUpTo n) (annotated_query_scans query) (annotated_query_scans (q.scan table new)) reads (later, tt))
+      ]
+
+  current_up_to : (k table : ℕ) → ReadUpTo log t k n → ReadsUpTo n (current log t k table)
+  current_up_to zero table within = (within zero (omega arith), tt)
+  current_up_to (suc k) table within =
+      elim (writes (log.statement t (suc k)) table) as (λ b. ReadsUpTo n (cond b (q.step (suc k)) (current_before log t k table))) [
+        | true ↦ tt
+        | false ↦ moved_up_to (log.version t k) (log.version t (suc k)) table (last_write log t k table) (current log t k table) (within k (omega arith)) (within (suc k) (omega arith))
+            (current_up_to k table (λ j l. within j (omega arith)))
+      ]
+
+  before_up_to : (k table : ℕ) → ReadUpTo log t (suc k) n → ReadsUpTo n (current_before log t k table)
+  before_up_to k table within =
+      moved_up_to (log.version t k) (log.version t (suc k)) table (last_write log t k table) (current log t k table) (within k (omega arith)) (within (suc k) (omega arith))
+      (current_up_to k table (λ j l. within j (omega arith)))
+
+  published_up_to : (before table : ℕ) → ReadUpTo log t (log.statement_count t) n → before ≤ n → ReadsUpTo n (published log t before table)
+  published_up_to before table within later = go (last_write log t (log.statement_count t) table)
     where
-      go : (o : Option ℕ) → ReadsUpTo n (published_as (log.begin_version t) before table o)
+      go : (o : Option ℕ) → ReadsUpTo n (onto (log.version t (log.statement_count t)) before table o (current log t (log.statement_count t) table))
       go None = (later, tt)
-      go (Some j) = (begins, (later, tt))
+      go (Some j) = (
+        within (log.statement_count t) (omega arith),
+        each_append (IsUpTo n) (annotated_query_scans (current log t (log.statement_count t) table)) (annotated_query_scans (q.scan table before)) (current_up_to (log.statement_count t) table within) (later, tt),
+      )
 
   steps_more : (xs ys : List QueryStep) → AllByRecursion (IsUpTo n) (annotated_steps_scans xs) → AllByRecursion (IsUpTo n) (annotated_steps_scans ys) → AllByRecursion (IsUpTo n) (annotated_steps_scans (xs ++ ys))
   steps_more [] ys a b = b
@@ -111,164 +130,50 @@ module _ (n : ℕ) (columns : ℕ → ℕ) (log : Log) (t : ℕ) (begins : log.b
       each_split [] ys a = (tt, a)
       each_split (x ∷ xs) ys a = let parts = each_split xs ys a.1 in ((a.0, parts.0), parts.1)
 
-  composed_up_to : (k : ℕ) → AllByRecursion (IsUpTo n) (annotated_steps_scans (composed columns log t k))
-  composed_up_to zero = tt
-  composed_up_to (suc k) = steps_more (composed columns log t k) (step_of columns t (suc k) (current log t k) (log.statement t (suc k))) (composed_up_to k) (one (log.statement t (suc k)))
+  composed_up_to : (k : ℕ) → ReadUpTo log t k n → AllByRecursion (IsUpTo n) (annotated_steps_scans (composed columns log t k))
+  composed_up_to zero within = tt
+  composed_up_to (suc k) within =
+      steps_more (composed columns log t k) (step_of columns t (suc k) (current_before log t k) (log.statement t (suc k))) (composed_up_to k (λ j l. within j (omega arith))) (one (log.statement t (suc k)))
     where
-      one : (o : Option Statement) → AllByRecursion (IsUpTo n) (annotated_steps_scans (step_of columns t (suc k) (current log t k) o))
+      one : (o : Option Statement) → AllByRecursion (IsUpTo n) (annotated_steps_scans (step_of columns t (suc k) (current_before log t k) o))
       one None = tt
       one (Some statement) = two (target statement)
         where
-          two : (own : Option ℕ) → AllByRecursion (IsUpTo n) (annotated_steps_scans (steps_of columns t (suc k) (current log t k) statement own))
+          two : (own : Option ℕ) → AllByRecursion (IsUpTo n) (annotated_steps_scans (steps_of columns t (suc k) (current_before log t k) statement own))
           two None = tt
-          two (Some own) = each_append (IsUpTo n) (annotated_query_scans (rewritten columns t (suc k) statement (current log t k))) [] (rewritten_up_to n (current log t k) (current_up_to k) columns t (suc k) statement) tt
+          two (Some own) =
+              each_append (IsUpTo n) (annotated_query_scans (rewritten columns t (suc k) statement (current_before log t k))) []
+              (rewritten_up_to n (current_before log t k) (λ table. before_up_to k table within) columns t (suc k) statement) tt
 
-  program_up_to : (k : ℕ) (last : Query) → ReadsUpTo n last → AllByRecursion (IsUpTo n) (annotated_program_scans (record { steps = composed columns log t k; last = last }))
-  program_up_to k last reads = each_append (IsUpTo n) (annotated_steps_scans (composed columns log t k)) (annotated_query_scans last) (composed_up_to k) reads
-
--- ---- a transaction begins before it commits
-
-none_some : {X : Type 0} (x : X) → None ≡ Some x → ⊥
-none_some x e = cc
-
-some_equal : (a b : ℕ) → Some a ≡ Some b → a ≡ b
-some_equal a b e = cc
-
-begins_within : (t : ℕ) (entries : List Entry) → begin_version t entries ≤ versions_in entries
-begins_within t [] = omega arith
-begins_within t (Created line session table ∷ older) = begins_within t older
-begins_within t (Began line session u ∷ older) = go (u == t) (begins_within t older)
-  where
-    go : (b : Bool) → begin_version t older ≤ versions_in older → cond b (versions_in older) (begin_version t older) ≤ versions_in older
-    go true l = omega arith
-    go false l = l
-begins_within t (Ran line session command u statement ∷ older) = begins_within t older
-begins_within t (Committed line session u ∷ older) = let l : begin_version t older ≤ versions_in older = begins_within t older in omega arith
-begins_within t (Ended line session end u ∷ older) = begins_within t older
-
-abbrev refused : Result Entry Flaw
-refused = Err Disorder
-
-abbrev accepted : Entry → Result Entry Flaw
-accepted entry = Ok entry
-
-refused_accepted : (entry : Entry) → refused ≡ accepted entry → ⊥
-refused_accepted entry e = cc
-
-module _ (limits : Limits) where
-  -- a BEGIN takes the next number
-  pub begun_is : (older : List Entry) (line session t : ℕ) → IsNext limits older (Began line session t) → t ≡ suc (transactions_in older)
-  begun_is older line session t next = go (transaction_in session older) next.follows
-    where
-      same : (u : ℕ) → accepted (Began line session u) ≡ accepted (Began line session t) → t ≡ u
-      same u e = cc
-
-      two : (b : Bool) → cond b refused (accepted (Began line session (suc (transactions_in older)))) ≡ accepted (Began line session t) → t ≡ suc (transactions_in older)
-      two true e = absurd (refused_accepted (Began line session t) e)
-      two false e = same (suc (transactions_in older)) e
-
-      go : (o : Option ℕ) → doing limits older line session o Begin ≡ Ok (Began line session t) → t ≡ suc (transactions_in older)
-      go None e = two (nat_le limits.transactions (transactions_in older)) e
-      go (Some u) e = absurd (refused_accepted (Began line session t) e)
-
-  -- a COMMIT is of the transaction of its session
-  pub committed_is : (older : List Entry) (line session t : ℕ) → IsNext limits older (Committed line session t) → transaction_in session older ≡ Some t
-  committed_is older line session t next = go (transaction_in session older) next.follows
-    where
-      same : (u : ℕ) → accepted (Committed line session u) ≡ accepted (Committed line session t) → u ≡ t
-      same u e = cc
-
-      go : (o : Option ℕ) → doing limits older line session o Commit ≡ Ok (Committed line session t) → o ≡ Some t
-      go None e = absurd (refused_accepted (Committed line session t) e)
-      go (Some u) e = ap Some (same u e)
-
-  pub active_within : (entries : List Entry) → IsLog limits entries → (session t : ℕ) → transaction_in session entries ≡ Some t → t ≤ transactions_in entries
-  active_within [] is session t e = absurd (none_some t e)
-  active_within (Created line s table ∷ older) is session t e = active_within older is.1 session t e
-  active_within (Began line s u ∷ older) is session t e = go (session == s) e (active_within older is.1 session t)
-    where
-      go : (b : Bool) → cond b (Some u) (transaction_in session older) ≡ Some t → (transaction_in session older ≡ Some t → t ≤ transactions_in older) → t ≤ suc (transactions_in older)
-      go true e before = let own : u ≡ t = some_equal u t e in let next : u ≡ suc (transactions_in older) = begun_is older line s u is.0 in omega arith
-      go false e before = let l : t ≤ transactions_in older = before e in omega arith
-  active_within (Ran line s command u statement ∷ older) is session t e = active_within older is.1 session t e
-  active_within (Committed line s u ∷ older) is session t e = go (session == s) e (active_within older is.1 session t)
-    where
-      go : (b : Bool) → cond b None (transaction_in session older) ≡ Some t → (transaction_in session older ≡ Some t → t ≤ transactions_in older) → t ≤ transactions_in older
-      go true e before = absurd (none_some t e)
-      go false e before = before e
-  active_within (Ended line s end u ∷ older) is session t e = go (session == s) e (active_within older is.1 session t)
-    where
-      go : (b : Bool) → cond b None (transaction_in session older) ≡ Some t → (transaction_in session older ≡ Some t → t ≤ transactions_in older) → t ≤ transactions_in older
-      go true e before = absurd (none_some t e)
-      go false e before = before e
-
-  pub committed_within : (entries : List Entry) → IsLog limits entries → (t v : ℕ) → version_of t entries ≡ Some v → t ≤ transactions_in entries
-  committed_within [] is t v e = absurd (none_some v e)
-  committed_within (Created line s table ∷ older) is t v e = committed_within older is.1 t v e
-  committed_within (Began line s u ∷ older) is t v e = let l : t ≤ transactions_in older = committed_within older is.1 t v e in omega arith
-  committed_within (Ran line s command u statement ∷ older) is t v e = committed_within older is.1 t v e
-  committed_within (Committed line s u ∷ older) is t v e = go (u == t) refl e (committed_within older is.1 t v)
-    where
-      same : (u t : ℕ) → (u == t) ≡ true → u ≡ t
-      same u t e = grind (arith, nat_tests)
-
-      go : (b : Bool) → (u == t) ≡ b → cond b (Some (suc (versions_in older))) (version_of t older) ≡ Some v → (version_of t older ≡ Some v → t ≤ transactions_in older) → t ≤ transactions_in older
-      go true own e before = active_within older is.1 s t (committed_is older line s u is.0 ∙ ap Some (same u t own))
-      go false own e before = before e
-  committed_within (Ended line s end u ∷ older) is t v e = committed_within older is.1 t v e
-
-  pub begins_before : (entries : List Entry) → IsLog limits entries → (t v : ℕ) → version_of t entries ≡ Some v → begin_version t entries ≤ version_before (version_of t entries)
-  begins_before [] is t v e = absurd (none_some v e)
-  begins_before (Created line s table ∷ older) is t v e = begins_before older is.1 t v e
-  begins_before (Began line s u ∷ older) is t v e = go (u == t) refl (begins_before older is.1 t v e)
-    where
-      other : (u t : ℕ) → t < u → (u == t) ≡ true → ⊥
-      other u t l e = grind (arith, nat_tests)
-
-      go : (b : Bool) → (u == t) ≡ b → begin_version t older ≤ version_before (version_of t older) → cond b (versions_in older) (begin_version t older) ≤ version_before (version_of t older)
-      go true own l =
-          let within : t ≤ transactions_in older = committed_within older is.1 t v e in
-          let next : u ≡ suc (transactions_in older) = begun_is older line s u is.0 in
-          absurd (other u t (omega arith) own)
-      go false own l = l
-  begins_before (Ran line s command u statement ∷ older) is t v e = begins_before older is.1 t v e
-  begins_before (Committed line s u ∷ older) is t v e = go (u == t) e (begins_before older is.1 t v)
-    where
-      go : (b : Bool) → cond b (Some (suc (versions_in older))) (version_of t older) ≡ Some v → (version_of t older ≡ Some v → begin_version t older ≤ version_before (version_of t older)) →
-          begin_version t older ≤ version_before (cond b (Some (suc (versions_in older))) (version_of t older))
-      go true e before = begins_within t older
-      go false e before = before e
-  begins_before (Ended line s end u ∷ older) is t v e = begins_before older is.1 t v e
-
--- a transaction that the log does not refuse made a version
-version_known : (entries : List Entry) (t : ℕ) → transaction_refusal t entries ≡ None → (version : ℕ) × (version_of t entries ≡ Some version)
-version_known entries t e = go (is_known t entries) (version_of t entries) refl e
-  where
-    some_none : (refusal : Refusal) → Some refusal ≡ None → ⊥
-    some_none refusal e = cc
-
-    go : (b : Bool) (o : Option ℕ) → version_of t entries ≡ o → cond (not b) (Some (E20 t)) (cond (is_none o) (Some (E21 t (fate_of t entries))) None) ≡ None → (version : ℕ) × (version_of t entries ≡ Some version)
-    go false o is e = absurd (some_none (E20 t) e)
-    go true None is e = absurd (some_none (E21 t (fate_of t entries)) e)
-    go true (Some version) is e = (version, is)
+  program_up_to : (k : ℕ) (last : Query) → ReadUpTo log t k n → ReadsUpTo n last → AllByRecursion (IsUpTo n) (annotated_program_scans (record { steps = composed columns log t k; last = last }))
+  program_up_to k last within reads = each_append (IsUpTo n) (annotated_steps_scans (composed columns log t k)) (annotated_query_scans last) (composed_up_to k within) reads
 
 -- ---- the programs of states
 
 module _ (limits : Limits) where
-  pub scans_are_needed : (columns : ℕ → ℕ) (entries : List Entry) → IsLog limits entries → (point : y.State) → log_refusal entries point ≡ None → (select : Select) (scan : ScanAt) →
+  needed_scans : (columns : ℕ → ℕ) (entries : List Entry) → IsLog limits entries → (point : y.State) → IsAsked entries point → (select : Select) (scan : ScanAt) →
       Contains (annotated_program_scans (program_at columns entries point select)) scan → scan.version ≤ needed_version entries point
-  scans_are_needed columns entries is (y.as_of version) known select scan among =
+  needed_scans columns entries is (y.as_of version) (to_version l) select scan among =
       each_contained (IsUpTo version) (annotated_query_scans (query_of (λ table. q.scan table version) select)) (query_up_to version (λ table. q.scan table version) (λ table. (omega arith, tt)) select) scan among
-  scans_are_needed columns entries is (y.after t k) known select scan among =
+  needed_scans columns entries is (y.after t k) (to_statement {version = version} made count) select scan among =
       let log = log_of entries in
-      each_contained (IsUpTo (begin_version t entries)) (annotated_program_scans (program_at columns entries (y.after t k) select))
-      (program_up_to (begin_version t entries) columns log t (omega arith) k (query_of (current log t k) select)
-      (query_up_to (begin_version t entries) (current log t k) (current_up_to (begin_version t entries) columns log t (omega arith) k) select)) scan among
-  scans_are_needed columns entries is (y.State.commit t) known select scan among =
+      let needed : ℕ = statement_version t k entries in
+      let within : ReadUpTo log t k needed = λ j l. rising limits entries is t j k l count in
+      each_contained (IsUpTo needed) (annotated_program_scans (program_at columns entries (y.after t k) select))
+      (program_up_to needed columns log t k (query_of (current log t k) select) within
+      (query_up_to needed (current log t k) (λ table. current_up_to needed columns log t k table within) select)) scan among
+  needed_scans columns entries is (y.State.commit t) (to_commit {version = version} made) select scan among =
       let log = log_of entries in
       let before : ℕ = version_before (version_of t entries) in
-      let own = version_known entries t known in
-      let begins : begin_version t entries ≤ before = begins_before limits entries is t own.0 own.1 in
+      let within : ReadUpTo log t (statement_count t entries) before = λ j l. up_to j version made (read_before limits entries is t version j made l) in
       each_contained (IsUpTo before) (annotated_program_scans (program_at columns entries (y.State.commit t) select))
-      (program_up_to before columns log t begins (statement_count t entries) (query_of (published log t before) select)
-      (query_up_to before (published log t before) (λ table. published_up_to before columns log t begins before table (omega arith)) select)) scan among
+      (program_up_to before columns log t (statement_count t entries) (query_of (published log t before) select) within
+      (query_up_to before (published log t before) (λ table. published_up_to before columns log t before table within (omega arith)) select)) scan among
+    where
+      up_to : (j v : ℕ) → version_of t entries ≡ Some v → statement_version t j entries < v → statement_version t j entries ≤ version_before (version_of t entries)
+      up_to j zero made l = absurd (omega arith)
+      up_to j (suc w) made l = subst (λ o. statement_version t j entries ≤ version_before o) (sym made) (omega arith)
+
+  pub scans_are_needed : (columns : ℕ → ℕ) (entries : List Entry) → IsLog limits entries → (point : y.State) → log_refusal entries point ≡ None → (select : Select) (scan : ScanAt) →
+      Contains (annotated_program_scans (program_at columns entries point select)) scan → scan.version ≤ needed_version entries point
+  scans_are_needed columns entries is point known select scan among = needed_scans columns entries is point (asked entries point known) select scan among

@@ -1,6 +1,6 @@
--- Part of the statement: the statements of a transaction as one program. Each statement that writes a table is a step, over the steps that wrote the tables
--- it reads last, or over scans of the begin version where none did. What a COMMIT published is PUBLISH over the begin version, the transaction's own last
--- contents, and the version before the commit.
+-- Part of the statement: the statements of a transaction as one program. Each statement that writes a table is a step, over the current query of each
+-- table: the step that wrote the table last, or a scan of the version that the statement reads. Where a statement reads another version than the one
+-- before, PUBLISH moves what the transaction wrote onto it. What a COMMIT published is PUBLISH onto the version before the commit.
 use Rattle.std.specs.Prelude.{ℕ, zero, suc, ◌==◌, Bool, false, List, [], ◌∷◌, ◌++◌, Option, Some, None, if◌then◌else◌}
 use Rattle.gp_grammar.specs.Syntax as y
 use Rattle.gp_algebra.specs.Statements.{Statement, Select}
@@ -25,14 +25,26 @@ abbrev pub last_write : Log → ℕ → ℕ → ℕ → Option ℕ
 last_write log t zero table = None
 last_write log t (suc k) table = if writes (log.statement t (suc k)) table then Some (suc k) else last_write log t k table
 
--- a table after the statement that wrote it last, or in a version
-abbrev pub contents : ℕ → ℕ → Option ℕ → Query
-contents version table None = q.scan table version
-contents version table (Some j) = q.step j
+-- A table in the version `new`, by its query over the old one: what the transaction wrote is published onto the version; a table that it has no
+-- statement on is as it is there.
+abbrev pub onto : ℕ → ℕ → ℕ → Option ℕ → Query → Query
+onto old new table None query = q.scan table new
+onto old new table (Some j) query = q.publish (q.scan table old) query (q.scan table new)
+
+-- a table as a statement reads it that reads the version `new`, after one that read the old one
+abbrev pub moved : ℕ → ℕ → ℕ → Option ℕ → Query → Query
+moved old new table write query = if new == old then query else onto old new table write query
 
 -- a table after the first statements of the transaction, this many
 abbrev pub current : Log → ℕ → ℕ → ℕ → Query
-current log t k table = contents (log.begin_version t) table (last_write log t k table)
+current log t zero table = q.scan table (log.version t zero)
+current log t (suc k) table =
+    if writes (log.statement t (suc k)) table then q.step (suc k)
+    else moved (log.version t k) (log.version t (suc k)) table (last_write log t k table) (current log t k table)
+
+-- and as its statement k + 1 reads it
+abbrev pub current_before : Log → ℕ → ℕ → ℕ → Query
+current_before log t k table = moved (log.version t k) (log.version t (suc k)) table (last_write log t k table) (current log t k table)
 
 -- ---- steps, given the number of columns of each table
 
@@ -48,7 +60,7 @@ step_of columns t k tables (Some statement) = steps_of columns t k tables statem
 -- the steps of the first statements, this many; a step has the number of its statement
 abbrev pub composed : (ℕ → ℕ) → Log → ℕ → ℕ → List QueryStep
 composed columns log t zero = []
-composed columns log t (suc k) = composed columns log t k ++ step_of columns t (suc k) (current log t k) (log.statement t (suc k))
+composed columns log t (suc k) = composed columns log t k ++ step_of columns t (suc k) (current_before log t k) (log.statement t (suc k))
 
 -- ---- programs
 
@@ -56,13 +68,10 @@ composed columns log t (suc k) = composed columns log t k ++ step_of columns t (
 abbrev pub after : (ℕ → ℕ) → Log → ℕ → ℕ → Select → Program
 after columns log t k select = record { steps = composed columns log t k; last = query_of (current log t k) select }
 
--- a table that the transaction published; one that it has no statement on is that of the version before
-abbrev pub published_as : ℕ → ℕ → ℕ → Option ℕ → Query
-published_as begin before table None = q.scan table before
-published_as begin before table (Some j) = q.publish (q.scan table begin) (q.step j) (q.scan table before)
-
+-- a table that the transaction published: onto the version before its commit
 abbrev pub published : Log → ℕ → ℕ → ℕ → Query
-published log t before table = published_as (log.begin_version t) before table (last_write log t (log.statement_count t) table)
+published log t before table =
+    onto (log.version t (log.statement_count t)) before table (last_write log t (log.statement_count t) table) (current log t (log.statement_count t) table)
 
 -- a query over what the transaction published
 abbrev pub commit : (ℕ → ℕ) → Log → ℕ → ℕ → Select → Program

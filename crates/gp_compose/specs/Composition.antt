@@ -7,12 +7,12 @@ use Rattle.gp_algebra.specs.Fitting.{statement_fits}
 use Rattle.gp_algebra.specs.AnnotatedQueries.{Query, QueryStep}
 use Rattle.gp_machine.specs.Entries.{Entry, Created, Began, Ran, Committed, Ended, Log}
 use Rattle.gp_rewrite.specs.Rewriting.{query_at, rewritten, target}
-use Rattle.gp_compose.specs.Composed.{composed, contents, last_write, steps_of}
+use Rattle.gp_compose.specs.Composed.{composed, current, current_before, last_write}
 
 -- the statement of an entry, if it is one of the transaction
 abbrev pub own_statement : ℕ → Entry → Option Statement
 own_statement t (Created line session table) = None
-own_statement t (Began line session u) = None
+own_statement t (Began line session u level) = None
 own_statement t (Ran line session command u statement) = if u == t then Some statement else None
 own_statement t (Committed line session u) = None
 own_statement t (Ended line session end u) = None
@@ -20,15 +20,6 @@ own_statement t (Ended line session end u) = None
 abbrev pub own_fits : List Table → Option Statement → Bool
 own_fits tables None = true
 own_fits tables (Some statement) = statement_fits tables statement
-
--- for each table from this one on, a query by the statement that wrote it last
-abbrev pub placed : (ℕ → Option ℕ → Query) → ℕ → List (Option ℕ) → List Query
-placed query n [] = []
-placed query n (write ∷ writes) = query n write ∷ placed query (suc n) writes
-
--- the queries of the tables that a statement reads
-abbrev pub read_tables : ℕ → List (Option ℕ) → ℕ → Query
-read_tables begin writes = query_at (placed (contents begin) 0 writes)
 
 -- the step of a statement, if it writes a table
 abbrev pub made_step : (ℕ → ℕ) → ℕ → ℕ → (ℕ → Query) → Statement → Option QueryStep
@@ -40,24 +31,37 @@ abbrev pub with_write : Option ℕ → ℕ → List (Option ℕ) → List (Optio
 with_write None k writes = writes
 with_write (Some table) k writes = slice_set writes table (Some k)
 
--- statements of a transaction that are composed: how many, their steps, and which of them wrote each table last
+-- how many statements of the transaction there are with one more, if it is one
+abbrev pub ran_more : Option Statement → ℕ → ℕ
+ran_more None n = n
+ran_more (Some statement) n = suc n
+
+-- a list with the query of each table, in the order of the catalogue
+abbrev pub AreTables : ℕ → (ℕ → Query) → List Query → Type 0
+AreTables count query tables = (length tables ≡ count) × ((table : ℕ) → table < count → query_at tables table ≡ query table)
+
+-- Statements of a transaction that are composed: how many, the version that was read last, their steps, which of them wrote each table last, and the
+-- query of each table.
 pub record Parts : Type 0 where
   pub ran : ℕ
+  pub version : ℕ
   pub steps : List QueryStep
   pub writes : List (Option ℕ)
+  pub tables : List Query
 
--- the parts after one more entry
-abbrev pub next_parts : (ℕ → ℕ) → ℕ → ℕ → Option Statement → Parts → Parts
-next_parts columns t begin None parts = parts
-next_parts columns t begin (Some statement) parts = record {
-  ran = suc parts.ran;
-  steps = parts.steps ++ steps_of columns t (suc parts.ran) (read_tables begin parts.writes) statement (target statement);
-  writes = with_write (target statement) (suc parts.ran) parts.writes;
-}
-
--- the first statements of a transaction, this many, over this many tables
-pub record IsComposed (columns : ℕ → ℕ) (log : Log) (t k count : ℕ) (parts : Parts) : Type 0 where
+-- the first k statements of a transaction, over this many tables, which have these queries over the version `read`
+pub record AreParts (columns : ℕ → ℕ) (log : Log) (t k count read : ℕ) (query : ℕ → Query) (parts : Parts) : Type 0 where
   pub ran : parts.ran ≡ k
+  pub version : parts.version ≡ read
   pub steps : parts.steps ≡ composed columns log t k
-  pub tables : length parts.writes ≡ count
+  pub many : length parts.writes ≡ count
   pub writes : (table : ℕ) → table < count → get_or parts.writes table None ≡ last_write log t k table
+  pub tables : AreTables count query parts.tables
+
+-- after the last of them
+abbrev pub IsComposed : (ℕ → ℕ) → Log → ℕ → ℕ → ℕ → Parts → Type 0
+IsComposed columns log t k count parts = AreParts columns log t k count (log.version t k) (current log t k) parts
+
+-- before the next one
+abbrev pub IsMoved : (ℕ → ℕ) → Log → ℕ → ℕ → ℕ → Parts → Type 0
+IsMoved columns log t k count parts = AreParts columns log t k count (log.version t (suc k)) (current_before log t k) parts

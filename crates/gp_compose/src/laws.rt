@@ -17,9 +17,8 @@ ghost use Rattle.gp_algebra.specs.Statements.{Select, Statement};
 ghost use Rattle.gp_machine.specs.Entries.{Entry, log_of, statement_at};
 ghost use Rattle.gp_machine.specs.Limits.{Limits};
 ghost use Rattle.gp_machine.specs.Points.{at_point};
-ghost use Rattle.gp_machine.specs.Publishing.{at_commit};
 ghost use Rattle.gp_machine.specs.Questions.{log_refusal, needed_version};
-ghost use Rattle.gp_machine.specs.Runs.{run};
+ghost use Rattle.gp_machine.specs.Runs.{at_commit, run};
 ghost use Rattle.gp_log.specs.Discipline.{IsLog};
 ghost use Rattle.gp_log.specs.LogFitting.{statements_fit};
 ghost use Rattle.gp_rewrite.specs.Meaning.{AreAsWide, IsMonoid, of_element, unmarked};
@@ -29,7 +28,8 @@ ghost use Rattle.gp_compose.specs.Composed.{composed, program_at, published_tabl
 /// Reenactment of a transaction, for the annotations of any monoid and over any versions whose rows are unmarked and as wide
 /// as their tables: the program of a state gives the answer in that state, but for marks; the program of a published table
 /// gives that table as the COMMIT published it; and each step gives the table that its statement left, whatever comes behind
-/// it. All statements fit the catalogue, and so does the query.
+/// it. All statements fit the catalogue, and so does the query. Versions have to be unmarked for the steps too: a table that a
+/// transaction has no statement on is scanned in a later version, and not published onto it.
 pub fn composed_programs_mean_the_states<M>()
     ensures answers { (kind : Annotations M) → IsMonoid kind → (catalogue : List Table)
         (entries : List Entry) → statements_fit catalogue entries ≡ true
@@ -53,6 +53,7 @@ pub fn composed_programs_mean_the_states<M>()
         (entries : List Entry) → statements_fit catalogue entries ≡ true
         → (env : Environment M)
         → ((version : ℕ) → AreAsWide (width_of catalogue) (env version))
+        → ((version table : ℕ) → AllByRecursion (λ row. row.mark ≡ false) (env version table))
         → (t k j table : ℕ) (statement : Statement) → j ≤ k
         → statement_at t j entries ≡ Some statement → target statement ≡ Some table
         → steps_meaning kind env (composed (width_of catalogue) (log_of entries) t k) no_steps j
@@ -83,7 +84,7 @@ pub fn composed_programs_are_well_built()
 {}
 
 /// The program of a state that a log does not refuse scans no version above the last one that the state needs: that of an AS OF,
-/// that which the transaction began at, or that before its commit. So the annotations of later versions are not needed either.
+/// that which the statement read, or that before the commit. So the annotations of later versions are not needed either.
 pub fn composed_programs_scan_what_is_needed()
     ensures { (limits : Limits) (entries : List Entry) → IsLog limits entries
         → (columns : ℕ → ℕ) (point : y.State) → log_refusal entries point ≡ None
