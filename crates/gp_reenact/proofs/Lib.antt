@@ -1,3 +1,4 @@
 pub mod BackendLemmas
+pub mod HeldLemmas
 pub mod ReplayLemmas
 pub mod StopLemmas

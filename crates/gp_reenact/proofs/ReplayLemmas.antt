@@ -31,12 +31,12 @@ use Rattle.gp_exec.specs.Running.{Runs, environment_view}
 use Rattle.gp_exec.specs.declared.error.ExecStop.{ExecStop}
 use Rattle.gp_exec.specs.declared.error.ExecStop.TheVariants as exec
 use Rattle.gp_exec.specs.declared.limit.TheConstants.{MAX_TABLE_ROWS, MAX_ANSWER_ROWS}
-use Rattle.gp_machine.specs.Entries.{Entry, Log, begin_version, log_of, statement_count}
+use Rattle.gp_machine.specs.Entries.{Entry, Log, log_of, statement_count}
 use Rattle.gp_machine.specs.HistorySpans as machine
 use Rattle.gp_machine.specs.Limits.{Limits}
 use Rattle.gp_machine.specs.Points.{RunStop, OverRows, OverNodes, at_point, run_stop, statement_stop}
 use Rattle.gp_machine.specs.Questions.{given, log_refusal, own_stop, rows_answer, stop_refusal}
-use Rattle.gp_machine.specs.Runs.{run}
+use Rattle.gp_machine.specs.Runs.{run_before}
 use Rattle.gp_log.specs.Limits.{limits}
 use Rattle.gp_log.specs.LogFacts.{tables_in}
 use Rattle.gp_log.specs.LogFitting.{SpansFit, statements_fit}
@@ -59,7 +59,8 @@ use Rattle.gp_merge.proofs.RebuildingLemmas.{merged_is}
 use Rattle.gp_merge.proofs.StepLemmas.{merged_stop}
 use Rattle.gp_reenact.specs.Reenacting.{Reenacts, RunsOver, merged_at, spans_of, stopped, transaction_at}
 use Rattle.gp_machine.proofs.PointReannotation.{VersionsReannotate, cells_reannotated, run_stop_reannotated}
-use Rattle.gp_reenact.proofs.StopLemmas.{gives_run, held_rows, program_stops, step_stop, wide_rows}
+use Rattle.gp_reenact.proofs.HeldLemmas.{held_rows, wide_rows}
+use Rattle.gp_reenact.proofs.StopLemmas.{gives_run, program_stops, step_stop}
 
 -- ---- stops
 
@@ -92,8 +93,8 @@ module _ {M : Type 0} (kind : Annotations M) (bounds : Limits) (log : Log) (t : 
   pub run_refused : (k : ℕ) → AreRefused (run_stop kind bounds log t k env)
   run_refused zero = refl
   run_refused (suc k) =
-      first_refused (run_stop kind bounds log t k env) (statement_stop kind bounds t (suc k) (log.statement t (suc k)) (run kind log t k env)) (run_refused k)
-      (statement_refused (suc k) (log.statement t (suc k)) (run kind log t k env))
+      first_refused (run_stop kind bounds log t k env) (statement_stop kind bounds t (suc k) (log.statement t (suc k)) (run_before kind log t k env)) (run_refused k)
+      (statement_refused (suc k) (log.statement t (suc k)) (run_before kind log t k env))
 
 -- ---- answers
 
@@ -244,9 +245,9 @@ module _ (entries : List Entry) (versions : List Versions) (select : Select) (fi
       let steps : List q.QueryStep = composed columns (log_of entries) t k in
       ap (λ env. program_stop MAX_TABLE_ROWS MAX_NODES env (plain_program columns false (record { steps = steps; last = last }))) (env_is versions)
       ∙ program_stops false limits (tables_in entries) entries t k past last fit
-      (held_rows monomials (tables_in entries) (spans_of versions) spans_fit (begin_version t entries))
+      (held_rows monomials (tables_in entries) (spans_of versions) spans_fit)
       (gives_run false columns (step_table steps) (log_of entries) t past k
-      (λ j table statement within is writes_it. composed_step_is monomials monoid (tables_in entries) entries fit past wide t k j table statement within is writes_it)
+      (λ j table statement within is writes_it. composed_step_is monomials monoid (tables_in entries) entries fit past wide (none_marked versions) t k j table statement within is writes_it)
       (λ j. rows_between false (columns (step_table steps j)) (steps_are columns false past widths (record { steps = steps; last = last }) has j)))
       ∙ ap (option_map step_stop) (sym (run_stop_reannotated monomials plain forgotten forgetting past plain_past (forgets versions) limits (log_of entries) t k))
 

@@ -1,295 +1,53 @@
--- The plain program of a transaction stops where its run does. Only the rows that an INSERT appends can be over the limits: as long as no statement stopped, no
--- cell of a row is an identity, and no row has an identity of too many nodes.
-use Rattle.std.proofs.Common.{◌≡◌, ℕ, zero, suc, ◌<◌, ◌≤◌, ◌==◌, nat_le, nat_lt, ℤ, ◌+ℤ◌, ◌-ℤ◌, ◌*ℤ◌, neg_ℤ, Bool, true, false, true≢false, ◌&&◌, ◌||◌, List, [], ◌∷◌, ◌++◌, get_or, length, map, Option, Some, None, if◌then◌else◌, refl, sym, ap, ◌∙◌, arith}
-use Rattle.std.specs.List.{AllByRecursion, flat_map, list_all, list_any}
+-- The plain program of a transaction stops where its run does. Only the rows that an INSERT appends can be over the limits, since those of its table are as tables
+-- hold them.
+use Rattle.std.proofs.Common.{◌≡◌, ℕ, zero, suc, ◌<◌, ◌≤◌, ◌==◌, nat_le, nat_lt, Bool, true, false, true≢false, ◌||◌, List, [], ◌∷◌, ◌++◌, length, map, Option, Some, None, if◌then◌else◌, refl, sym, ap, ◌∙◌, arith}
+use Rattle.std.specs.List.{AllByRecursion, list_all, list_any}
 use Rattle.std.specs.Option.{option_map, option_or}
 use Rattle.std.proofs.lemmas.Bool.{eq-eqb, eqb-true, ne_eqb}
 use Rattle.std.proofs.lemmas.Bool.Decides.{nat_tests}
 use Rattle.std.proofs.lemmas.List.{length-map, map-append}
-use Rattle.std.proofs.lemmas.List.Folds.{list_all-append, list_any-append}
+use Rattle.std.proofs.lemmas.List.Folds.{list_any-append}
 use Rattle.gp_base.specs.declared.cell.Cell.{Cell}
 use Rattle.gp_base.specs.declared.cell.Cell.TheVariants as cell
-use Rattle.gp_base.specs.declared.row_id.TheConstants.{MAX_NODES}
 use Rattle.gp_base.specs.declared.table.Table.{Table}
-use Rattle.gp_base.specs.declared.token.Token.TheVariants.{Updated}
 use Rattle.gp_base.specs.Annotated.{Annotated, Annotations, Database, Environment, monomials}
-use Rattle.gp_base.specs.Cells.{fits_number, is_user_cell}
+use Rattle.gp_base.specs.Cells.{is_user_cell}
 use Rattle.gp_base.specs.Identities.{Identity, Sources, identity, no_sources, nodes, source}
 use Rattle.gp_base.specs.Tokens.{Monomial}
-use Rattle.gp_expr.specs.Expressions as e
-use Rattle.gp_expr.specs.Expressions.{Cond, Expr, all_leaves, is_simple}
-use Rattle.gp_expr.specs.Values.{column, holds, is_large, negated, number, on_numbers, passes, truth, value}
+use Rattle.gp_expr.specs.Values.{is_large}
 use Rattle.gp_algebra.specs.AnnotatedQueries as q
 use Rattle.gp_algebra.specs.AnnotatedQueries.{Derived, Query, scanned}
-use Rattle.gp_algebra.specs.Answers.{Element, answer, answer_from, choices, chosen, joined, passes_where, values}
-use Rattle.gp_algebra.specs.Effects.{assigned, assigned_from, changed, given_from, made, set_for, set_or, step, with_rows}
-use Rattle.gp_algebra.specs.Fitting.{branch_fits, expr_fits, is_countable, is_there, joined_width, row_fits, set_fits, statement_fits, width_of}
+use Rattle.gp_algebra.specs.Answers.{answer}
+use Rattle.gp_algebra.specs.Effects.{given_from, made, step, with_rows}
+use Rattle.gp_algebra.specs.Fitting.{is_countable, is_there, width_of}
 use Rattle.gp_algebra.specs.Plain.{PlainEnvironment, PlainStep, StepRows, meaning, no_steps, steps_meaning, with_step}
 use Rattle.gp_algebra.specs.QueryForms.{step_table}
-use Rattle.gp_algebra.specs.Statements.{Branch, Select, SetExpr, Statement, delete, insert, insert_select, read, update}
+use Rattle.gp_algebra.specs.Statements.{Statement, delete, insert, insert_select, read, update}
 use Rattle.gp_algebra.specs.Stops.{Stop, ancestry, first_stop, program_stop, rows, steps_stop, stop_at}
-use Rattle.gp_versions.specs.declared.span.Span.{Span}
-use Rattle.gp_versions.specs.Spans.{holds_at, row_of, rows_at, spans_at}
-use Rattle.gp_machine.specs.Entries.{Began, Committed, Created, Ended, Entry, Log, Ran, begin_version, log_of, statement_at, statement_count}
+use Rattle.gp_machine.specs.Entries.{Entry, Log, log_of}
 use Rattle.gp_machine.specs.Limits.{Limits}
 use Rattle.gp_machine.specs.Points.{OverNodes, OverRows, RunStop, run_stop, statement_stop}
-use Rattle.gp_machine.specs.Runs.{run, stepped}
-use Rattle.gp_machine.proofs.Distinct.{each_append, each_filter, each_map, each_weaker, or_false}
-use Rattle.gp_log.specs.LogFitting.{SpanFits, SpansFit, statements_fit}
-use Rattle.gp_rewrite.specs.Meaning.{AreAsWide}
+use Rattle.gp_machine.specs.Runs.{run, run_before, stepped}
+use Rattle.gp_machine.proofs.Distinct.{each_append, each_weaker}
+use Rattle.gp_log.specs.LogFitting.{statements_fit}
 use Rattle.gp_rewrite.specs.Rewriting.{rewritten, target}
-use Rattle.gp_compose.specs.Composed.{composed, current, is_target, step_of, steps_of, writes}
+use Rattle.gp_compose.specs.Composed.{composed, current_before, is_target, step_of, steps_of, writes}
 use Rattle.gp_prov.specs.Encoding.{encoded, encoded_row, noted}
 use Rattle.gp_prov.specs.ToPlain.{plain, plain_program, plain_step}
+use Rattle.gp_reenact.proofs.HeldLemmas.{AreHeld, FitsIfSome, HasUserCells, IsHeld, both, held_refreshed, held_step, logged_fits, user_given, user_made}
 
 -- the stop of a program for that of a run
 abbrev pub step_stop : RunStop → Stop
 step_stop (OverRows t k) = rows k
 step_stop (OverNodes t k) = ancestry k
 
--- a row as tables hold it: no cell is an identity, and its own has at most this many nodes
-pub record IsHeld (most : ℕ) {M : Type 0} (row : Annotated M) : Type 0 where
-  pub cells : list_all is_user_cell row.cells ≡ true
-  pub small : nodes row.identity ≤ most
-
--- so is each row of each table
-abbrev pub AreHeld : (most : ℕ) → {M : Type 0} → Database M → Type 0
-AreHeld most db = (table : ℕ) → AllByRecursion (IsHeld most) (db table)
-
 -- ---- tests
-
-both : (a b : Bool) → a && b ≡ true → (a ≡ true) × (b ≡ true)
-both true b e = (refl, e)
-both false b e = absurd (true≢false (sym e))
-
-and_true : (a b : Bool) → a ≡ true → b ≡ true → a && b ≡ true
-and_true true b one other = other
-and_true false b one other = absurd (true≢false (sym one))
 
 same_number : (n : ℕ) → (n == n) ≡ true
 same_number n = eq-eqb n n refl
 
-less_equal : (a b : ℕ) → nat_lt a b ≡ false → b ≤ a
-less_equal a b e = grind (arith, nat_tests)
-
 not_less : (a b : ℕ) → b ≤ a → nat_lt a b ≡ false
 not_less a b l = grind (arith, nat_tests)
-
--- ---- the rows of a version, by row versions that fit their tables
-
-module _ {M : Type 0} (kind : Annotations M) (catalogue : List Table) (spans : ℕ → List Span) (fit : SpansFit catalogue spans) (version : ℕ) where
-  abbrev rows_of : Database M
-  rows_of table = rows_at kind version (spans table)
-
-  each_row : (P : Annotated M → Type 0) (table : ℕ) → ((span : Span) → SpanFits (width_of catalogue table) span → P (row_of kind span))
-      → AllByRecursion P (rows_of table)
-  each_row P table holds =
-      each_map P (SpanFits (width_of catalogue table)) (row_of kind) holds (spans_at version (spans table))
-      (each_filter (SpanFits (width_of catalogue table)) (SpanFits (width_of catalogue table)) (holds_at version) (λ span at is. is) (spans table) (fit table))
-
-  pub held_rows : AreHeld MAX_NODES rows_of
-  held_rows table = each_row (IsHeld MAX_NODES) table (λ span is. record { cells = (both _ _ is.cells).1; small = is.small })
-
-  pub wide_rows : AreAsWide (width_of catalogue) rows_of
-  wide_rows table =
-      each_row (λ row. length row.cells ≡ width_of catalogue table) table
-      (λ span is. eqb-true (length span.row) (width_of catalogue table) (both _ _ is.cells).0)
-
--- ---- values of simple expressions on cells that a user can write
-
-user_number : (z : ℤ) → is_user_cell (number z) ≡ true
-user_number z = elim (fits_number z) as (λ b. fits_number z ≡ b → is_user_cell (if b then cell.Int z else cell.Null) ≡ true) [ true ↦ λ is. is | false ↦ λ is. refl ] refl
-
-user_on_numbers : (f : ℤ → ℤ → ℤ) (x z : Cell) → is_user_cell (on_numbers f x z) ≡ true
-user_on_numbers f (cell.Int m) (cell.Int n) = user_number (f m n)
-user_on_numbers f _ _ = refl
-
-user_negated : (x : Cell) → is_user_cell (negated x) ≡ true
-user_negated (cell.Int m) = user_number (neg_ℤ m)
-user_negated _ = refl
-
-user_at : (row : List Cell) (n : ℕ) → list_all is_user_cell row ≡ true → is_user_cell (get_or row n cell.Null) ≡ true
-user_at [] n all = refl
-user_at (x ∷ row) zero all = (both (is_user_cell x) _ all).0
-user_at (x ∷ row) (suc n) all = user_at row n (both (is_user_cell x) _ all).1
-
-user_column : (n : ℕ) (row : List Cell) → list_all is_user_cell row ≡ true → is_user_cell (column n row) ≡ true
-user_column zero row all = refl
-user_column (suc n) row all = user_at row n all
-
-module _ (columns : ℕ → Bool) (row : List Cell) (all : list_all is_user_cell row ≡ true) where
-  user_value : (expr : Expr) → is_simple expr ≡ true → all_leaves columns is_user_cell expr ≡ true → is_user_cell (value expr row) ≡ true
-  user_value (e.col n) simple leaves = user_column n row all
-  user_value (e.constant x) simple leaves = leaves
-  user_value (e.add a b) simple leaves = user_on_numbers ◌+ℤ◌ (value a row) (value b row)
-  user_value (e.sub a b) simple leaves = user_on_numbers ◌-ℤ◌ (value a row) (value b row)
-  user_value (e.mul a b) simple leaves = user_on_numbers ◌*ℤ◌ (value a row) (value b row)
-  user_value (e.neg a) simple leaves = user_negated (value a row)
-  user_value (e.case c a b) simple leaves =
-      let s = both _ _ (both _ _ simple).1 in
-      let l = both _ _ (both _ _ leaves).1 in
-      elim (holds (truth c row)) as (λ test. is_user_cell (if test then value a row else value b row) ≡ true) [
-        | true ↦ user_value a s.0 l.0
-        | false ↦ user_value b s.1 l.1
-      ]
-  user_value (e.new_id t k b parts) simple leaves = absurd (true≢false (sym simple))
-  user_value (e.times a b) simple leaves = absurd (true≢false (sym simple))
-
-user_fitting : (width : ℕ) (row : List Cell) → list_all is_user_cell row ≡ true → (expr : Expr) → expr_fits width expr ≡ true → is_user_cell (value expr row) ≡ true
-user_fitting width row all expr fit = let are = both (is_simple expr) _ fit in user_value _ row all expr are.0 are.1
-
-user_values : (width : ℕ) (row : List Cell) → list_all is_user_cell row ≡ true → (exprs : List Expr) → list_all (expr_fits width) exprs ≡ true
-    → list_all is_user_cell (values exprs row) ≡ true
-user_values width row all [] fit = refl
-user_values width row all (expr ∷ exprs) fit =
-    let are = both (expr_fits width expr) _ fit in and_true _ _ (user_fitting width row all expr are.0) (user_values width row all exprs are.1)
-
--- ---- the rows of a statement
-
-module _ {M : Type 0} (kind : Annotations M) (most : ℕ) where
-  abbrev HasUserCells : Annotated M → Type 0
-  HasUserCells row = list_all is_user_cell row.cells ≡ true
-
-  abbrev HasUserElement : Element M → Type 0
-  HasUserElement element = list_all is_user_cell element.cells ≡ true
-
-  user_given : (width t k n : ℕ) (all : List (List Cell)) → list_all (row_fits width) all ≡ true → AllByRecursion HasUserCells (given_from kind t k n all)
-  user_given width t k n [] fit = tt
-  user_given width t k n (cells ∷ others) fit =
-      let are = both (row_fits width cells) _ fit in ((both _ _ are.0).1, user_given width t k (suc n) others are.1)
-
-  each_flat_map : {X Y : Type 0} (P : Y → Type 0) (Q : X → Type 0) (f : X → List Y) → ((x : X) → Q x → AllByRecursion P (f x))
-      → (xs : List X) → AllByRecursion Q xs → AllByRecursion P (flat_map f xs)
-  each_flat_map P Q f g [] all = tt
-  each_flat_map P Q f g (x ∷ xs) all = each_append P (f x) (flat_map f xs) (g x all.0) (each_flat_map P Q f g xs all.1)
-
-  module _ (db : Database M) (held : AreHeld most db) where
-    user_choices : (branch : ℕ) (tables : List ℕ) → AllByRecursion HasUserElement (choices kind branch tables db)
-    user_choices branch [] = (refl, tt)
-    user_choices branch (table ∷ tables) =
-        each_flat_map HasUserElement (IsHeld most) (λ row. map (joined kind branch row) (choices kind branch tables db))
-        (λ row own. each_map HasUserElement HasUserElement (joined kind branch row)
-        (λ element is. list_all-append is_user_cell row.cells element.cells ∙ and_true _ _ own.cells is)
-        (choices kind branch tables db) (user_choices branch tables))
-        (db table) (held table)
-
-    user_chosen : (tables : List Table) (width n : ℕ) (branch : Branch) → branch_fits tables width branch ≡ true
-        → AllByRecursion HasUserElement (chosen kind n branch db)
-    user_chosen tables width n branch fit =
-        let inner : ℕ = joined_width tables branch.from in
-        let from = both (nat_lt 0 (length branch.from)) _ fit in
-        let there = both (list_all (is_there tables) branch.from) _ from.1 in
-        let some = both (nat_lt 0 (length branch.items)) _ there.1 in
-        let same = both (length branch.items == width) _ some.1 in
-        let items = both (list_all (expr_fits inner) branch.items) _ same.1 in
-        each_map HasUserElement HasUserElement (λ (element : Element M). record element { cells = values branch.items element.cells })
-        (λ element is. user_values inner element.cells is branch.items items.0) _
-        (each_filter HasUserElement HasUserElement (λ (element : Element M). passes_where branch.cond element.cells) (λ element passed is. is)
-        (choices kind n branch.from db) (user_choices n branch.from))
-
-    user_answer : (tables : List Table) (width n : ℕ) (select : Select) → list_all (branch_fits tables width) select ≡ true
-        → AllByRecursion HasUserElement (answer_from kind n select db)
-    user_answer tables width n [] fit = tt
-    user_answer tables width n (branch ∷ select) fit =
-        let are = both (branch_fits tables width branch) _ fit in
-        each_append HasUserElement (chosen kind n branch db) _ (user_chosen tables width n branch are.0) (user_answer tables width (suc n) select are.1)
-
-  -- the new rows of an INSERT, where none of them is over the limit
-  held_new : (new : List (Annotated M)) → AllByRecursion HasUserCells new → list_any (λ (row : Annotated M). nat_lt most (nodes row.identity)) new ≡ false
-      → AllByRecursion (IsHeld most) new
-  held_new [] all none = tt
-  held_new (row ∷ new) all none =
-      let are = or_false (nat_lt most (nodes row.identity)) _ none in
-      (record { cells = all.0; small = less_equal most (nodes row.identity) are.0 }, held_new new all.1 are.1)
-
-  -- the expressions of an UPDATE
-  set_fit : (width n : ℕ) (sets : List SetExpr) → list_all (set_fits width) sets ≡ true → (row : List Cell) → list_all is_user_cell row ≡ true
-      → is_user_cell (value (set_or (set_for n sets) (e.col n)) row) ≡ true
-  set_fit width n [] fit row all = user_column n row all
-  set_fit width n (set ∷ sets) fit row all =
-      let are = both (set_fits width set) _ fit in
-      elim (set.col == n) as (λ b. is_user_cell (value (set_or (if b then Some set.expr else set_for n sets) (e.col n)) row) ≡ true) [
-        | true ↦ user_fitting width row all set.expr (both _ _ are.0).1
-        | false ↦ set_fit width n sets are.1 row all
-      ]
-
-  user_assigned : (width n more : ℕ) (sets : List SetExpr) → list_all (set_fits width) sets ≡ true → (row : List Cell) → list_all is_user_cell row ≡ true
-      → list_all is_user_cell (values (assigned_from sets n more) row) ≡ true
-  user_assigned width n zero sets fit row all = refl
-  user_assigned width n (suc more) sets fit row all = and_true _ _ (set_fit width (suc n) sets fit row all) (user_assigned width (suc n) more sets fit row all)
-
-  held_changed : (width t k : ℕ) (sets : List SetExpr) (c : Cond) → list_all (set_fits width) sets ≡ true → (row : Annotated M) → IsHeld most row
-      → IsHeld most (changed kind t k sets c row)
-  held_changed width t k sets c fit row held =
-      elim (passes c row.cells) as (λ b. IsHeld most (if b
-      then record { identity = row.identity; cells = assigned sets row.cells; mark = true; annotation = kind.times row.annotation (kind.token (Updated t k)) }
-      else row)) [
-        | true ↦ record { cells = user_assigned width 0 (length row.cells) sets fit row.cells held.cells; small = held.small }
-        | false ↦ held
-      ]
-
-  held_with : (place : ℕ) (new : List (Annotated M)) (db : Database M) → AreHeld most db → AllByRecursion (IsHeld most) new → AreHeld most (with_rows place new db)
-  held_with place new db held all table =
-      elim (table == place) as (λ b. AllByRecursion (IsHeld most) (if b then new else db table)) [ true ↦ all | false ↦ held table ]
-
--- ---- statements that do not stop
-
-abbrev pub FitsIfSome : List Table → Option Statement → Type 0
-FitsIfSome catalogue None = Unit {0}
-FitsIfSome catalogue (Some statement) = statement_fits catalogue statement ≡ true
-
-pub logged_fits : (catalogue : List Table) (t k : ℕ) (entries : List Entry) → statements_fit catalogue entries ≡ true
-    → FitsIfSome catalogue (statement_at t k entries)
-logged_fits catalogue t k [] fit = tt
-logged_fits catalogue t k (Created line session table ∷ older) fit = logged_fits catalogue t k older fit
-logged_fits catalogue t k (Began line session u ∷ older) fit = logged_fits catalogue t k older fit
-logged_fits catalogue t k (Ran line session command u statement ∷ older) fit =
-    let are = both (statement_fits catalogue statement) _ fit in
-    elim ((u == t) && (suc (statement_count t older) == k)) as (λ b. FitsIfSome catalogue (if b then Some statement else statement_at t k older)) [
-      | true ↦ are.0
-      | false ↦ logged_fits catalogue t k older are.1
-    ]
-logged_fits catalogue t k (Committed line session u ∷ older) fit = logged_fits catalogue t k older fit
-logged_fits catalogue t k (Ended line session end u ∷ older) fit = logged_fits catalogue t k older fit
-
-module _ {M : Type 0} (kind : Annotations M) (limits : Limits) (catalogue : List Table) where
-  user_made : (t k : ℕ) (select : Select) (db : Database M) → AreHeld limits.nodes db → (width : ℕ) → list_all (branch_fits catalogue width) select ≡ true
-      → AllByRecursion (HasUserCells kind limits.nodes) (map (made kind t k) (answer kind select db))
-  user_made t k select db held width fit =
-      each_map (HasUserCells kind limits.nodes) (HasUserElement kind limits.nodes) (made kind t k) (λ element is. is) (answer kind select db)
-      (user_answer kind limits.nodes db held catalogue width 1 select fit)
-
-  -- an INSERT that does not stop is not over the nodes
-  few_nodes : (t k : ℕ) (over_rows over_nodes : Bool)
-      → (if over_rows then Some (OverRows t k) else if over_nodes then Some (OverNodes t k) else None) ≡ None → over_nodes ≡ false
-  few_nodes t k true over_nodes none = cc
-  few_nodes t k false true none = cc
-  few_nodes t k false false none = refl
-
-  -- a statement that does not stop keeps what tables hold
-  pub held_step : (t k : ℕ) (found : Option Statement) (db : Database M) → FitsIfSome catalogue found → statement_stop kind limits t k found db ≡ None
-      → AreHeld limits.nodes db → AreHeld limits.nodes (stepped kind t k found db)
-  held_step t k None db fit none held = held
-  held_step t k (Some (insert table all)) db fit none held =
-      let are = both (is_there catalogue table) _ fit in
-      let new : List (Annotated M) = given_from kind t k 1 all in
-      held_with kind limits.nodes table (db table ++ new) db held
-      (each_append (IsHeld limits.nodes) (db table) new (held table)
-      (held_new kind limits.nodes new (user_given kind limits.nodes (width_of catalogue table) t k 1 all (both _ _ are.1).1) (few_nodes t k _ _ none)))
-  held_step t k (Some (insert_select table select)) db fit none held =
-      let are = both (is_there catalogue table) _ fit in
-      let new : List (Annotated M) = map (made kind t k) (answer kind select db) in
-      held_with kind limits.nodes table (db table ++ new) db held
-      (each_append (IsHeld limits.nodes) (db table) new (held table)
-      (held_new kind limits.nodes new (user_made t k select db held (width_of catalogue table) (both (is_countable select) _ are.1).1) (few_nodes t k _ _ none)))
-  held_step t k (Some (update table sets c)) db fit none held =
-      let are = both (is_there catalogue table) _ fit in
-      held_with kind limits.nodes table (map (changed kind t k sets c) (db table)) db held
-      (each_map (IsHeld limits.nodes) (IsHeld limits.nodes) (changed kind t k sets c)
-      (held_changed kind limits.nodes (width_of catalogue table) t k sets c (both _ _ are.1).0) (db table) (held table))
-  held_step t k (Some (delete table c)) db fit none held =
-      held_with kind limits.nodes table _ db held (each_filter (IsHeld limits.nodes) (IsHeld limits.nodes) _ (λ row kept is. is) (db table) (held table))
-  held_step t k (Some (read select)) db fit none held = held
 
 -- ---- what is over the limits
 
@@ -390,18 +148,18 @@ module _ (prov : Bool) (columns of_step : ℕ → ℕ) (log : Log) (t : ℕ) (en
       → after_steps count (suc j) ≡ map (encoded_row prov) (run monomials log t (suc j) env table)
 
   abbrev next_steps : ℕ → Option Statement → List PlainStep
-  next_steps k found = map (plain_step columns of_step prov) (step_of columns t (suc k) (current log t k) found)
+  next_steps k found = map (plain_step columns of_step prov) (step_of columns t (suc k) (current_before log t k) found)
 
   -- the step of a statement, by the table that it writes
   abbrev step_on : ℕ → Statement → Option ℕ → List PlainStep
-  step_on k statement own = map (plain_step columns of_step prov) (steps_of columns t (suc k) (current log t k) statement own)
+  step_on k statement own = map (plain_step columns of_step prov) (steps_of columns t (suc k) (current_before log t k) statement own)
 
   -- its rows, given those of the steps before
   abbrev rows_by : ℕ → Statement → List (List Cell)
-  rows_by k statement = meaning (after_steps k) (encoded prov env) (plain columns of_step prov (rewritten columns t (suc k) statement (current log t k)))
+  rows_by k statement = meaning (after_steps k) (encoded prov env) (plain columns of_step prov (rewritten columns t (suc k) statement (current_before log t k)))
 
   more_steps : (k : ℕ) → plain_steps (suc k) ≡ plain_steps k ++ next_steps k (log.statement t (suc k))
-  more_steps k = map-append (plain_step columns of_step prov) (composed columns log t k) (step_of columns t (suc k) (current log t k) (log.statement t (suc k)))
+  more_steps k = map-append (plain_step columns of_step prov) (composed columns log t k) (step_of columns t (suc k) (current_before log t k) (log.statement t (suc k)))
 
   more_rows : (k j : ℕ) → after_steps (suc k) j ≡ steps_meaning (encoded prov env) (next_steps k (log.statement t (suc k))) (after_steps k) j
   more_rows k j =
@@ -437,33 +195,33 @@ module _ (prov : Bool) (columns of_step : ℕ → ℕ) (log : Log) (t : ℕ) (en
 
   module _ (count : ℕ) (gives : GivesRun count) where
     written : (k : ℕ) (statement : Statement) (table : ℕ) → k < count → log.statement t (suc k) ≡ Some statement → target statement ≡ Some table
-        → rows_by k statement ≡ map (encoded_row prov) (step monomials t (suc k) statement (run monomials log t k env) table)
+        → rows_by k statement ≡ map (encoded_row prov) (step monomials t (suc k) statement (run_before monomials log t k env) table)
     written k statement table before is writes_it =
         sym (own_rows k statement table is writes_it)
         ∙ sym (kept (suc k) count before)
         ∙ gives k table before (ap (λ found. writes found table) is ∙ ap (λ own. is_target own table) writes_it ∙ same_number table)
-        ∙ ap (λ found. map (encoded_row prov) (stepped monomials t (suc k) found (run monomials log t k env) table)) is
+        ∙ ap (λ found. map (encoded_row prov) (stepped monomials t (suc k) found (run_before monomials log t k env) table)) is
 
     module _ (limits : Limits) (catalogue : List Table) (fits : (k : ℕ) → FitsIfSome catalogue (log.statement t k))
-        (held : AreHeld limits.nodes (env (log.begin_version t))) where
+        (held : (version : ℕ) → AreHeld limits.nodes (env version)) where
       abbrev stop_in : List PlainStep → StepRows → Option Stop
       stop_in steps before = steps_stop limits.rows limits.nodes (encoded prov env) steps before
 
-      one_stop : (k : ℕ) → k < count → AreHeld limits.nodes (run monomials log t k env)
+      one_stop : (k : ℕ) → k < count → AreHeld limits.nodes (run_before monomials log t k env)
           → (found : Option Statement) → log.statement t (suc k) ≡ found → FitsIfSome catalogue found
           → stop_in (next_steps k found) (after_steps k)
-          ≡ option_map step_stop (statement_stop monomials limits t (suc k) found (run monomials log t k env))
+          ≡ option_map step_stop (statement_stop monomials limits t (suc k) found (run_before monomials log t k env))
       one_stop k before held None is fit = refl
       one_stop k before held (Some (insert table all)) is fit =
           let are = both (is_there catalogue table) _ fit in
-          let db : Database Monomial = run monomials log t k env in
+          let db : Database Monomial = run_before monomials log t k env in
           let new : List (Annotated Monomial) = given_from monomials t (suc k) 1 all in
           appended prov limits t (suc k) (db table) new (with_rows table (db table ++ new) db table) _
           (ap (λ b. if b then db table ++ new else db table) (same_number table)) (written k (insert table all) table before is refl)
           (held table) (user_given monomials limits.nodes (width_of catalogue table) t (suc k) 1 all (both _ _ are.1).1)
       one_stop k before held (Some (insert_select table select)) is fit =
           let are = both (is_there catalogue table) _ fit in
-          let db : Database Monomial = run monomials log t k env in
+          let db : Database Monomial = run_before monomials log t k env in
           let new : List (Annotated Monomial) = map (made monomials t (suc k)) (answer monomials select db) in
           appended prov limits t (suc k) (db table) new (with_rows table (db table ++ new) db table) _
           (ap (λ b. if b then db table ++ new else db table) (same_number table)) (written k (insert_select table select) table before is refl)
@@ -484,7 +242,10 @@ module _ (prov : Bool) (columns of_step : ℕ → ℕ) (log : Log) (t : ℕ) (en
           found = log.statement t (suc k)
 
           next : Option RunStop
-          next = statement_stop monomials limits t (suc k) found (run monomials log t k env)
+          next = statement_stop monomials limits t (suc k) found (run_before monomials log t k env)
+
+          reads : AreHeld limits.nodes (run monomials log t k env) → AreHeld limits.nodes (run_before monomials log t k env)
+          reads own = held_refreshed monomials limits.nodes env held (log.version t k) (log.version t (suc k)) (run monomials log t k env) own
 
           sooner : stop_in (plain_steps (suc k)) no_steps
               ≡ first_stop (option_map step_stop (run_stop monomials limits log t k env)) (stop_in (next_steps k found) (after_steps k))
@@ -508,14 +269,14 @@ module _ (prov : Bool) (columns of_step : ℕ → ℕ) (log : Log) (t : ℕ) (en
             stop =
                 sooner
                 ∙ ap (λ o. first_stop (option_map step_stop o) (stop_in (next_steps k found) (after_steps k))) at
-                ∙ one_stop k before (earlier.holds at) found refl (fits (suc k))
+                ∙ one_stop k before (reads (earlier.holds at)) found refl (fits (suc k))
                 ∙ sym (ap (λ o. option_map step_stop (option_or o next)) at);
             holds = λ none.
-                held_step monomials limits catalogue t (suc k) found (run monomials log t k env) (fits (suc k)) (sym (ap (λ o. option_or o next) at) ∙ none) (earlier.holds at);
+                held_step monomials limits catalogue t (suc k) found (run_before monomials log t k env) (fits (suc k)) (sym (ap (λ o. option_or o next) at) ∙ none) (reads (earlier.holds at));
           }
 
       agrees : (k : ℕ) → k ≤ count → Agrees k
-      agrees zero before = record { stop = refl; holds = λ none. held }
+      agrees zero before = record { stop = refl; holds = λ none. held (log.version t zero) }
       agrees (suc k) before = next_agrees k before (agrees k (omega (arith, before)))
 
 -- ---- what the steps give
@@ -565,7 +326,7 @@ module _ (prov : Bool) (columns of_step : ℕ → ℕ) (log : Log) (t : ℕ) (en
 
 -- a program with the steps of the first k statements stops where their run does, if its steps give the rows of the run
 pub program_stops : (prov : Bool) (limits : Limits) (catalogue : List Table) (entries : List Entry) (t k : ℕ) (env : Environment Monomial) (last : Query)
-    → statements_fit catalogue entries ≡ true → AreHeld limits.nodes (env (begin_version t entries))
+    → statements_fit catalogue entries ≡ true → ((version : ℕ) → AreHeld limits.nodes (env version))
     → GivesRun prov (width_of catalogue) (step_table (composed (width_of catalogue) (log_of entries) t k)) (log_of entries) t env k
     → program_stop limits.rows limits.nodes (encoded prov env)
     (plain_program (width_of catalogue) prov (record { steps = composed (width_of catalogue) (log_of entries) t k; last = last }))
