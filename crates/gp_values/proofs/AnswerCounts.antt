@@ -16,9 +16,8 @@ use Rattle.gp_machine.specs.Annotating.{annotated_versions}
 use Rattle.gp_machine.specs.Entries.{Entry, log_of, statement_count, version_of, versions_in}
 use Rattle.gp_machine.specs.Limits.{Limits}
 use Rattle.gp_machine.specs.Points.{at_point, version_before}
-use Rattle.gp_machine.specs.Publishing.{at_commit}
 use Rattle.gp_machine.specs.Questions.{own_stop}
-use Rattle.gp_machine.specs.Runs.{run}
+use Rattle.gp_machine.specs.Runs.{at_commit, run}
 use Rattle.gp_machine.proofs.Distinct.{each_append, each_both, each_filter, each_map}
 use Rattle.gp_kexec.specs.InSemiring.{occurs, words}
 use Rattle.gp_values.specs.Room.{HasRoom, for_each_node, made_by}
@@ -56,12 +55,12 @@ module _ (entries : List Entry) (spans : ℕ → List Span) where
   point_within (y.as_of version) table = within_more (for_each_node runs) (λ token. suc (versions_in entries)) once_for_each (known version table) (version_within version table)
   point_within (y.after t k) table =
       let log = log_of entries in
-      within_more (run_most runs t k) (λ token. suc (versions_in entries)) (once_more t k) (run words log t k known table) (run_within log t known runs (version_within (log.begin_version t)) k table)
+      within_more (run_most runs t k) (λ token. suc (versions_in entries)) (once_more t k) (run words log t k known table) (run_within log t known runs version_within k table)
   point_within (y.State.commit t) table =
       let log = log_of entries in
       let before = version_before (version_of t entries) in
       within_more (run_most runs t (statement_count t entries)) (λ token. suc (versions_in entries)) (once_more t (statement_count t entries)) (at_commit words log t before known table)
-      (commit_within log t known runs (version_within (log.begin_version t)) before (version_within before) table)
+      (commit_within log t known runs version_within before table)
 
 -- ---- its elements
 

@@ -13,8 +13,8 @@ use Rattle.gp_algebra.specs.Statements.{Statement}
 use Rattle.gp_machine.specs.Annotating.{annotated, annotated_row, annotation_of, computed}
 use Rattle.gp_machine.specs.Committed.{cleared, unmarked}
 use Rattle.gp_machine.specs.Entries.{Log}
-use Rattle.gp_machine.specs.Publishing.{at_commit, was_written}
-use Rattle.gp_machine.specs.Runs.{run, stepped}
+use Rattle.gp_machine.specs.Publishing.{publish, was_written}
+use Rattle.gp_machine.specs.Runs.{at_commit, refreshed, run, run_before, stepped}
 use Rattle.gp_machine.proofs.Distinct.{each_all, each_append, each_filter, each_map}
 use Rattle.gp_kexec.specs.InSemiring.{occurs, words}
 use Rattle.gp_values.specs.Room.{IsWithinNodes, for_each_node, made_by}
@@ -66,35 +66,45 @@ run_grows runs t k = record { every = every; inserted = λ n. omega arith; queri
     updated : suc (cond ((t == t) && nat_le (suc k) k) (suc (runs t)) (runs t)) ≤ cond ((t == t) && nat_le (suc k) (suc k)) (suc (runs t)) (runs t)
     updated = rw (itself, here, before) (omega arith)
 
-module _ (log : Log) (t : ℕ) (versions : Environment (List Token)) (runs : ℕ → ℕ) (begins : AreWithin (for_each_node runs) (versions (log.begin_version t))) where
+-- rows that are published are rows of one of the two databases
+publish_within : (most : Token → ℕ) (base mine later : Database (List Token)) → AreWithin most mine → AreWithin most later → AreWithin most (publish base mine later)
+publish_within most base mine later own others table =
+    each_append (IsWithinNodes most) (filter (λ row. not (was_written (base table) (mine table) row.identity)) (later table)) (filter (λ row. row.mark) (mine table))
+    (each_filter (IsWithinNodes most) (IsWithinNodes most) (λ row. not (was_written (base table) (mine table) row.identity)) (λ row e is. is) (later table) (others table))
+    (each_filter (IsWithinNodes most) (IsWithinNodes most) (λ row. row.mark) (λ row e is. is) (mine table) (own table))
+
+module _ (log : Log) (t : ℕ) (versions : Environment (List Token)) (runs : ℕ → ℕ) (known : (version : ℕ) → AreWithin (for_each_node runs) (versions version)) where
   stepped_within : (k : ℕ) (statement : Option Statement) (db : Database (List Token)) → AreWithin (run_most runs t k) db → AreWithin (run_most runs t (suc k)) (stepped words t (suc k) statement db)
   stepped_within k None db within table = within_more (run_most runs t k) (run_most runs t (suc k)) (run_grows runs t k).every (db table) (within table)
   stepped_within k (Some statement) db within table = step_within (run_most runs t k) (run_most runs t (suc k)) t (suc k) (run_grows runs t k) statement db within table
 
-  start_most : (token : Token) → for_each_node runs token ≤ run_most runs t zero token
-  start_most (Inserted u j n) = omega arith
-  start_most (Queried u j) = omega arith
-  start_most (Updated u j) = elim ((t == u) && nat_le j zero) as (λ b. runs u ≤ cond b (suc (runs u)) (runs u)) [ true ↦ omega arith | false ↦ omega arith ]
+  ran_most : (k : ℕ) (token : Token) → for_each_node runs token ≤ run_most runs t k token
+  ran_most k (Inserted u j n) = omega arith
+  ran_most k (Queried u j) = omega arith
+  ran_most k (Updated u j) = elim ((t == u) && nat_le j k) as (λ b. runs u ≤ cond b (suc (runs u)) (runs u)) [ true ↦ omega arith | false ↦ omega arith ]
+
+  version_within : (k version : ℕ) → AreWithin (run_most runs t k) (versions version)
+  version_within k version table = within_more (for_each_node runs) (run_most runs t k) (ran_most k) (versions version table) (known version table)
+
+  refreshed_within : (k old new : ℕ) (db : Database (List Token)) → AreWithin (run_most runs t k) db → AreWithin (run_most runs t k) (refreshed old new versions db)
+  refreshed_within k old new db within =
+      elim (new == old) as (λ b. AreWithin (run_most runs t k) (cond b db (publish (versions old) db (versions new)))) [
+        | true ↦ within
+        | false ↦ publish_within (run_most runs t k) (versions old) db (versions new) within (version_within k new)
+      ]
 
   -- what a transaction reads after its first statements
   pub run_within : (k : ℕ) → AreWithin (run_most runs t k) (run words log t k versions)
-  run_within zero table = within_more (for_each_node runs) (run_most runs t zero) start_most (versions (log.begin_version t) table) (begins table)
-  run_within (suc k) table = stepped_within k (log.statement t (suc k)) (run words log t k versions) (run_within k) table
+  run_within zero = version_within zero (log.version t zero)
+  run_within (suc k) =
+      stepped_within k (log.statement t (suc k)) (run_before words log t k versions)
+      (refreshed_within k (log.version t k) (log.version t (suc k)) (run words log t k versions) (run_within k))
 
   -- what its commit publishes
-  pub commit_within : (before : ℕ) → AreWithin (for_each_node runs) (versions before) → AreWithin (run_most runs t (log.statement_count t)) (at_commit words log t before versions)
-  commit_within before within table =
-      let most = run_most runs t (log.statement_count t) in
-      let base = versions (log.begin_version t) table in
-      let mine = run words log t (log.statement_count t) versions table in
-      each_append (IsWithinNodes most) (filter (λ row. not (was_written base mine row.identity)) (versions before table)) (filter (λ row. row.mark) mine)
-      (each_filter (IsWithinNodes most) (IsWithinNodes most) (λ row. not (was_written base mine row.identity)) (λ row e is. is) (versions before table) (within_more (for_each_node runs) most ran_most (versions before table) (within table)))
-      (each_filter (IsWithinNodes most) (IsWithinNodes most) (λ row. row.mark) (λ row e is. is) mine (run_within (log.statement_count t) table))
-    where
-      ran_most : (token : Token) → for_each_node runs token ≤ run_most runs t (log.statement_count t) token
-      ran_most (Inserted u j n) = omega arith
-      ran_most (Queried u j) = omega arith
-      ran_most (Updated u j) = elim ((t == u) && nat_le j (log.statement_count t)) as (λ b. runs u ≤ cond b (suc (runs u)) (runs u)) [ true ↦ omega arith | false ↦ omega arith ]
+  pub commit_within : (before : ℕ) → AreWithin (run_most runs t (log.statement_count t)) (at_commit words log t before versions)
+  commit_within before =
+      let count = log.statement_count t in
+      publish_within (run_most runs t count) (versions (log.version t count)) (run words log t count versions) (versions before) (run_within count) (version_within count before)
 
 -- ---- versions
 
@@ -146,7 +156,7 @@ module _ (log : Log) (spans : ℕ → List Span) where
       let before = annotated_within (for_each_node (made_by log u)) (computed words log spans u) within in
       cleared_within (for_each_node (made_by log (suc u))) (at_commit words log t u known)
       (λ table. within_more (run_most (made_by log u) t (log.statement_count t)) (for_each_node (made_by log (suc u))) (more_most u (log.statement_count t)) (at_commit words log t u known table)
-      (commit_within log t known (made_by log u) (before (log.begin_version t)) u (before u) table))
+      (commit_within log t known (made_by log u) before u table))
 
   -- whatever the versions that are computed, up to this one
   pub computed_within : (u version : ℕ) → AreWithin (for_each_node (made_by log u)) (computed words log spans u version)

@@ -1,5 +1,5 @@
 -- Identities of rows are small where those of the spans are and no run makes a larger one.
-use Rattle.std.proofs.Common.{◌≡◌, ◌≤◌, ℕ, zero, suc, ◌+◌, ◌*◌, cond, refl, arith, Bool, true, false, List, [], ◌∷◌, ◌++◌, length, map, Option, Some, None, nat_lt}
+use Rattle.std.proofs.Common.{◌≡◌, ◌≤◌, ℕ, zero, suc, ◌*◌, cond, refl, arith, Bool, true, false, List, [], ◌∷◌, ◌++◌, length, map, Option, Some, None, nat_lt}
 use Rattle.std.specs.Prelude.{◌==◌, not}
 use Rattle.std.specs.List.{AllByRecursion, filter, list_any}
 use Rattle.std.specs.Option.{option_or, option_map}
@@ -18,9 +18,9 @@ use Rattle.gp_machine.specs.Annotating.{annotated, annotated_row, annotated_vers
 use Rattle.gp_machine.specs.Entries.{Entry, Log, log_of, statement_count, version_of, versions_in}
 use Rattle.gp_machine.specs.Limits.{Limits}
 use Rattle.gp_machine.specs.Points.{OverNodes, OverRows, RunStop, at_point, run_stop, statement_stop, version_before}
-use Rattle.gp_machine.specs.Publishing.{at_commit, was_written}
+use Rattle.gp_machine.specs.Publishing.{publish, was_written}
 use Rattle.gp_machine.specs.Questions.{own_stop, stop_refusal}
-use Rattle.gp_machine.specs.Runs.{run, stepped}
+use Rattle.gp_machine.specs.Runs.{at_commit, refreshed, run, run_before, stepped}
 use Rattle.gp_machine.proofs.Distinct.{each_append, each_filter, each_map, each_weaker, none_each}
 use Rattle.gp_values.proofs.Bounds.{each_flat_map, next_within, nothing}
 
@@ -77,7 +77,13 @@ module _ {M : Type 0} (kind : Annotations M) (most : ℕ) where
       over (read select) within = small
 
 module _ {M : Type 0} (kind : Annotations M) (limits : Limits) where
-  module _ (log : Log) (t : ℕ) (versions : Environment M) (begins : AreSmall limits.nodes (versions (log.begin_version t))) where
+  publish_small : (base mine later : Database M) → AreSmall limits.nodes mine → AreSmall limits.nodes later → AreSmall limits.nodes (publish base mine later)
+  publish_small base mine later own others table =
+      each_append (IsSmall limits.nodes) (filter (λ row. not (was_written (base table) (mine table) row.identity)) (later table)) (filter (λ row. row.mark) (mine table))
+      (each_filter (IsSmall limits.nodes) (IsSmall limits.nodes) (λ row. not (was_written (base table) (mine table) row.identity)) (λ row e is. is) (later table) (others table))
+      (each_filter (IsSmall limits.nodes) (IsSmall limits.nodes) (λ row. row.mark) (λ row e is. is) (mine table) (own table))
+
+  module _ (log : Log) (t : ℕ) (versions : Environment M) (known : (version : ℕ) → AreSmall limits.nodes (versions version)) where
     stepped_small : (k : ℕ) (statement : Option Statement) (db : Database M) → AreSmall limits.nodes db → statement_stop kind limits t k statement db ≡ None → AreSmall limits.nodes (stepped kind t k statement db)
     stepped_small k None db small stop = small
     stepped_small k (Some statement) db small stop = go (is_over_rows kind limits.rows t k statement db) (is_over_nodes kind limits.nodes t k statement db) refl stop
@@ -87,19 +93,21 @@ module _ {M : Type 0} (kind : Annotations M) (limits : Limits) where
         go false true is e = absurd (some_none (OverNodes t k) e)
         go false false is e = step_small kind limits.nodes t k statement db small is
 
-    pub run_small : (k : ℕ) → run_stop kind limits log t k versions ≡ None → AreSmall limits.nodes (run kind log t k versions)
-    run_small zero stop = begins
-    run_small (suc k) stop =
-        let parts = none_parts (run_stop kind limits log t k versions) (statement_stop kind limits t (suc k) (log.statement t (suc k)) (run kind log t k versions)) stop in
-        stepped_small (suc k) (log.statement t (suc k)) (run kind log t k versions) (run_small k parts.0) parts.1
+    refreshed_small : (old new : ℕ) (db : Database M) → AreSmall limits.nodes db → AreSmall limits.nodes (refreshed old new versions db)
+    refreshed_small old new db small =
+        elim (new == old) as (λ b. AreSmall limits.nodes (cond b db (publish (versions old) db (versions new)))) [ true ↦ small | false ↦ publish_small (versions old) db (versions new) small (known new) ]
 
-    pub commit_small : (before : ℕ) → AreSmall limits.nodes (versions before) → run_stop kind limits log t (log.statement_count t) versions ≡ None → AreSmall limits.nodes (at_commit kind log t before versions)
-    commit_small before small stop table =
-        let base = versions (log.begin_version t) table in
-        let mine = run kind log t (log.statement_count t) versions table in
-        each_append (IsSmall limits.nodes) (filter (λ row. not (was_written base mine row.identity)) (versions before table)) (filter (λ row. row.mark) mine)
-        (each_filter (IsSmall limits.nodes) (IsSmall limits.nodes) (λ row. not (was_written base mine row.identity)) (λ row e is. is) (versions before table) (small table))
-        (each_filter (IsSmall limits.nodes) (IsSmall limits.nodes) (λ row. row.mark) (λ row e is. is) mine (run_small (log.statement_count t) stop table))
+    pub run_small : (k : ℕ) → run_stop kind limits log t k versions ≡ None → AreSmall limits.nodes (run kind log t k versions)
+    run_small zero stop = known (log.version t zero)
+    run_small (suc k) stop =
+        let before = run_before kind log t k versions in
+        let parts = none_parts (run_stop kind limits log t k versions) (statement_stop kind limits t (suc k) (log.statement t (suc k)) before) stop in
+        stepped_small (suc k) (log.statement t (suc k)) before (refreshed_small (log.version t k) (log.version t (suc k)) (run kind log t k versions) (run_small k parts.0)) parts.1
+
+    pub commit_small : (before : ℕ) → run_stop kind limits log t (log.statement_count t) versions ≡ None → AreSmall limits.nodes (at_commit kind log t before versions)
+    commit_small before stop =
+        let count = log.statement_count t in
+        publish_small (versions (log.version t count)) (run kind log t count versions) (versions before) (run_small count stop) (known before)
 
   module _ (spans : ℕ → List Span) (small : (table : ℕ) → AllByRecursion (λ span. nodes span.id ≤ limits.nodes) (spans table)) where
     annotated_small : (versions : Environment M) (version : ℕ) → AreSmall limits.nodes (annotated kind spans versions version)
@@ -120,7 +128,7 @@ module _ {M : Type 0} (kind : Annotations M) (limits : Limits) where
 
         over : (point : y.State) → own_stop kind limits entries point (annotated_versions kind entries spans) ≡ None → AreSmall limits.nodes (at_point kind entries point (annotated_versions kind entries spans))
         over (y.as_of version) stop = known version
-        over (y.after t k) stop = run_small (log_of entries) t (annotated_versions kind entries spans) (known ((log_of entries).begin_version t)) k (no_stop (run_stop kind limits (log_of entries) t k (annotated_versions kind entries spans)) stop)
+        over (y.after t k) stop = run_small (log_of entries) t (annotated_versions kind entries spans) known k (no_stop (run_stop kind limits (log_of entries) t k (annotated_versions kind entries spans)) stop)
         over (y.State.commit t) stop =
-            commit_small (log_of entries) t (annotated_versions kind entries spans) (known ((log_of entries).begin_version t)) (version_before (version_of t entries)) (known (version_before (version_of t entries)))
+            commit_small (log_of entries) t (annotated_versions kind entries spans) known (version_before (version_of t entries))
             (no_stop (run_stop kind limits (log_of entries) t (statement_count t entries) (annotated_versions kind entries spans)) stop)

@@ -22,7 +22,7 @@ use Rattle.gp_machine.specs.Event.{name_at}
 use Rattle.gp_machine.specs.HistorySpans.{as_of}
 use Rattle.gp_machine.specs.Limits.{Limits}
 use Rattle.gp_machine.specs.Points.{at_point}
-use Rattle.gp_machine.specs.Publishing.{at_commit}
+use Rattle.gp_machine.specs.Runs.{at_commit}
 use Rattle.gp_machine.specs.Questions.{annotation_stop, difference, given, log_refusal, needed_version, own_stop, stop_refusal}
 use Rattle.gp_values.specs.ValueAnswers.{all_elements, carried, history_refusal}
 use Rattle.gp_machine.proofs.PointReannotation.{VersionsReannotate, at_commit_reannotated, at_point_reannotated, cleared_reannotated, run_stop_reannotated}
