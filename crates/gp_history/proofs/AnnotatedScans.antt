@@ -1,6 +1,5 @@
 -- The meaning of an annotated program and its stop depend on the tables and versions that it scans alone.
 use Rattle.std.proofs.Common.{◌≡◌, ℕ, List, [], ◌∷◌, ◌++◌, refl, ap, ◌∙◌, map}
-use Rattle.std.specs.Prelude.{Contains}
 use Rattle.std.specs.List.{flat_map, filter}
 use Rattle.std.proofs.lemmas.List.Elements.{Contains-append_left, Contains-append_right, Contains-push}
 use Rattle.gp_base.specs.Annotated.{Annotations, Environment}

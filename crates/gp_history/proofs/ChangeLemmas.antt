@@ -1,5 +1,5 @@
 -- What becomes of a table, from the rows that its program gave.
-use Rattle.std.proofs.Common.{◌≡◌, ℕ, zero, suc, ◌<◌, true, false, List, refl, sym, ap, ◌∙◌, Option, None, Result, Ok, Err}
+use Rattle.std.proofs.Common.{◌≡◌, ℕ, zero, suc, ◌<◌, true, false, List, sym, ap, ◌∙◌, Option, None, Result, Ok, Err}
 use Rattle.std.specs.BTreeMap.{BTreeMap}
 use Rattle.std.specs.List.{list_any}
 use Rattle.gp_algebra.specs.AnnotatedQueries as q
@@ -11,7 +11,7 @@ use Rattle.gp_exec.specs.declared.error.ExecStop.{ExecStop}
 use Rattle.gp_exec.specs.declared.error.ExecStop.TheVariants as exec
 use Rattle.gp_log.specs.Limits.{limits}
 use Rattle.gp_log.specs.LogFacts.{tables_in}
-use Rattle.gp_machine.specs.Entries.{Entry, Log, log_of, version_of, versions_in}
+use Rattle.gp_machine.specs.Entries.{Entry, Log, log_of, versions_in}
 use Rattle.gp_machine.specs.Points.{version_before}
 use Rattle.gp_reenact.specs.Reenacting.{spans_of}
 use Rattle.gp_versions.specs.declared.span.Span.{Span}

@@ -11,7 +11,6 @@ use Rattle.gp_algebra.proofs.Bags.{SameBag, any_same, first, mapped, none, swapp
 use Rattle.gp_algebra.proofs.Lists.{any-map, map-map}
 use Rattle.gp_algebra.proofs.Permutations.{unpermuted}
 use Rattle.gp_algebra.specs.Stops.{Stop}
-use Rattle.gp_base.specs.declared.cell.Cell.{Cell}
 use Rattle.gp_base.specs.declared.refusal.Refusal.{Refusal}
 use Rattle.gp_base.specs.declared.refusal.Refusal.TheVariants.{E24, E25, E26}
 use Rattle.gp_base.specs.declared.table.Table.{Table}
@@ -27,7 +26,6 @@ use Rattle.gp_machine.specs.Committed.{unmarked}
 use Rattle.gp_machine.specs.Entries.{Entry, Log, log_of}
 use Rattle.gp_machine.specs.Event.{name_at}
 use Rattle.gp_machine.specs.Points.{RunStop}
-use Rattle.gp_machine.specs.Publishing.{at_commit}
 use Rattle.gp_machine.specs.Questions.{annotation_stop, difference, stop_refusal}
 use Rattle.gp_machine.specs.Views.{AreDistinct, HaveDifferentIdentities}
 use Rattle.gp_machine.proofs.Distinct.{each_map, none_any, or_false}

@@ -1,6 +1,5 @@
 -- Programs over versions with elements of a semiring.
-use Rattle.std.proofs.Common.{◌≡◌, ℕ, zero, suc, ◌+◌, ◌<◌, ◌≤◌, ◌==◌, ◌&&◌, true, false, cond, List, [], ◌∷◌, ◌++◌, length, get_or, take, map, refl, sym, ap, ◌∙◌, subst, arith, None, Result, Ok, Err}
-use Rattle.std.specs.Prelude.{Contains}
+use Rattle.std.proofs.Common.{◌≡◌, ℕ, zero, suc, ◌<◌, ◌≤◌, ◌==◌, ◌&&◌, true, false, cond, List, [], ◌∷◌, ◌++◌, length, get_or, take, map, refl, sym, ap, ◌∙◌, subst, arith, Result, Ok, Err}
 use Rattle.std.specs.Option.{option_map}
 use Rattle.std.proofs.lemmas.Bool.{and_parts, eq-eqb, eqb-true}
 use Rattle.std.proofs.lemmas.List.Sorted.{IsPermutation-refl}
@@ -8,8 +7,6 @@ use Rattle.std.specs.List.Sorted.{IsPermutation}
 use Rattle.gp_algebra.proofs.Lists.{map-map}
 use Rattle.gp_algebra.specs.declared.plain.ScanAt.{ScanAt}
 use Rattle.gp_algebra.specs.AnnotatedQueries.{Derived, Program, program_meaning, scanned}
-use Rattle.gp_algebra.specs.Fitting.{width_of}
-use Rattle.gp_algebra.specs.QueryForms.{IsTableProgram}
 use Rattle.gp_algebra.specs.Scans.{annotated_program_scans}
 use Rattle.gp_algebra.specs.Stops as stops
 use Rattle.gp_base.specs.declared.cell.Cell.{Cell}

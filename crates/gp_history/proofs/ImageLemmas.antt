@@ -1,22 +1,19 @@
 -- Annotations that lists of tokens stand for: programs over annotated versions give what their runs give and stop where these stop, since they do so over lists of
 -- tokens.
-use Rattle.std.proofs.Common.{◌≡◌, ℕ, zero, ◌<◌, ◌≤◌, true, false, true≢false, List, [], ◌∷◌, ◌++◌, map, refl, sym, ap, ◌∙◌, Option, Some, None}
+use Rattle.std.proofs.Common.{◌≡◌, ℕ, true, false, true≢false, List, [], ◌∷◌, map, refl, sym, ap, ◌∙◌, Option, Some, None}
 use Rattle.std.specs.List.{AllByRecursion}
 use Rattle.std.specs.Option.{option_map}
 use Rattle.std.proofs.lemmas.List.{append-nil, append_assoc}
 use Rattle.gp_base.specs.declared.row_id.TheConstants.{MAX_NODES}
-use Rattle.gp_base.specs.declared.table.Table.{Table}
 use Rattle.gp_base.specs.declared.token.Token.{Token}
 use Rattle.gp_base.specs.Annotated.{Annotated, Annotations, Environment}
 use Rattle.gp_algebra.specs.AnnotatedQueries as q
 use Rattle.gp_algebra.specs.AnnotatedQueries.{Derived, Program, Query, scanned}
 use Rattle.gp_algebra.specs.Fitting.{width_of}
 use Rattle.gp_algebra.specs.Plain.{no_steps}
-use Rattle.gp_algebra.specs.QueryForms.{IsTableProgram}
 use Rattle.gp_algebra.specs.Reannotation.{reannotated}
-use Rattle.gp_algebra.proofs.Lists.{map-map}
-use Rattle.gp_compose.specs.Composed.{composed, last_write, published_as, published_table}
-use Rattle.gp_compose.proofs.ProgramLemmas.{composed_step_is, published_table_gives, table_program_is_built}
+use Rattle.gp_compose.specs.Composed.{composed, current, last_write, onto, published_table}
+use Rattle.gp_compose.proofs.ProgramLemmas.{composed_step_is, published_table_gives}
 use Rattle.gp_exec.specs.declared.limit.TheConstants.{MAX_TABLE_ROWS}
 use Rattle.gp_kexec.specs.AnnotatedStops.{program_stop}
 use Rattle.gp_kexec.specs.InSemiring.{derived_reannotated, environment_reannotated, words}
@@ -25,9 +22,9 @@ use Rattle.gp_log.specs.Limits.{limits}
 use Rattle.gp_log.specs.LogFacts.{tables_in}
 use Rattle.gp_log.specs.LogFitting.{SpansFit, statements_fit}
 use Rattle.gp_machine.specs.Annotating.{annotated, computed}
-use Rattle.gp_machine.specs.Entries.{Entry, Log, begin_version, log_of, statement_count}
+use Rattle.gp_machine.specs.Entries.{Entry, Log, log_of, statement_count}
 use Rattle.gp_machine.specs.Points.{run_stop}
-use Rattle.gp_machine.specs.Publishing.{at_commit}
+use Rattle.gp_machine.specs.Runs.{at_commit}
 use Rattle.gp_machine.proofs.PointReannotation.{VersionsReannotate, at_commit_reannotated, run_stop_reannotated}
 use Rattle.gp_reenact.proofs.StopLemmas.{scanned_once, step_stop}
 use Rattle.gp_rewrite.specs.Meaning.{AreAsWide, IsMonoid}
@@ -35,7 +32,7 @@ use Rattle.gp_values.proofs.VersionReannotation.{annotated_reannotated, computed
 use Rattle.gp_versions.specs.declared.span.Span.{Span}
 use Rattle.gp_history.specs.Changes.{is_scan}
 use Rattle.gp_history.specs.Images.{IsImage}
-use Rattle.gp_history.proofs.StopLemmas.{GivesRun, program_stops}
+use Rattle.gp_history.proofs.StopLemmas.{program_stops}
 use Rattle.gp_history.proofs.TableLemmas.{held_rows, none_marked, wide_rows}
 
 pub word_monoid : IsMonoid words
@@ -98,8 +95,8 @@ module _ {M : Type 0} (kind : Annotations M) (image : IsImage kind) (entries : L
   steps_stop_is t k last =
       stop_carried kind image (log_of entries) spans n MAX_TABLE_ROWS MAX_NODES (record { steps = composed columns (log_of entries) t k; last = last })
       ∙ program_stops words limits (tables_in entries) entries t k word_past last fit
-      (held_rows words (tables_in entries) spans spans_fit (computed words (log_of entries) spans n) (begin_version t entries))
-      (λ j table statement within is writes_it. composed_step_is words word_monoid (tables_in entries) entries fit word_past word_wide t k j table statement within is writes_it)
+      (held_rows words (tables_in entries) spans spans_fit (computed words (log_of entries) spans n))
+      (λ j table statement within is writes_it. composed_step_is words word_monoid (tables_in entries) entries fit word_past word_wide word_unmarked t k j table statement within is writes_it)
       ∙ ap (option_map step_stop) (sym (run_carried kind image (log_of entries) spans n t k))
 
   module _ (t before table : ℕ) where
@@ -118,13 +115,19 @@ module _ {M : Type 0} (kind : Annotations M) (image : IsImage kind) (entries : L
     pub published_stops : program_stop kind MAX_TABLE_ROWS MAX_NODES past program ≡ option_map step_stop (run_stop kind limits (log_of entries) t (statement_count t entries) past)
     published_stops = steps_stop_is t (statement_count t entries) program.last
 
+    -- the query of the table, by the statement that wrote it last
+    abbrev published_by : Option ℕ → Query
+    published_by write =
+        let count = statement_count t entries in
+        onto ((log_of entries).version t count) before table write (current (log_of entries) t count table)
+
     -- a table without a statement on it is as in the version before
     pub kept_is : last_write (log_of entries) t (statement_count t entries) table ≡ None → at_commit kind (log_of entries) t before past table ≡ past before table
     kept_is none =
         scanned_once kind (at_commit kind (log_of entries) t before past table) (past before table)
-        (sym published_means ∙ ap (λ o. q.meaning kind (q.steps_meaning kind past program.steps no_steps) past (published_as (begin_version t entries) before table o)) none)
+        (sym published_means ∙ ap (λ o. q.meaning kind (q.steps_meaning kind past program.steps no_steps) past (published_by o)) none)
 
-    scan_of : (o : Option ℕ) → last_write (log_of entries) t (statement_count t entries) table ≡ o → is_scan (published_as (begin_version t entries) before table o) ≡ true → o ≡ None
+    scan_of : (o : Option ℕ) → last_write (log_of entries) t (statement_count t entries) table ≡ o → is_scan (published_by o) ≡ true → o ≡ None
     scan_of None is scans = refl
     scan_of (Some j) is scans = absurd (true≢false (sym scans))
 

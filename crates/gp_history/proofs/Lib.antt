@@ -1,5 +1,6 @@
 mod AgreementLemmas
 mod AnnotatedScans
+mod AskingLemmas
 mod ChangeLemmas
 mod CommitLemmas
 mod DecodedLemmas

@@ -1,16 +1,14 @@
 -- Computed rows that stand in the order of the spans are those of the version.
-use Rattle.std.proofs.Common.{◌≡◌, ℕ, zero, suc, ◌+◌, ◌-◌, ◌<◌, ◌≤◌, ◌++◌, Bool, true, false, cond, List, [], ◌∷◌, length, get_or, take, drop, map, add-one, refl, sym, ap, ◌∙◌, subst, arith, Some}
-use Rattle.std.specs.Prelude.{slice_get}
+use Rattle.std.proofs.Common.{◌≡◌, ℕ, zero, suc, ◌+◌, ◌<◌, ◌≤◌, ◌++◌, Bool, true, false, cond, List, [], ◌∷◌, length, get_or, take, drop, map, add-one, refl, sym, ap, ◌∙◌, subst, arith, Some}
 use Rattle.std.specs.List.Sorted.{IsPermutation}
-use Rattle.std.specs.Ordering.{is_eq, ordering_then}
-use Rattle.std.specs.declared.cmp.Ordering.TheVariants.{Equal}
+use Rattle.std.specs.Ordering.{is_eq}
 use Rattle.std.proofs.lemmas.List.{map-append}
 use Rattle.std.proofs.lemmas.List.Sorted.{IsPermutation-cons, IsPermutation-middle, IsPermutation-trans}
 use Rattle.gp_base.specs.declared.cell.Cell.{Cell}
 use Rattle.gp_base.specs.declared.cell.Cell.TheVariants as cell
 use Rattle.gp_base.specs.Annotated.{plain}
 use Rattle.gp_base.specs.IdentityOrder.{identity_cmp-exact}
-use Rattle.gp_base.specs.Identities.{Identity, identity_cmp}
+use Rattle.gp_base.specs.Identities.{identity_cmp}
 use Rattle.gp_base.specs.Order.{row_cmp}
 use Rattle.gp_base.specs.RowOrder.{exact_rows}
 use Rattle.gp_kexec.specs.declared.held.Held.{Held}

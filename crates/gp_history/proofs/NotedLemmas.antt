@@ -9,7 +9,7 @@ use Rattle.gp_machine.specs.Annotating.{annotation_of}
 use Rattle.gp_machine.specs.Views.{HaveDifferentIdentities}
 use Rattle.gp_machine.proofs.Distinct.{or_false}
 use Rattle.gp_versions.proofs.SameLemmas.{same-exact}
-use Rattle.gp_history.specs.Noted.{first_noted, first_written, noted, written_note}
+use Rattle.gp_history.specs.Noted.{first_noted, first_written, written_note}
 
 module _ {M : Type 0} (kind : Annotations M) where
   -- the first row with an identity

@@ -1,5 +1,6 @@
 -- The program of a state over the annotated versions that it needs gives the answer with its monomials, and stops where the run does.
 use Rattle.std.proofs.Common.{◌≡◌, inl, inr, ℕ, zero, suc, ◌<◌, ◌≤◌, ◌==◌, ◌⊎◌, Bool, true, false, cond, List, [], ◌∷◌, ◌++◌, map, refl, sym, ap, ◌∙◌, subst, arith, Some, None, Contains, nat_le}
+use Rattle.std.specs.List.{AllByRecursion}
 use Rattle.std.specs.Option.{option_map}
 use Rattle.std.proofs.Math.Nat.{eq-or-lt_of_le}
 use Rattle.std.proofs.lemmas.Bool.Decides.{nat_tests}
@@ -28,10 +29,10 @@ use Rattle.gp_log.specs.Limits.{limits}
 use Rattle.gp_log.specs.LogFacts.{tables_in}
 use Rattle.gp_machine.specs.Annotating.{annotated, annotation_of, computed}
 use Rattle.gp_machine.specs.Committed.{cleared}
-use Rattle.gp_machine.specs.Entries.{Entry, Log, begin_version, log_of, statement_count, versions_in}
+use Rattle.gp_machine.specs.Entries.{Entry, Log, log_of, statement_count, versions_in}
 use Rattle.gp_machine.specs.Points.{at_point, run_stop}
-use Rattle.gp_machine.specs.Publishing.{at_commit}
 use Rattle.gp_machine.specs.Questions.{log_refusal, needed_version, own_stop}
+use Rattle.gp_machine.specs.Runs.{at_commit}
 use Rattle.gp_prov.specs.Encoding.{encoded, encoded_row}
 use Rattle.gp_prov.specs.ToPlain.{plain, plain_last, plain_program, plain_step}
 use Rattle.gp_prov.proofs.BuiltLemmas.{program_built}
@@ -160,6 +161,9 @@ module _ (entries : List Entry) (versions : List Versions) (sound : IsSound entr
     wide : (version : ℕ) → AreAsWide columns (env version)
     wide = wide_rows monomials (tables_in entries) spans sound.spans (computed monomials (log_of entries) spans n)
 
+    unmarked_rows : (version table : ℕ) → AllByRecursion (λ row. row.mark ≡ false) (env version table)
+    unmarked_rows = none_marked monomials (tables_in entries) spans sound.spans (computed monomials (log_of entries) spans n)
+
     widths : HaveWidths columns env
     widths version table = wide version table
 
@@ -174,7 +178,7 @@ module _ (entries : List Entry) (versions : List Versions) (sound : IsSound entr
     gives =
         answers_are columns true env widths program built
         ∙ occurrences (q.program_meaning monomials env program) (answer monomials select (at_point monomials entries point env))
-        (program_is monomials monoid (tables_in entries) entries sound.statements env wide (none_marked monomials (tables_in entries) spans sound.spans (computed monomials (log_of entries) spans n)) point select fits)
+        (program_is monomials monoid (tables_in entries) entries sound.statements env wide unmarked_rows point select fits)
 
     steps_stop_is : (t k : ℕ) (last : Query) → HasSteps columns (record { steps = composed columns (log_of entries) t k; last = last })
         → program_stop MAX_TABLE_ROWS MAX_NODES (encoded true env) (plain_program columns true (record { steps = composed columns (log_of entries) t k; last = last }))
@@ -182,9 +186,9 @@ module _ (entries : List Entry) (versions : List Versions) (sound : IsSound entr
     steps_stop_is t k last has =
         let steps : List QueryStep = composed columns (log_of entries) t k in
         program_stops true limits (tables_in entries) entries t k env last sound.statements
-        (held_rows monomials (tables_in entries) spans sound.spans (computed monomials (log_of entries) spans n) (begin_version t entries))
+        (held_rows monomials (tables_in entries) spans sound.spans (computed monomials (log_of entries) spans n))
         (gives_run true columns (step_table steps) (log_of entries) t env k
-        (λ j table statement within is writes_it. composed_step_is monomials monoid (tables_in entries) entries sound.statements env wide t k j table statement within is writes_it)
+        (λ j table statement within is writes_it. composed_step_is monomials monoid (tables_in entries) entries sound.statements env wide unmarked_rows t k j table statement within is writes_it)
         (λ j. rows_between true (columns (step_table steps j)) (steps_are columns true env widths (record { steps = steps; last = last }) has j)))
 
 -- ---- stops

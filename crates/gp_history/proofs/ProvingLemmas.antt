@@ -27,9 +27,10 @@ use Rattle.gp_grammar.specs.Syntax as y
 use Rattle.gp_log.specs.Limits.{limits}
 use Rattle.gp_log.specs.LogFacts.{tables_in}
 use Rattle.gp_machine.specs.Annotating.{annotated, computed}
-use Rattle.gp_machine.specs.Entries.{Began, Committed, Created, Ended, Entry, Ran, begin_version, log_of, version_of, versions_in}
+use Rattle.gp_machine.specs.Entries.{Began, Committed, Created, Ended, Entry, Ran, log_of, version_of, versions_in}
 use Rattle.gp_machine.specs.Points.{at_point, version_before}
 use Rattle.gp_machine.specs.Questions.{annotated_answer, annotation_stop, given, log_refusal, needed_version, own_stop}
+use Rattle.gp_machine.proofs.LogLemmas.{versions_le}
 use Rattle.gp_prov.specs.Encoding.{encoded}
 use Rattle.gp_prov.specs.ToPlain.{plain_program}
 use Rattle.gp_reenact.specs.declared.error.ReenactStop.{ReenactStop}
@@ -69,22 +70,10 @@ moved_over view (Err exec.NoMemory) env other program same_rows same_stop runs =
 
 -- ---- the version that a state needs
 
-begun_within : (t : ℕ) (entries : List Entry) → begin_version t entries ≤ versions_in entries
-begun_within t [] = omega arith
-begun_within t (Created line session table ∷ older) = begun_within t older
-begun_within t (Began line session u ∷ older) = go (u == t) (begun_within t older)
-  where
-    go : (b : Bool) → begin_version t older ≤ versions_in older → cond b (versions_in older) (begin_version t older) ≤ versions_in older
-    go true l = omega arith
-    go false l = l
-begun_within t (Ran line session command u statement ∷ older) = begun_within t older
-begun_within t (Committed line session u ∷ older) = let l : begin_version t older ≤ versions_in older = begun_within t older in omega arith
-begun_within t (Ended line session end u ∷ older) = begun_within t older
-
 made_within : (t : ℕ) (entries : List Entry) → version_before (version_of t entries) ≤ versions_in entries
 made_within t [] = omega arith
 made_within t (Created line session table ∷ older) = made_within t older
-made_within t (Began line session u ∷ older) = made_within t older
+made_within t (Began line session u level ∷ older) = made_within t older
 made_within t (Ran line session command u statement ∷ older) = made_within t older
 made_within t (Committed line session u ∷ older) = go (u == t) (made_within t older)
   where
@@ -105,7 +94,7 @@ needed_within entries (y.as_of version) known = go (nat_le version (versions_in 
     go : (b : Bool) → nat_le version (versions_in entries) ≡ b → cond b None (Some (E23 (versions_in entries))) ≡ None → version ≤ versions_in entries
     go true is e = within version (versions_in entries) is
     go false is e = absurd (some_none (E23 (versions_in entries)) e)
-needed_within entries (y.after t k) known = begun_within t entries
+needed_within entries (y.after t k) known = versions_le t k entries
 needed_within entries (y.State.commit t) known = made_within t entries
 
 -- ---- answers

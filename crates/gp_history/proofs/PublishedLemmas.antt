@@ -1,5 +1,5 @@
 -- The plain program of a table that a transaction published gives the table with monomials.
-use Rattle.std.proofs.Common.{◌≡◌, ℕ, zero, suc, ◌<◌, true, List, map, refl, sym, ap, ◌∙◌, subst, None, Ok, Err, Result}
+use Rattle.std.proofs.Common.{◌≡◌, ℕ, ◌<◌, true, List, map, refl, sym, ap, ◌∙◌, subst, None, Ok, Err, Result}
 use Rattle.std.specs.List.Sorted.{IsPermutation}
 use Rattle.gp_algebra.proofs.Permutations.{permuted, unpermuted}
 use Rattle.gp_algebra.specs.AnnotatedQueries as q

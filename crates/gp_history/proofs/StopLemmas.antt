@@ -1,13 +1,12 @@
 -- The annotated program of a transaction stops where its run does, whatever the annotations are. Only the rows that an INSERT appends can be over the limits:
 -- as long as no statement stopped, no row has an identity of too many nodes.
-use Rattle.std.proofs.Common.{◌≡◌, ℕ, zero, suc, ◌<◌, ◌≤◌, ◌==◌, nat_le, nat_lt, Bool, true, false, true≢false, cond, ◌&&◌, ◌||◌, List, [], ◌∷◌, ◌++◌, length, map, Option, Some, None, refl, sym, ap, ◌∙◌, arith}
+use Rattle.std.proofs.Common.{◌≡◌, ℕ, zero, suc, ◌<◌, ◌≤◌, ◌==◌, nat_le, nat_lt, Bool, true, false, cond, ◌||◌, List, [], ◌∷◌, ◌++◌, length, map, Option, Some, None, refl, sym, ap, ◌∙◌, arith}
 use Rattle.std.specs.List.{AllByRecursion, list_any}
 use Rattle.std.specs.Option.{option_map, option_or}
-use Rattle.std.proofs.lemmas.Bool.{eq-eqb, eqb-true, ne_eqb}
+use Rattle.std.proofs.lemmas.Bool.{eq-eqb, ne_eqb}
 use Rattle.std.proofs.lemmas.Bool.Decides.{nat_tests}
 use Rattle.std.proofs.lemmas.List.{length-map}
 use Rattle.std.proofs.lemmas.List.Folds.{list_any-append}
-use Rattle.gp_base.specs.declared.cell.Cell.{Cell}
 use Rattle.gp_base.specs.declared.table.Table.{Table}
 use Rattle.gp_base.specs.Annotated.{Annotated, Annotations, Database, Environment}
 use Rattle.gp_base.specs.Identities.{nodes}
@@ -17,16 +16,17 @@ use Rattle.gp_algebra.specs.Answers.{answer}
 use Rattle.gp_algebra.specs.Effects.{given_from, made, step, with_rows}
 use Rattle.gp_algebra.specs.Fitting.{width_of}
 use Rattle.gp_algebra.specs.Plain.{no_steps, with_step}
-use Rattle.gp_algebra.specs.Statements.{Select, Statement, delete, insert, insert_select, read, update}
+use Rattle.gp_algebra.specs.Statements.{Statement, delete, insert, insert_select, read, update}
 use Rattle.gp_algebra.specs.Stops.{Stop, ancestry, first_stop, rows}
-use Rattle.gp_compose.specs.Composed.{composed, current, is_target, step_of, steps_of, writes}
+use Rattle.gp_compose.specs.Composed.{composed, current_before, step_of, steps_of}
 use Rattle.gp_kexec.specs.AnnotatedStops.{has_large, program_stop, steps_stop, stop_at}
 use Rattle.gp_log.specs.LogFitting.{statements_fit}
-use Rattle.gp_machine.specs.Entries.{Entry, Log, begin_version, log_of}
+use Rattle.gp_machine.specs.Entries.{Entry, Log, log_of}
 use Rattle.gp_machine.specs.Limits.{Limits}
 use Rattle.gp_machine.specs.Points.{OverNodes, OverRows, RunStop, run_stop, statement_stop}
-use Rattle.gp_machine.specs.Runs.{run, stepped}
-use Rattle.gp_reenact.proofs.StopLemmas.{AreHeld, FitsIfSome, IsHeld, held_step, logged_fits, step_stop}
+use Rattle.gp_machine.specs.Runs.{run, run_before, stepped}
+use Rattle.gp_reenact.proofs.HeldLemmas.{AreHeld, FitsIfSome, IsHeld, held_refreshed, held_step, logged_fits}
+use Rattle.gp_reenact.proofs.StopLemmas.{step_stop}
 use Rattle.gp_rewrite.specs.Rewriting.{rewritten, target}
 
 same_number : (n : ℕ) → (n == n) ≡ true
@@ -106,15 +106,15 @@ module _ {M : Type 0} (kind : Annotations M) (limits : Limits) where
         → q.steps_meaning kind env (composed columns log t count) no_steps j ≡ map (scanned kind) (run kind log t j env table)
 
     abbrev next_steps : ℕ → Option Statement → List QueryStep
-    next_steps k found = step_of columns t (suc k) (current log t k) found
+    next_steps k found = step_of columns t (suc k) (current_before log t k) found
 
     -- the step of a statement, by the table that it writes
     abbrev step_on : ℕ → Statement → Option ℕ → List QueryStep
-    step_on k statement own = steps_of columns t (suc k) (current log t k) statement own
+    step_on k statement own = steps_of columns t (suc k) (current_before log t k) statement own
 
     -- its rows, given those of the steps before
     abbrev rows_by : ℕ → Statement → List (Derived M)
-    rows_by k statement = q.meaning kind (after_steps k) env (rewritten columns t (suc k) statement (current log t k))
+    rows_by k statement = q.meaning kind (after_steps k) env (rewritten columns t (suc k) statement (current_before log t k))
 
     more_rows : (k j : ℕ) → after_steps (suc k) j ≡ q.steps_meaning kind env (next_steps k (log.statement t (suc k))) (after_steps k) j
     more_rows k j = ap (λ (given : ℕ → List (Derived M)). given j) (steps_after env (composed columns log t k) (next_steps k (log.statement t (suc k))) no_steps)
@@ -148,29 +148,29 @@ module _ {M : Type 0} (kind : Annotations M) (limits : Limits) where
 
     module _ (count : ℕ) (gives : GivesRun count) where
       written : (k : ℕ) (statement : Statement) (table : ℕ) → k < count → log.statement t (suc k) ≡ Some statement → target statement ≡ Some table
-          → rows_by k statement ≡ map (scanned kind) (step kind t (suc k) statement (run kind log t k env) table)
+          → rows_by k statement ≡ map (scanned kind) (step kind t (suc k) statement (run_before kind log t k env) table)
       written k statement table before is writes_it =
           sym (own_rows k statement table is writes_it)
           ∙ sym (kept (suc k) count before)
           ∙ gives (suc k) table statement before is writes_it
-          ∙ ap (λ found. map (scanned kind) (stepped kind t (suc k) found (run kind log t k env) table)) is
+          ∙ ap (λ found. map (scanned kind) (stepped kind t (suc k) found (run_before kind log t k env) table)) is
 
-      module _ (catalogue : List Table) (fits : (k : ℕ) → FitsIfSome catalogue (log.statement t k)) (held : AreHeld limits.nodes (env (log.begin_version t))) where
+      module _ (catalogue : List Table) (fits : (k : ℕ) → FitsIfSome catalogue (log.statement t k)) (held : (version : ℕ) → AreHeld limits.nodes (env version)) where
         abbrev stop_in : List QueryStep → (ℕ → List (Derived M)) → Option Stop
         stop_in steps before = steps_stop kind limits.rows limits.nodes env steps before
 
-        one_stop : (k : ℕ) → k < count → AreHeld limits.nodes (run kind log t k env)
+        one_stop : (k : ℕ) → k < count → AreHeld limits.nodes (run_before kind log t k env)
             → (found : Option Statement) → log.statement t (suc k) ≡ found
             → stop_in (next_steps k found) (after_steps k)
-            ≡ option_map step_stop (statement_stop kind limits t (suc k) found (run kind log t k env))
+            ≡ option_map step_stop (statement_stop kind limits t (suc k) found (run_before kind log t k env))
         one_stop k before held None is = refl
         one_stop k before held (Some (insert table all)) is =
-            let db : Database M = run kind log t k env in
+            let db : Database M = run_before kind log t k env in
             let new : List (Annotated M) = given_from kind t (suc k) 1 all in
             appended t (suc k) (db table) new (with_rows table (db table ++ new) db table) _
             (ap (λ b. cond b (db table ++ new) (db table)) (same_number table)) (written k (insert table all) table before is refl) (held table)
         one_stop k before held (Some (insert_select table select)) is =
-            let db : Database M = run kind log t k env in
+            let db : Database M = run_before kind log t k env in
             let new : List (Annotated M) = map (made kind t (suc k)) (answer kind select db) in
             appended t (suc k) (db table) new (with_rows table (db table ++ new) db table) _
             (ap (λ b. cond b (db table ++ new) (db table)) (same_number table)) (written k (insert_select table select) table before is refl) (held table)
@@ -190,7 +190,10 @@ module _ {M : Type 0} (kind : Annotations M) (limits : Limits) where
             found = log.statement t (suc k)
 
             next : Option RunStop
-            next = statement_stop kind limits t (suc k) found (run kind log t k env)
+            next = statement_stop kind limits t (suc k) found (run_before kind log t k env)
+
+            reads : AreHeld limits.nodes (run kind log t k env) → AreHeld limits.nodes (run_before kind log t k env)
+            reads own = held_refreshed kind limits.nodes env held (log.version t k) (log.version t (suc k)) (run kind log t k env) own
 
             sooner : stop_in (composed columns log t (suc k)) no_steps
                 ≡ first_stop (option_map step_stop (run_stop kind limits log t k env)) (stop_in (next_steps k found) (after_steps k))
@@ -213,18 +216,18 @@ module _ {M : Type 0} (kind : Annotations M) (limits : Limits) where
               stop =
                   sooner
                   ∙ ap (λ o. first_stop (option_map step_stop o) (stop_in (next_steps k found) (after_steps k))) at
-                  ∙ one_stop k before (earlier.holds at) found refl
+                  ∙ one_stop k before (reads (earlier.holds at)) found refl
                   ∙ sym (ap (λ o. option_map step_stop (option_or o next)) at);
-              holds = λ none. held_step kind limits catalogue t (suc k) found (run kind log t k env) (fits (suc k)) (sym (ap (λ o. option_or o next) at) ∙ none) (earlier.holds at);
+              holds = λ none. held_step kind limits catalogue t (suc k) found (run_before kind log t k env) (fits (suc k)) (sym (ap (λ o. option_or o next) at) ∙ none) (reads (earlier.holds at));
             }
 
         agrees : (k : ℕ) → k ≤ count → Agrees k
-        agrees zero before = record { stop = refl; holds = λ none. held }
+        agrees zero before = record { stop = refl; holds = λ none. held (log.version t zero) }
         agrees (suc k) before = next_agrees k before (agrees k (omega (arith, before)))
 
   -- a program with the steps of the first k statements stops where their run does, if its steps give the rows of the run
   pub program_stops : (catalogue : List Table) (entries : List Entry) (t k : ℕ) (env : Environment M) (last : Query)
-      → statements_fit catalogue entries ≡ true → AreHeld limits.nodes (env (begin_version t entries))
+      → statements_fit catalogue entries ≡ true → ((version : ℕ) → AreHeld limits.nodes (env version))
       → GivesRun (width_of catalogue) (log_of entries) t env k
       → program_stop kind limits.rows limits.nodes env (record { steps = composed (width_of catalogue) (log_of entries) t k; last = last })
       ≡ option_map step_stop (run_stop kind limits (log_of entries) t k env)

@@ -19,23 +19,23 @@ use Rattle.gp_algebra.specs.QueryForms.{IsTableProgram, step_table}
 use Rattle.gp_algebra.specs.Statements.{Statement, delete, insert, insert_select, read, update}
 use Rattle.gp_algebra.specs.Stops.{program_stop}
 use Rattle.gp_algebra.specs.WellBuilt.{is_well_built}
-use Rattle.gp_compose.specs.Composed.{composed, last_write, published_as, published_table, writes}
+use Rattle.gp_compose.specs.Composed.{composed, last_write, published_table, writes}
 use Rattle.gp_compose.proofs.ProgramLemmas.{composed_step_is, published_table_gives, table_program_is_built}
 use Rattle.gp_exec.specs.declared.limit.TheConstants.{MAX_TABLE_ROWS}
 use Rattle.gp_log.specs.Limits.{limits}
 use Rattle.gp_log.specs.LogFacts.{tables_in}
 use Rattle.gp_log.specs.LogFitting.{SpanFits, SpansFit, statements_fit}
 use Rattle.gp_machine.specs.Annotating.{annotated, annotated_row}
-use Rattle.gp_machine.specs.Entries.{Entry, Log, begin_version, log_of, statement_count}
+use Rattle.gp_machine.specs.Entries.{Entry, Log, log_of, statement_count}
 use Rattle.gp_machine.specs.Points.{run_stop, statement_stop}
-use Rattle.gp_machine.specs.Publishing.{at_commit}
-use Rattle.gp_machine.specs.Runs.{run}
+use Rattle.gp_machine.specs.Runs.{at_commit, run_before}
 use Rattle.gp_machine.proofs.Distinct.{each_filter, each_map}
 use Rattle.gp_prov.specs.Encoding.{encoded, encoded_row}
 use Rattle.gp_prov.specs.ToPlain.{plain_program}
 use Rattle.gp_prov.proofs.BuiltLemmas.{program_built}
 use Rattle.gp_prov.proofs.MeaningLemmas.{HaveWidths, rows_between, steps_are, tables_are}
-use Rattle.gp_reenact.proofs.StopLemmas.{AreHeld, IsHeld, gives_run, program_stops, scanned_once, step_stop}
+use Rattle.gp_reenact.proofs.HeldLemmas.{AreHeld, IsHeld}
+use Rattle.gp_reenact.proofs.StopLemmas.{gives_run, program_stops, scanned_once, step_stop}
 use Rattle.gp_rewrite.specs.Meaning.{AreAsWide, IsMonoid}
 use Rattle.gp_versions.specs.declared.span.Span.{Span}
 use Rattle.gp_versions.specs.Spans.{holds_at, spans_at}
@@ -112,9 +112,9 @@ module _ (entries : List Entry) (spans : ℕ → List Span) (fit : statements_fi
   stop_is =
       let steps : List QueryStep = composed columns (log_of entries) t count in
       program_stops true limits (tables_in entries) entries t count past program.last fit
-      (held_rows monomials (tables_in entries) spans spans_fit versions (begin_version t entries))
+      (held_rows monomials (tables_in entries) spans spans_fit versions)
       (gives_run true columns (step_table steps) (log_of entries) t past count
-      (λ j own statement within is writes_it. composed_step_is monomials monoid (tables_in entries) entries fit past wide t count j own statement within is writes_it)
+      (λ j own statement within is writes_it. composed_step_is monomials monoid (tables_in entries) entries fit past wide (none_marked monomials (tables_in entries) spans spans_fit versions) t count j own statement within is writes_it)
       (λ j. rows_between true (columns (step_table steps j)) (steps_are columns true past widths program built.steps j)))
 
 -- ---- a transaction that writes nothing
@@ -132,7 +132,7 @@ module _ {M : Type 0} (kind : Annotations M) (catalogue : List Table) (log : Log
   turned a b e = grind (arith, nat_tests)
 
   one_stop : (k : ℕ) (found : Option Statement) → log.statement t (suc k) ≡ found → ((table : ℕ) → table < length catalogue → writes found table ≡ false)
-      → statement_stop kind limits t (suc k) found (run kind log t k versions) ≡ None
+      → statement_stop kind limits t (suc k) found (run_before kind log t k versions) ≡ None
   one_stop k None is none = refl
   one_stop k (Some (insert table rows)) is none =
       absurd (none_there table (both _ _ (fits (suc k) (insert table rows) is)).0 (λ own less. turned own table (none own less)))

@@ -1,11 +1,8 @@
 -- What asking for values answers, from the sums that the program of the state gave over the versions that it needs.
-use Rattle.std.proofs.Common.{◌≡◌, ◌==◌, ℕ, suc, ◌<◌, ◌≤◌, ◌*◌, [], ◌∷◌, ◌++◌, Bool, true, false, cond, List, length, map, refl, sym, ap, ◌∙◌, subst, arith, Option, Some, None, Result, Ok, Err, nat_lt}
-use Rattle.std.specs.Prelude.{Contains}
-use Rattle.std.specs.List.{AllByRecursion}
+use Rattle.std.proofs.Common.{◌≡◌, ℕ, ◌<◌, ◌≤◌, [], ◌∷◌, ◌++◌, true, false, cond, List, length, map, refl, sym, ap, ◌∙◌, subst, arith, Option, Some, None, Result, Ok, Err, nat_lt}
 use Rattle.std.specs.Option.{option_map, option_or}
 use Rattle.std.proofs.lemmas.Bool.Decides.{nat_tests}
-use Rattle.gp_algebra.specs.declared.plain.ScanAt.{ScanAt}
-use Rattle.gp_algebra.specs.AnnotatedQueries.{Derived, Program, Query, program_meaning}
+use Rattle.gp_algebra.specs.AnnotatedQueries.{Derived, Program, program_meaning}
 use Rattle.gp_algebra.specs.Answers as a
 use Rattle.gp_algebra.specs.Answers.{Element, answer}
 use Rattle.gp_algebra.specs.Fitting.{select_fits, width_of}
@@ -25,7 +22,6 @@ use Rattle.gp_base.specs.declared.token.Token.{Token}
 use Rattle.gp_base.specs.Annotated.{Annotated, Annotations, Environment, monomials}
 use Rattle.gp_base.specs.Identities.{Identity, nodes}
 use Rattle.gp_base.specs.Order.{row_cmp}
-use Rattle.gp_base.specs.Tokens.{Monomial}
 use Rattle.gp_compose.specs.Composed.{program_at}
 use Rattle.gp_compose.proofs.ProgramLemmas.{asked_program_is_built, program_is}
 use Rattle.gp_compose.proofs.ScanLemmas.{scans_are_needed}
@@ -41,8 +37,8 @@ use Rattle.gp_kexec.specs.Running.{IsSomeProgram}
 use Rattle.gp_log.specs.Limits.{limits}
 use Rattle.gp_log.specs.LogFacts.{tables_in}
 use Rattle.gp_log.specs.LogFitting.{SpanFits}
-use Rattle.gp_machine.specs.Annotating.{annotated, annotated_versions, computed, identified}
-use Rattle.gp_machine.specs.Entries.{Entry, Log, log_of, statement_count, versions_in}
+use Rattle.gp_machine.specs.Annotating.{annotated_versions, computed, identified}
+use Rattle.gp_machine.specs.Entries.{Entry, log_of, statement_count, versions_in}
 use Rattle.gp_machine.specs.Points.{at_point}
 use Rattle.gp_machine.specs.Questions.{annotation_stop, given, log_refusal, needed_version, own_stop}
 use Rattle.gp_machine.proofs.Distinct.{each_weaker}

@@ -22,8 +22,8 @@ use Rattle.gp_machine.specs.Committed.{cleared}
 use Rattle.gp_machine.specs.Entries.{Entry, Log, log_of, version_of}
 use Rattle.gp_machine.specs.HistorySpans.{as_of}
 use Rattle.gp_machine.specs.Points.{RunStop, run_stop, version_before}
-use Rattle.gp_machine.specs.Publishing.{at_commit}
 use Rattle.gp_machine.specs.Questions.{difference, stop_refusal}
+use Rattle.gp_machine.specs.Runs.{at_commit}
 use Rattle.gp_versions.specs.declared.span.Span.{Span}
 use Rattle.gp_versions.specs.Spans.{Versions}
 use Rattle.gp_history.specs.Agreement.{agree, key_of, keys_agree}

@@ -1,5 +1,5 @@
 -- Machinery: what a program gives over an environment: a plain one the rows of a table, an annotated one sums of elements.
-use Rattle.std.specs.Prelude.{◌≡◌, ◌<◌, ◌≤◌, length, List, Option, Some, None, Result, Ok, Err}
+use Rattle.std.specs.Prelude.{◌≡◌, ◌<◌, ◌≤◌, length, List, Some, None, Result, Ok, Err}
 use Rattle.std.specs.List.Sorted.{IsPermutation}
 use Rattle.gp_base.specs.declared.cell.Cell.{Cell}
 use Rattle.gp_base.specs.declared.row_id.TheConstants.{MAX_NODES}

@@ -1,8 +1,10 @@
 //! What questions about past states need, and how they are refused.
 
 ghost use Rattle.std.specs.Prelude.{◌≡◌, None};
+ghost use Rattle.gp_grammar.specs.Syntax as y;
 ghost use Rattle.gp_log.specs.LogFacts.{tables_in};
 ghost use Rattle.gp_log.specs.Logs.{log_view};
+ghost use Rattle.gp_machine.specs.Entries as m;
 ghost use Rattle.gp_machine.specs.Questions as q;
 ghost use Rattle.gp_reenact.specs.Reenacting as r;
 ghost use Rattle.gp_syntax.specs.Views.{state_view};
@@ -16,6 +18,20 @@ use gp_log::Log;
 use gp_reenact::ReenactStop;
 use gp_syntax::State;
 
+/// The version that a statement of a transaction read.
+fn statement_version(log: &Log, t: u64, k: u64) -> u32
+    requires { q.log_refusal (log_view log.now.entries) (y.after t k) ≡ None }
+    ensures { result ≡ m.statement_version t k (log_view log.now.entries) }
+{
+    // Transactions and statements are numbered by 32 bits. That is known of a log where it is asked for their number.
+    let _transactions = log.transactions();
+    let _statements = log.statement_count(t as u32);
+    match log.statement_version(t as u32, k as u32) {
+        Some(version) => version,
+        None => unreachable!(),
+    }
+}
+
 /// The last version whose annotations a state needs.
 pub fn needed_version(log: &Log, state: State) -> u32
     requires { q.log_refusal (log_view log.now.entries) (state_view state) ≡ None }
@@ -26,10 +42,7 @@ pub fn needed_version(log: &Log, state: State) -> u32
     let _count = log.transactions();
     match state {
         State::AsOf { v } => v as u32,
-        State::After { t, .. } => match log.begin_version(t as u32) {
-            Some(version) => version,
-            None => unreachable!(),
-        },
+        State::After { t, k } => statement_version(log, t, k),
         State::Commit { t } => match version_of(log, t as u32) {
             Some(version) => version.saturating_sub(1),
             None => 0,

@@ -13,9 +13,8 @@ ghost use Rattle.gp_machine.specs.Entries.{log_of, statement_count, version_of, 
 ghost use Rattle.gp_machine.specs.Event.{Line, after};
 ghost use Rattle.gp_machine.specs.HistorySpans.{state_spans};
 ghost use Rattle.gp_machine.specs.Points.{at_version, version_before};
-ghost use Rattle.gp_machine.specs.Publishing.{at_commit};
 ghost use Rattle.gp_machine.specs.Questions.{AreAlike, annotated_answer, annotation_stop, held_answer};
-ghost use Rattle.gp_machine.specs.Runs.{run};
+ghost use Rattle.gp_machine.specs.Runs.{at_commit, run};
 ghost use Rattle.gp_machine.specs.State.{start};
 ghost use Rattle.gp_versions.specs.declared.span.Span.{Span};
 ghost use Rattle.gp_history.specs.Agreement.{agree};

@@ -1,4 +1,4 @@
-use Rattle.std.proofs.Common.{List, ap, map, refl, sym, ◌∙◌}
+use Rattle.std.proofs.Common.{List, ap, refl, sym, ◌∙◌}
 use Rattle.gp_algebra.proofs.Lists.{map-map}
 use Rattle.gp_base.specs.declared.cell.Cell.{Cell}
 use Rattle.gp_history.specs.Agreement.{key_of, keys_agree}

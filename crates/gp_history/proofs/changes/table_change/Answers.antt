@@ -1,4 +1,4 @@
-use Rattle.std.proofs.Common.{Err, Global, List, None, Ok, Vec, ap, arith, map, subst, suc, sym, ℕ, ◌+◌, ◌∙◌, ◌≡◌}
+use Rattle.std.proofs.Common.{Err, Global, List, None, Vec, ap, arith, map, subst, suc, sym, ℕ, ◌+◌, ◌∙◌, ◌≡◌}
 use Rattle.gp_algebra.specs.Fitting.{width_of}
 use Rattle.gp_compose.specs.Composed.{published_table}
 use Rattle.gp_kexec.specs.declared.held.Held.{Held}

@@ -1,8 +1,6 @@
 use Rattle.std.proofs.Common.{Err, Global, List, Ok, Vec, ap, arith, map, subst, sym, ℕ, ◌≤◌, ◌∙◌}
 use Rattle.gp_algebra.specs.AnnotatedQueries.{Program}
 use Rattle.gp_algebra.specs.Views.{select_view}
-use Rattle.gp_base.specs.declared.cell.Cell.{Cell}
-use Rattle.gp_base.specs.declared.refusal.Refusal.{Refusal}
 use Rattle.gp_base.specs.Annotated.{monomials}
 use Rattle.gp_kexec.specs.declared.env.KRow.{KRow}
 use Rattle.gp_kexec.specs.Rows.{pair_view}
@@ -25,7 +23,7 @@ use Rattle.gp_history.specs.Running.{SumsOver}
 use Rattle.gp_history.specs.SpanAnnotations.{AreAnnotated, versions_with}
 use Rattle.gp_history.specs.Values.{Gives}
 use Rattle.gp_history.proofs.ProvingLemmas.{needed_within}
-use Rattle.gp_history.proofs.ValuingLemmas.{agree_ignores, annotated_err, found_is, program_is_built, room, stop_is}
+use Rattle.gp_history.proofs.ValuingLemmas.{agree_ignores, found_is, program_is_built, room, stop_is}
 use Rattle.gp_history.proofs.valuing.known_values.Goals as goal
 
 pub annotated_to-requires-clause-within : goal.annotated_to-requires-clause-within

@@ -1,6 +1,5 @@
 use Rattle.std.proofs.Common.{Contains, Global, List, Vec, subst, sym}
 use Rattle.gp_algebra.specs.AnnotatedQueries.{Program}
-use Rattle.gp_algebra.specs.QueryViews.{annotated_program_view}
 use Rattle.gp_algebra.specs.Scans.{annotated_program_scans}
 use Rattle.gp_algebra.specs.declared.plain.ScanAt.{ScanAt}
 use Rattle.gp_kexec.specs.declared.held.Held.{Held}

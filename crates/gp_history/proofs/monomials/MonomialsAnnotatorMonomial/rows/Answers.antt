@@ -1,4 +1,4 @@
-use Rattle.std.proofs.Common.{Err, Global, List, Ok, Vec, ap, map, subst, true, ◌∙◌}
+use Rattle.std.proofs.Common.{Err, Global, Ok, Vec, ap, map, subst, true, ◌∙◌}
 use Rattle.gp_algebra.specs.Fitting.{width_of}
 use Rattle.gp_algebra.specs.Plain.{PlainProgram}
 use Rattle.gp_algebra.specs.WellBuilt.{is_well_built}
