@@ -1,6 +1,6 @@
 -- The programs of states are shaped, if all statements fit the tables, and these have names.
 use Rattle.std.proofs.Common.{◌≡◌, ◌<◌, ℕ, zero, suc, Bool, true, false, cond, List, refl, arith, Option, Some, None}
-use Rattle.std.specs.Prelude.{◌&&◌, nat_lt, nat_le, not, is_none}
+use Rattle.std.specs.Prelude.{◌==◌, ◌&&◌, nat_lt, nat_le, not, is_none}
 use Rattle.std.specs.List.{list_all}
 use Rattle.std.specs.Option.{option_or}
 use Rattle.std.proofs.lemmas.Bool.{and_from}
@@ -19,7 +19,7 @@ use Rattle.gp_machine.specs.Questions.{log_refusal, statement_refusal, transacti
 use Rattle.gp_log.specs.LogFitting.{statements_fit}
 use Rattle.gp_log.specs.LogFacts.{tables_in}
 use Rattle.gp_rewrite.specs.Rewriting.{rewritten, target}
-use Rattle.gp_compose.specs.Composed.{after, as_of, commit, composed, contents, current, last_write, program_at, published, published_as, step_of, steps_of}
+use Rattle.gp_compose.specs.Composed.{after, as_of, commit, composed, current, current_before, last_write, moved, onto, program_at, published, step_of, steps_of, writes}
 use Rattle.gp_compose.proofs.FittingLogs.{statement_at_fits}
 use Rattle.gp_plantext.specs.Spellable.{table_is_spellable}
 use Rattle.gp_reenact.specs.Reenacting.{merged_at}
@@ -33,21 +33,28 @@ module _ (catalogue : List Table) (named : (table : ℕ) → is_there catalogue 
   abbrev AreShaped : (ℕ → Query) → Type 0
   AreShaped tables = (table : ℕ) → is_there catalogue table ≡ true → annotated_is_shaped catalogue (tables table) ≡ true
 
-  contents_shaped : (version table : ℕ) (write : Option ℕ) → is_there catalogue table ≡ true → annotated_is_shaped catalogue (contents version table write) ≡ true
-  contents_shaped version table None there = named table there
-  contents_shaped version table (Some j) there = refl
+  -- a table in another version
+  onto_shaped : (old new table : ℕ) (write : Option ℕ) (query : Query) → is_there catalogue table ≡ true → annotated_is_shaped catalogue query ≡ true
+      → annotated_is_shaped catalogue (onto old new table write query) ≡ true
+  onto_shaped old new table None query there shaped = named table there
+  onto_shaped old new table (Some j) query there shaped =
+      and_from (table_is_spellable catalogue table) _ (named table there) (and_from (annotated_is_shaped catalogue query) (table_is_spellable catalogue table) shaped (named table there))
 
-  contents_have : (version table : ℕ) (write : Option ℕ) → has_tables (contents version table write) ≡ true
-  contents_have version table None = refl
-  contents_have version table (Some j) = refl
+  onto_have : (old new table : ℕ) (write : Option ℕ) (query : Query) → has_tables (onto old new table write query) ≡ true
+  onto_have old new table None query = refl
+  onto_have old new table (Some j) query = refl
 
-  published_shaped : (begin before table : ℕ) (write : Option ℕ) → is_there catalogue table ≡ true → annotated_is_shaped catalogue (published_as begin before table write) ≡ true
-  published_shaped begin before table None there = named table there
-  published_shaped begin before table (Some j) there = and_from (table_is_spellable catalogue table) (table_is_spellable catalogue table) (named table there) (named table there)
+  moved_shaped : (old new table : ℕ) (write : Option ℕ) (query : Query) → is_there catalogue table ≡ true → annotated_is_shaped catalogue query ≡ true
+      → annotated_is_shaped catalogue (moved old new table write query) ≡ true
+  moved_shaped old new table write query there shaped =
+      elim (new == old) as (λ b. annotated_is_shaped catalogue (cond b query (onto old new table write query)) ≡ true) [
+        | true ↦ shaped
+        | false ↦ onto_shaped old new table write query there shaped
+      ]
 
-  published_have : (begin before table : ℕ) (write : Option ℕ) → has_tables (published_as begin before table write) ≡ true
-  published_have begin before table None = refl
-  published_have begin before table (Some j) = refl
+  moved_have : (old new table : ℕ) (write : Option ℕ) (query : Query) → has_tables query ≡ true → has_tables (moved old new table write query) ≡ true
+  moved_have old new table write query have =
+      elim (new == old) as (λ b. has_tables (cond b query (onto old new table write query)) ≡ true) [ true ↦ have | false ↦ onto_have old new table write query ]
 
   module _ (log : Log) (t : ℕ) (some_transaction : 0 < t)
       (fits : (k : ℕ) (statement : Statement) → log.statement t (suc k) ≡ Some statement → statement_fits catalogue statement ≡ true) where
@@ -55,29 +62,46 @@ module _ (catalogue : List Table) (named : (table : ℕ) → is_there catalogue 
     columns = width_of catalogue
 
     current_shaped : (k : ℕ) → AreShaped (current log t k)
-    current_shaped k table there = contents_shaped (log.begin_version t) table (last_write log t k table) there
+    current_shaped zero table there = named table there
+    current_shaped (suc k) table there =
+        elim (writes (log.statement t (suc k)) table) as (λ b. annotated_is_shaped catalogue (cond b (q.step (suc k)) (current_before log t k table)) ≡ true) [
+          | true ↦ refl
+          | false ↦ moved_shaped (log.version t k) (log.version t (suc k)) table (last_write log t k table) (current log t k table) there (current_shaped k table there)
+        ]
 
     current_have : (k table : ℕ) → has_tables (current log t k table) ≡ true
-    current_have k table = contents_have (log.begin_version t) table (last_write log t k table)
+    current_have zero table = refl
+    current_have (suc k) table =
+        elim (writes (log.statement t (suc k)) table) as (λ b. has_tables (cond b (q.step (suc k)) (current_before log t k table)) ≡ true) [
+          | true ↦ refl
+          | false ↦ moved_have (log.version t k) (log.version t (suc k)) table (last_write log t k table) (current log t k table) (current_have k table)
+        ]
+
+    -- as the next statement reads it
+    before_shaped : (k : ℕ) → AreShaped (current_before log t k)
+    before_shaped k table there = moved_shaped (log.version t k) (log.version t (suc k)) table (last_write log t k table) (current log t k table) there (current_shaped k table there)
+
+    before_have : (k table : ℕ) → has_tables (current_before log t k table) ≡ true
+    before_have k table = moved_have (log.version t k) (log.version t (suc k)) table (last_write log t k table) (current log t k table) (current_have k table)
 
     composed_shaped : (k : ℕ) → list_all (annotated_step_is_shaped catalogue) (composed columns log t k) ≡ true
     composed_shaped zero = refl
     composed_shaped (suc k) =
-        all_joined (annotated_step_is_shaped catalogue) (composed columns log t k) (step_of columns t (suc k) (current log t k) (log.statement t (suc k))) (composed_shaped k)
+        all_joined (annotated_step_is_shaped catalogue) (composed columns log t k) (step_of columns t (suc k) (current_before log t k) (log.statement t (suc k))) (composed_shaped k)
         (one (log.statement t (suc k)) refl)
       where
-        one : (o : Option Statement) → log.statement t (suc k) ≡ o → list_all (annotated_step_is_shaped catalogue) (step_of columns t (suc k) (current log t k) o) ≡ true
+        one : (o : Option Statement) → log.statement t (suc k) ≡ o → list_all (annotated_step_is_shaped catalogue) (step_of columns t (suc k) (current_before log t k) o) ≡ true
         one None e = refl
         one (Some statement) e = two (target statement) refl
           where
-            two : (own : Option ℕ) → target statement ≡ own → list_all (annotated_step_is_shaped catalogue) (steps_of columns t (suc k) (current log t k) statement own) ≡ true
+            two : (own : Option ℕ) → target statement ≡ own → list_all (annotated_step_is_shaped catalogue) (steps_of columns t (suc k) (current_before log t k) statement own) ≡ true
             two None is = refl
             two (Some own) is =
                 let fit = fits k statement e in
                 let some : 0 < suc k = omega arith in
                 let table = named own (target_there catalogue own statement is fit) in
-                let query = rewritten_shaped catalogue (current log t k) (current_shaped k) (current_have k) t (suc k) some_transaction some own statement is fit in
-                and_from _ true (and_from (table_is_spellable catalogue own) (annotated_is_shaped catalogue (rewritten columns t (suc k) statement (current log t k))) table query) refl
+                let query = rewritten_shaped catalogue (current_before log t k) (before_shaped k) (before_have k) t (suc k) some_transaction some own statement is fit in
+                and_from _ true (and_from (table_is_spellable catalogue own) (annotated_is_shaped catalogue (rewritten columns t (suc k) statement (current_before log t k))) table query) refl
 
     pub after_shaped : (prov : Bool) (k : ℕ) (select : Select) → select_fits catalogue select ≡ true → is_shaped catalogue (plain_program columns prov (after columns log t k select)) ≡ true
     after_shaped prov k select fit =
@@ -88,8 +112,9 @@ module _ (catalogue : List Table) (named : (table : ℕ) → is_there catalogue 
     commit_shaped prov before select fit =
         program_shaped catalogue columns prov (commit columns log t before select) (composed_shaped (log.statement_count t))
         (query_shaped catalogue (published log t before)
-        (λ table there. published_shaped (log.begin_version t) before table (last_write log t (log.statement_count t) table) there)
-        (λ table. published_have (log.begin_version t) before table (last_write log t (log.statement_count t) table)) select fit)
+        (λ table there. onto_shaped (log.version t (log.statement_count t)) before table (last_write log t (log.statement_count t) table) (current log t (log.statement_count t) table) there
+        (current_shaped (log.statement_count t) table there))
+        (λ table. onto_have (log.version t (log.statement_count t)) before table (last_write log t (log.statement_count t) table) (current log t (log.statement_count t) table)) select fit)
 
   as_of_shaped : (prov : Bool) (version : ℕ) (select : Select) → select_fits catalogue select ≡ true
       → is_shaped catalogue (plain_program (width_of catalogue) prov (as_of version select)) ≡ true
