@@ -10,6 +10,7 @@ pub mod CellTexts
 pub mod SpanLaws
 pub mod LineBytes
 pub mod LogLineLaws
+pub mod HeaderLaws
 pub mod SaidLaws
 pub mod OneLine
 pub mod SaidLemmas

@@ -1,5 +1,5 @@
 -- The lines of a dump are UTF-8 and have no line feed.
-use Rattle.std.proofs.Common.{◌≡◌, ℕ, ◌<◌, ◌≤◌, true, false, not, leb, eqb, ◌&&◌, List, [], ◌∷◌, Some, length, refl, arith}
+use Rattle.std.proofs.Common.{◌≡◌, ℕ, ◌<◌, ◌≤◌, Bool, true, false, not, leb, eqb, ◌&&◌, List, [], ◌∷◌, Some, length, refl, arith}
 use Rattle.std.specs.List.{list_all}
 use Rattle.std.proofs.lemmas.Bool.{and_parts, false≢true, ne_eqb}
 use Rattle.std.proofs.lemmas.Bool.Decides.{nat_tests}
@@ -55,8 +55,9 @@ name-line (b ∷ bytes) is =
 
 -- ---- the lines
 
-pub header-one_line : IsOneLine header
-header-one_line = one_line header (words-alone header refl)
+pub header-one_line : (second : Bool) → IsOneLine (header second)
+header-one_line false = one_line (header false) (words-alone (header false) refl)
+header-one_line true = one_line (header true) (words-alone (header true) refl)
 
 pub end-one_line : IsOneLine end_text
 end-one_line = one_line end_text (words-alone end_text refl)

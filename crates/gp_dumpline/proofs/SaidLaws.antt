@@ -1,6 +1,6 @@
 -- What a log line says is read only from its own text, and again from it where it is the command of a script line. Its text is UTF-8 and has no line feed.
-use Rattle.std.proofs.Common.{◌≡◌, ℕ, true, cond, List, [], ◌∷◌, ◌++◌, get_or, Some, None, Result, Ok, Err, refl, sym, ap, subst, ◌∙◌, inl, inr, arith, codes}
-use Rattle.std.specs.Str.{bytes_eq}
+use Rattle.std.proofs.Common.{◌≡◌, ℕ, Bool, true, false, cond, List, [], ◌∷◌, ◌++◌, get_or, Some, None, Result, Ok, Err, refl, sym, ap, subst, ◌∙◌, inl, inr, arith, codes}
+use Rattle.std.specs.Str.{bytes_eq, chars, is_utf8}
 use Rattle.std.proofs.lemmas.Bool.{cases_Bool}
 use Rattle.std.proofs.lemmas.Slice.Eq.{bytes_eq-Decides}
 use Rattle.gp_base.specs.declared.table.Table.{Table}
@@ -11,24 +11,26 @@ use Rattle.gp_lexer.specs.declared.lexeme.Lexeme.TheVariants.{Symbol as Sign}
 use Rattle.gp_lexer.specs.declared.lexeme.Symbol.TheVariants as s
 use Rattle.gp_lexer.specs.Layout.{next_gap, empty_page, laid_out}
 use Rattle.gp_lexer.specs.Lexemes.{AreProper, spelled, symbol_text}
+use Rattle.gp_lexer.specs.Lexing as lex
 use Rattle.gp_lexer.proofs.LayoutLemmas.{added, written-added}
 use Rattle.gp_lexer.proofs.ProperLemmas.{lexemes-proper}
 use Rattle.gp_grammar.specs.Canonical.{command_text, query_lexemes}
 use Rattle.gp_grammar.specs.Capping.{capped_command}
 use Rattle.gp_grammar.specs.CommandGrammar as g
 use Rattle.gp_grammar.specs.CommandGrammar.{IsCommand, IsSessionCommand, IsScriptLine}
+use Rattle.gp_grammar.specs.CommandParsing as c
 use Rattle.gp_grammar.specs.CommandParsing.{command}
 use Rattle.gp_grammar.specs.Limits.{command_shape}
 use Rattle.gp_grammar.specs.LineReading.{Fault, command_of, script_line_of}
 use Rattle.gp_grammar.specs.Syntax as y
 use Rattle.gp_grammar.specs.Syntax.{Lexemes, Bytes, Command, ScriptLine, Query}
-use Rattle.gp_grammar.proofs.CanonicalLaws.{text-utf8, text-one_line}
+use Rattle.gp_grammar.proofs.CanonicalLaws.{derived-read, lexed-lexemes, text-utf8, text-one_line}
 use Rattle.gp_grammar.proofs.LineLaws.{texts-read}
 use Rattle.gp_grammar.proofs.ParserLaws.{lawful-command}
 use Rattle.gp_grammar.proofs.ShapeLemmas.{commands-fair}
 use Rattle.gp_grammar.proofs.Utf8Lemmas.{symbols-utf8}
 use Rattle.gp_log.specs.Discipline.{Said, Does, Loses}
-use Rattle.gp_log.proofs.LineCommands.{derived-read, lexed-lexemes, line-command}
+use Rattle.gp_log.proofs.LineCommands.{line-command}
 use Rattle.gp_dumpline.specs.Forms.{if_canonical, said_of}
 use Rattle.gp_dumpline.specs.Texts.{said_text}
 use Rattle.gp_dumpline.proofs.LineBytes.{IsLine, tested-free, words-alone}
@@ -87,7 +89,8 @@ no_query-lost (block ∷ blocks) e = absurd (omega (arith, lost-first 83 _ _ (fi
 not-lost : (x : Command) → command_text x ≡ codes "LOST" → ⊥
 unfolding symbol_text
 not-lost (y.create table) e = omega (arith, lost-first 67 _ _ (first-text (Sign s.Create) _) e)
-not-lost y.begin e = omega (arith, lost-first 66 _ _ (first-text (Sign s.Begin) _) e)
+not-lost (y.begin false) e = omega (arith, lost-first 66 _ _ (first-text (Sign s.Begin) _) e)
+not-lost (y.begin true) e = omega (arith, lost-first 66 (codes "EGIN READ COMMITTED") (codes "BEGIN READ COMMITTED") refl e)
 not-lost y.Command.commit e = omega (arith, lost-first 67 _ _ (first-text (Sign s.Commit) _) e)
 not-lost y.rollback e = omega (arith, lost-first 82 _ _ (first-text (Sign s.Rollback) _) e)
 not-lost (y.insert table rows) e = omega (arith, lost-first 73 _ _ (first-text (Sign s.Insert) _) e)
@@ -121,8 +124,13 @@ said-command x e = elim (cases_Bool (bytes_eq (command_text x) (codes "LOST"))) 
 
 -- ---- commands of lexemes
 
-begin-read : command_of (command_text y.begin) ≡ Ok y.begin
-begin-read = derived-read (Sign s.Begin ∷ []) y.begin g.begin refl (tt, tt) (symbols-utf8 s.Begin, tt)
+read_committed-read : command_of (command_text (y.begin true)) ≡ Ok (y.begin true)
+unfolding is_utf8 chars lib.Utf8.encode lex.lexed lex.lexed_from lex.lexeme_at lex.word_at lex.reserved_word symbol_text lex.number_at lex.sign_at c.begin
+read_committed-read = refl
+
+begin-read : (read_committed : Bool) → command_of (command_text (y.begin read_committed)) ≡ Ok (y.begin read_committed)
+begin-read false = derived-read (Sign s.Begin ∷ []) (y.begin false) g.begin refl (tt, tt) (symbols-utf8 s.Begin, tt)
+begin-read true = read_committed-read
 
 commit-read : command_of (command_text y.Command.commit) ≡ Ok y.Command.commit
 commit-read = derived-read (Sign s.Commit ∷ []) y.Command.commit g.commit refl (tt, tt) (symbols-utf8 s.Commit, tt)
@@ -130,8 +138,8 @@ commit-read = derived-read (Sign s.Commit ∷ []) y.Command.commit g.commit refl
 rollback-read : command_of (command_text y.rollback) ≡ Ok y.rollback
 rollback-read = derived-read (Sign s.Rollback ∷ []) y.rollback g.rollback refl (tt, tt) (symbols-utf8 s.Rollback, tt)
 
-pub begin-said : said_of (said_text (Does y.begin)) ≡ Some (Does y.begin)
-begin-said = command-said y.begin begin-read
+pub begin-said : (read_committed : Bool) → said_of (said_text (Does (y.begin read_committed))) ≡ Some (Does (y.begin read_committed))
+begin-said read_committed = command-said (y.begin read_committed) (begin-read read_committed)
 
 pub commit-said : said_of (said_text (Does y.Command.commit)) ≡ Some (Does y.Command.commit)
 commit-said = command-said y.Command.commit commit-read
@@ -153,6 +161,7 @@ line-said bytes line e = command-said line.command (line-command bytes line e)
 create-name : (ts : Lexemes) (x : Command) (table : Table) → IsCommand ts x → x ≡ y.create table → AreProper ts → is_name table.name ≡ true
 create-name _ _ table (g.create name a cols is) e are = let same : name ≡ table.name = cc in subst (λ (z : List ℕ). is_name z ≡ true) same are.1.1.0
 create-name _ _ table g.begin e are = absurd cc
+create-name _ _ table g.begin_read_committed e are = absurd cc
 create-name _ _ table g.commit e are = absurd cc
 create-name _ _ table g.rollback e are = absurd cc
 create-name _ _ table (g.insert other a rows is) e are = absurd cc

@@ -1,6 +1,6 @@
 -- Part of the statement: what the lines of a dump are read as. Each form is the inverse of its text in Texts, as the law `forms_are_texts` says.
 use Rattle.std.specs.List.{list_all}
-use Rattle.std.specs.Prelude.{◌≡◌, ◌<◌, ◌≤◌, ℕ, Bool, true, false, ◌||◌, List, length, Option, Some, None, Result, Ok, Err, option_and_then, if◌then◌else◌, ◌==◌, codes}
+use Rattle.std.specs.Prelude.{◌≡◌, ◌<◌, ◌≤◌, ℕ, Bool, true, false, ◌||◌, not, List, length, Option, Some, None, Result, Ok, Err, option_and_then, if◌then◌else◌, ◌==◌, codes}
 use Rattle.std.specs.Option.{option_map}
 use Rattle.std.specs.Str.{bytes_eq}
 use Rattle.gp_base.specs.declared.cell.Cell.{Cell}
@@ -11,6 +11,7 @@ use Rattle.gp_base.specs.Identities.{Identity, Sources, identity, no_sources, so
 use Rattle.gp_grammar.specs.declared.limits.TheConstants.{MAX_SESSION}
 use Rattle.gp_grammar.specs.Canonical.{command_text}
 use Rattle.gp_grammar.specs.LineReading.{Fault, command_of}
+use Rattle.gp_grammar.specs.Syntax as y
 use Rattle.gp_grammar.specs.Syntax.{Command}
 use Rattle.gp_versions.specs.declared.span.Span.{Span}
 use Rattle.gp_txn.specs.declared.counting.TheConstants.{MAX_SPANS}
@@ -19,6 +20,13 @@ use Rattle.gp_log.specs.Discipline.{Said, Does, Loses}
 use Rattle.gp_dumpline.specs.declared.identity.TheConstants.{MAX_PART}
 use Rattle.gp_dumpline.specs.Numbers.{number_up_to, version_of, beyond_versions, cut_at, behind_words}
 use Rattle.gp_dumpline.specs.RowForms.{identity_of, cells_of}
+use Rattle.gp_dumpline.specs.Texts.{header}
+
+-- ---- the first line
+
+-- whether the format is the second one
+abbrev pub header_of : List ℕ → Option Bool
+header_of text = if bytes_eq text (header false) then Some false else (if bytes_eq text (header true) then Some true else None)
 
 -- ---- the log
 
@@ -47,6 +55,15 @@ if_canonical text (Ok command) = if bytes_eq (command_text command) text then So
 
 unfoldable pub said_of : List ℕ → Option Said
 said_of text = if bytes_eq text (codes "LOST") then Some Loses else if_canonical text (command_of text)
+
+-- BEGIN READ COMMITTED, which a log of the first format cannot say
+abbrev pub begins_read_committed : Said → Bool
+begins_read_committed (Does (y.begin read_committed)) = read_committed
+begins_read_committed _ = false
+
+-- a format has what a log line says
+abbrev pub is_said_in : Bool → Said → Bool
+is_said_in second said = second || not (begins_read_committed said)
 
 -- ---- tables
 

@@ -1,5 +1,5 @@
 -- Part of the statement: the text of each line of a dump, without the line feed that ends it.
-use Rattle.std.specs.Prelude.{ℕ, List, [], ◌∷◌, Option, Some, None, codes}
+use Rattle.std.specs.Prelude.{ℕ, Bool, true, false, List, [], ◌∷◌, Option, Some, None, codes}
 use Rattle.std.specs.Fmt.{decimal}
 use Rattle.std.specs.List.{concat}
 use Rattle.gp_base.specs.Identities.{identity_text}
@@ -9,9 +9,10 @@ use Rattle.gp_versions.specs.declared.span.Span.{Span}
 use Rattle.gp_machine.specs.Entries.{Entry}
 use Rattle.gp_log.specs.Discipline.{Said, Does, Loses, line_of, session_of, said_by}
 
--- the first line, which names the format and its version
-abbrev pub header : List ℕ
-header = codes "gprom-dump 1"
+-- the first line, which names one of two formats; in the second one the log may have BEGIN READ COMMITTED
+abbrev pub header : Bool → List ℕ
+header false = codes "gprom-dump 1"
+header true = codes "gprom-dump 2"
 
 -- the number of log lines
 abbrev pub count_text : ℕ → List ℕ

@@ -1,6 +1,6 @@
 //! Laws of the forms of lines: a text is read exactly where it is a text of what is read, and is UTF-8 without a line feed.
 
-ghost use Rattle.std.specs.Prelude.{◌≡◌, ◌==◌, ◌<◌, ◌≤◌, ℕ, List, Option, Some, Ok, true, false};
+ghost use Rattle.std.specs.Prelude.{◌≡◌, ◌==◌, ◌<◌, ◌≤◌, ℕ, Bool, List, Option, Some, Ok, true, false};
 ghost use Rattle.std.specs.List.{list_all, list_any};
 ghost use Rattle.std.specs.Str.{is_utf8};
 ghost use Rattle.gp_base.specs.declared.table.Table.{Table};
@@ -11,7 +11,7 @@ ghost use Rattle.gp_grammar.specs.Syntax as y;
 ghost use Rattle.gp_versions.specs.declared.span.Span.{Span};
 ghost use Rattle.gp_machine.specs.Entries.{Entry};
 ghost use Rattle.gp_log.specs.Discipline.{Does, Loses, Said, line_of, said_by, session_of};
-ghost use Rattle.gp_dumpline.specs.Forms.{HasForm, IsVersion, LogLine, count_of, log_line_of, said_of, section_of, span_of};
+ghost use Rattle.gp_dumpline.specs.Forms.{HasForm, IsVersion, LogLine, count_of, header_of, log_line_of, said_of, section_of, span_of};
 ghost use Rattle.gp_dumpline.specs.Numbers.{beyond_versions};
 ghost use Rattle.gp_dumpline.specs.Texts.{count_text, end_text, entry_text, header, log_line_text, said_text, section_text, span_text};
 ghost use Rattle.gp_dumpline.specs.Laws.{IsOneLine};
@@ -23,6 +23,9 @@ use gp_txn::MAX_SPANS;
 /// Each form of line is the inverse of its text: the text of a value within its limits is read as the value, and only this
 /// text is. For a row line this holds of versions below the greatest number of 32 bits, which stands for all above it.
 pub fn forms_are_texts()
+    ensures header_again { (second : Bool) → header_of (header second) ≡ Some second }
+    ensures header_taken { (text : List ℕ) (second : Bool) → header_of text ≡ Some second
+        → text ≡ header second }
     ensures count_again { (count : ℕ) → count ≤ MAX_ENTRIES
         → count_of (count_text count) ≡ Some count }
     ensures count_taken { (text : List ℕ) (count : ℕ) → count_of text ≡ Some count
@@ -50,7 +53,8 @@ pub fn forms_are_texts()
 pub fn said_lines_are_read_again()
     ensures command { (bytes : List ℕ) (line : y.ScriptLine) → script_line_of bytes ≡ Ok line
         → said_of (said_text (Does line.command)) ≡ Some (Does line.command) }
-    ensures begin { said_of (said_text (Does y.begin)) ≡ Some (Does y.begin) }
+    ensures begin { (read_committed : Bool) → said_of (said_text (Does (y.begin read_committed)))
+        ≡ Some (Does (y.begin read_committed)) }
     ensures commit { said_of (said_text (Does y.Command.commit))
         ≡ Some (Does y.Command.commit) }
     ensures rollback { said_of (said_text (Does y.rollback)) ≡ Some (Does y.rollback) }
@@ -62,7 +66,7 @@ pub fn said_lines_are_read_again()
 /// The lines of a dump are UTF-8 and have no line feed, where a log line says what it is read as, and where the cells of a
 /// row are those of users.
 pub fn lines_are_one_line()
-    ensures header { IsOneLine header }
+    ensures header { (second : Bool) → IsOneLine (header second) }
     ensures count { (count : ℕ) → count ≤ MAX_ENTRIES → IsOneLine (count_text count) }
     ensures entry { (entry : Entry) → line_of entry ≤ MAX_LINE → session_of entry ≤ MAX_SESSION
         → said_of (said_text (said_by entry)) ≡ Some (said_by entry)

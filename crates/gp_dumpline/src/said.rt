@@ -4,8 +4,9 @@ ghost use Rattle.std.specs.Prelude.{◌≡◌, ◌<◌, ◌-◌, ◌^◌, IfOk, 
 ghost use Rattle.std.specs.Option.{option_map};
 ghost use Rattle.std.specs.Str.{bytes_eq};
 ghost use Rattle.gp_grammar.specs.Canonical.{command_text};
+ghost use Rattle.gp_log.specs.Discipline.{Does};
 ghost use Rattle.gp_syntax.specs.Views.{command_view};
-ghost use Rattle.gp_dumpline.specs.Forms.{said_of};
+ghost use Rattle.gp_dumpline.specs.Forms.{begins_read_committed, is_said_in, said_of};
 ghost use Rattle.gp_dumpline.specs.Views.{IsValid, said_view};
 
 use gp_base::NoMemory;
@@ -23,6 +24,34 @@ pub enum Said {
     Does(Command),
     /// The COMMIT of the session was lost, since a later commit had written the same row.
     Loses,
+}
+
+/// Whether the command is BEGIN READ COMMITTED.
+pub(crate) fn begins(command: &Command) -> bool
+    ensures { result ≡ begins_read_committed (Does (command_view command.now)) }
+{
+    match command {
+        Command::Begin { read_committed } => *read_committed,
+        _ => false,
+    }
+}
+
+impl Said {
+    /// Whether a log of the format can say it: only one of the second format has BEGIN READ COMMITTED.
+    pub fn is_in(&self, second: bool) -> bool
+        ensures { result ≡ is_said_in second (said_view self.now) }
+    {
+        second || !self.begins_read_committed()
+    }
+
+    fn begins_read_committed(&self) -> bool
+        ensures { result ≡ begins_read_committed (said_view self.now) }
+    {
+        match self {
+            Said::Does(command) => begins(command),
+            Said::Loses => false,
+        }
+    }
 }
 
 /// Whether the text is the canonical text of the command.

@@ -3,9 +3,10 @@
 ghost use Rattle.std.specs.Prelude.{◌≡◌, ◌++◌, IfOk, OnOk, OnErr, ℕ};
 ghost use Rattle.gp_log.specs.Discipline.{said_by};
 ghost use Rattle.gp_log.specs.Logs.{entry_view, what_view};
+ghost use Rattle.gp_dumpline.specs.Forms.{begins_read_committed};
 ghost use Rattle.gp_dumpline.specs.Texts.{count_text, entry_text, said_text, section_text, span_text, to_text};
 
-use crate::said::LOST;
+use crate::said::{LOST, begins};
 use gp_base::{NoMemory, append_all, text_of_pieces, write_id, write_row};
 use gp_log::{Entry, What};
 use gp_syntax::{Command, write_command};
@@ -40,6 +41,20 @@ pub fn write_section(
     Ok(())
 }
 
+/// Whether the line of an entry says BEGIN READ COMMITTED, which only the second format has.
+pub fn begins_read_committed(entry: &Entry) -> bool
+    ensures { result ≡ begins_read_committed (said_by (entry_view entry.now)) }
+{
+    match &entry.what {
+        What::Begin { read_committed } => *read_committed,
+        What::Statement { command, .. } => begins(command),
+        What::Create(_) => false,
+        What::Commit => false,
+        What::Lost => false,
+        What::Rollback => false,
+    }
+}
+
 /// What the line of an entry says.
 fn said(alloc: Global, what: &What) -> Result<Vec<u8>, NoMemory>
     ensures { IfOk result (λ text. (line session t : ℕ)
@@ -50,7 +65,10 @@ fn said(alloc: Global, what: &What) -> Result<Vec<u8>, NoMemory>
             let table = table.clone()?;
             write_command(alloc, &Command::Create { table })
         }
-        What::Begin => write_command(alloc, &Command::Begin),
+        What::Begin { read_committed } => {
+            let read_committed = *read_committed;
+            write_command(alloc, &Command::Begin { read_committed })
+        }
         What::Statement { command, .. } => write_command(alloc, command),
         What::Commit => write_command(alloc, &Command::Commit),
         What::Lost => text_of_pieces(alloc, &[LOST]),

@@ -1,7 +1,14 @@
+use Rattle.gp_dumpline.proofs.HeaderLaws as first_line
 use Rattle.gp_dumpline.proofs.LogLineLaws as log_line
 use Rattle.gp_dumpline.proofs.SaidLaws as said
 use Rattle.gp_dumpline.proofs.SpanLaws as span
 use Rattle.gp_dumpline.proofs.laws.forms_are_texts.Goals as goal
+
+pub returns-clause-header_again : goal.returns-clause-header_again
+returns-clause-header_again c = first_line.header-again
+
+pub returns-clause-header_taken : goal.returns-clause-header_taken
+returns-clause-header_taken c = first_line.header-takes
 
 pub returns-clause-count_again : goal.returns-clause-count_again
 returns-clause-count_again c = log_line.count-again
