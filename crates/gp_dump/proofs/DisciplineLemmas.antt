@@ -28,26 +28,36 @@ take-one (y ∷ ys) zero x found = let same : y ≡ x = cc in ap (λ z. z ∷ []
 take-one (y ∷ ys) (suc n) x found = ap (λ zs. y ∷ zs) (take-one ys n x found)
 
 -- the log up to a place, and the one without its newest entry
-taken-back : (entries : List Entry) (place next : ℕ) (e : Entry) → place ≡ next + 1 → slice_get entries next ≡ Some e → log_view (take place entries) ≡ entry_view e ∷ log_view (take next entries)
+pub taken-back : (entries : List Entry) (place next : ℕ) (e : Entry) → place ≡ next + 1 → slice_get entries next ≡ Some e → log_view (take place entries) ≡ entry_view e ∷ log_view (take next entries)
 taken-back entries place next e is found =
     let more : place ≡ suc next = omega (arith, is) in
     ap (λ n. log_view (take n entries)) more ∙ ap log_view (take-one entries next e found) ∙ log-pushed (take next entries) e
 
 skipped : (session line s t : ℕ) (w : What) (older : List m.Entry) → ¬ (s ≡ session) → transaction_in session (what_view line s t w ∷ older) ≡ transaction_in session older
 skipped session line s t (what.Create table) older other = refl
-skipped session line s t what.Begin older other = let no = ne_eqb session s (λ same. other (sym same)) in rw no refl
+skipped session line s t (what.Begin read_committed) older other = let no = ne_eqb session s (λ same. other (sym same)) in rw no refl
 skipped session line s t (what.Statement k command stmt) older other = refl
 skipped session line s t what.Commit older other = let no = ne_eqb session s (λ same. other (sym same)) in rw no refl
 skipped session line s t what.Lost older other = let no = ne_eqb session s (λ same. other (sym same)) in rw no refl
 skipped session line s t what.Rollback older other = let no = ne_eqb session s (λ same. other (sym same)) in rw no refl
 
-begun : (session line s t : ℕ) (older : List m.Entry) → s ≡ session → transaction_in session (what_view line s t what.Begin ∷ older) ≡ Some t
-begun session line s t older same = let is = eq-eqb session s (sym same) in rw is refl
+-- an entry that begins a transaction
+abbrev pub Begins : What → Type 0
+Begins (what.Begin read_committed) = Unit {0}
+Begins _ = ⊥
+
+begun : (session line s t : ℕ) (w : What) (older : List m.Entry) → Begins w → s ≡ session → transaction_in session (what_view line s t w ∷ older) ≡ Some t
+begun session line s t (what.Create table) older begins same = absurd begins
+begun session line s t (what.Begin read_committed) older begins same = let is = eq-eqb session s (sym same) in rw is refl
+begun session line s t (what.Statement k command stmt) older begins same = absurd begins
+begun session line s t what.Commit older begins same = absurd begins
+begun session line s t what.Lost older begins same = absurd begins
+begun session line s t what.Rollback older begins same = absurd begins
 
 -- what an entry that ends a transaction leaves its session
 abbrev pub Ends : What → Type 0
 Ends (what.Create table) = ⊥
-Ends what.Begin = ⊥
+Ends (what.Begin read_committed) = ⊥
 Ends (what.Statement k command stmt) = ⊥
 Ends what.Commit = Unit {0}
 Ends what.Lost = Unit {0}
@@ -55,7 +65,7 @@ Ends what.Rollback = Unit {0}
 
 over : (session line s t : ℕ) (w : What) (older : List m.Entry) → Ends w → s ≡ session → transaction_in session (what_view line s t w ∷ older) ≡ None
 over session line s t (what.Create table) older ends same = absurd ends
-over session line s t what.Begin older ends same = absurd ends
+over session line s t (what.Begin read_committed) older ends same = absurd ends
 over session line s t (what.Statement k command stmt) older ends same = absurd ends
 over session line s t what.Commit older ends same = let is = eq-eqb session s (sym same) in rw is refl
 over session line s t what.Lost older ends same = let is = eq-eqb session s (sym same) in rw is refl
@@ -64,7 +74,7 @@ over session line s t what.Rollback older ends same = let is = eq-eqb session s 
 -- an entry that neither begins nor ends a transaction
 abbrev pub Passes : What → Type 0
 Passes (what.Create table) = Unit {0}
-Passes what.Begin = ⊥
+Passes (what.Begin read_committed) = ⊥
 Passes (what.Statement k command stmt) = Unit {0}
 Passes what.Commit = ⊥
 Passes what.Lost = ⊥
@@ -72,7 +82,7 @@ Passes what.Rollback = ⊥
 
 passed : (session line s t : ℕ) (w : What) (older : List m.Entry) → Passes w → transaction_in session (what_view line s t w ∷ older) ≡ transaction_in session older
 passed session line s t (what.Create table) older passes = refl
-passed session line s t what.Begin older passes = absurd passes
+passed session line s t (what.Begin read_committed) older passes = absurd passes
 passed session line s t (what.Statement k command stmt) older passes = refl
 passed session line s t what.Commit older passes = absurd passes
 passed session line s t what.Lost older passes = absurd passes
@@ -88,12 +98,10 @@ pub of-itself : (session : ℕ) (entries : List Entry) (place next : ℕ) (e : E
 of-itself session entries place next e is found passes =
     ap (transaction_in session) (taken-back entries place next e is found) ∙ passed session e.line e.session e.t e.what (log_view (take next entries)) passes
 
-pub at-begin : (session : ℕ) (entries : List Entry) (place next : ℕ) (e : Entry) → place ≡ next + 1 → slice_get entries next ≡ Some e → e.session ≡ session → e.what ≡ what.Begin
+pub at-begin : (session : ℕ) (entries : List Entry) (place next : ℕ) (e : Entry) → place ≡ next + 1 → slice_get entries next ≡ Some e → e.session ≡ session → Begins e.what
     → transaction_in session (log_view (take place entries)) ≡ Some e.t
 at-begin session entries place next e is found same begins =
-    ap (transaction_in session) (taken-back entries place next e is found)
-    ∙ ap (λ w. transaction_in session (what_view e.line e.session e.t w ∷ log_view (take next entries))) begins
-    ∙ begun session e.line e.session e.t (log_view (take next entries)) same
+    ap (transaction_in session) (taken-back entries place next e is found) ∙ begun session e.line e.session e.t e.what (log_view (take next entries)) begins same
 
 pub at-end : (session : ℕ) (entries : List Entry) (place next : ℕ) (e : Entry) → place ≡ next + 1 → slice_get entries next ≡ Some e → e.session ≡ session → Ends e.what
     → transaction_in session (log_view (take place entries)) ≡ None
@@ -103,7 +111,7 @@ at-end session entries place next e is found same ends =
 -- the line of the newest entry
 line-seen : (line s t : ℕ) (w : What) → line_of (what_view line s t w) ≡ line
 line-seen line s t (what.Create table) = refl
-line-seen line s t what.Begin = refl
+line-seen line s t (what.Begin read_committed) = refl
 line-seen line s t (what.Statement k command stmt) = refl
 line-seen line s t what.Commit = refl
 line-seen line s t what.Lost = refl
@@ -129,7 +137,7 @@ unrefused-new tables table none = by (place_of table.name tables) refl none
 -- a statement is run
 pub statement-runs : (command : y.Command) → is_statement command ≡ true → action_of command ≡ a.Run command
 statement-runs (y.create table) is = absurd (true≢false (sym is))
-statement-runs y.begin is = absurd (true≢false (sym is))
+statement-runs (y.begin read_committed) is = absurd (true≢false (sym is))
 statement-runs y.Command.commit is = absurd (true≢false (sym is))
 statement-runs y.rollback is = absurd (true≢false (sym is))
 statement-runs (y.insert table rows) is = refl

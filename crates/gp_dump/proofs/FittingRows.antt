@@ -1,7 +1,7 @@
 -- In every version of a history, and in all that its transactions read, rows fit the columns of their tables, and identities can be read from their
 -- texts.
 use Rattle.std.proofs.Common.{◌≡◌, ℕ, zero, suc, Bool, true, false, List, [], ◌∷◌, ◌++◌, Option, Some, None, Result, Ok, Err, slice_get, refl, ap, subst, arith, ⊎_elim}
-use Rattle.std.specs.Prelude.{nat_le, not}
+use Rattle.std.specs.Prelude.{nat_le, not, ◌==◌, if◌then◌else◌}
 use Rattle.std.specs.List.{filter}
 use Rattle.std.specs.Result.{result_unwrap_or}
 use Rattle.gp_base.specs.Annotated.{Annotations, Database}
@@ -20,11 +20,13 @@ use Rattle.gp_machine.proofs.Distinct.{each_append, each_filter, each_map, each_
 use Rattle.gp_machine.proofs.LimitLemmas.{counts_are_within}
 use Rattle.gp_machine.proofs.ReachedLemmas.{all_reached, value_cases, within_limits}
 use Rattle.gp_machine.specs.Actions.{Run, action_of}
+use Rattle.gp_machine.specs.Bases.{pairs}
 use Rattle.gp_machine.specs.Committed.{is_written, merged, next_version, unmarked}
 use Rattle.gp_machine.specs.Conflicts.{Conflict}
 use Rattle.gp_machine.specs.Entries.{End, Lost, RolledBack, statements_in, transactions_in, versions_in}
-use Rattle.gp_machine.specs.Event.{Line, after, answered, beginning, committing, conflict_of, count_refusal, creating, creation_refusal, ended, is_full, published, ran, refusal_of, running}
+use Rattle.gp_machine.specs.Event.{Line, after, answered, beginning, committing, conflict_of, count_refusal, creating, creation_refusal, ended, is_full, published, ran, refusal_of, running, start_now, version_now}
 use Rattle.gp_machine.specs.Reached.{CountsAreWithin, IsReached}
+use Rattle.gp_machine.specs.Reading.{Seen, started}
 use Rattle.gp_machine.specs.State.{Active, State, start, with_value}
 use Rattle.gp_log.specs.Limits.{limits}
 use Rattle.gp_log.specs.ScriptLines.{AreScriptLines}
@@ -34,7 +36,7 @@ use Rattle.gp_dump.proofs.StepKinds.{AllFit, FitsRow, step_fits}
 
 pub record Fitting {M : Type 0} (state : State M) : Type 0 where
   pub committed : (version : ℕ) → AllFit state.catalogue (state.committed version)
-  pub views : (session : ℕ) (active : Active M) → state.active session ≡ Some active → AllFit state.catalogue active.view
+  pub views : (session : ℕ) (active : Active M) → state.active session ≡ Some active → AllFit state.catalogue active.seen.view
 
 -- ---- one more table
 
@@ -48,13 +50,23 @@ all_more tables table db fit place =
     each_weaker (FitsRow (tables ++ table ∷ []) place) (FitsRow tables place)
     (λ row f. record { table = f.table; there = slice_get_more tables table f.table place f.there; fits = f.fits; readable = f.readable }) (db place) (fit place)
 
--- ---- a commit
+-- ---- newer rows, and a commit
 
-merged_fits : {M : Type 0} (tables : List Table) (db view : Database M) (written : List Written) → AllFit tables db → AllFit tables view → AllFit tables (next_version db view written)
+merged_fits : {M : Type 0} (tables : List Table) (db view : Database M) (written : List Written) → AllFit tables db → AllFit tables view → AllFit tables (merged db view written)
 merged_fits tables db view written f g place =
-    each_map _ (FitsRow tables place) unmarked (λ row r. r) (merged db view written place)
-    (each_append _ (filter (λ row. not (is_written place row.identity written)) (db place)) (filter (λ row. is_written place row.identity written) (view place))
-    (each_filter _ (FitsRow tables place) _ (λ row e r. r) (db place) (f place)) (each_filter _ (FitsRow tables place) _ (λ row e r. r) (view place) (g place)))
+    each_append _ (filter (λ row. not (is_written place row.identity written)) (db place)) (filter (λ row. is_written place row.identity written) (view place))
+    (each_filter _ (FitsRow tables place) _ (λ row e r. r) (db place) (f place)) (each_filter _ (FitsRow tables place) _ (λ row e r. r) (view place) (g place))
+
+committed_fits : {M : Type 0} (tables : List Table) (db view : Database M) (written : List Written) → AllFit tables db → AllFit tables view → AllFit tables (next_version db view written)
+committed_fits tables db view written f g place = each_map _ (FitsRow tables place) unmarked (λ row r. r) (merged db view written place) (merged_fits tables db view written f g place)
+
+-- what a statement reads
+started_fits : {M : Type 0} (tables : List Table) (old new : ℕ) (now : Database M) (seen : Seen M) → AllFit tables now → AllFit tables seen.view → AllFit tables (started old new now seen)
+started_fits tables old new now seen f g = by (new == old)
+  where
+    by : (b : Bool) → AllFit tables (if b then seen.view else merged now seen.view (pairs seen.written))
+    by true = g
+    by false = merged_fits tables now seen.view (pairs seen.written) f g
 
 -- ---- lines
 
@@ -70,30 +82,33 @@ none_active a e = cc
 
 module _ {M : Type 0} (kind : Annotations M) (state : State M) (line session : ℕ) (reached : IsReached kind limits state) (within : CountsAreWithin limits state) (fitting : Fitting state) where
   -- the session has another view, or none
-  views_with : (tables : List Table) (next : Option (Active M)) → ((active : Active M) → next ≡ Some active → AllFit tables active.view) → ((s : ℕ) (active : Active M) → state.active s ≡ Some active → AllFit tables active.view)
-      → (s : ℕ) (active : Active M) → with_value session next state.active s ≡ Some active → AllFit tables active.view
+  views_with : (tables : List Table) (next : Option (Active M)) → ((active : Active M) → next ≡ Some active → AllFit tables active.seen.view) → ((s : ℕ) (active : Active M) → state.active s ≡ Some active → AllFit tables active.seen.view)
+      → (s : ℕ) (active : Active M) → with_value session next state.active s ≡ Some active → AllFit tables active.seen.view
   views_with tables next f g s active e = ⊎_elim (λ here. f active here.1) (λ there. g s active there.1) (value_cases session next state.active s (Some active) e)
 
   create_it : (table : Table) (refusal : Option Refusal) → Fitting (creating state line session table refusal).0
   create_it table (Some refusal) = fitting
   create_it table None = record {
     committed = λ version. all_more state.catalogue table (state.committed version) (fitting.committed version);
-    views = λ s active e. all_more state.catalogue table active.view (fitting.views s active e);
+    views = λ s active e. all_more state.catalogue table active.seen.view (fitting.views s active e);
   }
 
-  begin_it : (full : Bool) → Fitting (beginning state line session full).0
-  begin_it true = fitting
-  begin_it false = record {
+  begin_it : (read_committed full : Bool) → Fitting (beginning state line session read_committed full).0
+  begin_it read_committed true = fitting
+  begin_it read_committed false = record {
     committed = fitting.committed;
-    views = views_with state.catalogue _ (λ active e. subst (λ (a : Active M). AllFit state.catalogue a.view) (some_active _ active e) (fitting.committed (versions_in state.entries))) fitting.views;
+    views = views_with state.catalogue _ (λ active e. subst (λ (a : Active M). AllFit state.catalogue a.seen.view) (some_active _ active e) (fitting.committed (versions_in state.entries))) fitting.views;
   }
 
   end_it : (active : Active M) (end : End) → Fitting (ended state line session active end)
   end_it active end = record { committed = fitting.committed; views = views_with state.catalogue None (λ active e. absurd (none_active active e)) fitting.views }
 
   module _ (active : Active M) (e : state.active session ≡ Some active) where
+    starts : AllFit state.catalogue (start_now state active)
+    starts = started_fits state.catalogue active.version (version_now state active) (state.committed (version_now state active)) active.seen (fitting.committed (version_now state active)) (fitting.views session active e)
+
     run_it : (command : Command) → command_of (command_text command) ≡ Ok command → first_refusal state.catalogue command ≡ None → (refusal : Option Refusal)
-        → refusal_of kind limits state.catalogue active.transaction (suc active.statements) (statement_of state.catalogue command) active.view ≡ refusal
+        → refusal_of kind limits state.catalogue active.transaction (suc active.statements) (statement_of state.catalogue command) (start_now state active) ≡ refusal
         → Fitting (ran kind state line session active command (statement_of state.catalogue command) refusal).0
     run_it command read none (Some refusal) f = fitting
     run_it command read none None f =
@@ -103,13 +118,13 @@ module _ {M : Type 0} (kind : Annotations M) (state : State M) (line session : �
         let few = within.transactions in
         let count = r.count in
         let steps = within.steps active.transaction in
-        let nodes = (within_limits kind limits state.catalogue active.transaction (suc active.statements) (statement_of state.catalogue command) active.view f).nodes in
+        let nodes = (within_limits kind limits state.catalogue active.transaction (suc active.statements) (statement_of state.catalogue command) (start_now state active) f).nodes in
         record {
           committed = fitting.committed;
           views = views_with state.catalogue _
-              (λ other is. subst (λ (a : Active M). AllFit state.catalogue a.view) (some_active _ other is)
-              (step_fits kind state.catalogue active.transaction (suc active.statements) command active.view (omega (arith, positive), omega (arith, known, few)) (omega arith, omega (arith, count, steps)) none
-              (read_valid command read) (read_within command read) nodes (fitting.views session active e)))
+              (λ other is. subst (λ (a : Active M). AllFit state.catalogue a.seen.view) (some_active _ other is)
+              (step_fits kind state.catalogue active.transaction (suc active.statements) command (start_now state active) (omega (arith, positive), omega (arith, known, few)) (omega arith, omega (arith, count, steps)) none
+              (read_valid command read) (read_within command read) nodes starts))
               fitting.views;
         }
 
@@ -119,8 +134,8 @@ module _ {M : Type 0} (kind : Annotations M) (state : State M) (line session : �
     check_it command read None (Err refusal) is = fitting
     check_it command read None (Ok statement) is =
         let c = checked_is (first_refusal state.catalogue command) (statement_of state.catalogue command) statement is in
-        subst (λ s. Fitting (ran kind state line session active command s (refusal_of kind limits state.catalogue active.transaction (suc active.statements) s active.view)).0) c.1
-        (run_it command read c.0 (refusal_of kind limits state.catalogue active.transaction (suc active.statements) (statement_of state.catalogue command) active.view) refl)
+        subst (λ s. Fitting (ran kind state line session active command s (refusal_of kind limits state.catalogue active.transaction (suc active.statements) s (start_now state active))).0) c.1
+        (run_it command read c.0 (refusal_of kind limits state.catalogue active.transaction (suc active.statements) (statement_of state.catalogue command) (start_now state active)) refl)
 
     commit_it : (lost : Option Conflict) (full : Bool) → Fitting (committing state line session active lost full).0
     commit_it (Some conflict) full = end_it active Lost
@@ -130,20 +145,20 @@ module _ {M : Type 0} (kind : Annotations M) (state : State M) (line session : �
       views = views_with state.catalogue None (λ active e. absurd (none_active active e)) fitting.views;
     }
       where
-        new : AllFit state.catalogue (next_version (state.committed (versions_in state.entries)) active.view active.written)
-        new = merged_fits state.catalogue (state.committed (versions_in state.entries)) active.view active.written (fitting.committed (versions_in state.entries)) (fitting.views session active e)
+        new : AllFit state.catalogue (next_version (state.committed (versions_in state.entries)) active.seen.view (pairs active.seen.written))
+        new = committed_fits state.catalogue (state.committed (versions_in state.entries)) active.seen.view (pairs active.seen.written) (fitting.committed (versions_in state.entries)) (fitting.views session active e)
 
         versions : (version : ℕ) → AllFit state.catalogue ((published state line session active).committed version)
         versions version =
             ⊎_elim (λ here. subst (AllFit state.catalogue) here.1 new) (λ there. subst (AllFit state.catalogue) there.1 (fitting.committed version))
-            (value_cases (suc (versions_in state.entries)) (next_version (state.committed (versions_in state.entries)) active.view active.written) state.committed version _ refl)
+            (value_cases (suc (versions_in state.entries)) (next_version (state.committed (versions_in state.entries)) active.seen.view (pairs active.seen.written)) state.committed version _ refl)
 
     checks : (command : Command) → command_of (command_text command) ≡ Ok command → Fitting (answered kind limits state line session (Some active) (Run command)).0
     checks command read = check_it command read (count_refusal limits active.statements (statements_in state.entries)) (limits.checked state.catalogue command) refl
 
   outside : (command : Command) → Fitting (answered kind limits state line session None (action_of command)).0
   outside (y.create table) = create_it table (creation_refusal limits state.catalogue table)
-  outside y.begin = begin_it (nat_le limits.transactions (transactions_in state.entries))
+  outside (y.begin read_committed) = begin_it read_committed (nat_le limits.transactions (transactions_in state.entries))
   outside y.Command.commit = fitting
   outside y.rollback = fitting
   outside (y.insert table rows) = fitting
@@ -154,7 +169,7 @@ module _ {M : Type 0} (kind : Annotations M) (state : State M) (line session : �
 
   inside : (active : Active M) → state.active session ≡ Some active → (command : Command) → command_of (command_text command) ≡ Ok command → Fitting (answered kind limits state line session (Some active) (action_of command)).0
   inside active e (y.create table) read = fitting
-  inside active e y.begin read = fitting
+  inside active e (y.begin read_committed) read = fitting
   inside active e y.Command.commit read = commit_it active e (conflict_of state active) (is_full limits state active)
   inside active e y.rollback read = end_it active RolledBack
   inside active e (y.insert table rows) read = checks active e (y.insert table rows) read

@@ -109,7 +109,7 @@ module _ (tables others : List Table) where
   entries_more : (entries : List Entry) → statements_fit tables entries ≡ true → statements_fit (tables ++ others) entries ≡ true
   entries_more [] fit = refl
   entries_more (Created line session table ∷ older) fit = entries_more older fit
-  entries_more (Began line session t ∷ older) fit = entries_more older fit
+  entries_more (Began line session t read_committed ∷ older) fit = entries_more older fit
   entries_more (Ran line session command t statement ∷ older) fit =
       let are = both (statement_fits tables statement) _ fit in and_true _ _ (statement_more statement are.0) (entries_more older are.1)
   entries_more (Committed line session t ∷ older) fit = entries_more older fit
@@ -163,11 +163,11 @@ module _ (older : List Entry) (line session : ℕ) (command : Command) (t : ℕ)
       go false (Some refusal) e = cc
       go false None e = cc
 
-  no_begin : (active : Option ℕ) → Follows active action.Begin → ⊥
-  no_begin (Some own) e = cc
-  no_begin None e = go (nat_le limits.transactions (transactions_in older)) e
+  no_begin : (read_committed : Bool) (active : Option ℕ) → Follows active (action.Begin read_committed) → ⊥
+  no_begin read_committed (Some own) e = cc
+  no_begin read_committed None e = go (nat_le limits.transactions (transactions_in older)) e
     where
-      go : (full : Bool) → (if full then Err Disorder else Ok (Began line session (suc (transactions_in older)))) ≡ Ok (Ran line session command t statement) → ⊥
+      go : (full : Bool) → (if full then Err Disorder else Ok (Began line session (suc (transactions_in older)) read_committed)) ≡ Ok (Ran line session command t statement) → ⊥
       go true e = cc
       go false e = cc
 
@@ -189,7 +189,7 @@ ran_fits : (older : List Entry) (line session : ℕ) (command : Command) (t : �
     → next_entry limits older line session (Does command) ≡ Ok (Ran line session command t statement)
     → is_valid command ≡ true → tables_are_valid (tables_in older) ≡ true → statement_fits (tables_in older) statement ≡ true
 ran_fits older line session (y.create table) t statement e valid columns = absurd (no_table older line session _ t statement (transaction_in session older) table e)
-ran_fits older line session y.begin t statement e valid columns = absurd (no_begin older line session _ t statement (transaction_in session older) e)
+ran_fits older line session (y.begin read_committed) t statement e valid columns = absurd (no_begin older line session _ t statement read_committed (transaction_in session older) e)
 ran_fits older line session y.Command.commit t statement e valid columns = absurd (no_commit older line session _ t statement (transaction_in session older) e)
 ran_fits older line session y.rollback t statement e valid columns = absurd (no_rollback older line session _ t statement (transaction_in session older) e)
 ran_fits older line session (y.insert table rows) t statement e valid columns =
@@ -206,7 +206,7 @@ ran_fits older line session (y.select query) t statement e valid columns =
 log_valid : (entries : List Entry) → AreReadable entries → tables_are_valid (tables_in entries) ≡ true
 log_valid [] readable = refl
 log_valid (Created line session table ∷ older) readable = tables-added (tables_in older) table (log_valid older readable.1) (said_valid (y.create table) readable.0)
-log_valid (Began line session t ∷ older) readable = log_valid older readable.1
+log_valid (Began line session t read_committed ∷ older) readable = log_valid older readable.1
 log_valid (Ran line session command t statement ∷ older) readable = log_valid older readable.1
 log_valid (Committed line session t ∷ older) readable = log_valid older readable.1
 log_valid (Ended line session end t ∷ older) readable = log_valid older readable.1
@@ -214,7 +214,7 @@ log_valid (Ended line session end t ∷ older) readable = log_valid older readab
 log_fits : (entries : List Entry) → IsLog limits entries → AreReadable entries → statements_fit (tables_in entries) entries ≡ true
 log_fits [] log readable = refl
 log_fits (Created line session table ∷ older) log readable = entries_more (tables_in older) (table ∷ []) older (log_fits older log.1 readable.1)
-log_fits (Began line session t ∷ older) log readable = log_fits older log.1 readable.1
+log_fits (Began line session t read_committed ∷ older) log readable = log_fits older log.1 readable.1
 log_fits (Ran line session command t statement ∷ older) log readable =
     and_true _ _ (ran_fits older line session command t statement log.0.follows (said_valid command readable.0) (log_valid older readable.1))
     (log_fits older log.1 readable.1)

@@ -25,7 +25,7 @@ all-both tables table all here = list_all-append table_is_valid tables (table �
 
 valid-next : (line session t : ℕ) (what : What) (older : List m.Entry) → tables_are_valid (tables_in older) ≡ true → CreatesValid what → tables_are_valid (tables_in (what_view line session t what ∷ older)) ≡ true
 valid-next line session t (Create table) older all here = all-both (tables_in older) table all here
-valid-next line session t Begin older all here = all
+valid-next line session t (Begin read_committed) older all here = all
 valid-next line session t (Statement k command stmt) older all here = all
 valid-next line session t Commit older all here = all
 valid-next line session t Lost older all here = all

@@ -48,7 +48,7 @@ has_target tables (y.update name sets cond) none = target tables name (none_of (
 has_target tables (y.delete name cond) none = target tables name (none_of (table_fault tables name) _ none).0
 has_target tables (y.select query) none = tt
 has_target tables (y.create table) none = tt
-has_target tables y.begin none = tt
+has_target tables (y.begin read_committed) none = tt
 has_target tables y.Command.commit none = tt
 has_target tables y.rollback none = tt
 

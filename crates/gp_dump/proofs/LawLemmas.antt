@@ -1,5 +1,5 @@
 -- The laws of dumps: the round trip, one dump for one text, and the order of its row lines.
-use Rattle.std.proofs.Common.{◌≡◌, inl, inr, ℕ, ◌<◌, true, List, [], ◌∷◌, map, Some, None, Result, Ok, Err, IfOk, refl, sym, ap, subst, ◌∙◌}
+use Rattle.std.proofs.Common.{◌≡◌, inl, inr, ℕ, ◌<◌, Bool, true, List, [], ◌∷◌, map, Some, None, Result, Ok, Err, IfOk, refl, sym, ap, subst, ◌∙◌}
 use Rattle.std.specs.List.{AllByRecursion}
 use Rattle.std.specs.Ordering.{is_le, nat_cmp}
 use Rattle.std.specs.declared.cmp.Ordering.TheVariants.{Less, Equal}
@@ -14,7 +14,7 @@ use Rattle.gp_versions.specs.declared.span.Span.{Span}
 use Rattle.gp_versions.specs.Spans.{AreWhole, NoOverlap, span_cmp}
 use Rattle.gp_dump.specs.declared.dump.Dump as code
 use Rattle.gp_dump.specs.declared.error.DumpStop.{DumpStop}
-use Rattle.gp_dump.specs.Dumps.{AreInPlace, AreOfTables, Dump, IsDump, WellFormed, dump_text, dump_with}
+use Rattle.gp_dump.specs.Dumps.{AreInPlace, AreOfTables, Dump, IsDump, WellFormed, dump_text, dump_with, has_read_committed, written_text}
 use Rattle.gp_dump.specs.Reading.{Continues}
 use Rattle.gp_dump.specs.Rules.{Fails, Holds, Verdict, fault_in, first_fault, verdict_on}
 use Rattle.gp_dump.specs.Views.{dump_view}
@@ -113,9 +113,18 @@ fault-excludes bytes fault dump found is = some-none fault (sym (no-fault bytes 
 pub dump-found : (bytes : List ℕ) → first_fault bytes ≡ None → (dump : Dump) × WellFormed bytes dump
 dump-found bytes none = let found = held-by bytes (verdict_on bytes) refl none in (found.0, only bytes found.0 found.1)
 
-pub written-again : (bytes : List ℕ) (dump : Dump) → WellFormed bytes dump → dump_text (dump_with dump.entries dump.tables) ≡ bytes
+pub one-text : (bytes others : List ℕ) (dump : Dump) (is : WellFormed bytes dump) (are : WellFormed others dump) → is.second ≡ are.second → bytes ≡ others
+one-text bytes others dump is are same = is.text ∙ ap (λ (second : Bool). dump_text second dump) same ∙ sym are.text
+
+pub written-again : (bytes : List ℕ) (dump : Dump) (is : WellFormed bytes dump) → dump_text is.second (dump_with dump.entries dump.tables) ≡ bytes
 written-again bytes dump is =
-    ap (λ (tables : List (List Span)). dump_text (record { entries = dump.entries; tables = tables })) (tables-ordered _ _ dump.tables is.rules.spans) ∙ sym is.text
+    ap (λ (tables : List (List Span)). dump_text is.second (record { entries = dump.entries; tables = tables })) (tables-ordered _ _ dump.tables is.rules.spans) ∙ sym is.text
+
+pub written-well-formed : (dump : Dump) → IsDump dump → WellFormed (written_text dump) dump
+written-well-formed dump is = record { second = has_read_committed dump.entries; text = refl; format = λ has. has; rules = is }
+
+pub written-same : (bytes : List ℕ) (dump : Dump) (is : WellFormed bytes dump) → has_read_committed dump.entries ≡ is.second → written_text (dump_with dump.entries dump.tables) ≡ bytes
+written-same bytes dump is same = ap (λ (second : Bool). dump_text second (dump_with dump.entries dump.tables)) same ∙ written-again bytes dump is
 
 pub rows-apart : (bytes : List ℕ) (dump : Dump) → WellFormed bytes dump → AllByRecursion NoOverlap dump.tables
 rows-apart bytes dump is = tables-apart _ _ dump.tables is.rules.spans

@@ -1,4 +1,5 @@
 pub mod DisciplineLemmas
+pub mod FormatLemmas
 pub mod GrowthLemmas
 pub mod LinesLemmas
 pub mod PlaceLemmas

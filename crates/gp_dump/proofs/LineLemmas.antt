@@ -27,7 +27,7 @@ use Rattle.gp_log.specs.Discipline.{Said, Does, Loses, Flaw, Disorder, creating,
 use Rattle.gp_log.specs.LogFacts.{tables_in}
 use Rattle.gp_log.specs.Limits.{limits}
 use Rattle.gp_dumpline.specs.Numbers.{beyond_versions}
-use Rattle.gp_dumpline.specs.Forms.{HasForm, IsVersion, LogLine, if_canonical, is_readable_cell, log_line_of, said_of, section_of, span_of}
+use Rattle.gp_dumpline.specs.Forms.{HasForm, IsVersion, LogLine, if_canonical, is_readable_cell, is_said_in, log_line_of, said_of, section_of, span_of}
 use Rattle.gp_dumpline.specs.Texts.{entry_text, log_line_text, said_text, section_text, span_text}
 use Rattle.gp_check.proofs.ValidLemmas.{command-read}
 use Rattle.gp_dumpline.proofs.LogLineLaws.{count-again, count-takes, log_line-again, log_line-takes, section-again as section_form-again, section-takes as section_form-takes}
@@ -81,11 +81,11 @@ module _ (older : List Entry) (line session : ℕ) where
   create-parts table None entry e = creating-parts table (limits.created (tables_in older) table) entry (unless-flaw (leb limits.tables (length (tables_in older))) Disorder _ entry e)
   create-parts table (Some t) entry e = absurd cc
 
-  begin-parts : (active : Option ℕ) (entry : Entry) → doing limits older line session active Begin ≡ Ok entry → HasParts line session (Does y.begin) entry
-  begin-parts None entry e =
-      let is : Ok (Began line session (suc (transactions_in older))) ≡ Ok entry = unless-flaw (leb limits.transactions (transactions_in older)) Disorder _ entry e in
-      parts-of (Began line session (suc (transactions_in older))) entry (Does y.begin) (record { line_is = refl; session_is = refl; said_is = refl }) (cc)
-  begin-parts (Some t) entry e = absurd cc
+  begin-parts : (read_committed : Bool) (active : Option ℕ) (entry : Entry) → doing limits older line session active (Begin read_committed) ≡ Ok entry → HasParts line session (Does (y.begin read_committed)) entry
+  begin-parts read_committed None entry e =
+      let is : Ok (Began line session (suc (transactions_in older)) read_committed) ≡ Ok entry = unless-flaw (leb limits.transactions (transactions_in older)) Disorder _ entry e in
+      parts-of (Began line session (suc (transactions_in older)) read_committed) entry (Does (y.begin read_committed)) (record { line_is = refl; session_is = refl; said_is = refl }) (cc)
+  begin-parts read_committed (Some t) entry e = absurd cc
 
   commit-parts : (active : Option ℕ) (entry : Entry) → doing limits older line session active Commit ≡ Ok entry → HasParts line session (Does y.Command.commit) entry
   commit-parts None entry e = absurd cc
@@ -101,7 +101,7 @@ module _ (older : List Entry) (line session : ℕ) where
 
   doing-parts : (command : Command) (active : Option ℕ) (entry : Entry) → doing limits older line session active (action_of command) ≡ Ok entry → HasParts line session (Does command) entry
   doing-parts (y.create table) active entry e = create-parts table active entry e
-  doing-parts y.begin active entry e = begin-parts active entry e
+  doing-parts (y.begin read_committed) active entry e = begin-parts read_committed active entry e
   doing-parts y.Command.commit active entry e = commit-parts active entry e
   doing-parts y.rollback active entry e = rollback-parts active entry e
   doing-parts (y.insert table rows) active entry e = run-parts (y.insert table rows) active entry e
@@ -121,34 +121,36 @@ module _ (older : List Entry) (line session : ℕ) where
 
 -- ---- log lines
 
-entry-again : (log : List Entry) (entry : Entry) → IsEntry log entry → log_rule log (entry_text entry) ≡ Ok entry
+entry-again : (second : Bool) (log : List Entry) (entry : Entry) → IsEntry second log entry → log_rule second log (entry_text entry) ≡ Ok entry
 unfolding log_rule
-entry-again log entry is =
+entry-again second log entry is =
     let form = log_line-again (line_of entry) (session_of entry) (said_text (said_by entry)) (omega (arith, is.next.rises)) is.next.line is.next.first is.next.session in
     let above : ltb (last_line log) (line_of entry) ≡ true = lt-ltb (last_line log) (line_of entry) is.next.rises in
-    rw (form, above, is.said, is.next.follows) refl
+    rw (form, above, is.said, is.format, is.next.follows) refl
 
 -- what a log line that was read says
-record TookLine (log : List Entry) (text : List ℕ) (entry : Entry) : Type 0 where
+record TookLine (second : Bool) (log : List Entry) (text : List ℕ) (entry : Entry) : Type 0 where
   l : LogLine
   is : log_line_of text ≡ Some l
   above : ltb (last_line log) l.line ≡ true
   said : Said
   said_is : said_of l.said ≡ Some said
+  known : is_said_in second said ≡ true
   follows : next_entry limits log l.line l.session said ≡ Ok entry
 
-entry-took : (log : List Entry) (text : List ℕ) (entry : Entry) → log_rule log text ≡ Ok entry → TookLine log text entry
+entry-took : (second : Bool) (log : List Entry) (text : List ℕ) (entry : Entry) → log_rule second log text ≡ Ok entry → TookLine second log text entry
 unfolding log_rule
-entry-took log text entry e =
+entry-took second log text entry e =
     let a = some-took 5 (log_line_of text) _ entry e in
     let b = test-took 6 (ltb (last_line log) a.0.line) _ entry a.2 in
     let c = some-took 7 (said_of a.0.said) _ entry b.1 in
-    let d = next-took (next_entry limits log a.0.line a.0.session c.0) entry c.2 in
-    record { l = a.0; is = a.1; above = b.0; said = c.0; said_is = c.1; follows = d }
+    let f = test-took 7 (is_said_in second c.0) _ entry c.2 in
+    let d = next-took (next_entry limits log a.0.line a.0.session c.0) entry f.1 in
+    record { l = a.0; is = a.1; above = b.0; said = c.0; said_is = c.1; known = f.0; follows = d }
 
-entry-taken : (log : List Entry) (text : List ℕ) (entry : Entry) → log_rule log text ≡ Ok entry → (text ≡ entry_text entry) × IsEntry log entry
-entry-taken log text entry e =
-    let t = entry-took log text entry e in
+entry-taken : (second : Bool) (log : List Entry) (text : List ℕ) (entry : Entry) → log_rule second log text ≡ Ok entry → (text ≡ entry_text entry) × IsEntry second log entry
+entry-taken second log text entry e =
+    let t = entry-took second log text entry e in
     let form = log_line-takes text t.l t.is in
     let parts = next-parts log t.l.line t.l.session t.said entry t.follows in
     let said-text : t.l.said ≡ said_text (said_by entry) = said-takes t.l.said t.said t.said_is ∙ ap said_text (sym parts.said_is) in
@@ -166,6 +168,7 @@ entry-taken log text entry e =
           session = omega (arith, form.session.1, parts.session_is);
         };
         said = said;
+        format = ap (is_said_in second) parts.said_is ∙ t.known;
       },
     )
 
@@ -289,7 +292,7 @@ line-laws = record {
   count = count-one_line;
   count_again = count-again;
   count_taken = count-takes;
-  entry = λ log entry is. entry-one_line entry is.next.line is.next.session is.said;
+  entry = λ second log entry is. entry-one_line entry is.next.line is.next.session is.said;
   entry_again = entry-again;
   entry_taken = entry-taken;
 }
@@ -324,7 +327,7 @@ said-command text command e = elim (cases_Bool (bytes_eq text (codes "LOST"))) [
 versions-few : (log : List Entry) → versions_in log ≤ length log
 versions-few [] = omega arith
 versions-few (Created line session table ∷ older) = omega (arith, versions-few older)
-versions-few (Began line session t ∷ older) = omega (arith, versions-few older)
+versions-few (Began line session t read_committed ∷ older) = omega (arith, versions-few older)
 versions-few (Ran line session ran t statement ∷ older) = omega (arith, versions-few older)
 versions-few (Committed line session t ∷ older) = omega (arith, versions-few older)
 versions-few (Ended line session end t ∷ older) = omega (arith, versions-few older)
@@ -345,7 +348,7 @@ all-behind P (y ∷ xs) x all last = (all.0, all-behind P xs x all.1 last)
 tables-named : (log : List Entry) → AreReadable log → AllByRecursion IsNamed (tables_in log)
 tables-named [] are = tt
 tables-named (Created line session table ∷ older) are = all-behind IsNamed (tables_in older) table (tables-named older are.1) (named-by line session table are.0)
-tables-named (Began line session t ∷ older) are = tables-named older are.1
+tables-named (Began line session t read_committed ∷ older) are = tables-named older are.1
 tables-named (Ran line session ran t statement ∷ older) are = tables-named older are.1
 tables-named (Committed line session t ∷ older) are = tables-named older are.1
 tables-named (Ended line session end t ∷ older) are = tables-named older are.1

@@ -17,7 +17,7 @@ use Rattle.gp_machine.proofs.ReachedLemmas.{all_reached}
 use Rattle.gp_machine.specs.Actions.{Begin, Commit, Create, Rollback, Run, action_of}
 use Rattle.gp_machine.specs.Conflicts.{Conflict}
 use Rattle.gp_machine.specs.Entries.{Began, Committed, Created, Ended, Entry, Lost, Ran, RolledBack, statement_count, statements_in, transactions_in, versions_in}
-use Rattle.gp_machine.specs.Event.{Line, accepted, after, answered, began, beginning, committing, conflict_of, count_refusal, created, creating, creation_refusal, ended, is_full, line_event, published, ran, refusal_of, running}
+use Rattle.gp_machine.specs.Event.{Line, accepted, after, answered, began, beginning, committing, conflict_of, count_refusal, created, creating, creation_refusal, ended, is_full, line_event, published, ran, refusal_of, running, start_now}
 use Rattle.gp_machine.specs.Limits.{Limits}
 use Rattle.gp_machine.specs.Reached.{IsReached}
 use Rattle.gp_machine.specs.State.{Active, State, start, with_value}
@@ -123,21 +123,28 @@ module _ {M : Type 0} (kind : Annotations M) (limits : Limits) (state : State M)
       go false None f = refl
       go false (Some refusal) f = absurd (refusal_none refusal f)
 
-  begin_it : command_of (command_text y.begin) ≡ Ok y.begin → state.active session ≡ None → (full : Bool) → nat_le limits.transactions (transactions_in state.entries) ≡ full → Logged limits line.number (beginning state number session full).0
-  begin_it read e true f = same
-  begin_it read e false f =
-      enter (began state number session) (Began number session (suc (transactions_in state.entries)))
-      (Some (record { transaction = suc (transactions_in state.entries); statements = zero; view = state.committed (versions_in state.entries); written = [] })) refl refl refl
-      (ap (λ t. doing limits state.entries number session t Begin) (runs None e)
-      ∙ ap (λ b. if b then Err Disorder else Ok (Began number session (suc (transactions_in state.entries)))) f)
-      (read_said y.begin read) (λ n. refl) (λ n. refl) logged.tables
+  begin_it : (read_committed : Bool) → command_of (command_text (y.begin read_committed)) ≡ Ok (y.begin read_committed) → state.active session ≡ None → (full : Bool) → nat_le limits.transactions (transactions_in state.entries) ≡ full → Logged limits line.number (beginning state number session read_committed full).0
+  begin_it read_committed read e true f = same
+  begin_it read_committed read e false f =
+      enter (began state number session read_committed) (Began number session (suc (transactions_in state.entries)) read_committed)
+      (Some (record {
+        transaction = suc (transactions_in state.entries);
+        read_committed = read_committed;
+        version = versions_in state.entries;
+        statements = zero;
+        seen = record { view = state.committed (versions_in state.entries); written = [] };
+      }))
+      refl refl refl
+      (ap (λ t. doing limits state.entries number session t (Begin read_committed)) (runs None e)
+      ∙ ap (λ b. if b then Err Disorder else Ok (Began number session (suc (transactions_in state.entries)) read_committed)) f)
+      (read_said (y.begin read_committed) read) (λ n. refl) (λ n. refl) logged.tables
 
   module _ (active : Active M) (e : state.active session ≡ Some active) where
     run_it : (command : Command) → action_of command ≡ Run command → command_of (command_text command) ≡ Ok command → (refusal : Option Refusal) → count_refusal limits active.statements (statements_in state.entries) ≡ refusal
         → (checked : Result Statement Refusal) → limits.checked state.catalogue command ≡ checked → Logged limits line.number (running kind state number session active command limits refusal checked).0
     run_it command a read (Some refusal) f checked g = same
     run_it command a read None f (Err refusal) g = same
-    run_it command a read None f (Ok statement) g = go (refusal_of kind limits state.catalogue active.transaction (suc active.statements) statement active.view)
+    run_it command a read None f (Ok statement) g = go (refusal_of kind limits state.catalogue active.transaction (suc active.statements) statement (start_now state active))
       where
         count : statement_count active.transaction state.entries ≡ active.statements
         count = (reached.running session active e).count
@@ -172,7 +179,7 @@ module _ {M : Type 0} (kind : Annotations M) (limits : Limits) (state : State M)
 
   outside : state.active session ≡ None → (command : Command) → command_of (command_text command) ≡ Ok command → Logged limits line.number (answered kind limits state number session None (action_of command)).0
   outside e (y.create table) read = create_it table read e (creation_refusal limits state.catalogue table) refl
-  outside e y.begin read = begin_it read e (nat_le limits.transactions (transactions_in state.entries)) refl
+  outside e (y.begin read_committed) read = begin_it read_committed read e (nat_le limits.transactions (transactions_in state.entries)) refl
   outside e y.Command.commit read = same
   outside e y.rollback read = same
   outside e (y.insert table rows) read = same
@@ -183,7 +190,7 @@ module _ {M : Type 0} (kind : Annotations M) (limits : Limits) (state : State M)
 
   inside : (active : Active M) → state.active session ≡ Some active → (command : Command) → command_of (command_text command) ≡ Ok command → Logged limits line.number (answered kind limits state number session (Some active) (action_of command)).0
   inside active e (y.create table) read = same
-  inside active e y.begin read = same
+  inside active e (y.begin read_committed) read = same
   inside active e y.Command.commit read = commit_it active e read (conflict_of state active) (is_full limits state active)
   inside active e y.rollback read = rollback_it active e read
   inside active e (y.insert table rows) read = checks active e (y.insert table rows) refl read

@@ -1,5 +1,5 @@
 -- How the verdict goes on, line by line.
-use Rattle.std.proofs.Common.{◌≡◌, ℕ, suc, ◌+◌, ◌≤◌, true, false, List, [], ◌∷◌, length, reverse, Some, None, Result, Ok, Err, refl, sym, ap, subst, ◌∙◌, arith, inl, inr}
+use Rattle.std.proofs.Common.{◌≡◌, ℕ, suc, ◌+◌, ◌≤◌, Bool, true, false, List, [], ◌∷◌, length, reverse, Option, Some, None, Result, Ok, Err, refl, sym, ap, subst, ◌∙◌, arith, inl, inr}
 use Rattle.std.specs.Prelude.{slice_get}
 use Rattle.std.specs.Result.{IsErrAnd}
 use Rattle.std.specs.Str.{is_utf8, bytes_eq}
@@ -10,15 +10,15 @@ use Rattle.gp_base.specs.declared.table.Table.{Table}
 use Rattle.gp_versions.specs.declared.span.Span.{Span}
 use Rattle.gp_machine.specs.Entries.{Entry, versions_in}
 use Rattle.gp_log.specs.LogFacts.{tables_in}
-use Rattle.gp_dumpline.specs.Forms.{count_of}
-use Rattle.gp_dumpline.specs.Texts.{header, end_text}
+use Rattle.gp_dumpline.specs.Forms.{count_of, header_of}
+use Rattle.gp_dumpline.specs.Texts.{end_text}
 use Rattle.gp_dump.specs.declared.error.DumpStop.{DumpStop}
 use Rattle.gp_dump.specs.declared.error.LineStop.{LineStop}
 use Rattle.gp_dump.specs.declared.error.LineStop.TheVariants as stop
 use Rattle.gp_dump.specs.Dumps.{Dump, spans_in}
 use Rattle.gp_dump.specs.Lines.{Line, Whole, Cut, Missing, lines_of}
 use Rattle.gp_dump.specs.Reading.{AreDue, Continues, LineFails, Stops, behind, stop_at, takes_text, verdict_from}
-use Rattle.gp_dump.specs.Rules.{Due, Header, Count, Logs, Sections, Rows, Nothing, Verdict, Holds, Fails, after_text, cols_of, end_verdict, header_line, log_rule, nothing_line, row_rule, section_rule, text_of, then_verdict, verdict}
+use Rattle.gp_dump.specs.Rules.{◌>>=◌, Due, Header, Count, Logs, Sections, Rows, Nothing, Verdict, Holds, Fails, after_text, cols_of, end_verdict, header_line, log_rule, nothing_line, row_rule, rule, section_rule, text_of, then_verdict, verdict}
 
 -- ---- a line with a text
 
@@ -26,8 +26,8 @@ whole : (due : Due) (text bytes : List ℕ) (number : ℕ) → takes_text due �
     → verdict (Whole text ∷ lines_of bytes) due number ≡ then_verdict (after_text due text) number (λ next. verdict_from bytes next (number + 1))
 unfolding verdict
 whole Header text bytes number takes utf8 = absurd cc
-whole Count text bytes number takes utf8 = rw utf8 refl
-whole (Logs left log) text bytes number takes utf8 = rw utf8 refl
+whole (Count second) text bytes number takes utf8 = rw utf8 refl
+whole (Logs second left log) text bytes number takes utf8 = rw utf8 refl
 whole (Sections log tables) text bytes number takes utf8 = rw utf8 refl
 whole (Rows left log tables rows) text bytes number takes utf8 = rw utf8 refl
 whole (Nothing dump) text bytes number takes utf8 = absurd cc
@@ -39,8 +39,8 @@ text-whole all due text bytes number is takes utf8 = ap (λ (x : List Line). ver
 bad : (due : Due) (line : Line) (lines : List Line) (number f : ℕ) → takes_text due ≡ true → text_of line ≡ Err f → verdict (line ∷ lines) due number ≡ Fails f number
 unfolding verdict
 bad Header line lines number f takes e = absurd cc
-bad Count line lines number f takes e = rw e refl
-bad (Logs left log) line lines number f takes e = rw e refl
+bad (Count second) line lines number f takes e = rw e refl
+bad (Logs second left log) line lines number f takes e = rw e refl
 bad (Sections log tables) line lines number f takes e = rw e refl
 bad (Rows left log tables rows) line lines number f takes e = rw e refl
 bad (Nothing dump) line lines number f takes e = absurd cc
@@ -65,30 +65,30 @@ continues-on (Err s) f g here whole same next stops = subst (λ (v : Verdict). S
 
 -- ---- log lines
 
-pub entry-step : (left next : ℕ) (log : List Entry) (text : List ℕ) (e : Entry) (number : ℕ) (rest : Due → Verdict) → left ≡ next + 1 → log_rule log text ≡ Ok e
-    → then_verdict (after_text (Logs left log) text) number rest ≡ rest (Logs next (e ∷ log))
+pub entry-step : (second : Bool) (left next : ℕ) (log : List Entry) (text : List ℕ) (e : Entry) (number : ℕ) (rest : Due → Verdict) → left ≡ next + 1 → log_rule second log text ≡ Ok e
+    → then_verdict (after_text (Logs second left log) text) number rest ≡ rest (Logs second next (e ∷ log))
 unfolding after_text
-entry-step left next log text e number rest is given =
+entry-step second left next log text e number rest is given =
     let by_one : left ≡ suc next = omega (arith, is) in
     rw (by_one, given) refl
 
-pub entry-fails : (left next : ℕ) (log : List Entry) (text : List ℕ) (s : LineStop) (number : ℕ) (rest : Due → Verdict) (whole : Verdict) (answer : DumpStop) → left ≡ next + 1 → answer ≡ stop_at s number
-    → whole ≡ then_verdict (after_text (Logs left log) text) number rest → LineFails s (log_rule log text) → Stops answer whole
+pub entry-fails : (second : Bool) (left next : ℕ) (log : List Entry) (text : List ℕ) (s : LineStop) (number : ℕ) (rest : Due → Verdict) (whole : Verdict) (answer : DumpStop) → left ≡ next + 1 → answer ≡ stop_at s number
+    → whole ≡ then_verdict (after_text (Logs second left log) text) number rest → LineFails s (log_rule second log text) → Stops answer whole
 unfolding after_text
-entry-fails left next log text (stop.Rule f) number rest whole answer is told at fails =
+entry-fails second left next log text (stop.Rule f) number rest whole answer is told at fails =
     let by_one : left ≡ suc next = omega (arith, is) in
-    let e : then_verdict (after_text (Logs left log) text) number rest ≡ Fails f number = rw (by_one, fails) refl in
+    let e : then_verdict (after_text (Logs second left log) text) number rest ≡ Fails f number = rw (by_one, fails) refl in
     rw told (at ∙ e)
-entry-fails left next log text stop.NoMemory number rest whole answer is told at fails = rw told tt
+entry-fails second left next log text stop.NoMemory number rest whole answer is told at fails = rw told tt
 
-logs-settled : (lines : List Line) (log : List Entry) (number : ℕ) → verdict lines (Logs 0 log) number ≡ verdict lines (Sections log []) number
+logs-settled : (second : Bool) (lines : List Line) (log : List Entry) (number : ℕ) → verdict lines (Logs second 0 log) number ≡ verdict lines (Sections log []) number
 unfolding verdict after_text
-logs-settled [] log number = refl
-logs-settled (line ∷ lines) log number = refl
+logs-settled second [] log number = refl
+logs-settled second (line ∷ lines) log number = refl
 
 -- after the last log line the first table is due
-pub logs-done : (bytes : List ℕ) (log : List Entry) (number : ℕ) → verdict_from bytes (Logs 0 log) number ≡ verdict_from bytes (Sections log []) number
-logs-done bytes log number = logs-settled (lines_of bytes) log number
+pub logs-done : (second : Bool) (bytes : List ℕ) (log : List Entry) (number : ℕ) → verdict_from bytes (Logs second 0 log) number ≡ verdict_from bytes (Sections log []) number
+logs-done second bytes log number = logs-settled second (lines_of bytes) log number
 
 -- ---- row lines
 
@@ -149,20 +149,22 @@ table-fails log tables table text before stop.NoMemory number rest whole answer 
 
 -- ---- the first line and the last
 
-cut-no : (text : List ℕ) → header_line (Cut text) ≡ Ok Count → ⊥
-cut-no text e = elim (cases_Bool (is_utf8 text)) [
-  | inl u ↦ elim (cases_Bool (bytes_eq text header)) [
-    | inl h ↦ let f = rw (u, h) at e in cc
-    | inr h ↦ let f = rw (u, h) at e in cc
-  ]
+cut-none : (o : Option Bool) (second : Bool) → (rule 2 o >>= (λ found. Err 3)) ≡ Ok (Count second) → ⊥
+cut-none None second e = cc
+cut-none (Some found) second e = cc
+
+cut-no : (text : List ℕ) (second : Bool) → header_line (Cut text) ≡ Ok (Count second) → ⊥
+cut-no text second e = elim (cases_Bool (is_utf8 text)) [
+  | inl u ↦ let f = rw u at e in cut-none (header_of text) second f
   | inr u ↦ let f = rw u at e in cc
 ]
 
-pub header-ok : (all bytes : List ℕ) (line : Line) (number : ℕ) → lines_of all ≡ line ∷ behind line bytes → header_line line ≡ Ok Count → verdict_from all Header number ≡ verdict_from bytes Count (number + 1)
+pub header-ok : (all bytes : List ℕ) (line : Line) (second : Bool) (number : ℕ) → lines_of all ≡ line ∷ behind line bytes → header_line line ≡ Ok (Count second)
+    → verdict_from all Header number ≡ verdict_from bytes (Count second) (number + 1)
 unfolding verdict
-header-ok all bytes (Whole text) number is e = ap (λ (x : List Line). verdict x Header number) is ∙ ap (λ (x : Result Due ℕ). then_verdict x number (λ next. verdict_from bytes next (number + 1))) e
-header-ok all bytes (Cut text) number is e = absurd (cut-no text e)
-header-ok all bytes Missing number is e = absurd cc
+header-ok all bytes (Whole text) second number is e = ap (λ (x : List Line). verdict x Header number) is ∙ ap (λ (x : Result Due ℕ). then_verdict x number (λ next. verdict_from bytes next (number + 1))) e
+header-ok all bytes (Cut text) second number is e = absurd (cut-no text second e)
+header-ok all bytes Missing second number is e = absurd cc
 
 pub header-bad : (all : List ℕ) (line : Line) (lines : List Line) (number f : ℕ) → lines_of all ≡ line ∷ lines → header_line line ≡ Err f → verdict_from all Header number ≡ Fails f number
 unfolding verdict
@@ -180,13 +182,13 @@ pub ruleset end_steps = (header-ok, header-bad, nothing-ok, nothing-bad)
 
 -- ---- the number of log lines, and `end`
 
-pub count-some : (text : List ℕ) (n number : ℕ) (rest : Due → Verdict) → count_of text ≡ Some n → then_verdict (after_text Count text) number rest ≡ rest (Logs n [])
+pub count-some : (second : Bool) (text : List ℕ) (n number : ℕ) (rest : Due → Verdict) → count_of text ≡ Some n → then_verdict (after_text (Count second) text) number rest ≡ rest (Logs second n [])
 unfolding after_text
-count-some text n number rest e = rw e refl
+count-some second text n number rest e = rw e refl
 
-pub count-none : (text : List ℕ) (number : ℕ) (rest : Due → Verdict) → count_of text ≡ None → then_verdict (after_text Count text) number rest ≡ Fails 4 number
+pub count-none : (second : Bool) (text : List ℕ) (number : ℕ) (rest : Due → Verdict) → count_of text ≡ None → then_verdict (after_text (Count second) text) number rest ≡ Fails 4 number
 unfolding after_text
-count-none text number rest e = rw e refl
+count-none second text number rest e = rw e refl
 
 pub end-yes : (log : List Entry) (tables : List (List Span)) (text : List ℕ) (number : ℕ) (rest : Due → Verdict) → length (tables_in log) ≤ length tables → bytes_eq text end_text ≡ true
     → then_verdict (after_text (Sections log tables) text) number rest ≡ rest (Nothing (record { entries = log; tables = reverse tables }))

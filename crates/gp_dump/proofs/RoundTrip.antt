@@ -15,12 +15,14 @@ use Rattle.gp_log.specs.declared.limit.TheConstants.{MAX_ENTRIES}
 use Rattle.gp_log.specs.Discipline.{IsLog, IsNext, said_by}
 use Rattle.gp_log.specs.LogFacts.{tables_in}
 use Rattle.gp_log.specs.Limits.{limits}
-use Rattle.gp_dumpline.specs.Forms.{count_of, said_of}
+use Rattle.gp_dumpline.specs.Forms.{count_of, header_of, is_said_in, said_of}
 use Rattle.gp_dumpline.specs.Texts.{count_text, end_text, entry_text, header, said_text, section_text, span_text}
 use Rattle.gp_dumpline.specs.Laws.{IsOneLine}
-use Rattle.gp_dump.specs.Dumps.{AreInPlace, AreOfTables, AreReadable, Dump, IsDump, IsRow, WellFormed, line_text, section_texts, sections_texts, spans_in, texts_of}
+use Rattle.gp_dumpline.proofs.HeaderLaws.{header-again as header_form-again, header-takes}
+use Rattle.gp_dump.specs.Dumps.{AreInPlace, AreOfTables, AreReadable, Dump, IsDump, IsRow, WellFormed, has_read_committed, line_text, section_texts, sections_texts, spans_in, texts_of}
 use Rattle.gp_dump.specs.Lines.{Line, Whole, Cut, Missing, lines_of, onto as put}
-use Rattle.gp_dump.specs.Rules.{◌>>=◌, Due, Header, Count, Logs, Sections, Rows, Nothing, Verdict, Holds, Fails, after_text, end_verdict, log_rule, nothing_line, row_rule, rule, rule_holds, section_rule, text_of, then_verdict, verdict, verdict_on}
+use Rattle.gp_dump.specs.Rules.{◌>>=◌, Due, Header, Count, Logs, Sections, Rows, Nothing, Verdict, Holds, Fails, after_text, end_verdict, header_line, log_rule, nothing_line, row_rule, rule, rule_holds, section_rule, text_of, then_verdict, verdict, verdict_on}
+use Rattle.gp_dump.proofs.FormatLemmas.{AreSaidIn, format-said, said-format}
 
 -- ---- items put in front of a list one after another, so that the last is first
 
@@ -33,27 +35,28 @@ whole_lines texts = map (λ (text : List ℕ). Whole text) texts
 
 -- ---- what is needed of single lines
 
--- an entry after these, of which the text can be read
-pub record IsEntry (log : List Entry) (entry : Entry) : Type 0 where
+-- an entry after these, of which the text can be read in this format
+pub record IsEntry (second : Bool) (log : List Entry) (entry : Entry) : Type 0 where
   pub next : IsNext limits log entry
   pub said : said_of (said_text (said_by entry)) ≡ Some (said_by entry)
+  pub format : is_said_in second (said_by entry) ≡ true
 
 -- ---- log lines, the oldest first
 
-abbrev pub Follow : List Entry → List Entry → Type 0
-Follow log [] = Unit {0}
-Follow log (entry ∷ entries) = IsEntry log entry × Follow (entry ∷ log) entries
+abbrev pub Follow : Bool → List Entry → List Entry → Type 0
+Follow second log [] = Unit {0}
+Follow second log (entry ∷ entries) = IsEntry second log entry × Follow second (entry ∷ log) entries
 
 -- the laws of single lines
 pub record LineLaws : Type 0 where
-  pub header : IsOneLine header
+  pub header : (second : Bool) → IsOneLine (header second)
   pub end : IsOneLine end_text
   pub count : (n : ℕ) → n ≤ MAX_ENTRIES → IsOneLine (count_text n)
   pub count_again : (n : ℕ) → n ≤ MAX_ENTRIES → count_of (count_text n) ≡ Some n
   pub count_taken : (text : List ℕ) (n : ℕ) → count_of text ≡ Some n → (text ≡ count_text n) × (n ≤ MAX_ENTRIES)
-  pub entry : (log : List Entry) (entry : Entry) → IsEntry log entry → IsOneLine (entry_text entry)
-  pub entry_again : (log : List Entry) (entry : Entry) → IsEntry log entry → log_rule log (entry_text entry) ≡ Ok entry
-  pub entry_taken : (log : List Entry) (text : List ℕ) (entry : Entry) → log_rule log text ≡ Ok entry → (text ≡ entry_text entry) × IsEntry log entry
+  pub entry : (second : Bool) (log : List Entry) (entry : Entry) → IsEntry second log entry → IsOneLine (entry_text entry)
+  pub entry_again : (second : Bool) (log : List Entry) (entry : Entry) → IsEntry second log entry → log_rule second log (entry_text entry) ≡ Ok entry
+  pub entry_taken : (second : Bool) (log : List Entry) (text : List ℕ) (entry : Entry) → log_rule second log text ≡ Ok entry → (text ≡ entry_text entry) × IsEntry second log entry
 
 -- the laws of the lines of a table
 pub record TableLaws (table : Table) (versions : ℕ) : Type 0 where
@@ -66,14 +69,14 @@ pub record TableLaws (table : Table) (versions : ℕ) : Type 0 where
 
 -- ---- what is written is read
 
-pub logs-again : (laws : LineLaws) (entries log : List Entry) (number : ℕ) (rest : List Line) → Follow log entries
-    → verdict (whole_lines (map entry_text entries) ++ rest) (Logs (length entries) log) number ≡ verdict rest (Sections (onto entries log) []) (number + length entries)
+pub logs-again : (laws : LineLaws) (second : Bool) (entries log : List Entry) (number : ℕ) (rest : List Line) → Follow second log entries
+    → verdict (whole_lines (map entry_text entries) ++ rest) (Logs second (length entries) log) number ≡ verdict rest (Sections (onto entries log) []) (number + length entries)
 unfolding verdict after_text
-logs-again laws [] log number [] all = ap (λ (n : ℕ). Fails 3 n) (omega arith)
-logs-again laws [] log number (line ∷ rest) all = ap (λ (n : ℕ). verdict (line ∷ rest) (Sections log []) n) (omega arith)
-logs-again laws (entry ∷ entries) log number rest all =
-    let step : verdict (whole_lines (map entry_text (entry ∷ entries)) ++ rest) (Logs (length (entry ∷ entries)) log) number ≡ verdict (whole_lines (map entry_text entries) ++ rest) (Logs (length entries) (entry ∷ log)) (number + 1) = rw ((laws.entry log entry all.0).utf8, laws.entry_again log entry all.0) refl in
-    step ∙ logs-again laws entries (entry ∷ log) (number + 1) rest all.1 ∙ ap (λ (n : ℕ). verdict rest (Sections (onto entries (entry ∷ log)) []) n) (omega arith)
+logs-again laws second [] log number [] all = ap (λ (n : ℕ). Fails 3 n) (omega arith)
+logs-again laws second [] log number (line ∷ rest) all = ap (λ (n : ℕ). verdict (line ∷ rest) (Sections log []) n) (omega arith)
+logs-again laws second (entry ∷ entries) log number rest all =
+    let step : verdict (whole_lines (map entry_text (entry ∷ entries)) ++ rest) (Logs second (length (entry ∷ entries)) log) number ≡ verdict (whole_lines (map entry_text entries) ++ rest) (Logs second (length entries) (entry ∷ log)) (number + 1) = rw ((laws.entry second log entry all.0).utf8, laws.entry_again second log entry all.0) refl in
+    step ∙ logs-again laws second entries (entry ∷ log) (number + 1) rest all.1 ∙ ap (λ (n : ℕ). verdict rest (Sections (onto entries (entry ∷ log)) []) n) (omega arith)
 
 pub rows-again : (table : Table) (log : List Entry) (tables : List (List Span)) (laws : TableLaws table (versions_in log)) → slice_get (tables_in log) (length tables) ≡ Some table
     → (spans rows : List Span) (number : ℕ) (rest : List Line) → AreInPlace table.cols (versions_in log) rows spans
@@ -172,13 +175,13 @@ sections-again laws log (table ∷ others) (spans ∷ left) tables number more l
 
 -- ---- the whole
 
-count-again : (laws : LineLaws) (n number : ℕ) (rest : List Line) → n ≤ MAX_ENTRIES → verdict (Whole (count_text n) ∷ rest) Count number ≡ verdict rest (Logs n []) (number + 1)
+count-again : (laws : LineLaws) (second : Bool) (n number : ℕ) (rest : List Line) → n ≤ MAX_ENTRIES → verdict (Whole (count_text n) ∷ rest) (Count second) number ≡ verdict rest (Logs second n []) (number + 1)
 unfolding verdict after_text
-count-again laws n number rest few = rw ((laws.count n few).utf8, laws.count_again n few) refl
+count-again laws second n number rest few = rw ((laws.count n few).utf8, laws.count_again n few) refl
 
-header-again : (laws : LineLaws) (number : ℕ) (rest : List Line) → verdict (Whole header ∷ rest) Header number ≡ verdict rest Count (number + 1)
+header-again : (laws : LineLaws) (second : Bool) (number : ℕ) (rest : List Line) → verdict (Whole (header second) ∷ rest) Header number ≡ verdict rest (Count second) (number + 1)
 unfolding verdict
-header-again laws number rest = rw laws.header.utf8 refl
+header-again laws second number rest = rw ((laws.header second).utf8, header_form-again second) refl
 
 -- ---- the order of a log
 
@@ -190,26 +193,40 @@ readable-tail : (entries log : List Entry) → AreReadable (onto entries log) �
 readable-tail [] log are = are
 readable-tail (entry ∷ entries) log are = (readable-tail entries (entry ∷ log) are).1
 
-follow-from : (entries log : List Entry) → IsLog limits (onto entries log) → AreReadable (onto entries log) → Follow log entries
-follow-from [] log is are = tt
-follow-from (entry ∷ entries) log is are =
-    (record { next = (log-tail entries (entry ∷ log) is).0; said = (readable-tail entries (entry ∷ log) are).0 }, follow-from entries (entry ∷ log) is are)
+said-tail : (second : Bool) (entries log : List Entry) → AreSaidIn second (onto entries log) → AreSaidIn second log
+said-tail second [] log are = are
+said-tail second (entry ∷ entries) log are = (said-tail second entries (entry ∷ log) are).1
 
-log-from : (entries log : List Entry) → Follow log entries → IsLog limits log → IsLog limits (onto entries log)
-log-from [] log all is = is
-log-from (entry ∷ entries) log all is = log-from entries (entry ∷ log) all.1 (all.0.next, is)
+follow-from : (second : Bool) (entries log : List Entry) → IsLog limits (onto entries log) → AreReadable (onto entries log) → AreSaidIn second (onto entries log) → Follow second log entries
+follow-from second [] log is are said = tt
+follow-from second (entry ∷ entries) log is are said = (
+  record {
+    next = (log-tail entries (entry ∷ log) is).0;
+    said = (readable-tail entries (entry ∷ log) are).0;
+    format = (said-tail second entries (entry ∷ log) said).0;
+  },
+  follow-from second entries (entry ∷ log) is are said,
+)
 
-readable-from : (entries log : List Entry) → Follow log entries → AreReadable log → AreReadable (onto entries log)
-readable-from [] log all are = are
-readable-from (entry ∷ entries) log all are = readable-from entries (entry ∷ log) all.1 (all.0.said, are)
+log-from : (second : Bool) (entries log : List Entry) → Follow second log entries → IsLog limits log → IsLog limits (onto entries log)
+log-from second [] log all is = is
+log-from second (entry ∷ entries) log all is = log-from second entries (entry ∷ log) all.1 (all.0.next, is)
+
+readable-from : (second : Bool) (entries log : List Entry) → Follow second log entries → AreReadable log → AreReadable (onto entries log)
+readable-from second [] log all are = are
+readable-from second (entry ∷ entries) log all are = readable-from second entries (entry ∷ log) all.1 (all.0.said, are)
+
+said-from : (second : Bool) (entries log : List Entry) → Follow second log entries → AreSaidIn second log → AreSaidIn second (onto entries log)
+said-from second [] log all are = are
+said-from second (entry ∷ entries) log all are = said-from second entries (entry ∷ log) all.1 (all.0.format, are)
 
 -- the lines of a dump with these entries, the oldest first, and these tables; then others
-abbrev pub lines_for : List Entry → List Table → List (List Span) → List Line → List Line
-lines_for entries others tables more =
-    Whole header ∷ Whole (count_text (length entries)) ∷ (whole_lines (map entry_text entries) ++ (whole_lines (sections_texts others tables) ++ last_lines more))
+abbrev pub lines_for : Bool → List Entry → List Table → List (List Span) → List Line → List Line
+lines_for second entries others tables more =
+    Whole (header second) ∷ Whole (count_text (length entries)) ∷ (whole_lines (map entry_text entries) ++ (whole_lines (sections_texts others tables) ++ last_lines more))
 
-pub texts-lines : (dump : Dump) (more : List Line) → whole_lines (texts_of dump) ++ Missing ∷ more ≡ lines_for (reverse dump.entries) (tables_in dump.entries) dump.tables more
-texts-lines dump more =
+pub texts-lines : (second : Bool) (dump : Dump) (more : List Line) → whole_lines (texts_of second dump) ++ Missing ∷ more ≡ lines_for second (reverse dump.entries) (tables_in dump.entries) dump.tables more
+texts-lines second dump more =
     let entries : List (List ℕ) = map entry_text (reverse dump.entries) in
     let sections : List (List ℕ) = sections_texts (tables_in dump.entries) dump.tables in
     let one : whole_lines (entries ++ (sections ++ end_text ∷ [])) ≡ whole_lines entries ++ whole_lines (sections ++ end_text ∷ []) = map-append (λ (text : List ℕ). Whole text) entries (sections ++ end_text ∷ []) in
@@ -217,8 +234,8 @@ texts-lines dump more =
     let three : whole_lines (entries ++ (sections ++ end_text ∷ [])) ++ Missing ∷ more ≡ whole_lines entries ++ (whole_lines sections ++ last_lines more) =
     ap (λ (lines : List Line). lines ++ Missing ∷ more) one ∙ append_assoc (whole_lines entries) (whole_lines (sections ++ end_text ∷ [])) (Missing ∷ more)
     ∙ ap (λ (lines : List Line). whole_lines entries ++ lines) (ap (λ (lines : List Line). lines ++ Missing ∷ more) two ∙ append_assoc (whole_lines sections) (Whole end_text ∷ []) (Missing ∷ more)) in
-    ap (λ (lines : List Line). Whole header ∷ Whole (count_text (length dump.entries)) ∷ lines) three
-    ∙ ap (λ (n : ℕ). Whole header ∷ Whole (count_text n) ∷ (whole_lines entries ++ (whole_lines sections ++ last_lines more))) (sym (length-reverse dump.entries))
+    ap (λ (lines : List Line). Whole (header second) ∷ Whole (count_text (length dump.entries)) ∷ lines) three
+    ∙ ap (λ (n : ℕ). Whole (header second) ∷ Whole (count_text n) ∷ (whole_lines entries ++ (whole_lines sections ++ last_lines more))) (sym (length-reverse dump.entries))
 
 pub all-behind : (log : List Entry) → AreBehind log [] (tables_in log)
 all-behind log = record { made = []; are = refl; count = refl }
@@ -227,20 +244,20 @@ no-spans : spans_in [] ≡ 0
 no-spans = refl
 
 -- a dump is read from its lines
-pub lines-read : (laws : LineLaws) (dump : Dump) (more : List Line) → AreLawful (tables_in dump.entries) (versions_in dump.entries) → IsDump dump
-    → verdict (whole_lines (texts_of dump) ++ Missing ∷ more) Header 1 ≡ Holds dump
-lines-read laws dump more lawful is =
+pub lines-read : (laws : LineLaws) (second : Bool) (dump : Dump) (more : List Line) → AreLawful (tables_in dump.entries) (versions_in dump.entries) → IsDump dump
+    → AreSaidIn second dump.entries → verdict (whole_lines (texts_of second dump) ++ Missing ∷ more) Header 1 ≡ Holds dump
+lines-read laws second dump more lawful is said =
     let entries : List Entry = reverse dump.entries in
     let others : List Table = tables_in dump.entries in
     let log : onto entries [] ≡ dump.entries = onto-all entries ∙ reverse-reverse dump.entries in
     let back : reverse (onto dump.tables []) ≡ dump.tables = reverse-onto dump.tables in
-    let follow : Follow [] entries = follow-from entries [] (subst (IsLog limits) (sym log) is.log) (subst AreReadable (sym log) is.commands) in
+    let follow : Follow second [] entries = follow-from second entries [] (subst (IsLog limits) (sym log) is.log) (subst AreReadable (sym log) is.commands) (subst (AreSaidIn second) (sym log) said) in
     let few : length entries ≤ MAX_ENTRIES = omega (arith, length-reverse dump.entries, is.few_entries) in
     let rest : List Line = whole_lines (sections_texts others dump.tables) ++ last_lines more in
-    ap (λ (lines : List Line). verdict lines Header 1) (texts-lines dump more)
-    ∙ header-again laws 1 (Whole (count_text (length entries)) ∷ (whole_lines (map entry_text entries) ++ rest))
-    ∙ count-again laws (length entries) (1 + 1) (whole_lines (map entry_text entries) ++ rest) few
-    ∙ logs-again laws entries [] ((1 + 1) + 1) rest follow
+    ap (λ (lines : List Line). verdict lines Header 1) (texts-lines second dump more)
+    ∙ header-again laws second 1 (Whole (count_text (length entries)) ∷ (whole_lines (map entry_text entries) ++ rest))
+    ∙ count-again laws second (length entries) (1 + 1) (whole_lines (map entry_text entries) ++ rest) few
+    ∙ logs-again laws second entries [] ((1 + 1) + 1) rest follow
     ∙ ap (λ (log : List Entry). verdict rest (Sections log []) (((1 + 1) + 1) + length entries)) log
     ∙ sections-again laws dump.entries others dump.tables [] (((1 + 1) + 1) + length entries) more lawful (all-behind dump.entries) (omega (arith, is.few_spans, no-spans)) is.spans
     ∙ ap (λ (tables : List (List Span)). Holds (record { entries = dump.entries; tables = tables })) back
@@ -287,25 +304,25 @@ bound (Err n) f due e = absurd cc
 line-is : (line : Line) (text due : List ℕ) (lines rest : List Line) → line ≡ Whole text → text ≡ due → lines ≡ rest → line ∷ lines ≡ Whole due ∷ rest
 line-is line text due lines rest first same more = ap (λ (x : Line). x ∷ lines) (first ∙ ap (λ (x : List ℕ). Whole x) same) ∙ ap (λ (xs : List Line). Whole due ∷ xs) more
 
-pub record TookLogs (log : List Entry) (left : ℕ) (lines : List Line) (dump : Dump) : Type 0 where
+pub record TookLogs (second : Bool) (log : List Entry) (left : ℕ) (lines : List Line) (dump : Dump) : Type 0 where
   pub entries : List Entry
   pub rest : List Line
   pub number : ℕ
   pub is : lines ≡ whole_lines (map entry_text entries) ++ rest
   pub count : length entries ≡ left
-  pub follow : Follow log entries
+  pub follow : Follow second log entries
   pub after : verdict rest (Sections (onto entries log) []) number ≡ Holds dump
 
-pub logs-taken : (laws : LineLaws) (left : ℕ) (log : List Entry) (lines : List Line) (number : ℕ) (dump : Dump) → verdict lines (Logs left log) number ≡ Holds dump → TookLogs log left lines dump
+pub logs-taken : (laws : LineLaws) (second : Bool) (left : ℕ) (log : List Entry) (lines : List Line) (number : ℕ) (dump : Dump) → verdict lines (Logs second left log) number ≡ Holds dump → TookLogs second log left lines dump
 unfolding verdict after_text
-logs-taken laws zero log [] number dump e = absurd cc
-logs-taken laws zero log (line ∷ lines) number dump e = record { entries = []; rest = line ∷ lines; number = number; is = refl; count = refl; follow = tt; after = e }
-logs-taken laws (suc left) log [] number dump e = absurd cc
-logs-taken laws (suc left) log (line ∷ lines) number dump e =
-    let t = line-took line (after_text (Logs (suc left) log)) number (λ next. verdict lines next (number + 1)) dump e in
-    let x = bound (log_rule log t.text) (λ entry. Logs left (entry ∷ log)) t.due t.taken in
-    let w = laws.entry_taken log t.text x.0 x.1 in
-    let more = logs-taken laws left (x.0 ∷ log) lines (number + 1) dump (subst (λ (due : Due). verdict lines due (number + 1) ≡ Holds dump) (sym x.2) t.holds) in
+logs-taken laws second zero log [] number dump e = absurd cc
+logs-taken laws second zero log (line ∷ lines) number dump e = record { entries = []; rest = line ∷ lines; number = number; is = refl; count = refl; follow = tt; after = e }
+logs-taken laws second (suc left) log [] number dump e = absurd cc
+logs-taken laws second (suc left) log (line ∷ lines) number dump e =
+    let t = line-took line (after_text (Logs second (suc left) log)) number (λ next. verdict lines next (number + 1)) dump e in
+    let x = bound (log_rule second log t.text) (λ entry. Logs second left (entry ∷ log)) t.due t.taken in
+    let w = laws.entry_taken second log t.text x.0 x.1 in
+    let more = logs-taken laws second left (x.0 ∷ log) lines (number + 1) dump (subst (λ (due : Due). verdict lines due (number + 1) ≡ Holds dump) (sym x.2) t.holds) in
     record {
       entries = x.0 ∷ more.entries;
       rest = more.rest;
@@ -442,32 +459,43 @@ sections-taken (table ∷ others) log tables lines number dump lawful behind few
       holds = more.holds;
     }
 
-header-taken : (line : Line) (lines : List Line) (number : ℕ) (dump : Dump) → verdict (line ∷ lines) Header number ≡ Holds dump → (line ≡ Whole header) × (verdict lines Count (number + 1) ≡ Holds dump)
+-- a first line that names a format
+record TookHeader (line : Line) (lines : List Line) (number : ℕ) (dump : Dump) : Type 0 where
+  second : Bool
+  is : line ≡ Whole (header second)
+  holds : verdict lines (Count second) (number + 1) ≡ Holds dump
+
+cut_header : (o : Option Bool) (lines : List Line) (number : ℕ) (dump : Dump) → then_verdict (rule 2 o >>= (λ second. Err 3)) number (λ next. verdict lines next (number + 1)) ≡ Holds dump → ⊥
+cut_header None lines number dump e = no_fail 2 number dump e
+cut_header (Some second) lines number dump e = no_fail 3 number dump e
+
+whole_header : (text : List ℕ) (o : Option Bool) (lines : List Line) (number : ℕ) (dump : Dump) → header_of text ≡ o
+    → then_verdict (rule 2 o >>= (λ second. Ok (Count second))) number (λ next. verdict lines next (number + 1)) ≡ Holds dump → TookHeader (Whole text) lines number dump
+whole_header text None lines number dump is e = absurd (no_fail 2 number dump e)
+whole_header text (Some second) lines number dump is e = record { second = second; is = ap (λ (x : List ℕ). Whole x) (header-takes text second is); holds = e }
+
+header-taken : (line : Line) (lines : List Line) (number : ℕ) (dump : Dump) → verdict (line ∷ lines) Header number ≡ Holds dump → TookHeader line lines number dump
 unfolding verdict
 header-taken (Whole text) lines number dump e = elim (cases_Bool (is_utf8 text)) [
-  | inl u ↦ elim (cases_Bool (bytes_eq text header)) [
-    | inl h ↦ let g = rw (u, h) at e in (ap (λ (x : List ℕ). Whole x) ((bytes_eq-Decides text header).0 h), g)
-    | inr h ↦ let g = rw (u, h) at e in absurd (no_fail 2 number dump g)
-  ]
+  | inl u ↦ let g = rw u at e in whole_header text (header_of text) lines number dump refl g
   | inr u ↦ let g = rw u at e in absurd (no_fail 1 number dump g)
 ]
 header-taken (Cut text) lines number dump e = elim (cases_Bool (is_utf8 text)) [
-  | inl u ↦ elim (cases_Bool (bytes_eq text header)) [
-    | inl h ↦ let g = rw (u, h) at e in absurd (no_fail 3 number dump g)
-    | inr h ↦ let g = rw (u, h) at e in absurd (no_fail 2 number dump g)
-  ]
+  | inl u ↦ let g = rw u at e in absurd (cut_header (header_of text) lines number dump g)
   | inr u ↦ let g = rw u at e in absurd (no_fail 1 number dump g)
 ]
 header-taken Missing lines number dump e = absurd (no_fail 3 number dump e)
 
-rule_some : (number : ℕ) (o : Option ℕ) (due : Due) → (rule number o >>= (λ n. Ok (Logs n []))) ≡ Ok due → (n : ℕ) × (o ≡ Some n) × (Logs n [] ≡ due)
-rule_some number None due e = absurd cc
-rule_some number (Some n) due e = (n, refl, ok_is (Logs n []) due e)
+rule_some : {A : Type 0} (number : ℕ) (o : Option A) (f : A → Due) (due : Due) → (rule number o >>= (λ x. Ok (f x))) ≡ Ok due → (x : A) × (o ≡ Some x) × (f x ≡ due)
+rule_some number None f due e = absurd cc
+rule_some number (Some x) f due e = (x, refl, ok_is (f x) due e)
 
 -- lines that hold a dump are its lines, and the dump keeps the rules
 pub record TookDump (lines : List Line) (dump : Dump) : Type 0 where
+  pub second : Bool
   pub more : List Line
-  pub is : lines ≡ whole_lines (texts_of dump) ++ Missing ∷ more
+  pub is : lines ≡ whole_lines (texts_of second dump) ++ Missing ∷ more
+  pub format : has_read_committed dump.entries ≡ true → second ≡ true
   pub rules : IsDump dump
 
 no-spans-few : spans_in [] ≤ MAX_SPANS
@@ -477,16 +505,17 @@ pub lines-taken : (laws : LineLaws) (lines : List Line) (dump : Dump) → LogsAr
     → verdict lines Header 1 ≡ Holds dump → TookDump lines dump
 unfolding verdict after_text
 lines-taken laws [] dump lawful e = absurd cc
-lines-taken laws (first ∷ []) dump lawful e = let h = header-taken first [] 1 dump e in absurd (no_fail 3 (1 + 1) dump h.1)
+lines-taken laws (first ∷ []) dump lawful e = let h = header-taken first [] 1 dump e in absurd (no_fail 3 (1 + 1) dump h.holds)
 lines-taken laws (first ∷ second ∷ lines) dump lawful e =
     let h = header-taken first (second ∷ lines) 1 dump e in
-    let t = line-took second (after_text Count) (1 + 1) (λ next. verdict lines next ((1 + 1) + 1)) dump h.1 in
-    let n = rule_some 4 (count_of t.text) t.due t.taken in
+    let t = line-took second (after_text (Count h.second)) (1 + 1) (λ next. verdict lines next ((1 + 1) + 1)) dump h.holds in
+    let n = rule_some 4 (count_of t.text) (λ n. Logs h.second n []) t.due t.taken in
     let c = laws.count_taken t.text n.0 n.1 in
-    let l = logs-taken laws n.0 [] lines ((1 + 1) + 1) dump (subst (λ (due : Due). verdict lines due ((1 + 1) + 1) ≡ Holds dump) (sym n.2) t.holds) in
+    let l = logs-taken laws h.second n.0 [] lines ((1 + 1) + 1) dump (subst (λ (due : Due). verdict lines due ((1 + 1) + 1) ≡ Holds dump) (sym n.2) t.holds) in
     let log : List Entry = onto l.entries [] in
-    let is-log : IsLog limits log = log-from l.entries [] l.follow tt in
-    let are-readable : AreReadable log = readable-from l.entries [] l.follow tt in
+    let is-log : IsLog limits log = log-from h.second l.entries [] l.follow tt in
+    let are-readable : AreReadable log = readable-from h.second l.entries [] l.follow tt in
+    let said : AreSaidIn h.second log = said-from h.second l.entries [] l.follow tt in
     let length-is : length log ≡ length l.entries = ap length (onto-all l.entries) ∙ length-reverse l.entries in
     let few : length log ≤ MAX_ENTRIES = omega (arith, c.1, l.count, length-is) in
     let s = sections-taken (tables_in log) log [] l.rest l.number dump (lawful log are-readable few) (all-behind log) no-spans-few l.after in
@@ -494,13 +523,13 @@ lines-taken laws (first ∷ second ∷ lines) dump lawful e =
     let due : Dump = record { entries = log; tables = s.left } in
     let is-dump : due ≡ dump = ap (λ (tables : List (List Span)). record { entries = log; tables = tables }) (sym tables-is) ∙ s.holds in
     let back : reverse log ≡ l.entries = reverse-onto l.entries in
-    let due-lines : first ∷ second ∷ lines ≡ lines_for (reverse due.entries) (tables_in log) s.left s.more =
-    line-is first header header (second ∷ lines) (Whole (count_text (length (reverse log))) ∷ (whole_lines (map entry_text (reverse log)) ++ (whole_lines (sections_texts (tables_in log) s.left) ++ last_lines s.more))) h.0 refl
+    let due-lines : first ∷ second ∷ lines ≡ lines_for h.second (reverse due.entries) (tables_in log) s.left s.more =
+    line-is first (header h.second) (header h.second) (second ∷ lines) (Whole (count_text (length (reverse log))) ∷ (whole_lines (map entry_text (reverse log)) ++ (whole_lines (sections_texts (tables_in log) s.left) ++ last_lines s.more))) h.is refl
     (line-is second t.text (count_text (length (reverse log))) lines (whole_lines (map entry_text (reverse log)) ++ (whole_lines (sections_texts (tables_in log) s.left) ++ last_lines s.more)) t.is
     (c.0 ∙ ap count_text (sym l.count ∙ ap length (sym back)))
     (l.is ∙ ap (λ (rest : List Line). whole_lines (map entry_text l.entries) ++ rest) s.is ∙ ap (λ (entries : List Entry). whole_lines (map entry_text entries) ++ (whole_lines (sections_texts (tables_in log) s.left) ++ last_lines s.more)) (sym back))) in
     let rules : IsDump due = record { few_entries = few; log = is-log; commands = are-readable; few_spans = omega (arith, s.few, no-spans); spans = s.follow } in
-    subst (λ (x : Dump). TookDump (first ∷ second ∷ lines) x) is-dump (record { more = s.more; is = due-lines ∙ sym (texts-lines due s.more); rules = rules })
+    subst (λ (x : Dump). TookDump (first ∷ second ∷ lines) x) is-dump (record { second = h.second; more = s.more; is = due-lines ∙ sym (texts-lines h.second due s.more); format = said-format h.second log said; rules = rules })
 
 -- ---- lines and bytes
 
@@ -552,9 +581,9 @@ pub all-append : (P : List ℕ → Type 0) (xs ys : List (List ℕ)) → AllByRe
 all-append P [] ys left right = right
 all-append P (x ∷ xs) ys left right = (left.0, all-append P xs ys left.1 right)
 
-entries-lines : (laws : LineLaws) (entries log : List Entry) → Follow log entries → AllByRecursion HasNoLineFeed (map entry_text entries)
-entries-lines laws [] log all = tt
-entries-lines laws (entry ∷ entries) log all = ((laws.entry log entry all.0).free, entries-lines laws entries (entry ∷ log) all.1)
+entries-lines : (laws : LineLaws) (second : Bool) (entries log : List Entry) → Follow second log entries → AllByRecursion HasNoLineFeed (map entry_text entries)
+entries-lines laws second [] log all = tt
+entries-lines laws second (entry ∷ entries) log all = ((laws.entry second log entry all.0).free, entries-lines laws second entries (entry ∷ log) all.1)
 
 rows-lines : (table : Table) (versions : ℕ) (laws : TableLaws table versions) (before spans : List Span) → AreInPlace table.cols versions before spans → AllByRecursion HasNoLineFeed (map span_text spans)
 rows-lines table versions laws before [] all = tt
@@ -568,16 +597,17 @@ sections-lines (table ∷ others) versions (spans ∷ tables) lawful few all =
     let sum = spans_in-cons spans tables in
     all-append HasNoLineFeed (section_texts table spans) (sections_texts others tables) ((lawful.0.section (length spans) (omega (arith, few, sum))).free, rows-lines table versions lawful.0 [] spans all.0) (sections-lines others versions tables lawful.1 (omega (arith, few, sum)) all.1)
 
-texts-one-line : (laws : LineLaws) (dump : Dump) → AreLawful (tables_in dump.entries) (versions_in dump.entries) → IsDump dump → AllByRecursion HasNoLineFeed (texts_of dump)
-texts-one-line laws dump lawful is =
+texts-one-line : (laws : LineLaws) (second : Bool) (dump : Dump) → AreLawful (tables_in dump.entries) (versions_in dump.entries) → IsDump dump → AreSaidIn second dump.entries
+    → AllByRecursion HasNoLineFeed (texts_of second dump)
+texts-one-line laws second dump lawful is said =
     let entries : List Entry = reverse dump.entries in
     let log : onto entries [] ≡ dump.entries = onto-all entries ∙ reverse-reverse dump.entries in
-    let follow : Follow [] entries = follow-from entries [] (subst (IsLog limits) (sym log) is.log) (subst AreReadable (sym log) is.commands) in
+    let follow : Follow second [] entries = follow-from second entries [] (subst (IsLog limits) (sym log) is.log) (subst AreReadable (sym log) is.commands) (subst (AreSaidIn second) (sym log) said) in
     let sections : List (List ℕ) = sections_texts (tables_in dump.entries) dump.tables in (
-      laws.header.free,
+      (laws.header second).free,
       (
         (laws.count (length dump.entries) is.few_entries).free,
-        all-append HasNoLineFeed (map entry_text entries) (sections ++ end_text ∷ []) (entries-lines laws entries [] follow)
+        all-append HasNoLineFeed (map entry_text entries) (sections ++ end_text ∷ []) (entries-lines laws second entries [] follow)
             (all-append HasNoLineFeed sections (end_text ∷ []) (sections-lines (tables_in dump.entries) (versions_in dump.entries) dump.tables lawful is.few_spans is.spans) (laws.end.free, tt)),
       ),
     )
@@ -588,10 +618,12 @@ pub well-formed-read : (laws : LineLaws) (lawful : LogsAreLawful)
     → (bytes : List ℕ) (dump : Dump) → WellFormed bytes dump → verdict_on bytes ≡ Holds dump
 well-formed-read laws lawful bytes dump is =
     let here : AreLawful (tables_in dump.entries) (versions_in dump.entries) = lawful dump.entries is.rules.commands is.rules.few_entries in
-    ap (λ (lines : List Line). verdict lines Header 1) (ap lines_of is.text ∙ lines-again (texts_of dump) (texts-one-line laws dump here is.rules)) ∙ lines-read laws dump [] here is.rules
+    let said : AreSaidIn is.second dump.entries = format-said is.second dump.entries is.format in
+    ap (λ (lines : List Line). verdict lines Header 1) (ap lines_of is.text ∙ lines-again (texts_of is.second dump) (texts-one-line laws is.second dump here is.rules said))
+    ∙ lines-read laws is.second dump [] here is.rules said
 
 pub read-well-formed : (laws : LineLaws) (lawful : LogsAreLawful)
     → (bytes : List ℕ) (dump : Dump) → verdict_on bytes ≡ Holds dump → WellFormed bytes dump
 read-well-formed laws lawful bytes dump holds =
     let t = lines-taken laws (lines_of bytes) dump lawful holds in
-    record { text = sym (bytes-lines bytes) ∙ ap bytes_of t.is ∙ bytes-whole (texts_of dump) t.more; rules = t.rules }
+    record { second = t.second; text = sym (bytes-lines bytes) ∙ ap bytes_of t.is ∙ bytes-whole (texts_of t.second dump) t.more; format = t.format; rules = t.rules }

@@ -343,6 +343,6 @@ module _ {M : Type 0} (kind : Annotations M) (tables : List Table) where
       with_rows_fit tables (number_of_table tables name) _ db (each_filter _ (FitsRow tables (number_of_table tables name)) _ (λ row e r. r) (db (number_of_table tables name)) (fit (number_of_table tables name))) fit
   step_fits t k (y.select query) db pt pk none valid shape few fit = fit
   step_fits t k (y.create table) db pt pk none valid shape few fit = fit
-  step_fits t k y.begin db pt pk none valid shape few fit = fit
+  step_fits t k (y.begin read_committed) db pt pk none valid shape few fit = fit
   step_fits t k y.Command.commit db pt pk none valid shape few fit = fit
   step_fits t k y.rollback db pt pk none valid shape few fit = fit

@@ -1,5 +1,5 @@
 -- Lemmas of the writer.
-use Rattle.std.proofs.Common.{◌≡◌, ℕ, zero, suc, ◌+◌, ◌<◌, List, [], ◌∷◌, ◌++◌, length, map, reverse, take, drop, get_or, Some, refl, sym, ap, ◌∙◌, arith, add-one, append_assoc}
+use Rattle.std.proofs.Common.{◌≡◌, Bool, ℕ, zero, suc, ◌+◌, ◌<◌, List, [], ◌∷◌, ◌++◌, length, map, reverse, take, drop, get_or, Some, refl, sym, ap, ◌∙◌, arith, add-one, append_assoc}
 use Rattle.std.specs.List.{flat_map, range_with_len, slice_get}
 use Rattle.std.specs.List.Sorted.{IsPermutation, IsSortedByKey}
 use Rattle.std.specs.Option.{option_cmp}
@@ -118,11 +118,11 @@ view-length : (entries : List Entry) → length (log_view entries) ≡ length en
 view-length entries = length-map (reverse entries) entry_view ∙ length-reverse entries
 
 -- all that is written
-pub whole-text : (entries : List Entry) (versions : List Versions)
-    → ((([] ++ (line_text header ++ line_text (count_text (length entries)))) ++ flat_map log_line_text entries) ++ flat_map line_text (sections_texts (tables_in (log_view entries)) (ordered versions))) ++ line_text end_text
-    ≡ dump_text (dump_with (log_view entries) (tables_view versions))
-whole-text entries versions =
-    let head : List ℕ = line_text header in
+pub whole-text : (second : Bool) (entries : List Entry) (versions : List Versions)
+    → ((([] ++ (line_text (header second) ++ line_text (count_text (length entries)))) ++ flat_map log_line_text entries) ++ flat_map line_text (sections_texts (tables_in (log_view entries)) (ordered versions))) ++ line_text end_text
+    ≡ dump_text second (dump_with (log_view entries) (tables_view versions))
+whole-text second entries versions =
+    let head : List ℕ = line_text (header second) in
     let count : List ℕ = line_text (count_text (length entries)) in
     let log : List ℕ = flat_map log_line_text entries in
     let sections : List (List ℕ) = sections_texts (tables_in (log_view entries)) (ordered versions) in

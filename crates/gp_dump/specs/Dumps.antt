@@ -1,6 +1,6 @@
 -- Part of the statement: what a dump holds, its text, and when it is well formed.
 use Rattle.std.specs.Prelude.{◌≡◌, ℕ, zero, suc, ◌≤◌, nat_le, nat_lt, Bool, true, false, ◌&&◌, ◌||◌, List, [], ◌∷◌, ◌++◌, length, map, sum, reverse, Option, Some, None}
-use Rattle.std.specs.List.{flat_map}
+use Rattle.std.specs.List.{flat_map, list_any}
 use Rattle.std.specs.Ordering.{is_lt}
 use Rattle.gp_base.specs.declared.cell.Cell.{Cell}
 use Rattle.gp_base.specs.declared.cell.Cell.TheVariants as cell
@@ -21,7 +21,7 @@ use Rattle.gp_log.specs.declared.limit.TheConstants.{MAX_ENTRIES}
 use Rattle.gp_log.specs.Discipline.{IsLog, said_by}
 use Rattle.gp_log.specs.LogFacts.{tables_in}
 use Rattle.gp_log.specs.Limits.{limits}
-use Rattle.gp_dumpline.specs.Forms.{said_of, IsReadable}
+use Rattle.gp_dumpline.specs.Forms.{begins_read_committed, said_of, IsReadable}
 use Rattle.gp_dumpline.specs.Texts.{header, count_text, entry_text, said_text, section_text, span_text, end_text}
 
 pub record Dump : Type 0 where
@@ -45,13 +45,21 @@ sections_texts [] tables = []
 sections_texts (table ∷ others) [] = []
 sections_texts (table ∷ others) (spans ∷ tables) = section_texts table spans ++ sections_texts others tables
 
--- the lines: the log, oldest entry first, then each table in order of creation
-abbrev pub texts_of : Dump → List (List ℕ)
-texts_of dump =
-    header ∷ count_text (length dump.entries) ∷ (map entry_text (reverse dump.entries) ++ (sections_texts (tables_in dump.entries) dump.tables ++ end_text ∷ []))
+-- the lines, in the first format or in the second: the log, oldest entry first, then each table in order of creation
+abbrev pub texts_of : Bool → Dump → List (List ℕ)
+texts_of second dump =
+    header second ∷ count_text (length dump.entries) ∷ (map entry_text (reverse dump.entries) ++ (sections_texts (tables_in dump.entries) dump.tables ++ end_text ∷ []))
 
-abbrev pub dump_text : Dump → List ℕ
-dump_text dump = flat_map line_text (texts_of dump)
+abbrev pub dump_text : Bool → Dump → List ℕ
+dump_text second dump = flat_map line_text (texts_of second dump)
+
+-- BEGIN READ COMMITTED is in the log, and so is only in texts of the second format
+abbrev pub has_read_committed : List Entry → Bool
+has_read_committed = list_any (λ (entry : Entry). begins_read_committed (said_by entry))
+
+-- the text that is written, in the second format only if it has to be
+abbrev pub written_text : Dump → List ℕ
+written_text dump = dump_text (has_read_committed dump.entries) dump
 
 -- ---- the dump of a history
 
@@ -144,7 +152,9 @@ pub record IsDump (dump : Dump) : Type 0 where
   pub few_spans : spans_in dump.tables ≤ MAX_SPANS
   pub spans : AreOfTables (tables_in dump.entries) (versions_in dump.entries) dump.tables
 
--- the bytes are the text of a dump that keeps the rules
+-- the bytes are the text of a dump that keeps the rules, in the second format at least where BEGIN READ COMMITTED is in the log
 pub record WellFormed (bytes : List ℕ) (dump : Dump) : Type 0 where
-  pub text : bytes ≡ dump_text dump
+  pub second : Bool
+  pub text : bytes ≡ dump_text second dump
+  pub format : has_read_committed dump.entries ≡ true → second ≡ true
   pub rules : IsDump dump

@@ -97,8 +97,8 @@ Continues (Err stop) rest whole = Stops stop whole
 -- whether a line with a text is due, by rules that come behind those of every line
 abbrev pub takes_text : Due → Bool
 takes_text Header = false
-takes_text Count = true
-takes_text (Logs left log) = true
+takes_text (Count second) = true
+takes_text (Logs second left log) = true
 takes_text (Sections log tables) = true
 takes_text (Rows left log tables rows) = true
 takes_text (Nothing dump) = false

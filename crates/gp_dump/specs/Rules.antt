@@ -9,8 +9,8 @@ use Rattle.gp_machine.specs.Entries.{Entry, versions_in}
 use Rattle.gp_log.specs.Discipline.{Flaw, Disorder, Unchecked, next_entry, last_line}
 use Rattle.gp_log.specs.LogFacts.{tables_in}
 use Rattle.gp_log.specs.Limits.{limits}
-use Rattle.gp_dumpline.specs.Forms.{count_of, log_line_of, said_of, section_of, span_of}
-use Rattle.gp_dumpline.specs.Texts.{header, end_text}
+use Rattle.gp_dumpline.specs.Forms.{count_of, header_of, is_said_in, log_line_of, said_of, section_of, span_of}
+use Rattle.gp_dumpline.specs.Texts.{end_text}
 use Rattle.gp_dump.specs.Dumps.{Dump, fits_columns, is_in_place, spans_in}
 use Rattle.gp_dump.specs.Lines.{Line, Whole, Cut, Missing, lines_of}
 
@@ -33,9 +33,9 @@ rule_holds number false = Err number
 pub data Due : Type 0 where
   -- the first line, and the number of log lines
   Header : Due
-  Count : Due
-  -- this many log lines, after this log
-  Logs : ℕ → List Entry → Due
+  Count : Bool → Due
+  -- this many log lines, after this log; in the second format they may say BEGIN READ COMMITTED
+  Logs : Bool → ℕ → List Entry → Due
   -- the next table or the end, after these tables, the last one first
   Sections : List Entry → List (List Span) → Due
   -- this many row lines of a table, after the tables before it and these spans, the last one first
@@ -51,10 +51,10 @@ text_of (Whole text) = if is_utf8 text then Ok text else Err 1
 text_of (Cut text) = if is_utf8 text then Err 3 else Err 1
 text_of Missing = Err 3
 
--- rule 2: the first line is the header; it comes before rule 3
+-- rule 2: the first line names a format; it comes before rule 3
 abbrev pub header_line : Line → Result Due ℕ
-header_line (Whole text) = if is_utf8 text then (if bytes_eq text header then Ok Count else Err 2) else Err 1
-header_line (Cut text) = if is_utf8 text then (if bytes_eq text header then Err 3 else Err 2) else Err 1
+header_line (Whole text) = if is_utf8 text then (rule 2 (header_of text) >>= (λ second. Ok (Count second))) else Err 1
+header_line (Cut text) = if is_utf8 text then (rule 2 (header_of text) >>= (λ second. Err 3)) else Err 1
 header_line Missing = Err 3
 
 -- rule 8 is on sessions and counts, rule 9 on names and types
@@ -66,12 +66,13 @@ abbrev pub rule_next : Result Entry Flaw → Result Entry ℕ
 rule_next (Ok entry) = Ok entry
 rule_next (Err flaw) = Err (flaw_rule flaw)
 
--- rules 5 to 9: a log line
-unfoldable pub log_rule : List Entry → List ℕ → Result Entry ℕ
-log_rule log text = do
+-- rules 5 to 9: a log line; rule 7 is on what it says, and on what the format has
+unfoldable pub log_rule : Bool → List Entry → List ℕ → Result Entry ℕ
+log_rule second log text = do
   l ← rule 5 (log_line_of text)
   above ← rule_holds 6 (nat_lt (last_line log) l.line)
   said ← rule 7 (said_of l.said)
+  known ← rule_holds 7 (is_said_in second said)
   rule_next (next_entry limits log l.line l.session said)
 
 -- rule 10: the beginning of a table; all tables together have few enough rows
@@ -115,9 +116,9 @@ row_line left log tables rows text =
 -- a line that has a text: what is due after it, or the least rule that fails
 unfoldable pub after_text : Due → List ℕ → Result Due ℕ
 after_text Header text = Err 2
-after_text Count text = rule 4 (count_of text) >>= (λ n. Ok (Logs n []))
-after_text (Logs zero log) text = next_section log [] text
-after_text (Logs (suc left) log) text = log_rule log text >>= (λ entry. Ok (Logs left (entry ∷ log)))
+after_text (Count second) text = rule 4 (count_of text) >>= (λ n. Ok (Logs second n []))
+after_text (Logs second zero log) text = next_section log [] text
+after_text (Logs second (suc left) log) text = log_rule second log text >>= (λ entry. Ok (Logs second left (entry ∷ log)))
 after_text (Sections log tables) text = next_section log tables text
 after_text (Rows zero log tables rows) text = next_section log (reverse rows ∷ tables) text
 after_text (Rows (suc left) log tables rows) text = row_line left log tables rows text
@@ -148,8 +149,8 @@ end_verdict (Err f) number dump = Fails f number
 unfoldable pub verdict : List Line → Due → ℕ → Verdict
 verdict [] due number = Fails 3 number
 verdict (line ∷ lines) Header number = then_verdict (header_line line) number (λ next. verdict lines next (number + 1))
-verdict (line ∷ lines) Count number = then_verdict (text_of line >>= after_text Count) number (λ next. verdict lines next (number + 1))
-verdict (line ∷ lines) (Logs left log) number = then_verdict (text_of line >>= after_text (Logs left log)) number (λ next. verdict lines next (number + 1))
+verdict (line ∷ lines) (Count second) number = then_verdict (text_of line >>= after_text (Count second)) number (λ next. verdict lines next (number + 1))
+verdict (line ∷ lines) (Logs second left log) number = then_verdict (text_of line >>= after_text (Logs second left log)) number (λ next. verdict lines next (number + 1))
 verdict (line ∷ lines) (Sections log tables) number =
     then_verdict (text_of line >>= after_text (Sections log tables)) number (λ next. verdict lines next (number + 1))
 verdict (line ∷ lines) (Rows left log tables rows) number =

@@ -38,7 +38,7 @@ fn transaction_in(log: &Log, session: u32) -> Option<u32>
         let entry = log.entry(place);
         if entry.session == session {
             match entry.what {
-                What::Begin => return Some(entry.t),
+                What::Begin { .. } => return Some(entry.t),
                 What::Commit | What::Lost | What::Rollback => return None,
                 What::Create(_) | What::Statement { .. } => {}
             }
@@ -91,9 +91,16 @@ fn create(
 }
 
 /// The entry of the beginning of a transaction.
-fn begin(log: &Log, line: u32, session: u32, active: Option<u32>) -> Result<Entry, EntryStop>
+fn begin(
+    log: &Log,
+    line: u32,
+    session: u32,
+    active: Option<u32>,
+    read_committed: bool,
+) -> Result<Entry, EntryStop>
     ensures entry { GivesEntry entry_view result
-        (doing limits (log_view log.now.entries) line session active action.Begin) }
+        (doing limits (log_view log.now.entries) line session active
+        (action.Begin read_committed)) }
     ensures new { IfOk result (λ entry. IsAddable (log_view log.now.entries) entry) }
     ensures valid { IfOk result (λ entry. CreatesValid entry.what) }
 {
@@ -105,7 +112,7 @@ fn begin(log: &Log, line: u32, session: u32, active: Option<u32>) -> Result<Entr
         line,
         session,
         t: begun + 1,
-        what: What::Begin,
+        what: What::Begin { read_committed },
     })
 }
 
@@ -211,7 +218,9 @@ pub fn next_entry(
         Said::Loses => end(line, session, active, What::Lost),
         Said::Does(Command::Commit) => end(line, session, active, What::Commit),
         Said::Does(Command::Rollback) => end(line, session, active, What::Rollback),
-        Said::Does(Command::Begin) => begin(log, line, session, active),
+        Said::Does(Command::Begin { read_committed }) => {
+            begin(log, line, session, active, read_committed)
+        }
         Said::Does(Command::Create { table }) => create(log, line, session, active, table),
         Said::Does(command) => statement(alloc, log, line, session, active, command),
     }

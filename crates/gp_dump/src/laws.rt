@@ -3,7 +3,7 @@
 ghost use Rattle.std.specs.Prelude.{◌≡◌, ℕ, List, Some, None};
 ghost use Rattle.std.specs.List.{AllByRecursion};
 ghost use Rattle.gp_versions.specs.Spans.{AreWhole, NoOverlap};
-ghost use Rattle.gp_dump.specs.Dumps.{Dump, WellFormed, dump_text, dump_with};
+ghost use Rattle.gp_dump.specs.Dumps.{Dump, IsDump, WellFormed, dump_text, dump_with, has_read_committed, written_text};
 ghost use Rattle.gp_dump.specs.Rules.{Holds, first_fault, verdict_on};
 
 /// The rules, line by line, take exactly the texts of dumps that keep the rules, each as its dump.
@@ -14,13 +14,13 @@ pub fn well_formed_dumps_are_read()
         → verdict_on bytes ≡ Holds dump → WellFormed bytes dump }
 {}
 
-/// A text is the text of one dump at most, and its dump has one text. A text without a fault is that of a dump, and one with a
-/// fault is of none.
+/// A text is the text of one dump at most, and its dump has one text in each format. A text without a fault is that of a dump,
+/// and one with a fault is of none.
 pub fn one_text_for_one_dump()
     ensures one_dump { (bytes : List ℕ) (dump other : Dump)
         → WellFormed bytes dump → WellFormed bytes other → dump ≡ other }
-    ensures one_text { (bytes others : List ℕ) (dump : Dump)
-        → WellFormed bytes dump → WellFormed others dump → bytes ≡ others }
+    ensures one_text { (bytes others : List ℕ) (dump : Dump) (is : WellFormed bytes dump)
+        (are : WellFormed others dump) → is.second ≡ are.second → bytes ≡ others }
     ensures no_fault { (bytes : List ℕ) (dump : Dump)
         → WellFormed bytes dump → first_fault bytes ≡ None }
     ensures found { (bytes : List ℕ)
@@ -29,11 +29,16 @@ pub fn one_text_for_one_dump()
         → first_fault bytes ≡ Some fault → ¬ WellFormed bytes dump }
 {}
 
-/// What is read from a text can be written again, as this text: its row lines are in the order of a dump. The row versions of
+/// What is read from a text can be written again in the format of the text, as this text: its row lines are in the order of a
+/// dump. The text that is written is well formed, and is the text that was read if that has the same format. The row versions of
 /// one identity never overlap, and each is a row of at least one version.
 pub fn what_was_read_is_written_again()
-    ensures again { (bytes : List ℕ) (dump : Dump)
-        → WellFormed bytes dump → dump_text (dump_with dump.entries dump.tables) ≡ bytes }
+    ensures again { (bytes : List ℕ) (dump : Dump) (is : WellFormed bytes dump)
+        → dump_text is.second (dump_with dump.entries dump.tables) ≡ bytes }
+    ensures written { (dump : Dump) → IsDump dump → WellFormed (written_text dump) dump }
+    ensures same { (bytes : List ℕ) (dump : Dump) (is : WellFormed bytes dump)
+        → has_read_committed dump.entries ≡ is.second
+        → written_text (dump_with dump.entries dump.tables) ≡ bytes }
     ensures apart { (bytes : List ℕ) (dump : Dump)
         → WellFormed bytes dump → AllByRecursion NoOverlap dump.tables }
     ensures whole { (bytes : List ℕ) (dump : Dump)

@@ -2,7 +2,8 @@
 //!
 //! [`write_dump`] writes the text, and [`read_dump`] reads a [`Dump`] from it, or gives the first fault as a [`DumpStop`]. In
 //! `specs/`, `Dumps` says what a dump holds, what its text is and which dumps are well formed, and `Rules` which rule fails
-//! first: the rules of each line, given the lines before it.
+//! first: the rules of each line, given the lines before it. There are two formats: in the second one the log may have BEGIN
+//! READ COMMITTED. A dump is written in the second format only if its log has that command.
 //!
 //! In reading order: `lines` cuts the bytes into lines, `discipline` finds the entry of a log line, `rules` tests the rules
 //! of single lines, `read` reads the lines in order, and `write` writes them. The functions of `laws`, `fitting` and

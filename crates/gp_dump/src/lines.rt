@@ -2,11 +2,11 @@
 
 ghost use Rattle.std.specs.Prelude.{◌≡◌, ◌∷◌, ◌≤◌, ◌+◌, length};
 ghost use Rattle.std.specs.Str.{bytes_eq, is_utf8};
-ghost use Rattle.gp_dumpline.specs.Texts.{end_text, header};
+ghost use Rattle.gp_dumpline.specs.Texts.{end_text};
 ghost use Rattle.gp_dump.specs.Lines.{lines_of};
 ghost use Rattle.gp_dump.specs.Reading.{behind, line_view, taken};
 
-use gp_dumpline::{END, HEADER};
+use gp_dumpline::END;
 
 /// A line, and how it ends.
 #[derive(Clone, Copy)]
@@ -45,13 +45,6 @@ pub fn is_text(bytes: &[u8]) -> bool
     ensures { result ≡ is_utf8 bytes.now }
 {
     str::from_utf8(bytes).is_ok()
-}
-
-/// Whether the text is that of the first line.
-pub fn is_header(text: &[u8]) -> bool
-    ensures { result ≡ bytes_eq text.now header }
-{
-    text == HEADER
 }
 
 /// Whether the text is that of the last line.

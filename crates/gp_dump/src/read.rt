@@ -1,6 +1,6 @@
 //! The reader of a dump.
 
-ghost use Rattle.std.specs.Prelude.{◌≡◌, ◌<◌, ◌≤◌, ◌+◌, ◌∷◌, [], ℕ, true, List, length, reverse, IfOk, Ok, Err};
+ghost use Rattle.std.specs.Prelude.{◌≡◌, ◌<◌, ◌≤◌, ◌+◌, ◌∷◌, [], ℕ, Bool, true, List, length, reverse, IfOk, Ok, Err};
 ghost use Rattle.gp_check.specs.Valid.{tables_are_valid};
 ghost use Rattle.gp_log.specs.declared.limit.TheConstants.{MAX_ENTRIES};
 ghost use Rattle.gp_log.specs.Kinds.{IsAddable};
@@ -20,7 +20,7 @@ ghost use Rattle.gp_dump.specs.Views.{dump_view};
 use crate::dump::{Dump, MAX_DUMP_LENGTH};
 use crate::error::DumpStop;
 use crate::lines::{Line, first_line, is_end, is_text};
-use crate::rules::{header_fault, log_line, nothing_fault, row_line, section_line};
+use crate::rules::{format, log_line, nothing_fault, row_line, section_line};
 use gp_base::{Column, Sequence};
 use gp_dumpline::parse_count;
 use gp_log::{Entry, Log};
@@ -75,21 +75,25 @@ fn next_text(rest: Rest<'_>) -> Result<(&[u8], Rest<'_>), DumpStop>
     }
 }
 
-/// The first line.
+/// The first line: whether the format is the second one.
 #[tactic(auto, using(crate::proofs::ReadLemmas::end_steps))]
-fn read_header(rest: Rest<'_>) -> Result<Rest<'_>, DumpStop>
+fn read_header(rest: Rest<'_>) -> Result<(bool, Rest<'_>), DumpStop>
     requires { rest.number + length rest.bytes.now ≤ MAX_DUMP_LENGTH + 1 }
-    ensures verdict { Continues result (λ x. verdict_from x.bytes.now Count x.number)
+    ensures verdict { Continues result
+        (λ x. verdict_from x.1.bytes.now (Count x.0) x.1.number)
         (verdict_from rest.entry.bytes.now Header rest.entry.number) }
-    ensures room { IfOk result (λ x. x.number + length x.bytes.now ≤ MAX_DUMP_LENGTH + 1) }
+    ensures room { IfOk result (λ x. x.1.number + length x.1.bytes.now ≤ MAX_DUMP_LENGTH + 1) }
 {
     let (line, bytes) = first_line(rest.bytes);
-    match header_fault(line) {
-        None => Ok(Rest {
-            bytes,
-            number: rest.number + 1,
-        }),
-        Some(f) => Err(DumpStop::Fault {
+    match format(line) {
+        Ok(second) => Ok((
+            second,
+            Rest {
+                bytes,
+                number: rest.number + 1,
+            },
+        )),
+        Err(f) => Err(DumpStop::Fault {
             f,
             line: rest.number,
         }),
@@ -99,9 +103,9 @@ fn read_header(rest: Rest<'_>) -> Result<Rest<'_>, DumpStop>
 /// The number of log lines.
 fn read_count(rest: Rest<'_>) -> Result<(u32, Rest<'_>), DumpStop>
     requires { rest.number + length rest.bytes.now ≤ MAX_DUMP_LENGTH + 1 }
-    ensures verdict { Continues result
-        (λ x. verdict_from x.1.bytes.now (Logs x.0 []) x.1.number)
-        (verdict_from rest.entry.bytes.now Count rest.entry.number) }
+    ensures verdict { (second : Bool) → Continues result
+        (λ x. verdict_from x.1.bytes.now (Logs second x.0 []) x.1.number)
+        (verdict_from rest.entry.bytes.now (Count second) rest.entry.number) }
     ensures room { IfOk result (λ x. x.1.number + length x.1.bytes.now ≤ MAX_DUMP_LENGTH + 1) }
     ensures few { IfOk result (λ x. x.0 ≤ MAX_ENTRIES) }
 {
@@ -116,19 +120,24 @@ fn read_count(rest: Rest<'_>) -> Result<(u32, Rest<'_>), DumpStop>
 }
 
 /// The next log line.
-fn next_entry<'a>(alloc: Global, log: &Log, rest: Rest<'a>) -> Result<(Entry, Rest<'a>), DumpStop>
+fn next_entry<'a>(
+    alloc: Global,
+    second: bool,
+    log: &Log,
+    rest: Rest<'a>,
+) -> Result<(Entry, Rest<'a>), DumpStop>
     requires { rest.number + length rest.bytes.now ≤ MAX_DUMP_LENGTH + 1 }
     ensures verdict { (left next : ℕ) → left ≡ next + 1 → Continues result
         (λ x. verdict_from x.1.bytes.now
-        (Logs next (entry_view x.0 ∷ log_view log.now.entries)) x.1.number)
-        (verdict_from rest.entry.bytes.now (Logs left (log_view log.now.entries))
+        (Logs second next (entry_view x.0 ∷ log_view log.now.entries)) x.1.number)
+        (verdict_from rest.entry.bytes.now (Logs second left (log_view log.now.entries))
         rest.entry.number) }
     ensures new { IfOk result (λ x. IsAddable (log_view log.now.entries) x.0) }
     ensures valid { IfOk result (λ x. CreatesValid x.0.what) }
     ensures room { IfOk result (λ x. x.1.number + length x.1.bytes.now ≤ MAX_DUMP_LENGTH + 1) }
 {
     let (text, behind) = next_text(rest)?;
-    match log_line(alloc, log, text) {
+    match log_line(alloc, second, log, text) {
         Ok(entry) => Ok((entry, behind)),
         Err(stop) => Err(stop.at(rest.number)),
     }
@@ -136,12 +145,17 @@ fn next_entry<'a>(alloc: Global, log: &Log, rest: Rest<'a>) -> Result<(Entry, Re
 
 /// The log.
 #[tactic(auto, using(crate::proofs::GrowthLemmas::entry_steps))]
-fn read_log(alloc: Global, count: u32, rest: Rest<'_>) -> Result<(Log, Rest<'_>), DumpStop>
+fn read_log(
+    alloc: Global,
+    second: bool,
+    count: u32,
+    rest: Rest<'_>,
+) -> Result<(Log, Rest<'_>), DumpStop>
     requires room { rest.number + length rest.bytes.now ≤ MAX_DUMP_LENGTH + 1 }
     requires few { count ≤ MAX_ENTRIES }
     ensures verdict { Continues result
         (λ x. verdict_from x.1.bytes.now (Sections (log_view x.0.entries) []) x.1.number)
-        (verdict_from rest.entry.bytes.now (Logs count []) rest.entry.number) }
+        (verdict_from rest.entry.bytes.now (Logs second count []) rest.entry.number) }
     ensures room { IfOk result (λ x. x.1.number + length x.1.bytes.now ≤ MAX_DUMP_LENGTH + 1) }
     ensures valid { IfOk result
         (λ x. tables_are_valid (tables_in (log_view x.0.entries)) ≡ true) }
@@ -150,7 +164,7 @@ fn read_log(alloc: Global, count: u32, rest: Rest<'_>) -> Result<(Log, Rest<'_>)
     let mut rest = rest;
     let mut left = count;
     while left > 0 {
-        let (entry, behind) = next_entry(alloc, &log, rest)?;
+        let (entry, behind) = next_entry(alloc, second, &log, rest)?;
         log.append(entry)?;
         rest = behind;
         left -= 1;
@@ -319,9 +333,9 @@ fn read_lines(alloc: Global, bytes: &[u8]) -> Result<Dump, DumpStop>
     ensures valid { IfOk result
         (λ dump. tables_are_valid (tables_in (log_view dump.log.entries)) ≡ true) }
 {
-    let rest = read_header(Rest { bytes, number: 1 })?;
+    let (second, rest) = read_header(Rest { bytes, number: 1 })?;
     let (count, rest) = read_count(rest)?;
-    let (log, rest) = read_log(alloc, count, rest)?;
+    let (log, rest) = read_log(alloc, second, count, rest)?;
     let (tables, rest) = read_tables(alloc, &log, rest)?;
     read_end(rest)?;
     Ok(Dump {

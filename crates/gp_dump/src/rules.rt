@@ -1,6 +1,6 @@
 //! The rules of single lines.
 
-ghost use Rattle.std.specs.Prelude.{◌≡◌, ◌+◌, ◌≤◌, true, length, reverse, IfOk, MatchOption, Ok, Err};
+ghost use Rattle.std.specs.Prelude.{◌≡◌, ◌+◌, ◌≤◌, true, length, reverse, IfOk, MatchOption, MatchResult, Ok, Err};
 ghost use Rattle.gp_base.specs.Cells.{AreInRange, IsInRange};
 ghost use Rattle.gp_txn.specs.declared.counting.TheConstants.{MAX_SPANS};
 ghost use Rattle.gp_log.specs.Discipline as d;
@@ -13,38 +13,40 @@ ghost use Rattle.gp_dump.specs.Rules.{Count, header_line, log_rule, nothing_line
 
 use crate::discipline::next_entry;
 use crate::error::LineStop;
-use crate::lines::{Line, is_header, is_text};
+use crate::lines::{Line, is_text};
 use gp_base::{Cell, Column, Kind, Table, is_user_text};
-use gp_dumpline::{parse_log_line, parse_said, parse_section, parse_span};
+use gp_dumpline::{parse_header, parse_log_line, parse_said, parse_section, parse_span};
 use gp_log::{Entry, Log};
 use gp_txn::MAX_SPANS;
 use gp_versions::Span;
 use std::alloc::Global;
 use std::cmp::Ordering;
 
-/// The rule of the first line that fails, if one does.
-pub fn header_fault(line: Line<'_>) -> Option<u8>
-    ensures { MatchOption result (header_line (line_view line.entry) ≡ Ok Count)
+/// Whether the format that the first line names is the second one, or the rule that fails.
+pub fn format(line: Line<'_>) -> Result<bool, u8>
+    ensures { MatchResult result (λ second. header_line (line_view line.entry) ≡ Ok (Count second))
         (λ f. header_line (line_view line.entry) ≡ Err f) }
 {
     match line {
-        Line::Missing => Some(3),
+        Line::Missing => Err(3),
         Line::Whole(text) => {
             if !is_text(text) {
-                Some(1)
-            } else if is_header(text) {
-                None
+                Err(1)
             } else {
-                Some(2)
+                match parse_header(text) {
+                    Some(second) => Ok(second),
+                    None => Err(2),
+                }
             }
         }
         Line::Cut(text) => {
             if !is_text(text) {
-                Some(1)
-            } else if is_header(text) {
-                Some(3)
+                Err(1)
             } else {
-                Some(2)
+                match parse_header(text) {
+                    Some(_) => Err(3),
+                    None => Err(2),
+                }
             }
         }
     }
@@ -74,11 +76,12 @@ fn last_line(log: &Log) -> u32
     }
 }
 
-/// The entry of a log line.
+/// The entry of a log line, in the first format or in the second.
 #[tactic(auto, using(crate::proofs::RuleLemmas::said_steps), unfolding(crate::specs::Rules::log_rule))]
-pub fn log_line(alloc: Global, log: &Log, text: &[u8]) -> Result<Entry, LineStop>
+pub fn log_line(alloc: Global, second: bool, log: &Log, text: &[u8]) -> Result<Entry, LineStop>
     requires { length text.now ≤ MAX_DUMP_LENGTH }
-    ensures value { GivesLine entry_view result (log_rule (log_view log.now.entries) text.now) }
+    ensures value { GivesLine entry_view result
+        (log_rule second (log_view log.now.entries) text.now) }
     ensures new { IfOk result (λ entry. IsAddable (log_view log.now.entries) entry) }
     ensures valid { IfOk result (λ entry. CreatesValid entry.what) }
 {
@@ -89,10 +92,16 @@ pub fn log_line(alloc: Global, log: &Log, text: &[u8]) -> Result<Entry, LineStop
         return Err(LineStop::Rule(6));
     }
     match parse_said(alloc, line.said) {
-        Ok(Some(said)) => match next_entry(alloc, log, line.line, line.session, said) {
-            Ok(entry) => Ok(entry),
-            Err(stop) => Err(stop.to_line()),
-        },
+        Ok(Some(said)) => {
+            if said.is_in(second) {
+                match next_entry(alloc, log, line.line, line.session, said) {
+                    Ok(entry) => Ok(entry),
+                    Err(stop) => Err(stop.to_line()),
+                }
+            } else {
+                Err(LineStop::Rule(7))
+            }
+        }
         Ok(None) => Err(LineStop::Rule(7)),
         Err(_) => Err(LineStop::NoMemory),
     }

@@ -7,22 +7,39 @@ ghost use Rattle.gp_versions.specs.Spans.{span_cmp};
 ghost use Rattle.gp_log.specs.LogFacts.{tables_in};
 ghost use Rattle.gp_log.specs.Logs.{log_view};
 ghost use Rattle.gp_dumpline.specs.Texts.{count_text, end_text, header};
-ghost use Rattle.gp_dump.specs.Dumps.{dump_text, dump_with, line_text, section_texts, sections_texts};
+ghost use Rattle.gp_dump.specs.Dumps.{dump_with, has_read_committed, line_text, section_texts, sections_texts, written_text};
 ghost use Rattle.gp_dump.specs.Views.{tables_view};
 ghost use Rattle.gp_dump.specs.Writing.{log_line_text, ordered, place_text, row_line_text};
 
 use gp_base::{Catalog, NoMemory, Table};
-use gp_dumpline::{END, HEADER, write_count, write_entry, write_section, write_span};
+use gp_dumpline::{
+    END, begins_read_committed, header, write_count, write_entry, write_section, write_span,
+};
 use gp_log::{Entry, Log};
 use gp_versions::{Span, VersionTable};
 use std::alloc::Global;
 
-/// Appends the first two lines.
-fn write_head(alloc: Global, lines: u32, out: &mut Vec<u8>) -> Result<(), NoMemory>
-    ensures ok { OnOk result (out.new.items
-        ≡ out.old.items ++ (line_text header ++ line_text (count_text lines))) }
+/// Whether BEGIN READ COMMITTED is in the log.
+#[tactic(auto, using(crate::proofs::FormatLemmas::format_steps))]
+fn has_read_committed(log: &Log) -> bool
+    ensures { result ≡ has_read_committed (log_view log.now.entries) }
 {
-    out.extend_from_slice(HEADER)?;
+    let mut place = log.len();
+    while place > 0 {
+        place -= 1;
+        if begins_read_committed(log.entry(place)) {
+            return true;
+        }
+    }
+    false
+}
+
+/// Appends the first two lines.
+fn write_head(alloc: Global, second: bool, lines: u32, out: &mut Vec<u8>) -> Result<(), NoMemory>
+    ensures ok { OnOk result (out.new.items
+        ≡ out.old.items ++ (line_text (header second) ++ line_text (count_text lines))) }
+{
+    out.extend_from_slice(header(second))?;
     out.push(b'\n')?;
     write_count(alloc, lines, out)?;
     out.push(b'\n')?;
@@ -132,15 +149,15 @@ fn write_end(out: &mut Vec<u8>) -> Result<(), NoMemory>
     Ok(())
 }
 
-/// The dump of a log and of the row versions of its tables: the text that [`crate::read_dump`] reads. The only error is to
-/// run out of memory.
+/// The dump of a log and of the row versions of its tables: the text that [`crate::read_dump`] reads, in the second format only
+/// if BEGIN READ COMMITTED is in the log. The only error is to run out of memory.
 pub fn write_dump(alloc: Global, log: &Log, versions: &[VersionTable]) -> Result<Vec<u8>, NoMemory>
     requires same { length versions.now ≡ length (tables_in (log_view log.now.entries)) }
     ensures text { IfOk result (λ text. text.items
-        ≡ dump_text (dump_with (log_view log.now.entries) (tables_view versions.now))) }
+        ≡ written_text (dump_with (log_view log.now.entries) (tables_view versions.now))) }
 {
     let mut out = Vec::new(alloc);
-    write_head(alloc, log.len(), &mut out)?;
+    write_head(alloc, has_read_committed(log), log.len(), &mut out)?;
     write_log(alloc, log, &mut out)?;
     write_tables(alloc, log.catalog(), versions, &mut out)?;
     write_end(&mut out)?;

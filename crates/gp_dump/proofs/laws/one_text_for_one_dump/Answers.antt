@@ -1,4 +1,3 @@
-use Rattle.std.proofs.Common.{sym, ◌∙◌}
 use Rattle.gp_dump.proofs.LawLemmas as law
 use Rattle.gp_dump.proofs.laws.one_text_for_one_dump.Goals as goal
 
@@ -6,7 +5,7 @@ pub returns-clause-one_dump : goal.returns-clause-one_dump
 returns-clause-one_dump c = law.one-dump
 
 pub returns-clause-one_text : goal.returns-clause-one_text
-returns-clause-one_text c = λ bytes others dump first second. first.text ∙ sym second.text
+returns-clause-one_text c = law.one-text
 
 pub returns-clause-no_fault : goal.returns-clause-no_fault
 returns-clause-no_fault c = law.no-fault

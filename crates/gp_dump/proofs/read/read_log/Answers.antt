@@ -14,5 +14,5 @@ pub returns-clause-verdict : goal.returns-clause-verdict
 returns-clause-verdict c =
     let none : c.loop-left.left ≡ 0 = omega (arith, c.loop-left-test.false) in
     c.loop-left.invariant.told
-    ∙ ap (λ (n : ℕ). verdict_from c.loop-left.rest.bytes.now (Logs n (log_view c.loop-left.log.entries)) c.loop-left.rest.number) none
-    ∙ logs-done c.loop-left.rest.bytes.now (log_view c.loop-left.log.entries) c.loop-left.rest.number
+    ∙ ap (λ (n : ℕ). verdict_from c.loop-left.rest.bytes.now (Logs c.args.second n (log_view c.loop-left.log.entries)) c.loop-left.rest.number) none
+    ∙ logs-done c.args.second c.loop-left.rest.bytes.now (log_view c.loop-left.log.entries) c.loop-left.rest.number

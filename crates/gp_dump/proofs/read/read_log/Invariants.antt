@@ -10,7 +10,7 @@ use Rattle.gp_dump.proofs.read.read_log.Given as goal
 
 abbrev pub invariant-loop-left : goal.invariant-loop-left
 invariant-loop-left l = record {
-  told : verdict_from l.fn.rest.bytes.now (Logs l.count []) l.fn.rest.number ≡ verdict_from l.rest.bytes.now (Logs l.left (log_view l.log.entries)) l.rest.number;
+  told : verdict_from l.fn.rest.bytes.now (Logs l.second l.count []) l.fn.rest.number ≡ verdict_from l.rest.bytes.now (Logs l.second l.left (log_view l.log.entries)) l.rest.number;
   room : l.rest.number + length l.rest.bytes.now ≤ MAX_DUMP_LENGTH + 1;
   few : length l.log.entries + l.left ≤ MAX_ENTRIES;
   valid : tables_are_valid (tables_in (log_view l.log.entries)) ≡ true;
