@@ -1,24 +1,26 @@
 -- The conflict that a commit finds in its tables of row versions is the one that the history machine takes from the spans.
-use Rattle.std.proofs.Common.{◌≡◌, ℕ, ◌<◌, ◌≤◌, Bool, true, false, cond, leb, ◌&&◌, ◌||◌, List, [], ◌∷◌, drop, length, Option, Some, None, refl, ap, sym, ◌∙◌, subst, subst₂, arith, inl, inr}
-use Rattle.std.specs.List.{AllByRecursion, cons_option, list_any}
+use Rattle.std.proofs.Common.{◌≡◌, ℕ, ◌<◌, ◌≤◌, Bool, true, false, cond, leb, List, [], ◌∷◌, ◌++◌, drop, length, map, not, Option, Some, None, refl, ap, sym, ◌∙◌, subst, subst₂, arith, inl, inr}
+use Rattle.std.specs.Prelude.{nat_le, nat_lt}
+use Rattle.std.specs.List.{AllByRecursion, cons_option, filter_map}
 use Rattle.std.specs.Option.{option_map}
-use Rattle.std.proofs.lemmas.Bool.{and_parts, cases_lt, false≢true, ltb-true, or_right}
+use Rattle.std.proofs.lemmas.Bool.{and_parts, cases_lt, ltb-true}
 use Rattle.std.proofs.Math.ListN.{get_or-eq_default}
 use Rattle.gp_base.specs.Annotated.{plain}
 use Rattle.gp_base.specs.Identities.{Identity, same_identity}
-use Rattle.gp_versions.proofs.HeldLemmas.{held-end}
-use Rattle.gp_versions.specs.Commits.{AreBelow, IsEndBelow, is_written}
-use Rattle.gp_versions.specs.Spans.{AreWhole, NoOverlap, Versions, holds_at, is_before_end, rows_at, spans_at, written_after}
+use Rattle.gp_versions.specs.Commits.{AreBelow, AreDistinct, IsEndBelow}
+use Rattle.gp_versions.specs.Spans.{AreWhole, NoOverlap, Versions, holds_at, is_before_end, later, later_end, least, spans_at, written_after}
 use Rattle.gp_versions.specs.declared.span.Span.{Span}
-use Rattle.gp_versions.specs.declared.span.Write.{Write}
-use Rattle.gp_txn.proofs.LostLemmas.{EndNext, lost, not-lost}
-use Rattle.gp_txn.specs.Committing.{lates_of}
-use Rattle.gp_txn.specs.Conflicts.{IsAmong, IsFirstConflict, late_of, lates}
-use Rattle.gp_txn.specs.Overlay.{PlainRow, base_writes, head_slot, no_table, slot_write, writes_at}
+use Rattle.gp_txn.proofs.LostLemmas.{lost-first, not-lost-first}
+use Rattle.gp_txn.proofs.PairLemmas.{all-filter}
+use Rattle.gp_txn.specs.Conflicts.{IsAmong, IsFirstConflict, carried_late, late_of, lates, lates_at, slot_lates}
+use Rattle.gp_txn.specs.Overlay.{carried_write, head_slot, is_carried, slotted_spans}
+use Rattle.gp_txn.specs.Transactions.{HoldsOwn, Writes, no_table, writes_at}
+use Rattle.gp_txn.specs.declared.carried.Carried.{Carried}
 use Rattle.gp_txn.specs.declared.conflict.Conflict.{Conflict}
 use Rattle.gp_txn.specs.declared.conflict.Late.{Late}
 use Rattle.gp_txn.specs.declared.overlay.Slot.{Slot}
 use Rattle.gp_txn.specs.declared.overlay.Slot.TheVariants.{Same, Put, Dropped}
+use Rattle.gp_txn.specs.declared.overlay.TableWrites.{TableWrites}
 use Rattle.gp_machine.proofs.FoundLemmas as machine
 use Rattle.gp_machine.specs.Conflicts as conflicts
 use Rattle.gp_machine.specs.EngineLine.{FindsConflict, ShowsConflict}
@@ -31,64 +33,23 @@ use Rattle.gp_engine.specs.Engine.{Engine, kept_of, overlay_of, spans_of}
 use Rattle.gp_log.specs.Limits.{limits}
 use Rattle.gp_engine.specs.declared.running.Running.{Running}
 
--- ---- rows of the begin version
-
--- whether one of these rows has the identity
-abbrev holds : List PlainRow → Identity → Bool
-holds rows id = list_any (λ (row : PlainRow). same_identity row.identity id) rows
-
-or_implied : (here there held : Bool) → (there ≡ true → held ≡ true) → (here || there) ≡ true → (here || held) ≡ true
-or_implied true there held implies is = refl
-or_implied false there held implies is = implies is
-
-held-slot : (slot : Slot) (row : PlainRow) (writes : List Write) (rows : List PlainRow) (id : Identity) → (is_written writes id ≡ true → holds rows id ≡ true)
-    → is_written (cons_option (slot_write slot row) writes) id ≡ true → (same_identity row.identity id || holds rows id) ≡ true
-held-slot Same row writes rows id more written = or_right (same_identity row.identity id) (holds rows id) (more written)
-held-slot (Put cells) row writes rows id more written = or_implied (same_identity row.identity id) (is_written writes id) (holds rows id) more written
-held-slot Dropped row writes rows id more written = or_implied (same_identity row.identity id) (is_written writes id) (holds rows id) more written
-
--- a row that the transaction wrote by a slot is one of the begin version
-held : (slots : List Slot) (rows : List PlainRow) (id : Identity) → is_written (base_writes slots rows) id ≡ true → holds rows id ≡ true
-held slots [] id written = absurd (false≢true written)
-held slots (row ∷ rows) id written = held-slot (head_slot slots) row (base_writes (drop 1 slots) rows) rows id (held (drop 1 slots) rows id) written
-
 -- ---- the conflict that a commit finds is the one that the spans show
 
-ends-turned : (next : Identity → Option ℕ) (spans : List Span) → AllByRecursion (λ (span : Span). next span.id ≡ span.to) spans → EndNext next spans
-ends-turned next [] ends = tt
-ends-turned next (span ∷ spans) ends = (sym ends.0, ends-turned next spans ends.1)
+-- no two rows that it wrote over earlier versions are of one identity
+carried-once : (writes : Writes) → HoldsOwn writes → (place : ℕ) → AreDistinct (map carried_write (writes_at place writes.tables).carried)
+carried-once writes own place = (own place).carried.1
 
-module _ (running : Running) (engine : Engine)
-    (apart : (place : ℕ) → NoOverlap (spans_of engine.versions place)) (whole : (place : ℕ) → AreWhole (spans_of engine.versions place)) where
-  abbrev next : ℕ → Identity → Option ℕ
-  next place id = written_after id running.active.begin (spans_of engine.versions place)
+pub shown_none : (running : Running) (engine : Engine) → HoldsOwn running.active → ((place : ℕ) → NoOverlap (spans_of engine.versions place)) → ((place : ℕ) → AreWhole (spans_of engine.versions place))
+    → IsFirstConflict (length engine.versions) (lates_at running.active.tables engine.versions) None → ShowsConflict (kept_of engine) (overlay_of running) None
+shown_none running engine own apart whole first = not-lost-first running.active.tables engine.versions apart whole (carried-once running.active own) first
 
-  abbrev base : ℕ → List PlainRow
-  base place = rows_at plain running.active.begin (spans_of engine.versions place)
-
-  abbrev written : ℕ → Identity → Bool
-  written place id = is_written (base_writes (writes_at place running.active.tables).slots (base place)) id
-
-  ends : (place : ℕ) → EndNext (next place) (spans_at running.active.begin (spans_of engine.versions place))
-  ends place = ends-turned (next place) (spans_at running.active.begin (spans_of engine.versions place)) (held-end running.active.begin (spans_of engine.versions place) (apart place) (whole place))
-
-  pub shown_none : IsFirstConflict (length engine.versions) (lates_of running.active engine.versions) None → ShowsConflict (kept_of engine) (overlay_of running) None
-  shown_none none place id named =
-      not-lost running.active.tables engine.versions running.active.begin next ends none (record { table = place; identity = id }) (and_parts (holds (base place) id) (written place id) named).1
-
-  shown-lost : (conflict : Conflict) → IsFirstConflict (length engine.versions) (lates_of running.active engine.versions) (Some conflict)
-      → ShowsConflict (kept_of engine) (overlay_of running) (Some (record { pair = record { table = conflict.place; identity = conflict.late.id }; version = conflict.late.version }))
-  shown-lost conflict first =
-      let is = lost running.active.tables engine.versions running.active.begin next ends conflict first in (
-        λ i. held (writes_at conflict.place running.active.tables).slots (base conflict.place) conflict.late.id is.written i && is.written i,
-        (is.later, λ pair version named later. is.least pair version (and_parts (holds (base pair.table) pair.identity) (written pair.table pair.identity) named).1 later),
-      )
-
-pub shown_some : (running : Running) (engine : Engine) (conflict : Conflict)
+pub shown_some : (running : Running) (engine : Engine) (conflict : Conflict) → HoldsOwn running.active
     → ((place : ℕ) → NoOverlap (spans_of engine.versions place)) → ((place : ℕ) → AreWhole (spans_of engine.versions place))
-    → IsFirstConflict (length engine.versions) (lates_of running.active engine.versions) (Some conflict)
+    → IsFirstConflict (length engine.versions) (lates_at running.active.tables engine.versions) (Some conflict)
     → ShowsConflict (kept_of engine) (overlay_of running) (Some (record { pair = record { table = conflict.place; identity = conflict.late.id }; version = conflict.late.version }))
-shown_some running engine conflict apart whole first = shown-lost running engine apart whole conflict first
+shown_some running engine conflict own apart whole first =
+    let is = lost-first running.active.tables engine.versions apart whole (carried-once running.active own) conflict first in
+    (is.later, λ pair version later. is.least pair version later)
 
 -- ---- the conflict that the spans show is the one of the history machine
 
@@ -117,60 +78,118 @@ finds state kept session overlay active conflict represents reached is runs show
 
 -- ---- the version of a conflict
 
-end-later : (begin to : ℕ) (end : Option ℕ) → end ≡ Some to → is_before_end begin end ≡ true → begin < to
-end-later begin to end is before = ltb-true begin to (sym (ap (is_before_end begin) is) ∙ before)
+-- above a version, and below another one
+abbrev IsBetween : ℕ → ℕ → ℕ → Type 0
+IsBetween from above version = (from < version) × (version < above)
+
+end-later : (version to : ℕ) (end : Option ℕ) → end ≡ Some to → is_before_end version end ≡ true → version < to
+end-later version to end is before = ltb-true version to (sym (ap (is_before_end version) is) ∙ before)
 
 end-below : (above to : ℕ) (end : Option ℕ) → end ≡ Some to → IsEndBelow above end → to < above
 end-below above to end is below = subst (IsEndBelow above) is below
 
--- the spans that end do so above the begin version, and below the next version
+-- the spans that end do so above the version, and below the next one
 abbrev EndsWithin : ℕ → ℕ → List Span → Type 0
-EndsWithin begin above spans = AllByRecursion (λ (span : Span). (to : ℕ) → span.to ≡ Some to → (begin < to) × (to < above)) spans
+EndsWithin version above spans = AllByRecursion (λ (span : Span). (to : ℕ) → span.to ≡ Some to → IsBetween version above to) spans
 
-ends-within : (begin above : ℕ) (spans : List Span) → AreBelow above spans → EndsWithin begin above (spans_at begin spans)
-ends-within begin above [] below = tt
-ends-within begin above (span ∷ spans) below =
-    elim (holds_at begin span) as (λ b. holds_at begin span ≡ b → EndsWithin begin above (cond b (span ∷ spans_at begin spans) (spans_at begin spans))) [
+ends-within : (version above : ℕ) (spans : List Span) → AreBelow above spans → EndsWithin version above (spans_at version spans)
+ends-within version above [] below = tt
+ends-within version above (span ∷ spans) below =
+    elim (holds_at version span) as (λ b. holds_at version span ≡ b → EndsWithin version above (cond b (span ∷ spans_at version spans) (spans_at version spans))) [
       | true ↦ λ holds. (
-        λ to is. (end-later begin to span.to is (and_parts (leb span.from begin) (is_before_end begin span.to) holds).1, end-below above to span.to is below.0.1),
-        ends-within begin above spans below.1,
+        λ to is. (end-later version to span.to is (and_parts (leb span.from version) (is_before_end version span.to) holds).1, end-below above to span.to is below.0.1),
+        ends-within version above spans below.1,
       )
-      | false ↦ λ passed. ends-within begin above spans below.1
+      | false ↦ λ passed. ends-within version above spans below.1
     ] refl
 
-late-within : (begin above : ℕ) (span : Span) (end : Option ℕ) (rest : List Late) (late : Late) → ((to : ℕ) → end ≡ Some to → (begin < to) × (to < above))
-    → (IsAmong late rest → (begin < late.version) × (late.version < above)) → IsAmong late (cons_option (option_map (λ to. record { id = span.id; version = to }) end) rest) → (begin < late.version) × (late.version < above)
-late-within begin above span None rest late within more among = more among
-late-within begin above span (Some to) rest late within more (inl is) = subst (λ (l : Late). (begin < l.version) × (l.version < above)) is (within to refl)
-late-within begin above span (Some to) rest late within more (inr among) = more among
+late-within : (version above : ℕ) (id : Identity) (end : Option ℕ) (rest : List Late) (late : Late) → ((to : ℕ) → end ≡ Some to → IsBetween version above to)
+    → (IsAmong late rest → IsBetween 0 above late.version) → IsAmong late (cons_option (option_map (λ to. record { id = id; version = to }) end) rest) → IsBetween 0 above late.version
+late-within version above id None rest late within more among = more among
+late-within version above id (Some to) rest late within more (inl is) =
+    let between = within to refl in
+    subst (λ (l : Late). IsBetween 0 above l.version) is (omega (arith, between.0), between.1)
+late-within version above id (Some to) rest late within more (inr among) = more among
 
-late-slot : (slot : Slot) (begin above : ℕ) (span : Span) (rest : List Late) (late : Late) → ((to : ℕ) → span.to ≡ Some to → (begin < to) × (to < above))
-    → (IsAmong late rest → (begin < late.version) × (late.version < above)) → IsAmong late (cons_option (late_of slot span) rest) → (begin < late.version) × (late.version < above)
-late-slot Same begin above span rest late within more among = more among
-late-slot (Put cells) begin above span rest late within more among = late-within begin above span span.to rest late within more among
-late-slot Dropped begin above span rest late within more among = late-within begin above span span.to rest late within more among
+late-slot : (slot : Slot) (version above : ℕ) (span : Span) (rest : List Late) (late : Late) → ((to : ℕ) → span.to ≡ Some to → IsBetween version above to)
+    → (IsAmong late rest → IsBetween 0 above late.version) → IsAmong late (cons_option (late_of slot span) rest) → IsBetween 0 above late.version
+late-slot Same version above span rest late within more among = more among
+late-slot (Put cells) version above span rest late within more among = late-within version above span.id span.to rest late within more among
+late-slot Dropped version above span rest late within more among = late-within version above span.id span.to rest late within more among
 
-lates-within : (begin above : ℕ) (slots : List Slot) (spans : List Span) (late : Late) → EndsWithin begin above spans → IsAmong late (lates slots spans) → (begin < late.version) × (late.version < above)
-lates-within begin above slots [] late within among = absurd among
-lates-within begin above slots (span ∷ spans) late within among =
-    late-slot (head_slot slots) begin above span (lates (drop 1 slots) spans) late within.0 (lates-within begin above (drop 1 slots) spans late within.1) among
+lates-within : (version above : ℕ) (slots : List Slot) (spans : List Span) (others : List Late) (late : Late) → EndsWithin version above spans → (IsAmong late others → IsBetween 0 above late.version)
+    → IsAmong late (slot_lates slots spans ++ others) → IsBetween 0 above late.version
+lates-within version above slots [] others late within rest among = rest among
+lates-within version above slots (span ∷ spans) others late within rest among =
+    late-slot (head_slot slots) version above span (slot_lates (drop 1 slots) spans ++ others) late within.0 (lates-within version above (drop 1 slots) spans others late within.1 rest)
+    (subst (IsAmong late) (cons-behind (late_of (head_slot slots) span) (slot_lates (drop 1 slots) spans) others) among)
+  where
+    cons-behind : (first : Option Late) (some more : List Late) → cons_option first some ++ more ≡ cons_option first (some ++ more)
+    cons-behind None some more = refl
+    cons-behind (Some first) some more = refl
 
--- a table that is not there has no spans
-no_lates : (running : Running) (versions : List Versions) (place : ℕ) (late : Late) → length versions ≤ place → IsAmong late (lates_of running.active versions place) → ⊥
-no_lates running versions place late high among =
-    subst (λ (table : Versions). IsAmong late (lates (writes_at place running.active.tables).slots (spans_at running.active.begin table.spans))) (get_or-eq_default versions no_table high) among
+-- a version at which a span begins or ends
+later-between : (from above version to : ℕ) → version < above → later from version ≡ Some to → IsBetween from above to
+later-between from above version to below is =
+    elim (nat_lt from version) as (λ b. nat_lt from version ≡ b → cond b (Some version) None ≡ Some to → IsBetween from above to) [
+      | true ↦ λ l some. subst (IsBetween from above) (some-is version to some) (ltb-true from version l, below)
+      | false ↦ λ l some. absurd cc
+    ] refl is
+  where
+    some-is : (a b : ℕ) → Some a ≡ Some b → a ≡ b
+    some-is a b same = cc
+
+end-between : (from above to : ℕ) (end : Option ℕ) → IsEndBelow above end → later_end from end ≡ Some to → IsBetween from above to
+end-between from above to None below is = absurd cc
+end-between from above to (Some version) below is = later-between from above version to below is
+
+least-between : (from above to : ℕ) (one other : Option ℕ) → (one ≡ Some to → IsBetween from above to) → (other ≡ Some to → IsBetween from above to) → least one other ≡ Some to → IsBetween from above to
+least-between from above to None other first second is = second is
+least-between from above to (Some a) None first second is = first is
+least-between from above to (Some a) (Some b) first second is =
+    elim (nat_le a b) as (λ c. cond c (Some a) (Some b) ≡ Some to → IsBetween from above to) [ true ↦ first | false ↦ second ] is
+
+written-between : (id : Identity) (from above to : ℕ) (spans : List Span) → AreBelow above spans → written_after id from spans ≡ Some to → IsBetween from above to
+written-between id from above to [] below is = absurd cc
+written-between id from above to (span ∷ spans) below is =
+    elim (same_identity span.id id) as (λ b. cond b (least (least (later from span.from) (later_end from span.to)) (written_after id from spans)) (written_after id from spans) ≡ Some to → IsBetween from above to) [
+      | true ↦
+          least-between from above to (least (later from span.from) (later_end from span.to)) (written_after id from spans)
+          (least-between from above to (later from span.from) (later_end from span.to) (later-between from above span.from to below.0.0) (end-between from above to span.to below.0.1))
+          (written-between id from above to spans below.1)
+      | false ↦ written-between id from above to spans below.1
+    ] is
+
+-- of rows that were written over earlier versions
+rows-within : (above : ℕ) (spans : List Span) (carried : List Carried) (late : Late) → AreBelow above spans → IsAmong late (filter_map (carried_late spans) carried) → IsBetween 0 above late.version
+rows-within above spans [] late below among = absurd among
+rows-within above spans (row ∷ rows) late below among =
+    late-within row.base above row.id (written_after row.id row.base spans) (filter_map (carried_late spans) rows) late
+    (λ to is. written-between row.id row.base above to spans below is) (rows-within above spans rows late below) among
+
+table-within : (above : ℕ) (table : TableWrites) (spans : List Span) (late : Late) → AreBelow above spans → IsAmong late (lates table spans) → IsBetween 0 above late.version
+table-within above table spans late below among =
+    lates-within table.version above table.slots (slotted_spans table.carried table.version spans) (filter_map (carried_late spans) table.carried) late
+    (all-filter (λ (span : Span). (to : ℕ) → span.to ≡ Some to → IsBetween table.version above to) (λ (span : Span). not (is_carried table.carried span.id)) (spans_at table.version spans)
+    (ends-within table.version above spans below)) (rows-within above spans table.carried late below) among
+
+-- without spans, no row was written by a later commit
+none-late : (carried : List Carried) (late : Late) → IsAmong late (filter_map (carried_late []) carried) → ⊥
+none-late [] late among = absurd among
+none-late (row ∷ rows) late among = none-late rows late among
+
+no-lates : (tables : List TableWrites) (versions : List Versions) (place : ℕ) (late : Late) → length versions ≤ place → IsAmong late (lates_at tables versions place) → ⊥
+no-lates tables versions place late high among =
+    none-late (writes_at place tables).carried late (subst (λ (table : Versions). IsAmong late (lates (writes_at place tables) table.spans)) (get_or-eq_default versions no_table high) among)
 
 -- the table of a conflict is there, and its version is one of those that were made
 pub late_bounds : (versions : List Versions) (running : Running) (conflict : Conflict) (above : ℕ) → ((place : ℕ) → AreBelow above (spans_of versions place))
-    → IsFirstConflict (length versions) (lates_of running.active versions) (Some conflict)
-    → (conflict.place < length versions) × ((1 ≤ conflict.late.version) × (conflict.late.version < above))
+    → IsFirstConflict (length versions) (lates_at running.active.tables versions) (Some conflict) → (conflict.place < length versions) × ((1 ≤ conflict.late.version) × (conflict.late.version < above))
 late_bounds versions running conflict above below first =
-    let within =
-    lates-within running.active.begin above (writes_at conflict.place running.active.tables).slots (spans_at running.active.begin (spans_of versions conflict.place)) conflict.late
-    (ends-within running.active.begin above (spans_of versions conflict.place) (below conflict.place)) first.1.0 in (
+    let within = table-within above (writes_at conflict.place running.active.tables) (spans_of versions conflict.place) conflict.late (below conflict.place) first.1.0 in (
       elim (cases_lt conflict.place (length versions)) [
         | inl low ↦ low
-        | inr high ↦ absurd (no_lates running versions conflict.place conflict.late high first.1.0)
+        | inr high ↦ absurd (no-lates running.active.tables versions conflict.place conflict.late high first.1.0)
       ],
       (omega (arith, within.0), within.1),
     )

@@ -1,5 +1,5 @@
 -- An engine whose methods do what they have to follows the history machine.
-use Rattle.std.proofs.Common.{◌≡◌, ℕ, zero, suc, pred, ◌+◌, ◌<◌, Bool, true, false, List, [], ◌∷◌, ◌++◌, length, Option, Some, None, Result, Ok, Err, get_or, refl, sym, ap, ◌∙◌, subst, arith, inl, inr}
+use Rattle.std.proofs.Common.{◌≡◌, ℕ, zero, suc, pred, ◌+◌, ◌<◌, ◌≤◌, ◌⊎◌, Bool, true, false, List, [], ◌∷◌, ◌++◌, length, Option, Some, None, Result, Ok, Err, get_or, refl, sym, ap, ◌∙◌, subst, arith, inl, inr}
 use Rattle.std.specs.Prelude.{nat_le, slice_set}
 use Rattle.std.specs.Option.{option_map}
 use Rattle.std.proofs.lemmas.Bool.{cases_eq, eq-eqb, ne_eqb}
@@ -9,16 +9,14 @@ use Rattle.gp_base.specs.declared.refusal.Refusal.{Refusal}
 use Rattle.gp_base.specs.declared.refusal.Refusal.TheVariants.{E09, E10, E11, E14}
 use Rattle.gp_base.specs.declared.table.Table.{Table}
 use Rattle.gp_base.specs.Annotated.{plain}
+use Rattle.gp_algebra.specs.Effects.{step, wrote}
 use Rattle.gp_algebra.specs.Statements.{Statement}
 use Rattle.gp_check.specs.Checking.{checked}
 use Rattle.gp_grammar.specs.Syntax.{Command}
 use Rattle.gp_versions.specs.Commits.{after_commit}
-use Rattle.gp_versions.specs.Commits as versions
-use Rattle.gp_versions.specs.declared.span.Write.{Write}
-use Rattle.gp_txn.specs.declared.overlay.TableWrites.{TableWrites}
 use Rattle.gp_versions.specs.Spans.{AreWhole, NoOverlap, Versions}
 use Rattle.gp_txn.specs.Counts.{count_spans}
-use Rattle.gp_txn.specs.Overlay.{PlainRow, base_writes, database_at, no_table, view_over, view_rows, no_writes}
+use Rattle.gp_txn.specs.Transactions.{no_table, snapshot_of, table_at, view_at, writes_at}
 use Rattle.gp_machine.specs.declared.reply.Reply.{Reply}
 use Rattle.gp_machine.specs.declared.reply.Reply.TheVariants as reply
 use Rattle.gp_machine.specs.Actions.{Action, Create, Begin, Commit, Rollback, Run, action_of}
@@ -26,9 +24,10 @@ use Rattle.gp_machine.specs.Conflicts as machine
 use Rattle.gp_machine.specs.EngineLine as line
 use Rattle.gp_machine.specs.EngineLine.{Answers, FindsConflict, rows_after}
 use Rattle.gp_machine.specs.Entries.{End, Entry, RolledBack, Lost, Created, Began, Ran, Committed, Ended, committer_of, log_of, versions_in}
-use Rattle.gp_machine.specs.Event.{Line, event, conflict_of, creation_refusal, count_refusal, name_at}
+use Rattle.gp_machine.specs.Event.{Line, event, conflict_of, creation_refusal, count_refusal, name_at, refusal_of, reply_of}
 use Rattle.gp_machine.specs.Reached.{IsReached}
-use Rattle.gp_machine.specs.Represents.{Kept, Overlay, Represents, base_of}
+use Rattle.gp_machine.specs.Represents as machine_view
+use Rattle.gp_machine.specs.Represents.{Kept, Overlay, Represents}
 use Rattle.gp_machine.specs.State.{Active, State, start, with_value}
 use Rattle.gp_machine.proofs.SpanLaws.{spans_apart, spans_whole}
 use Rattle.gp_machine.proofs.EngineLemmas.{after_last, line_represented, reached_after}
@@ -40,6 +39,7 @@ use Rattle.gp_log.specs.Limits.{limits}
 use Rattle.gp_engine.specs.Methods as method
 use Rattle.gp_engine.specs.Methods.{DoesAt, Keeps, loses, meaning_of, overflows, publishes, refusal_at}
 use Rattle.gp_engine.proofs.ConflictLemmas.{found, shown_none, shown_some}
+use Rattle.gp_engine.proofs.OverlayLemmas.{base_same, new_base, new_view, view_same}
 use Rattle.gp_engine.proofs.PublishLemmas.{count_published, has_room, is_full, published, spans_published, writes_of}
 
 -- ---- what is kept of a changed engine
@@ -73,15 +73,6 @@ rows-added tables new versions table count empty =
     ap length (spans-added versions table empty (length tables) ∙ ap (λ (t : Versions). t.spans) (get_or_past versions (length tables) no_table (omega (arith, count)))) in
     let others = count-alike (versions ++ table ∷ []) versions (spans-added versions table empty) (length tables) in
     rw long (omega (arith, none, others))
-
--- nothing is written by no writes
-no-base-writes : (rows : List PlainRow) → base_writes [] rows ≡ []
-no-base-writes [] = refl
-no-base-writes (row ∷ rows) = no-base-writes rows
-
-no-overlay : (rows : List PlainRow) → view_rows no_writes rows ≡ rows
-no-overlay [] = refl
-no-overlay (row ∷ rows) = ap (λ others. row ∷ others) (no-overlay rows)
 
 -- what is kept of an engine with these parts
 pub kept-as : (engine : Engine) (entries : List Entry) (versions : List Versions) (sessions : List (Option Running)) → Keeps engine entries versions sessions → kept_of engine ≡ kept_by entries versions sessions
@@ -150,22 +141,25 @@ module _ (old new : Engine) (answer : Reply) (state : State (Unit {0})) (engine 
       }) in
       (kept-as new later (old.versions ++ r.added ∷ []) old.sessions r.keeps ∙ same, r.says)
 
-  begins : (full : Bool) → method.Begins old new answer number place full → line.Begins limits kept number session next answer full
-  begins true r = refuses (E14 limit.Transactions) r
-  begins false starts =
+  begins : (kind full : Bool) → method.Begins old new answer number place kind full → line.Begins limits kept number session next answer kind full
+  begins kind true r = refuses (E14 limit.Transactions) r
+  begins kind false starts =
       let begun = suc (transactions_of old) in
-      let later = Began number session begun ∷ entries_of old in
+      let later = Began number session begun kind ∷ entries_of old in
       let running : Running = record { active = starts.active; statements = 0 } in
-      let base = base_of (spans_of old.versions) (overlay_of running) in
       let same : kept_by later old.versions (slice_set old.sessions place (Some running)) ≡ record kept { entries = later; transactions = begun; sessions = with_value session (Some (overlay_of running)) kept.sessions } =
       (λ i. record kept { entries = later; transactions = begun; sessions = λ s. put (Some running) s i }) in (
         overlay_of running,
         record {
+          version = λ at. let low = (starts.tables at).below in omega (arith, low, starts.begin);
           statements = refl;
-          view = λ at. ap (λ writes. view_rows writes (base at)) (starts.tables at) ∙ no-overlay (base at);
-          names = λ at id other. ap (λ (writes : List Write). versions.is_written writes id) (ap (λ (writes : TableWrites). base_writes writes.slots (base at)) (starts.tables at) ∙ no-base-writes (base at));
+          view = λ at.
+              view_same old.versions running starts.active.begin at
+              ∙ new_view (newest_of old) starts.active.begin (writes_at at starts.active.tables) (table_at at old.versions).spans (starts.tables at);
+          base = λ at id other. new_base (newest_of old) (writes_at at starts.active.tables) _ id (starts.tables at);
         },
         starts.t,
+        starts.kind,
         starts.begin,
         kept-as new later old.versions (slice_set old.sessions place (Some running)) starts.keeps ∙ same,
         starts.says,
@@ -189,7 +183,18 @@ module _ (old new : Engine) (answer : Reply) (state : State (Unit {0})) (engine 
 
   -- ---- a statement
 
-  module _ (running : Running) (command : Command) where
+  module _ (running : Running) (at : get_or old.sessions place None ≡ Some running) (command : Command) where
+    -- what its transaction reads
+    abbrev now : ℕ
+    now = snapshot_of running.active (newest_of old)
+
+    start-same : machine_view.view_at (spans_of old.versions) (overlay_of running) now ≡ view_at running.active.tables old.versions now
+    start-same = λ i table. view_same old.versions running now table i
+
+    over : (version was : ℕ) → (version ≡ was) ⊎ (version ≡ now) → was ≤ now → version ≤ now
+    over version was (inl same) low = omega (arith, same, low)
+    over version was (inr here) low = omega (arith, here)
+
     records : (statement : Statement) (refusal : Option Refusal) → method.RunsChecked old new answer number place running command statement refusal
         → line.Applies limits kept number session next answer (overlay_of running) command statement refusal
     records statement (Some refusal) r = refuses refusal r
@@ -202,20 +207,30 @@ module _ (old new : Engine) (answer : Reply) (state : State (Unit {0})) (engine 
           overlay_of r.after,
           record {
             transaction = accepts.t;
+            read_committed = accepts.read_committed;
             begin = accepts.begin;
+            version = λ table. over (writes_at table r.after.active.tables).version (writes_at table running.active.tables).version (accepts.below table) ((sound.each session running at).below table);
             statements = accepts.statements;
-            view = λ table. ap (λ begin. view_over r.after.active (database_at begin old.versions) table) (sym accepts.begin) ∙ accepts.view table;
-            names = accepts.written;
+            view = λ table.
+                view_same old.versions r.after now table
+                ∙ accepts.view table
+                ∙ ap (λ db. step plain running.active.t (suc running.statements) statement db table) (sym start-same);
+            base = λ table id other.
+                accepts.base table id other
+                ∙ base_same now table id (wrote plain running.active.t (suc running.statements) statement (view_at running.active.tables old.versions now)) _
+                ∙ ap (λ db. machine_view.base_after now table id (wrote plain running.active.t (suc running.statements) statement db) (machine_view.base_in (spans_of old.versions) (overlay_of running) table id)) (sym start-same);
           },
           kept-as new later old.versions (slice_set old.sessions place (Some r.after)) r.keeps ∙ same,
-          accepts.says,
+          accepts.says ∙ ap (reply_of plain running.active.t (suc running.statements) statement) (sym start-same),
         )
 
     runs : (refusal : Option Refusal) (meaning : Result Statement Refusal) → method.RunsAs old new answer number place running command (meaning_of refusal meaning)
         → line.RunsStatement limits kept number session next answer (overlay_of running) command refusal meaning
     runs (Some refusal) meaning r = refuses refusal r
     runs None (Err refusal) r = refuses refusal r
-    runs None (Ok statement) r = records statement (refusal_at old new answer number place running command statement) r
+    runs None (Ok statement) r =
+        subst (line.Applies limits kept number session next answer (overlay_of running) command statement) (ap (refusal_of plain limits (tables_of old) running.active.t (suc running.statements) statement) (sym start-same))
+        (records statement (refusal_at old new answer number place running command statement) r)
 
   -- ---- the line
 
@@ -240,17 +255,17 @@ module _ (old new : Engine) (answer : Reply) (state : State (Unit {0})) (engine 
   whole table = subst AreWhole (sym (engine.kept.spans table)) (spans_whole (versions_in state.entries) state.committed state.written table)
 
   commits : (running : Running) (at : get_or old.sessions place None ≡ Some running) → method.Commits old new answer number place running → Leads (Some (overlay_of running)) Commit
-  commits running at (loses conflict left first same clears says) =
+  commits running at (loses conflict left own first same clears says) =
       let lost : machine.Conflict = record { pair = record { table = conflict.place; identity = conflict.late.id }; version = conflict.late.version } in
       let other = committer_of conflict.late.version (entries_of old) in
       record {
         conflict = λ o. Some lost;
-        finds = found state kept session (overlay_of running) (Some lost) engine.kept reached (ap (option_map overlay_of) at) (shown_some running old conflict apart whole first);
+        finds = found state kept session (overlay_of running) (Some lost) engine.kept reached (ap (option_map overlay_of) at) (shown_some running old conflict own apart whole first);
         does = ends left same running Lost (reply.Refused (E11 running.active.t other (name_at conflict.place (tables_of old)) conflict.late.id)) clears says;
       }
-  commits running at (overflows first many same says) = record {
+  commits running at (overflows own first many same says) = record {
     conflict = λ o. None;
-    finds = found state kept session (overlay_of running) None engine.kept reached (ap (option_map overlay_of) at) (shown_none running old apart whole first);
+    finds = found state kept session (overlay_of running) None engine.kept reached (ap (option_map overlay_of) at) (shown_none running old own apart whole first);
     does = subst (λ full. line.Commits limits kept number session next answer (overlay_of running) None full) (sym (is_full old running sound.tables many)) (kept-unchanged old new same, says);
   }
   commits running at (publishes own long made keeps says) =
@@ -274,10 +289,10 @@ module _ (old new : Engine) (answer : Reply) (state : State (Unit {0})) (engine 
       }) in
       record {
         conflict = λ o. None;
-        finds = found state kept session (overlay_of running) None engine.kept reached (ap (option_map overlay_of) at) (shown_none running old apart whole made.first);
+        finds = found state kept session (overlay_of running) None engine.kept reached (ap (option_map overlay_of) at) (shown_none running old own apart whole made.first);
         does = subst (λ full. line.Commits limits kept number session next answer (overlay_of running) None full) (sym (has_room old running sound.tables made.few)) (
           published old running,
-          writes_of old running own nothing,
+          writes_of old running own (sound.each session running at).there nothing,
           kept-as new later new.versions (slice_set old.sessions place None) keeps ∙ same,
           says,
         );
@@ -285,17 +300,17 @@ module _ (old new : Engine) (answer : Reply) (state : State (Unit {0})) (engine 
 
   leads : (found : Option Running) → get_or old.sessions place None ≡ found → (action : Action) → DoesAt old new answer number place found action → Leads (option_map overlay_of found) action
   leads None at (Create table) r = quiet None (Create table) (creates table (creation_refusal limits (tables_of old) table) r)
-  leads None at Begin r = quiet None Begin (begins (nat_le limits.transactions (transactions_of old)) r)
+  leads None at (Begin kind) r = quiet None (Begin kind) (begins kind (nat_le limits.transactions (transactions_of old)) r)
   leads None at Commit r = quiet None Commit (refuses E10 r)
   leads None at Rollback r = quiet None Rollback (refuses E10 r)
   leads None at (Run command) r = quiet None (Run command) (refuses E10 r)
   leads (Some running) at (Create table) r = quiet (Some (overlay_of running)) (Create table) (refuses E09 r)
-  leads (Some running) at Begin r = quiet (Some (overlay_of running)) Begin (refuses E09 r)
+  leads (Some running) at (Begin kind) r = quiet (Some (overlay_of running)) (Begin kind) (refuses E09 r)
   leads (Some running) at Commit r = commits running at r
   leads (Some running) at Rollback r =
       quiet (Some (overlay_of running)) Rollback (ends old (unchanged old) running RolledBack (reply.RolledBack running.active.t) r.0 r.1)
   leads (Some running) at (Run command) r =
-      quiet (Some (overlay_of running)) (Run command) (runs running command (count_refusal limits running.statements (statements_of old)) (checked (tables_of old) command) r)
+      quiet (Some (overlay_of running)) (Run command) (runs running at command (count_refusal limits running.statements (statements_of old)) (checked (tables_of old) command) r)
 
   -- the engine represents the state of the event, and its answer is the reply
   pub follows_at : (command : Command) → DoesAt old new answer number place (get_or old.sessions place None) (action_of command)

@@ -21,7 +21,10 @@ use Rattle.gp_algebra.specs.Statements.{Statement, insert, insert_select, update
 use Rattle.gp_versions.specs.declared.span.Span.{Span}
 use Rattle.gp_versions.specs.Commits.{AreBelow}
 use Rattle.gp_versions.specs.Spans.{Versions, rows_at}
-use Rattle.gp_txn.specs.Overlay.{AreOthers, HoldsOthers, PlainRow, Writes, no_table, no_writes, view_of, view_rows, writes_at}
+use Rattle.gp_txn.specs.Bases.{table_view}
+use Rattle.gp_txn.specs.Overlay.{PlainRow}
+use Rattle.gp_txn.specs.Transactions.{AreOthers, AreThere, HoldsOthers, IsUnwritten, Writes, no_table, snapshot_of, table_at, view_at, writes_at}
+use Rattle.gp_txn.proofs.AfterLemmas.{view-beyond}
 use Rattle.gp_txn.proofs.PairLemmas.{all-weaker}
 use Rattle.gp_machine.specs.declared.reply.Reply.{Reply}
 use Rattle.gp_machine.specs.Actions.{Action, Create, Begin, Commit, Rollback, Run, action_of}
@@ -34,9 +37,10 @@ use Rattle.gp_log.specs.Logs.{log_view}
 use Rattle.gp_log.proofs.CountLemmas.{log_view-length}
 use Rattle.gp_log.proofs.EntryLemmas.{entries-counted, versions-ended}
 use Rattle.gp_engine.specs.declared.running.Running.{Running}
-use Rattle.gp_engine.specs.Engine.{Engine, IsEngine, IsSession, IsSound, IsUnchanged, count_running, entries_of, session_at, spans_of, statements_of, tables_of, transactions_of}
+use Rattle.gp_engine.specs.Engine.{Engine, IsEngine, IsSession, IsSound, IsUnchanged, count_running, entries_of, newest_of, session_at, spans_of, statements_of, tables_of, transactions_of}
 use Rattle.gp_log.specs.Limits.{limits}
 use Rattle.gp_engine.specs.Methods.{Begins, Clears, Commits, Creates, DoesAt, HasPlace, Keeps, Records, Refuses, RunsAs, RunsChecked, is_read, loses, meaning_of, overflows, publishes, refusal_at}
+use Rattle.gp_engine.proofs.OverlayLemmas.{new_view, snapshot_first, snapshot_later}
 use Rattle.gp_engine.proofs.PublishLemmas.{committed_sound, session_left}
 use Rattle.gp_engine.proofs.SessionLemmas.{count-cleared, count-replaced, count-taken}
 
@@ -112,7 +116,9 @@ session-stays entries later versions others running spans tables committed begun
   last = was.last;
   count = was.count ∙ sym counted;
   others = λ place. subst (AreOthers running.active.t) (sym (spans place)) (was.others place);
-  beyond = λ place high. subst (λ held. view_rows (writes_at place running.active.tables) (rows_at plain running.active.begin held) ≡ []) (sym (spans place)) (was.beyond place (omega (arith, high, tables)));
+  below = λ place. let before = was.below place in let now = snapshot_later running.active (versions_in entries) (versions_in later) committed in omega (arith, before, now);
+  there = λ place. subst (λ held. AreThere held (writes_at place running.active.tables).carried) (sym (spans place)) (was.there place);
+  beyond = λ place high. subst (λ held. table_view (writes_at place running.active.tables) held running.active.begin ≡ []) (sym (spans place)) (was.beyond place (omega (arith, high, tables)));
 }
 
 -- other row versions of the same spans
@@ -220,16 +226,17 @@ module _ (entries later : List Entry) (versions : List Versions) (sessions : Lis
 -- ---- BEGIN
 
 -- what has no writes reads nothing beyond the last table
-nothing-written : (active : Writes) (versions : List Versions) (place : ℕ) → writes_at place active.tables ≡ no_writes → length versions ≤ place → view_of active versions place ≡ []
-nothing-written active versions place none high = (λ i. view_rows (none i) (rows_at plain active.begin (get_or-eq_default versions no_table high i).spans))
+nothing-written : (active : Writes) (versions : List Versions) (begin place : ℕ) → IsUnwritten begin (writes_at place active.tables) → length versions ≤ place → view_at active.tables versions active.begin place ≡ []
+nothing-written active versions begin place none high =
+    new_view begin active.begin (writes_at place active.tables) (table_at place versions).spans none ∙ (λ i. rows_at plain active.begin (get_or-eq_default versions no_table high i).spans)
 
-began_sound : (entries : List Entry) (versions : List Versions) (sessions : List (Option Running)) (line place : ℕ) (active : Writes) → IsSound entries versions sessions → place < length sessions
+began_sound : (entries : List Entry) (versions : List Versions) (sessions : List (Option Running)) (line place : ℕ) (kind : Bool) (active : Writes) → IsSound entries versions sessions → place < length sessions
     → get_or sessions place None ≡ None → transactions_in entries < MAX_TRANSACTIONS → active.t ≡ suc (transactions_in entries) → active.begin ≡ versions_in entries → active.last ≡ 0
-    → ((table : ℕ) → writes_at table active.tables ≡ no_writes)
-    → IsSound (Began line (suc place) (suc (transactions_in entries)) ∷ entries) versions (slice_set sessions place (Some (record { active = active; statements = 0 })))
-began_sound entries versions sessions line place active kept within at few t begin last tables =
+    → ((table : ℕ) → IsUnwritten (versions_in entries) (writes_at table active.tables))
+    → IsSound (Began line (suc place) (suc (transactions_in entries)) kind ∷ entries) versions (slice_set sessions place (Some (record { active = active; statements = 0 })))
+began_sound entries versions sessions line place kind active kept within at few t begin last tables =
     let after : Running = record { active = active; statements = 0 } in
-    let later = Began line (suc place) (suc (transactions_in entries)) ∷ entries in
+    let later = Began line (suc place) (suc (transactions_in entries)) kind ∷ entries in
     let mine : IsSession later versions after = record {
       first = omega (arith, t);
       began = omega (arith, t);
@@ -237,7 +244,9 @@ began_sound entries versions sessions line place active kept within at few t beg
       last = omega (arith, last);
       count = sym (kept.numbers active.t (omega (arith, t)));
       others = λ table. all-weaker (λ (span : Span). transaction_of span.id ≤ transactions_in entries) (λ (span : Span). transaction_of span.id ≢ active.t) (λ span is same. omega (arith, is, same, t)) (spans_of versions table) (kept.makers table);
-      beyond = λ table high. nothing-written active versions table (tables table) high;
+      below = λ table. let before = (tables table).below in let now = snapshot_first active (versions_in entries) (omega (arith, begin)) in omega (arith, before, now, begin);
+      there = λ table. subst (AreThere (table_at table versions).spans) (sym (tables table).carried) tt;
+      beyond = λ table high. nothing-written active versions (versions_in entries) table (tables table) high;
     } in
     record {
       valid = kept.valid;
@@ -329,9 +338,14 @@ ran_sound old new answer line place running command statement kept within at bel
           ∙ ap (λ t. suc (statement_count t entries)) (sym accepts.t)
           ∙ sym (counted-own after.active.t running.active.t line (suc place) command statement entries (sym accepts.t));
       others = subst (λ t. HoldsOthers t old.versions) (sym accepts.t) was.others;
+      below = λ table. later-below after.active running.active (newest_of old) (writes_at table after.active.tables).version (writes_at table running.active.tables).version
+          accepts.read_committed accepts.begin (accepts.below table) (was.below table);
+      there = accepts.holds was.there;
       beyond = λ table high.
-          accepts.view table
-          ∙ step-beyond running.active.t (suc running.statements) (length old.versions) statement (view_of running.active old.versions) accepts.there table high
+          view-beyond after.active.tables old.versions table after.active.begin (snapshot_of running.active (newest_of old)) high
+          ∙ accepts.view table
+          ∙ step-beyond running.active.t (suc running.statements) (length old.versions) statement (view_at running.active.tables old.versions (snapshot_of running.active (newest_of old))) accepts.there table high
+          ∙ view-beyond running.active.tables old.versions table (snapshot_of running.active (newest_of old)) running.active.begin high
           ∙ was.beyond table high;
     } in
     keeps-sound new later old.versions (slice_set old.sessions place (Some after)) records.keeps (record {
@@ -357,6 +371,16 @@ ran_sound old new answer line place running command statement kept within at bel
         → count_running (slice_set sessions place (Some after)) + ends ≡ begun
     count-same sessions place running after at ends begun is = omega (arith, is, count-replaced sessions place running after at)
 
+    -- the writes of a table lie over the version that they lay over, or over the one that the statement read
+    later-below : (new before : Writes) (newest version was : ℕ) → new.read_committed ≡ before.read_committed → new.begin ≡ before.begin → (version ≡ was) ⊎ (version ≡ snapshot_of before newest)
+        → was ≤ snapshot_of before newest → version ≤ snapshot_of new newest
+    later-below new before newest version was kind begin over low =
+        subst (λ n. version ≤ n) (λ i. cond (sym kind i) newest (sym begin i)) (go over)
+      where
+        go : (version ≡ was) ⊎ (version ≡ snapshot_of before newest) → version ≤ snapshot_of before newest
+        go (inl same) = omega (arith, same, low)
+        go (inr here) = omega (arith, here)
+
 -- ---- a line
 
 -- a new table is that of a valid command
@@ -380,11 +404,11 @@ module _ (old new : Engine) (answer : Reply) (line place : ℕ) (kept : IsEngine
       (created_sound (entries_of old) old.versions old.sessions line session table creates.added kept valid
       (leb-false MAX_TABLES (length (tables_of old)) (has-room (nat_le MAX_TABLES (length (tables_of old))) _ (limits.created (tables_of old) table) is)) creates.empty)
 
-  begins-engine : (full : Bool) → get_or old.sessions place None ≡ None → nat_le MAX_TRANSACTIONS (transactions_of old) ≡ full → Begins old new answer line place full → IsEngine new
-  begins-engine true at is begins = refused-engine (E14 limit.Transactions) begins
-  begins-engine false at is begins =
-      keeps-sound new (Began line (suc place) (suc (transactions_of old)) ∷ entries_of old) old.versions (slice_set old.sessions place (Some (record { active = begins.active; statements = 0 }))) begins.keeps
-      (began_sound (entries_of old) old.versions old.sessions line place begins.active kept (within-sessions old place kept within) at
+  begins-engine : (kind full : Bool) → get_or old.sessions place None ≡ None → nat_le MAX_TRANSACTIONS (transactions_of old) ≡ full → Begins old new answer line place kind full → IsEngine new
+  begins-engine kind true at is begins = refused-engine (E14 limit.Transactions) begins
+  begins-engine kind false at is begins =
+      keeps-sound new (Began line (suc place) (suc (transactions_of old)) kind ∷ entries_of old) old.versions (slice_set old.sessions place (Some (record { active = begins.active; statements = 0 }))) begins.keeps
+      (began_sound (entries_of old) old.versions old.sessions line place kind begins.active kept (within-sessions old place kept within) at
       (leb-false MAX_TRANSACTIONS (transactions_of old) is) begins.t begins.begin begins.last begins.tables)
 
   module _ (running : Running) (at : get_or old.sessions place None ≡ Some running) where
@@ -395,12 +419,12 @@ module _ (old new : Engine) (answer : Reply) (line place : ℕ) (kept : IsEngine
 
     -- a conflict ends the transaction, and too many row versions leave it running
     commits-engine : Commits old new answer line place running → IsEngine new
-    commits-engine (loses conflict middle first unchanged clears says) =
+    commits-engine (loses conflict middle own first unchanged clears says) =
         let still = unchanged_engine old middle kept unchanged in
         keeps-sound new (Ended line (suc place) Lost running.active.t ∷ entries_of middle) middle.versions (slice_set middle.sessions place None) clears
         (ended_sound (entries_of middle) middle.versions middle.sessions line (suc place) place Lost running.active.t running still (within-sessions middle place still within)
         (subst (λ sessions. get_or sessions place None ≡ Some running) (sym unchanged.sessions) at))
-    commits-engine (overflows first many unchanged says) = unchanged_engine old new kept unchanged
+    commits-engine (overflows own first many unchanged says) = unchanged_engine old new kept unchanged
     commits-engine (publishes own same commits keeps says) =
         keeps-sound new (Committed line (suc place) running.active.t ∷ entries_of old) new.versions (slice_set old.sessions place None) keeps
         (committed_sound (entries_of old) old.versions old.sessions line place running new.versions kept at own (within-sessions old place kept within) same commits)
@@ -421,12 +445,12 @@ module _ (old new : Engine) (answer : Reply) (line place : ℕ) (kept : IsEngine
   action-engine : (session : Option Running) (action : Action) → get_or old.sessions place None ≡ session → ((table : Table) → action ≡ Create table → is_valid (y.create table) ≡ true)
       → DoesAt old new answer line place session action → IsEngine new
   action-engine None (Create table) at valid does = creates-engine (suc place) table (creation_refusal limits (tables_of old) table) (valid table refl) refl does
-  action-engine None Begin at valid does = begins-engine (nat_le MAX_TRANSACTIONS (transactions_of old)) at refl does
+  action-engine None (Begin kind) at valid does = begins-engine kind (nat_le MAX_TRANSACTIONS (transactions_of old)) at refl does
   action-engine None Commit at valid does = refused-engine E10 does
   action-engine None Rollback at valid does = refused-engine E10 does
   action-engine None (Run command) at valid does = refused-engine E10 does
   action-engine (Some running) (Create table) at valid does = refused-engine E09 does
-  action-engine (Some running) Begin at valid does = refused-engine E09 does
+  action-engine (Some running) (Begin kind) at valid does = refused-engine E09 does
   action-engine (Some running) Commit at valid does = commits-engine running at does
   action-engine (Some running) Rollback at valid does = ends-engine running at RolledBack running.active.t does.0
   action-engine (Some running) (Run command) at valid does =

@@ -4,7 +4,9 @@ pub mod FitLemmas
 pub mod FollowLemmas
 pub mod InvariantLemmas
 pub mod LineLemmas
+pub mod OverlayLemmas
 pub mod PublishLemmas
+pub mod RunningLemmas
 pub mod SessionLemmas
 pub mod StartLemmas
 pub mod StatementLemmas

@@ -9,7 +9,7 @@ use Rattle.gp_base.specs.Annotated.{Database, plain}
 use Rattle.gp_algebra.specs.Statements.{Statement, insert, insert_select, update, delete, read}
 use Rattle.gp_check.specs.Checking.{checked, is_statement}
 use Rattle.gp_grammar.specs.Syntax.{Command}
-use Rattle.gp_txn.specs.Overlay.{view_of}
+use Rattle.gp_txn.specs.Transactions.{snapshot_of, view_at}
 use Rattle.gp_machine.specs.declared.reply.Reply.{Reply}
 use Rattle.gp_machine.specs.declared.reply.Reply.TheVariants as reply
 use Rattle.gp_machine.specs.Actions.{Action, Create, Begin, Commit, Rollback, Run, action_of}
@@ -62,29 +62,29 @@ module _ (old new : Engine) (answer : Reply) (line place : ℕ) where
   creates-unchanged table (Some refusal) r denied = r.0
   creates-unchanged table None r denied = recorded answer (reply.Created (length (tables_of old))) (is_recorded (Create table)) r.says refl denied
 
-  begins-unchanged : (full : Bool) → Begins old new answer line place full → is_recorded Begin answer ≡ false → IsUnchanged old new
-  begins-unchanged true r denied = r.0
-  begins-unchanged false r denied = recorded answer (reply.Began (suc (transactions_of old)) (newest_of old)) (is_recorded Begin) r.says refl denied
+  begins-unchanged : (kind full : Bool) → Begins old new answer line place kind full → is_recorded (Begin kind) answer ≡ false → IsUnchanged old new
+  begins-unchanged kind true r denied = r.0
+  begins-unchanged kind false r denied = recorded answer (reply.Began (suc (transactions_of old)) (newest_of old)) (is_recorded (Begin kind)) r.says refl denied
 
   outside-unchanged : (action : Action) → Outside old new answer line place action → is_recorded action answer ≡ false → IsUnchanged old new
   outside-unchanged (Create table) does denied = creates-unchanged table (creation_refusal limits (tables_of old) table) does denied
-  outside-unchanged Begin does denied = begins-unchanged (nat_le MAX_TRANSACTIONS (transactions_of old)) does denied
+  outside-unchanged (Begin kind) does denied = begins-unchanged kind (nat_le MAX_TRANSACTIONS (transactions_of old)) does denied
   outside-unchanged Commit does denied = does.0
   outside-unchanged Rollback does denied = does.0
   outside-unchanged (Run command) does denied = does.0
 
   commits-unchanged : (running : Running) → Commits old new answer line place running → is_recorded Commit answer ≡ false → IsUnchanged old new
-  commits-unchanged running (loses conflict kept first same clears says) denied =
+  commits-unchanged running (loses conflict kept own first same clears says) denied =
       recorded answer (reply.Refused (E11 running.active.t (committer_of conflict.late.version (entries_of old)) (name_at conflict.place (tables_of old)) conflict.late.id)) (is_recorded Commit) says refl denied
-  commits-unchanged running (overflows first many same says) denied = same
+  commits-unchanged running (overflows own first many same says) denied = same
   commits-unchanged running (publishes own same commits keeps says) denied = recorded answer (reply.Committed running.active.t (suc (newest_of old))) (is_recorded Commit) says refl denied
 
   checked-unchanged : (running : Running) (command : Command) (statement : Statement) (refusal : Option Refusal) → RunsChecked old new answer line place running command statement refusal
       → is_recorded (Run command) answer ≡ false → IsUnchanged old new
   checked-unchanged running command statement (Some refusal) r denied = r.0
   checked-unchanged running command statement None r denied =
-      recorded answer (reply_of plain running.active.t (suc running.statements) statement (view_of running.active old.versions)) (is_recorded (Run command)) r.accepts.says
-      (recorded-reply command running.active.t (suc running.statements) statement (view_of running.active old.versions)) denied
+      recorded answer (reply_of plain running.active.t (suc running.statements) statement (view_at running.active.tables old.versions (snapshot_of running.active (newest_of old)))) (is_recorded (Run command)) r.accepts.says
+      (recorded-reply command running.active.t (suc running.statements) statement (view_at running.active.tables old.versions (snapshot_of running.active (newest_of old)))) denied
 
   runs-unchanged : (running : Running) (command : Command) (meaning : Result Statement Refusal) → RunsAs old new answer line place running command meaning → is_recorded (Run command) answer ≡ false
       → IsUnchanged old new
@@ -94,7 +94,7 @@ module _ (old new : Engine) (answer : Reply) (line place : ℕ) where
   does-unchanged : (found : Option Running) (action : Action) → DoesAt old new answer line place found action → is_recorded action answer ≡ false → IsUnchanged old new
   does-unchanged None action does denied = outside-unchanged action does denied
   does-unchanged (Some running) (Create table) does denied = does.0
-  does-unchanged (Some running) Begin does denied = does.0
+  does-unchanged (Some running) (Begin kind) does denied = does.0
   does-unchanged (Some running) Commit does denied = commits-unchanged running does denied
   does-unchanged (Some running) Rollback does denied = recorded answer (reply.RolledBack running.active.t) (is_recorded Rollback) does.1 refl denied
   does-unchanged (Some running) (Run command) does denied =

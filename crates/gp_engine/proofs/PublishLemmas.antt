@@ -1,5 +1,5 @@
 -- What a commit publishes is what the history machine asks of an engine, and the engine's invariant holds afterwards.
-use Rattle.std.proofs.Common.{◌≡◌, ◌≢◌, ℕ, zero, suc, pred, ◌+◌, ◌<◌, ◌≤◌, true, false, List, [], ◌∷◌, map, drop, length, Option, Some, None, refl, ap, sym, ◌∙◌, subst, arith, inl, inr}
+use Rattle.std.proofs.Common.{◌≡◌, ◌≢◌, ℕ, zero, suc, pred, ◌+◌, ◌<◌, ◌≤◌, true, false, List, [], ◌∷◌, ◌++◌, ◌||◌, map, length, Option, Some, None, refl, ap, sym, ◌∙◌, subst, arith, inl, inr}
 use Rattle.std.specs.Prelude.{nat_lt, if◌then◌else◌, slice_set}
 use Rattle.std.specs.List.{cons_option, filter_map, AllByRecursion}
 use Rattle.std.specs.Option.{option_map}
@@ -9,64 +9,67 @@ use Rattle.std.proofs.Math.ListN.{get_or-eq_default}
 use Rattle.gp_base.specs.declared.cell.Cell.{Cell}
 use Rattle.gp_base.specs.declared.stored.Stored.{Stored}
 use Rattle.gp_base.specs.Annotated.{plain}
-use Rattle.gp_base.specs.Identities.{Identity, transaction_of}
+use Rattle.gp_base.specs.Identities.{Identity, same_identity, transaction_of}
 use Rattle.gp_versions.specs.declared.span.Span.{Span}
 use Rattle.gp_versions.specs.declared.span.Write.{Write}
 use Rattle.gp_versions.specs.Commits.{AreBelow, after_commit, begun, ended}
-use Rattle.gp_versions.specs.Spans.{Versions, holds_at, row_of, rows_at, spans_at}
+use Rattle.gp_versions.specs.Spans.{Versions}
+use Rattle.gp_versions.proofs.SameLemmas.{same-exact}
 use Rattle.gp_versions.proofs.SpanLemmas.{ended_id}
 use Rattle.gp_txn.specs.declared.counting.TheConstants.{MAX_SPANS}
-use Rattle.gp_txn.specs.declared.overlay.Slot.{Slot}
-use Rattle.gp_txn.specs.declared.overlay.Slot.TheVariants.{Same, Put, Dropped}
+use Rattle.gp_txn.specs.declared.carried.Carried.{Carried}
 use Rattle.gp_txn.specs.declared.overlay.TableWrites.{TableWrites}
 use Rattle.gp_txn.specs.Committing as txn
 use Rattle.gp_txn.specs.Committing.{commit_of, spans_left}
 use Rattle.gp_txn.specs.Counts.{count_rows, count_spans}
-use Rattle.gp_txn.specs.Overlay.{HoldsOwn, base_writes, database_at, head_slot, no_table, own_write, slot_write, table_at, view_of, view_rows, writes_at}
-use Rattle.gp_txn.proofs.AfterLemmas.{commit-count, commit-names, commit-none, commit-rows, others-after}
-use Rattle.gp_txn.proofs.CommitLemmas.{inserted-own}
+use Rattle.gp_txn.specs.Bases.{table_view}
+use Rattle.gp_txn.specs.Overlay.{carried_write, own_write, rows_below, slot_writes}
+use Rattle.gp_txn.specs.Transactions.{AreThere, HoldsOwn, HoldsThere, has_span, no_table, table_at, view_at, writes_at}
+use Rattle.gp_txn.proofs.AfterLemmas.{commit-bases, commit-count, commit-none, commit-rows, others-after, there-after}
+use Rattle.gp_txn.proofs.CommitLemmas.{inserted-own, slots-all}
 use Rattle.gp_txn.proofs.CountLemmas.{count-after}
-use Rattle.gp_txn.proofs.PairLemmas.{all-append, all-filter, all-map, all-weaker}
+use Rattle.gp_txn.proofs.PairLemmas.{all-append, all-map, all-weaker}
 use Rattle.gp_machine.specs.Entries.{Entry, Committed, transactions_in, versions_in}
 use Rattle.gp_machine.specs.EngineLine.{marked_rows, rows_after}
 use Rattle.gp_machine.specs.Represents as machine
 use Rattle.gp_machine.specs.Represents.{AreWritesOf}
 use Rattle.gp_engine.specs.declared.running.Running.{Running}
 use Rattle.gp_engine.specs.Engine.{Engine, IsSession, IsSound, kept_of, overlay_of, session_at, spans_of, tables_of}
+use Rattle.gp_engine.proofs.OverlayLemmas.{snapshot_later}
 use Rattle.gp_engine.proofs.SessionLemmas.{count-cleared}
 
 -- ---- what a commit writes to each table
 
 -- the transaction reads no rows of tables that are not there
 abbrev pub ReadsNothingBeyond : Engine → Running → Type 0
-ReadsNothingBeyond engine running = (place : ℕ) → length engine.versions ≤ place → view_of running.active engine.versions place ≡ []
+ReadsNothingBeyond engine running = (place : ℕ) → length engine.versions ≤ place → view_at running.active.tables engine.versions running.active.begin place ≡ []
 
 -- the row versions of the tables are those after its commit
 abbrev pub HasCommitted : Engine → Running → List Versions → ℕ → Type 0
 HasCommitted engine running new version =
     (place : ℕ) → place < length engine.versions
-    → (table_at place new).spans ≡ after_commit version (commit_of running.active.tables engine.versions running.active.begin place) (table_at place engine.versions).spans
+    → (table_at place new).spans ≡ after_commit version (commit_of running.active.tables engine.versions place) (table_at place engine.versions).spans
 
 -- what a transaction commits to a table, and nothing beyond the last one
 abbrev pub published : Engine → Running → ℕ → List Write
 published engine running place =
-    if nat_lt place (length engine.versions) then commit_of running.active.tables engine.versions running.active.begin place else []
+    if nat_lt place (length engine.versions) then commit_of running.active.tables engine.versions place else []
 
 module _ (engine : Engine) (running : Running) where
   -- also where there is no table
-  published-is : ReadsNothingBeyond engine running → (place : ℕ) → published engine running place ≡ commit_of running.active.tables engine.versions running.active.begin place
-  published-is nothing place =
+  published-is : HoldsThere running.active.tables engine.versions → ReadsNothingBeyond engine running → (place : ℕ) → published engine running place ≡ commit_of running.active.tables engine.versions place
+  published-is there nothing place =
       elim (cases_lt place (length engine.versions)) [
         | inl low ↦ rw (lt-ltb place (length engine.versions) low) refl
-        | inr high ↦ rw (le-ltb place (length engine.versions) high) (sym (commit-none running.active engine.versions place high (nothing place high)))
+        | inr high ↦ rw (le-ltb place (length engine.versions) high) (sym (commit-none running.active engine.versions place running.active.begin high there (nothing place high)))
       ]
 
   -- these are the writes that the history machine asks for
-  pub writes_of : HoldsOwn running.active → ReadsNothingBeyond engine running → (place : ℕ)
+  pub writes_of : HoldsOwn running.active → HoldsThere running.active.tables engine.versions → ReadsNothingBeyond engine running → (place : ℕ)
       → AreWritesOf (spans_of engine.versions) (overlay_of running) place (published engine running place)
-  writes_of own nothing place =
-      subst (AreWritesOf (spans_of engine.versions) (overlay_of running) place) (sym (published-is nothing place)) (record {
-        names = commit-names running.active engine.versions own place;
+  writes_of own there nothing place =
+      subst (AreWritesOf (spans_of engine.versions) (overlay_of running) place) (sym (published-is there nothing place)) (record {
+        names = commit-bases running.active engine.versions own place;
         rows = commit-rows running.active engine.versions place;
       })
 
@@ -90,30 +93,30 @@ spans_published engine running new version same spans place =
 module _ (engine : Engine) (running : Running) where
   -- the writes leave the marked rows of what the transaction reads
   pub rows_published : (count : ℕ)
-      → count_rows (commit_of running.active.tables engine.versions running.active.begin) count
+      → count_rows (commit_of running.active.tables engine.versions) count
       ≡ marked_rows (machine.view_of (spans_of engine.versions) (overlay_of running)) count
   rows_published count =
       commit-count running.active engine.versions (marked_rows (machine.view_of (spans_of engine.versions) (overlay_of running))) refl (λ place. refl) count
 
   module _ (tables : length engine.versions ≡ length (tables_of engine)) where
-    pub left_published : spans_left running.active engine.versions ≡ rows_after (kept_of engine) (overlay_of running)
+    pub left_published : spans_left running.active.tables engine.versions ≡ rows_after (kept_of engine) (overlay_of running)
     left_published =
         ap (λ n. count_spans engine.versions (length engine.versions) + n) (rows_published (length engine.versions))
         ∙ ap (λ n. count_spans engine.versions n + marked_rows (machine.view_of (spans_of engine.versions) (overlay_of running)) n) tables
 
     -- too many
-    pub is_full : MAX_SPANS < spans_left running.active engine.versions → nat_lt MAX_SPANS (rows_after (kept_of engine) (overlay_of running)) ≡ true
+    pub is_full : MAX_SPANS < spans_left running.active.tables engine.versions → nat_lt MAX_SPANS (rows_after (kept_of engine) (overlay_of running)) ≡ true
     is_full many = lt-ltb MAX_SPANS (rows_after (kept_of engine) (overlay_of running)) (subst (λ n. MAX_SPANS < n) left_published many)
 
     -- not too many
-    pub has_room : spans_left running.active engine.versions ≤ MAX_SPANS → nat_lt MAX_SPANS (rows_after (kept_of engine) (overlay_of running)) ≡ false
+    pub has_room : spans_left running.active.tables engine.versions ≤ MAX_SPANS → nat_lt MAX_SPANS (rows_after (kept_of engine) (overlay_of running)) ≡ false
     has_room few = le-ltb MAX_SPANS (rows_after (kept_of engine) (overlay_of running)) (subst (λ n. n ≤ MAX_SPANS) left_published few)
 
     -- the number of spans afterwards
     pub count_published : (new : List Versions) (version : ℕ) → HasCommitted engine running new version → count_spans new (length (tables_of engine)) ≡ rows_after (kept_of engine) (overlay_of running)
     count_published new version spans =
         subst (λ n. count_spans new n ≡ rows_after (kept_of engine) (overlay_of running)) tables
-        (count-after version (commit_of running.active.tables engine.versions running.active.begin) engine.versions new (length engine.versions) spans ∙ left_published)
+        (count-after version (commit_of running.active.tables engine.versions) engine.versions new (length engine.versions) spans ∙ left_published)
 
 -- ---- whose rows they are
 
@@ -138,25 +141,25 @@ module _ (P : Identity → Type 0) where
       all-append (λ (span : Span). P span.id) (map (ended version writes) spans) (filter_map (begun version) writes)
       (ids_ended version writes spans held) (ids_begun version writes wrote)
 
-  ids_slot : (slot : Slot) (span : Span) (rest : List Write) → P span.id → AllByRecursion (λ (write : Write). P write.id) rest → AllByRecursion (λ (write : Write). P write.id) (cons_option (slot_write slot (row_of plain span)) rest)
-  ids_slot Same span rest is all = all
-  ids_slot (Put cells) span rest is all = (is, all)
-  ids_slot Dropped span rest is all = (is, all)
-
-  ids_base : (slots : List Slot) (spans : List Span) → AllByRecursion (λ (span : Span). P span.id) spans → AllByRecursion (λ (write : Write). P write.id) (base_writes slots (map (row_of plain) spans))
-  ids_base slots [] all = tt
-  ids_base slots (span ∷ spans) all = ids_slot (head_slot slots) span (base_writes (drop 1 slots) (map (row_of plain) spans)) all.0 (ids_base (drop 1 slots) spans all.1)
+  id_there : (spans : List Span) (id : Identity) → AllByRecursion (λ (span : Span). P span.id) spans → has_span spans id ≡ true → P id
+  id_there [] id all is = absurd cc
+  id_there (span ∷ spans) id all is =
+      elim (same_identity span.id id) as (λ b. same_identity span.id id ≡ b → (b || has_span spans id) ≡ true → P id) [
+        | true ↦ λ same is. subst P (same-exact span.id id same) all.0
+        | false ↦ λ other is. id_there spans id all.1 is
+      ] refl is
 
   -- a commit writes rows of the table, and rows that the transaction inserted
-  pub ids_written : (tables : List TableWrites) (versions : List Versions) (begin place : ℕ) → AllByRecursion (λ (span : Span). P span.id) (table_at place versions).spans
-      → AllByRecursion (λ (stored : Stored). P stored.id) (writes_at place tables).own
-      → AllByRecursion (λ (write : Write). P write.id) (commit_of tables versions begin place)
-  ids_written tables versions begin place held own =
+  pub ids_written : (tables : List TableWrites) (versions : List Versions) (place : ℕ) → AllByRecursion (λ (span : Span). P span.id) (table_at place versions).spans
+      → AreThere (table_at place versions).spans (writes_at place tables).carried → AllByRecursion (λ (stored : Stored). P stored.id) (writes_at place tables).own
+      → AllByRecursion (λ (write : Write). P write.id) (commit_of tables versions place)
+  ids_written tables versions place held there own =
       let table = writes_at place tables in
       let spans = (table_at place versions).spans in
-      all-append (λ (write : Write). P write.id) (base_writes table.slots (database_at begin versions place)) (map own_write table.own)
-      (ids_base table.slots (spans_at begin spans) (all-filter (λ (span : Span). P span.id) (holds_at begin) spans held))
-      (all-map own_write (λ (stored : Stored). P stored.id) (λ (write : Write). P write.id) (λ stored is. is) table.own own)
+      all-append (λ (write : Write). P write.id) (slot_writes table (rows_below table spans)) (map carried_write table.carried ++ map own_write table.own) (slots-all P table spans held)
+      (all-append (λ (write : Write). P write.id) (map carried_write table.carried) (map own_write table.own)
+      (all-map carried_write (λ (row : Carried). has_span spans row.id ≡ true) (λ (write : Write). P write.id) (λ row is. id_there spans row.id held is) table.carried there)
+      (all-map own_write (λ (stored : Stored). P stored.id) (λ (write : Write). P write.id) (λ stored is. is) table.own own))
 
 -- ---- the sessions afterwards
 
@@ -190,23 +193,24 @@ module _ (entries : List Entry) (held : List Versions) (sessions : List (Option 
   made-own : (table : ℕ) → AllByRecursion (λ (stored : Stored). IsMade stored.id) (writes_at table running.active.tables).own
   made-own table =
       all-weaker (λ (stored : Stored). transaction_of stored.id ≡ running.active.t) (λ (stored : Stored). IsMade stored.id) (λ stored is. omega (arith, is, mine.began))
-      (writes_at table running.active.tables).own (inserted-own running.active.t running.active.last (writes_at table running.active.tables).own (holds table)).0
+      (writes_at table running.active.tables).own (inserted-own running.active.t running.active.last (writes_at table running.active.tables).own (holds table).own).0
 
   made : (table : ℕ) → AllByRecursion (λ (span : Span). IsMade span.id) (spans_of versions table)
   made table =
       elim (cases_lt table (length held)) [
         | inl low ↦
             subst (AllByRecursion (λ (span : Span). IsMade span.id)) (sym (commits.spans table low))
-            (ids_after IsMade (suc (versions_in entries)) (commit_of running.active.tables held running.active.begin table) (spans_of held table) (kept.makers table)
-            (ids_written IsMade running.active.tables held running.active.begin table (kept.makers table) (made-own table)))
+            (ids_after IsMade (suc (versions_in entries)) (commit_of running.active.tables held table) (spans_of held table) (kept.makers table)
+            (ids_written IsMade running.active.tables held table (kept.makers table) (mine.there table) (made-own table)))
         | inr high ↦ subst (AllByRecursion (λ (span : Span). IsMade span.id)) (sym (no-spans versions table (subst (λ n. n ≤ table) (sym same) high))) tt
       ]
 
   -- the others still read no rows of tables that are not there
-  nothing-beyond : (other : Running) → ((table : ℕ) → length held ≤ table → view_of other.active held table ≡ []) → (table : ℕ) → length versions ≤ table → view_of other.active versions table ≡ []
+  nothing-beyond : (other : Running) → ((table : ℕ) → length held ≤ table → view_at other.active.tables held other.active.begin table ≡ []) → (table : ℕ) → length versions ≤ table
+      → view_at other.active.tables versions other.active.begin table ≡ []
   nothing-beyond other nothing table high =
       let high-before : length held ≤ table = subst (λ n. n ≤ table) same high in
-      subst (λ spans. view_rows (writes_at table other.active.tables) (rows_at plain other.active.begin spans) ≡ []) (no-spans held table high-before ∙ sym (no-spans versions table high))
+      subst (λ spans. table_view (writes_at table other.active.tables) spans other.active.begin ≡ []) (no-spans held table high-before ∙ sym (no-spans versions table high))
       (nothing table high-before)
 
   others-stay : (session : ℕ) (other : Running) → session_at session (slice_set sessions place None) ≡ Some other → IsSession later versions other
@@ -220,8 +224,10 @@ module _ (entries : List Entry) (held : List Versions) (sessions : List (Option 
         last = was.last;
         count = was.count;
         others =
-            others-after other.active.t (suc (versions_in entries)) running.active held versions same holds commits
+            others-after other.active.t (suc (versions_in entries)) running.active held versions same holds mine.there commits
             (λ equal. left.0 (kept.apart session (suc place) other running left.1 at equal)) was.others;
+        below = λ table. let before = was.below table in let later = snapshot_later other.active (versions_in entries) (suc (versions_in entries)) (omega arith) in omega (arith, before, later);
+        there = there-after other.active.tables (suc (versions_in entries)) running.active held versions same commits was.there;
         beyond = nothing-beyond other was.beyond;
       }
 

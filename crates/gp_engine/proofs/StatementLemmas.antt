@@ -8,10 +8,10 @@ use Rattle.gp_base.specs.declared.refusal.Refusal.{Refusal}
 use Rattle.gp_algebra.specs.Statements.{Statement, insert, insert_select, update, delete, read}
 use Rattle.gp_check.specs.Checking.{checked}
 use Rattle.gp_grammar.specs.Syntax.{Command}
-use Rattle.gp_txn.specs.Overlay.{view_of}
+use Rattle.gp_txn.specs.Transactions.{snapshot_of, view_at}
 use Rattle.gp_versions.specs.Spans.{Versions}
 use Rattle.gp_machine.specs.declared.reply.Reply.{Reply}
-use Rattle.gp_machine.specs.Entries.{Ran, statement_count}
+use Rattle.gp_machine.specs.Entries.{Ran, statement_count, versions_in}
 use Rattle.gp_machine.specs.Event.{count_refusal, reply_of}
 use Rattle.gp_machine.specs.Replies.{is_refusal}
 use Rattle.gp_log.specs.declared.limit.TheConstants.{MAX_STATEMENTS, MAX_STEPS}
@@ -19,7 +19,7 @@ use Rattle.gp_log.specs.Limits.{limits}
 use Rattle.gp_log.specs.LogFacts.{tables_in}
 use Rattle.gp_log.specs.Logs.{log_view}
 use Rattle.gp_log.specs.declared.entry.Entry.{Entry}
-use Rattle.gp_engine.specs.Engine.{Engine, IsEngine, entries_of, spans_of, statements_of, tables_of}
+use Rattle.gp_engine.specs.Engine.{Engine, IsEngine, entries_of, newest_of, spans_of, statements_of, tables_of}
 use Rattle.gp_engine.specs.Methods.{Appends, Applies, AppliesAt, HasRun, Runs, RunsAs, RunsChecked, meaning_of, refusal_at, refusal_in}
 use Rattle.gp_engine.specs.declared.running.Running.{Running}
 
@@ -50,7 +50,7 @@ module _ (old new : Engine) (answer : Reply) (line place : ℕ) (running : Runni
       → RunsChecked old new answer line place running command statement (refusal_at old new answer line place running command statement)
   applied-refused statement at applied refuses = by (refusal_at old new answer line place running command statement) applied.applies
     where
-      by : (refusal : Option Refusal) → Applies (tables_of old) old.versions running applied.after answer statement refusal
+      by : (refusal : Option Refusal) → Applies (tables_of old) old.versions (newest_of old) running applied.after answer statement refusal
           → RunsChecked old new answer line place running command statement refusal
       by (Some refusal) declines = (
         record {
@@ -66,14 +66,14 @@ module _ (old new : Engine) (answer : Reply) (line place : ℕ) (running : Runni
         declines.1,
       )
       by None accepts =
-          absurd (false≢true (sym (accepted-reply running.active.t (suc running.statements) statement (view_of running.active old.versions)) ∙ sym (ap is_refusal accepts.says) ∙ refuses))
+          absurd (false≢true (sym (accepted-reply running.active.t (suc running.statements) statement (view_at running.active.tables old.versions (snapshot_of running.active (newest_of old)))) ∙ sym (ap is_refusal accepts.says) ∙ refuses))
 
 -- before it is applied, only the room of the log may have changed
 pub applied-after : (old middle new : Engine) (answer : Reply) (place : ℕ) (running : Running) (statement : Statement) → middle.log.entries ≡ old.log.entries → middle.versions ≡ old.versions
     → middle.sessions ≡ old.sessions → AppliesAt middle new answer place running statement → AppliesAt old new answer place running statement
 applied-after old middle new answer place running statement entries versions sessions applied = record {
   after = applied.after;
-  applies = subst (λ (x : List Entry × List Versions). Applies (tables_in (log_view x.0)) x.1 running applied.after answer statement (refusal_in (tables_in (log_view x.0)) x.1 running applied.after answer statement))
+  applies = subst (λ (x : List Entry × List Versions). Applies (tables_in (log_view x.0)) x.1 (versions_in (log_view x.0)) running applied.after answer statement (refusal_in (tables_in (log_view x.0)) x.1 (versions_in (log_view x.0)) running applied.after answer statement))
       (λ i. (entries i, versions i)) applied.applies;
   entries = applied.entries ∙ entries;
   versions = applied.versions ∙ versions;
@@ -83,12 +83,12 @@ applied-after old middle new answer place running statement entries versions ses
 -- one that is accepted is not in the log yet
 ran-one : (old middle : Engine) (answer : Reply) (place : ℕ) (running : Running) (statement : Statement) → place < length old.sessions
     → running.statements ≡ statement_count running.active.t (entries_of old) → AppliesAt old middle answer place running statement → is_refusal answer ≡ false → HasRun middle place
-ran-one old middle answer place running statement within count applied accepted = by (refusal_in (tables_of old) old.versions running after answer statement) applied.applies
+ran-one old middle answer place running statement within count applied accepted = by (refusal_in (tables_of old) old.versions (newest_of old) running after answer statement) applied.applies
   where
     after : Running
     after = applied.after
 
-    by : (refusal : Option Refusal) → Applies (tables_of old) old.versions running after answer statement refusal → HasRun middle place
+    by : (refusal : Option Refusal) → Applies (tables_of old) old.versions (newest_of old) running after answer statement refusal → HasRun middle place
     by (Some refusal) declines = absurd (false≢true (sym accepted ∙ ap is_refusal declines.1))
     by None accepts = record {
       running = after;
@@ -118,7 +118,7 @@ applied-recorded old middle new answer line place running command statement with
     appended : Appends middle new (Ran line (suc place) command after.active.t statement)
     appended = appends after (ap (λ sessions. get_or sessions place None) applied.sessions ∙ get_or-set_same old.sessions place (Some after) None within)
 
-    by : (refusal : Option Refusal) → Applies (tables_of old) old.versions running after answer statement refusal → RunsChecked old new answer line place running command statement refusal
+    by : (refusal : Option Refusal) → Applies (tables_of old) old.versions (newest_of old) running after answer statement refusal → RunsChecked old new answer line place running command statement refusal
     by (Some refusal) declines = absurd (false≢true (sym accepted ∙ ap is_refusal declines.1))
     by None accepts = record {
       after = after;

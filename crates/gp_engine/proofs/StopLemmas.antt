@@ -5,8 +5,9 @@ use Rattle.gp_versions.specs.Commits.{AreBelow}
 use Rattle.gp_versions.specs.Spans.{Versions}
 use Rattle.gp_txn.specs.declared.error.CommitStop.{CommitStop}
 use Rattle.gp_txn.specs.declared.error.CommitStop.TheVariants as variant
-use Rattle.gp_txn.specs.Committing.{HasCause, lates_of, spans_left}
-use Rattle.gp_txn.specs.Overlay.{table_at}
+use Rattle.gp_txn.specs.Committing.{HasCause, spans_left}
+use Rattle.gp_txn.specs.Conflicts.{lates_at}
+use Rattle.gp_txn.specs.Transactions.{HoldsOwn, table_at}
 use Rattle.gp_base.specs.declared.refusal.Refusal.TheVariants.{E11}
 use Rattle.gp_machine.specs.declared.reply.Reply.{Reply}
 use Rattle.gp_machine.specs.declared.reply.Reply.TheVariants as reply
@@ -28,7 +29,7 @@ err-map P Q (Ok a) f p = p
 err-map P Q (Err e) f p = f e p
 
 pub cause-below : (running : Running) (versions : List Versions) (version : ℕ) → ((table : ℕ) → AreBelow version (table_at table versions).spans)
-    → (stop : CommitStop) → HasCause stop (length versions) (lates_of running.active versions) (spans_left running.active versions) → IsConflictBelow version (length versions) stop
+    → (stop : CommitStop) → HasCause stop (length versions) (lates_at running.active.tables versions) (spans_left running.active.tables versions) → IsConflictBelow version (length versions) stop
 cause-below running versions version above (variant.Conflict late table id) cause =
     let bounds = late_bounds versions running (record { place = table; late = record { id = id; version = late } }) version above cause in
     (bounds.1.0, (bounds.1.1, bounds.0))
@@ -46,10 +47,10 @@ unchanged-twice old kept new first second = record {
 
 -- a commit that was stopped: what it was stopped by, given the engine before it, and the one that was left, which has the same rows
 pub stopped : (old kept new : Engine) (answer : Reply) (line place : ℕ) (running : Running) (stop : CommitStop)
-    → IsUnchanged old kept → HasCause stop (length old.versions) (lates_of running.active old.versions) (spans_left running.active old.versions)
+    → HoldsOwn running.active → IsUnchanged old kept → HasCause stop (length old.versions) (lates_at running.active.tables old.versions) (spans_left running.active.tables old.versions)
     → Stops kept new answer line place running.active.t stop → Commits old new answer line place running
-stopped old kept new answer line place running (variant.Conflict version table id) same cause stops =
-    loses (record { place = table; late = record { id = id; version = version } }) kept cause same stops.0
+stopped old kept new answer line place running (variant.Conflict version table id) own same cause stops =
+    loses (record { place = table; late = record { id = id; version = version } }) kept own cause same stops.0
     (stops.1 ∙ (λ i. reply.Refused (E11 running.active.t (committer_of version (log_view (same.entries i))) (name_at table (tables_in (log_view (same.entries i)))) id)))
-stopped old kept new answer line place running variant.Full same cause stops = overflows cause.0 cause.1 (unchanged-twice old kept new same stops.0) stops.1
-stopped old kept new answer line place running variant.NoMemory same cause stops = absurd stops
+stopped old kept new answer line place running variant.Full own same cause stops = overflows own cause.0 cause.1 (unchanged-twice old kept new same stops.0) stops.1
+stopped old kept new answer line place running variant.NoMemory own same cause stops = absurd stops

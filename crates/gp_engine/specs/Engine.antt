@@ -12,7 +12,9 @@ use Rattle.gp_check.specs.Valid.{tables_are_valid}
 use Rattle.gp_versions.specs.declared.span.Span.{Span}
 use Rattle.gp_versions.specs.Spans.{Versions}
 use Rattle.gp_versions.specs.Commits.{AreBelow}
-use Rattle.gp_txn.specs.Overlay.{HoldsOthers, table_at, view_of, view_over, names}
+use Rattle.gp_txn.specs.Bases.{base_of}
+use Rattle.gp_txn.specs.Overlay.{view_rows}
+use Rattle.gp_txn.specs.Transactions.{HoldsOthers, HoldsThere, snapshot_of, table_at, view_at, writes_at}
 use Rattle.gp_txn.specs.Counts.{count_spans}
 use Rattle.gp_machine.specs.declared.reply.Reply.{Reply}
 use Rattle.gp_machine.specs.Entries.{Entry, statement_count, statements_in, transactions_in, versions_in}
@@ -72,10 +74,12 @@ count_running (Some running ∷ sessions) = suc (count_running sessions)
 abbrev pub overlay_of : Running → Overlay
 overlay_of running = record {
   transaction = running.active.t;
+  read_committed = running.active.read_committed;
   begin = running.active.begin;
+  version = λ place. (writes_at place running.active.tables).version;
   statements = running.statements;
-  shown = view_over running.active;
-  names = names running.active;
+  shown = λ rows place. view_rows (writes_at place running.active.tables) (rows place);
+  base = λ rows place id. base_of (writes_at place running.active.tables) (rows place) id;
 }
 
 abbrev pub spans_of : List Versions → ℕ → List Span
@@ -126,8 +130,12 @@ pub record IsSession (entries : List Entry) (versions : List Versions) (running 
   pub last : running.active.last ≤ running.statements
   pub count : running.statements ≡ statement_count running.active.t entries
   pub others : HoldsOthers running.active.t versions
+  -- its writes lie over versions that its next statement does not go behind
+  pub below : (place : ℕ) → (writes_at place running.active.tables).version ≤ snapshot_of running.active (versions_in entries)
+  -- the rows that it wrote over earlier versions are rows of the tables
+  pub there : HoldsThere running.active.tables versions
   -- it reads no rows of tables that are not there
-  pub beyond : (place : ℕ) → length versions ≤ place → view_of running.active versions place ≡ []
+  pub beyond : (place : ℕ) → length versions ≤ place → view_at running.active.tables versions running.active.begin place ≡ []
 
 -- of the entries, the row versions of the tables, and the transactions of the sessions
 pub record IsSound (entries : List Entry) (versions : List Versions) (sessions : List (Option Running)) : Type 0 where

@@ -1,10 +1,10 @@
 -- Machinery: what each method of the engine does to what it keeps.
-use Rattle.std.specs.Prelude.{◌≡◌, ◌≢◌, ◌⊎◌, ℕ, suc, ◌<◌, ◌≤◌, ◌-◌, Bool, true, false, ◌||◌, ◌^◌, List, [], ◌∷◌, ◌++◌, length, slice_index_or, slice_set, nat_le, Option, Some, None, Result, Ok, Err}
+use Rattle.std.specs.Prelude.{◌≡◌, ◌≢◌, ◌⊎◌, ℕ, suc, ◌<◌, ◌≤◌, ◌-◌, Bool, true, false, ◌^◌, List, [], ◌∷◌, ◌++◌, length, slice_index_or, slice_set, nat_le, Option, Some, None, Result, Ok, Err}
 use Rattle.gp_base.specs.declared.limit.Limit.TheVariants as limit
 use Rattle.gp_base.specs.declared.refusal.Refusal.{Refusal}
 use Rattle.gp_base.specs.declared.refusal.Refusal.TheVariants.{E09, E10, E11, E14}
 use Rattle.gp_base.specs.declared.table.Table.{Table}
-use Rattle.gp_base.specs.Annotated.{plain}
+use Rattle.gp_base.specs.Annotated.{Database, plain}
 use Rattle.gp_base.specs.Identities.{Identity, transaction_of}
 use Rattle.gp_algebra.specs.Effects.{step, wrote}
 use Rattle.gp_algebra.specs.Statements as s
@@ -15,9 +15,10 @@ use Rattle.gp_txn.specs.declared.error.CommitStop.TheVariants as stop
 use Rattle.gp_txn.specs.declared.conflict.Conflict.{Conflict}
 use Rattle.gp_txn.specs.declared.counting.TheConstants.{MAX_SPANS}
 use Rattle.gp_txn.specs.Committing as txn
-use Rattle.gp_txn.specs.Committing.{lates_of, spans_left}
-use Rattle.gp_txn.specs.Conflicts.{IsFirstConflict}
-use Rattle.gp_txn.specs.Overlay.{Writes, HoldsOwn, view_of, writes_at, no_writes, database_at, names, has_written}
+use Rattle.gp_txn.specs.Bases.{base_after}
+use Rattle.gp_txn.specs.Committing.{spans_left}
+use Rattle.gp_txn.specs.Conflicts.{IsFirstConflict, lates_at}
+use Rattle.gp_txn.specs.Transactions.{Writes, HoldsOwn, HoldsThere, IsUnwritten, base_at, has_written, snapshot_of, view_at, writes_at}
 use Rattle.gp_machine.specs.declared.reply.Reply.{Reply}
 use Rattle.gp_machine.specs.declared.reply.Reply.TheVariants as reply
 use Rattle.gp_machine.specs.Actions.{Action, Create, Begin, Commit, Rollback, Run}
@@ -39,7 +40,15 @@ abbrev pub is_read : Statement → Bool
 is_read (s.read select) = true
 is_read _ = false
 
-module _ (tables : List Table) (versions : List Versions) (old new : Running) (answer : Reply) where
+module _ (tables : List Table) (versions : List Versions) (newest : ℕ) (old new : Running) (answer : Reply) where
+  -- the version that it reads, where this is the newest one
+  abbrev pub now : ℕ
+  now = snapshot_of old.active newest
+
+  -- what the transaction reads there
+  abbrev pub start : Database (Unit {0})
+  start = view_at old.active.tables versions now
+
   -- nothing changes
   abbrev pub Declines : Refusal → Type 0
   Declines refusal = (new ≡ old) × (answer ≡ reply.Refused refusal)
@@ -47,16 +56,19 @@ module _ (tables : List Table) (versions : List Versions) (old new : Running) (a
   -- a statement that passes no limit
   pub record Accepts (statement : Statement) : Type 0 where
     pub t : new.active.t ≡ old.active.t
+    pub read_committed : new.active.read_committed ≡ old.active.read_committed
     pub begin : new.active.begin ≡ old.active.begin
     pub last : new.active.last ≤ suc old.statements
     pub there : (is_read statement ≡ true) ⊎ (target_of statement < length versions)
     pub statements : new.statements ≡ suc old.statements
-    pub view : (table : ℕ) → view_of new.active versions table ≡ step plain old.active.t (suc old.statements) statement (view_of old.active versions) table
-    pub written : (table : ℕ) (id : Identity) → transaction_of id ≢ old.active.t
-        → names new.active (database_at old.active.begin versions) table id
-        ≡ (names old.active (database_at old.active.begin versions) table id
-        || has_written (wrote plain old.active.t (suc old.statements) statement (view_of old.active versions)) table id)
-    pub says : answer ≡ reply_of plain old.active.t (suc old.statements) statement (view_of old.active versions)
+    pub view : (table : ℕ) → view_at new.active.tables versions now table ≡ step plain old.active.t (suc old.statements) statement start table
+    pub base : (table : ℕ) (id : Identity) → transaction_of id ≢ old.active.t
+        → base_at new.active.tables versions table id
+        ≡ base_after now (has_written (wrote plain old.active.t (suc old.statements) statement start) table id) (base_at old.active.tables versions table id)
+    pub below : (table : ℕ)
+        → ((writes_at table new.active.tables).version ≡ (writes_at table old.active.tables).version) ⊎ ((writes_at table new.active.tables).version ≡ now)
+    pub holds : HoldsThere old.active.tables versions → HoldsThere new.active.tables versions
+    pub says : answer ≡ reply_of plain old.active.t (suc old.statements) statement start
 
   -- a statement that was checked, by its refusal
   abbrev pub Applies : Statement → Option Refusal → Type 0
@@ -65,7 +77,7 @@ module _ (tables : List Table) (versions : List Versions) (old new : Running) (a
 
   -- what refuses it
   abbrev pub refusal_in : Statement → Option Refusal
-  refusal_in statement = refusal_of plain limits tables old.active.t (suc old.statements) statement (view_of old.active versions)
+  refusal_in statement = refusal_of plain limits tables old.active.t (suc old.statements) statement start
 
 -- ---- the engine
 
@@ -123,19 +135,20 @@ module _ (old new : Engine) (answer : Reply) where
   Creates line session table None = Adds line session table
 
   -- BEGIN, by whether there are too many transactions
-  pub record Starts (line place : ℕ) : Type 0 where
+  pub record Starts (line place : ℕ) (read_committed : Bool) : Type 0 where
     pub active : Writes
     pub t : active.t ≡ suc (transactions_of old)
+    pub kind : active.read_committed ≡ read_committed
     pub begin : active.begin ≡ newest_of old
     pub last : active.last ≡ 0
-    pub tables : (table : ℕ) → writes_at table active.tables ≡ no_writes
-    pub keeps : Keeps new (Began line (suc place) (suc (transactions_of old)) ∷ entries_of old) old.versions
+    pub tables : (table : ℕ) → IsUnwritten (newest_of old) (writes_at table active.tables)
+    pub keeps : Keeps new (Began line (suc place) (suc (transactions_of old)) read_committed ∷ entries_of old) old.versions
         (slice_set old.sessions place (Some (record { active = active; statements = 0 })))
     pub says : answer ≡ reply.Began (suc (transactions_of old)) (newest_of old)
 
-  abbrev pub Begins : ℕ → ℕ → Bool → Type 0
-  Begins line place true = Refuses (E14 limit.Transactions)
-  Begins line place false = Starts line place
+  abbrev pub Begins : ℕ → ℕ → Bool → Bool → Type 0
+  Begins line place read_committed true = Refuses (E14 limit.Transactions)
+  Begins line place read_committed false = Starts line place read_committed
 
   -- a commit that was stopped
   abbrev pub Stops : ℕ → ℕ → ℕ → CommitStop → Type 0
@@ -148,7 +161,8 @@ module _ (old new : Engine) (answer : Reply) where
   -- a statement that was checked, which is not in the log yet
   pub record AppliesAt (place : ℕ) (running : Running) (statement : Statement) : Type 0 where
     pub after : Running
-    pub applies : Applies (tables_of old) old.versions running after answer statement (refusal_in (tables_of old) old.versions running after answer statement)
+    pub applies : Applies (tables_of old) old.versions (newest_of old) running after answer statement
+        (refusal_in (tables_of old) old.versions (newest_of old) running after answer statement)
     pub entries : new.log.entries ≡ old.log.entries
     pub versions : new.versions ≡ old.versions
     pub sessions : new.sessions ≡ slice_set old.sessions place (Some after)
@@ -156,7 +170,7 @@ module _ (old new : Engine) (answer : Reply) where
   -- a statement that passes no limit
   pub record Records (line place : ℕ) (running : Running) (command : Command) (statement : Statement) : Type 0 where
     pub after : Running
-    pub accepts : Accepts (tables_of old) old.versions running after answer statement
+    pub accepts : Accepts (tables_of old) old.versions (newest_of old) running after answer statement
     pub keeps : Keeps new (Ran line (suc place) command running.active.t statement ∷ entries_of old) old.versions (slice_set old.sessions place (Some after))
 
   module _ (line place : ℕ) (running : Running) (command : Command) where
@@ -167,7 +181,9 @@ module _ (old new : Engine) (answer : Reply) where
 
     -- what refuses it
     abbrev pub refusal_at : Statement → Option Refusal
-    refusal_at statement = refusal_of plain limits (tables_of old) running.active.t (suc running.statements) statement (view_of running.active old.versions)
+    refusal_at statement =
+        refusal_of plain limits (tables_of old) running.active.t (suc running.statements) statement
+        (view_at running.active.tables old.versions (snapshot_of running.active (newest_of old)))
 
     abbrev pub RunsAs : Result Statement Refusal → Type 0
     RunsAs (Err refusal) = Refuses refusal
@@ -179,12 +195,12 @@ module _ (old new : Engine) (answer : Reply) where
 
   -- COMMIT: it is lost by a conflict, or refused as the row versions would be too many, or makes the next version
   pub data Commits (line place : ℕ) (running : Running) : Type 0 where
-    loses : (conflict : Conflict) (kept : Engine) → IsFirstConflict (length old.versions) (lates_of running.active old.versions) (Some conflict)
+    loses : (conflict : Conflict) (kept : Engine) → HoldsOwn running.active → IsFirstConflict (length old.versions) (lates_at running.active.tables old.versions) (Some conflict)
         → IsUnchanged old kept → Clears kept new place (Ended line (suc place) Lost running.active.t)
         → answer ≡ reply.Refused (E11 running.active.t (committer_of conflict.late.version (entries_of old)) (name_at conflict.place (tables_of old)) conflict.late.id)
         → Commits line place running
-    overflows : IsFirstConflict (length old.versions) (lates_of running.active old.versions) None
-        → MAX_SPANS < spans_left running.active old.versions → IsUnchanged old new → answer ≡ reply.Refused (E14 limit.Versions) → Commits line place running
+    overflows : HoldsOwn running.active → IsFirstConflict (length old.versions) (lates_at running.active.tables old.versions) None
+        → MAX_SPANS < spans_left running.active.tables old.versions → IsUnchanged old new → answer ≡ reply.Refused (E14 limit.Versions) → Commits line place running
     publishes : HoldsOwn running.active → length new.versions ≡ length old.versions
         → txn.Commits (suc (newest_of old)) running.active old.versions new.versions
         → Keeps new (Committed line (suc place) running.active.t ∷ entries_of old) new.versions (slice_set old.sessions place None)
@@ -194,7 +210,7 @@ module _ (old new : Engine) (answer : Reply) where
   -- an action in a session without a transaction
   abbrev pub Outside : ℕ → ℕ → Action → Type 0
   Outside line place (Create table) = Creates line (suc place) table (creation_refusal limits (tables_of old) table)
-  Outside line place Begin = Begins line place (nat_le MAX_TRANSACTIONS (transactions_of old))
+  Outside line place (Begin read_committed) = Begins line place read_committed (nat_le MAX_TRANSACTIONS (transactions_of old))
   Outside line place Commit = Refuses E10
   Outside line place Rollback = Refuses E10
   Outside line place (Run command) = Refuses E10
@@ -202,7 +218,7 @@ module _ (old new : Engine) (answer : Reply) where
   -- an action in a session with this transaction
   abbrev pub Inside : ℕ → ℕ → Running → Action → Type 0
   Inside line place running (Create table) = Refuses E09
-  Inside line place running Begin = Refuses E09
+  Inside line place running (Begin read_committed) = Refuses E09
   Inside line place running Commit = Commits line place running
   Inside line place running Rollback =
       Clears old new place (Ended line (suc place) RolledBack running.active.t) × (answer ≡ reply.RolledBack running.active.t)

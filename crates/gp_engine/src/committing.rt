@@ -2,13 +2,14 @@
 
 ghost use Rattle.std.specs.Prelude.{◌≡◌, ℕ, ◌<◌, ◌≤◌, suc, true, IfErr, IfOk, OnErr, OnOk, Some, length, slice_index_or, None};
 ghost use Rattle.gp_txn.specs.Committing as txn;
-ghost use Rattle.gp_txn.specs.Committing.{HasCause, lates_of, spans_left};
+ghost use Rattle.gp_txn.specs.Committing.{HasCause, spans_left};
+ghost use Rattle.gp_txn.specs.Conflicts.{lates_at};
 ghost use Rattle.gp_base.specs.declared.catalog.TheConstants.{MAX_TABLES};
 ghost use Rattle.gp_log.specs.Kinds.{ends};
 ghost use Rattle.gp_log.specs.Logs.{what_view};
 ghost use Rattle.gp_machine.specs.Entries.{RolledBack, Lost, Ended, committer_of};
 ghost use Rattle.gp_machine.specs.Event.{name_at};
-ghost use Rattle.gp_txn.specs.Overlay.{HoldsOthers, HoldsOwn, table_at};
+ghost use Rattle.gp_txn.specs.Transactions.{HoldsOthers, HoldsOwn, table_at};
 ghost use Rattle.gp_versions.specs.Commits.{AreBelow};
 ghost use Rattle.gp_engine.specs.Engine.{IsEngine, IsUnchanged, entries_of, newest_of, tables_of};
 ghost use Rattle.gp_engine.specs.Methods.{Clears, Commits, HasPlace, IsConflictBelow, Stops};
@@ -32,7 +33,8 @@ fn commit(running: &Running, versions: &mut [VersionTable], version: u32) -> Res
     ensures ok { OnOk result
         (txn.Commits version running.now.active versions.old versions.new) }
     ensures cause { IfErr result (λ stop. HasCause stop (length versions.old)
-        (lates_of running.now.active versions.old) (spans_left running.now.active versions.old)) }
+        (lates_at running.now.active.tables versions.old)
+        (spans_left running.now.active.tables versions.old)) }
     ensures bounds { IfErr result (IsConflictBelow version (length versions.old)) }
     ensures unchanged { OnErr result ((table : ℕ)
         → (table_at table versions.new).spans ≡ (table_at table versions.old).spans) }
@@ -156,8 +158,8 @@ impl State {
             → txn.Commits version running.active self.old.versions self.new.versions) }
         ensures cause { IfErr result (λ stop. (running : spec.Running)
             → slice_index_or self.old.sessions place None ≡ Some running
-            → HasCause stop (length self.old.versions) (lates_of running.active self.old.versions)
-            (spans_left running.active self.old.versions)) }
+            → HasCause stop (length self.old.versions) (lates_at running.active.tables self.old.versions)
+            (spans_left running.active.tables self.old.versions)) }
         ensures bounds { IfErr result (IsConflictBelow version (length self.old.versions)) }
         ensures unchanged { OnErr result (IsUnchanged self.old self.new) }
         ensures log { self.new.log ≡ self.old.log }

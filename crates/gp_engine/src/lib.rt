@@ -1,4 +1,4 @@
-//! The engine: sessions under snapshot isolation, and the reply to each line.
+//! The engine: sessions with transactions of both kinds, and the reply to each line.
 //!
 //! An [`Engine`] takes the lines of a script one by one. It keeps the log of the accepted ones and all versions of the rows
 //! of each table, and for each session the writes of its transaction. [`Engine::line`] gives the reply of the history machine

@@ -20,7 +20,8 @@ fn is_statement(command: &Command) -> bool
     ensures { result ≡ is_statement (command_view command.now) }
 {
     match command {
-        Command::Create { .. } | Command::Begin | Command::Commit | Command::Rollback => false,
+        Command::Create { .. } | Command::Begin { .. } | Command::Commit | Command::Rollback =>
+            false,
         _ => true,
     }
 }
@@ -37,7 +38,7 @@ impl State {
     {
         match command {
             Command::Create { table } => self.create(line, place, table),
-            Command::Begin => self.begin(line, place),
+            Command::Begin { read_committed } => self.begin(line, place, *read_committed),
             _ => Ok(Reply::Refused(Refusal::E10)),
         }
     }
@@ -57,7 +58,7 @@ impl State {
     {
         match command {
             Command::Create { .. } => Ok(Reply::Refused(Refusal::E09)),
-            Command::Begin => Ok(Reply::Refused(Refusal::E09)),
+            Command::Begin { .. } => Ok(Reply::Refused(Refusal::E09)),
             Command::Commit => self.commit(line, place),
             Command::Rollback => Ok(self.roll_back(line, place)),
             _ => unreachable!(),

@@ -72,11 +72,16 @@ impl State {
         }
     }
 
-    /// BEGIN: the next transaction, whose snapshot is the newest version.
-    pub fn begin(&mut self, line: u32, place: usize) -> Result<Reply, NoMemory>
+    /// BEGIN: the next transaction, of this kind, which begins at the newest version.
+    pub fn begin(
+        &mut self,
+        line: u32,
+        place: usize,
+        read_committed: bool,
+    ) -> Result<Reply, NoMemory>
         requires place { place < 64 }
         requires few { length self.old.log.entries < 2 ^ 32 - 1 }
-        ensures ok { IfOk result (λ reply. Begins self.old self.new reply line place
+        ensures ok { IfOk result (λ reply. Begins self.old self.new reply line place read_committed
             (nat_le MAX_TRANSACTIONS (transactions_of self.old))) }
         ensures err { OnErr result (self.new ≡ self.old) }
     {
@@ -88,9 +93,9 @@ impl State {
         }
         let t = begun + 1;
         let version = self.log.commits();
-        self.append(line, place, t, What::Begin)?;
+        self.append(line, place, t, What::Begin { read_committed })?;
         self.sessions[place] = Some(Running {
-            active: Active::begin(self.alloc, t, version),
+            active: Active::begin(self.alloc, t, version, read_committed),
             statements: 0,
         });
         Ok(Reply::Began { t, version })

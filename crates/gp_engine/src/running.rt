@@ -12,7 +12,7 @@ ghost use Rattle.gp_check.specs.Views.{Checks};
 ghost use Rattle.gp_machine.specs.Event.{count_refusal, name_at, target_of};
 ghost use Rattle.gp_syntax.specs.Views.{command_view};
 ghost use Rattle.gp_txn.specs.Applying.{is_applicable, is_readable};
-ghost use Rattle.gp_txn.specs.Overlay.{HoldsOthers};
+ghost use Rattle.gp_txn.specs.Transactions.{HoldsOthers};
 ghost use Rattle.gp_log.specs.Limits.{limits};
 ghost use Rattle.gp_engine.specs.Methods.{Applies, meaning_of, refusal_in};
 ghost use Rattle.gp_log.specs.declared.limit.TheConstants.{MAX_STATEMENTS, MAX_STEPS};
@@ -85,6 +85,7 @@ impl Running {
         stmt: &Stmt,
         catalog: &Catalog,
         versions: &[VersionTable],
+        newest: u32,
     ) -> Result<Reply, NoMemory>
         requires few { length versions.now ≤ MAX_TABLES }
         requires tables { length versions.now ≡ length catalog.now }
@@ -93,13 +94,14 @@ impl Running {
         requires last { self.old.active.last ≤ self.old.statements }
         requires others { HoldsOthers self.old.active.t versions.now }
         ensures ok { IfOk result (λ reply.
-            Applies catalog.now versions.now self.old self.new reply (statement_view stmt.now)
-            (refusal_in catalog.now versions.now self.old self.new reply
+            Applies catalog.now versions.now newest self.old self.new reply (statement_view stmt.now)
+            (refusal_in catalog.now versions.now newest self.old self.new reply
             (statement_view stmt.now))) }
         ensures err { OnErr result (self.new ≡ self.old) }
     {
         let k = self.statements + 1;
-        match self.active.apply(k, stmt, versions) {
+        let version = self.active.snapshot(newest);
+        match self.active.apply(k, version, stmt, versions) {
             Ok(rows) => {
                 self.statements = k;
                 Ok(Reply::Wrote { rows })
@@ -111,18 +113,25 @@ impl Running {
     }
 
     /// SELECT.
-    fn select(&mut self, select: &Select, versions: &[VersionTable]) -> Result<Reply, NoMemory>
+    #[tactic(auto, using(crate::proofs::OverlayLemmas::base_read))]
+    fn select(
+        &mut self,
+        select: &Select,
+        versions: &[VersionTable],
+        newest: u32,
+    ) -> Result<Reply, NoMemory>
         requires few { length versions.now ≤ MAX_TABLES }
         requires readable { is_readable (length versions.now) (select_view select.now) ≡ true }
         requires count { self.old.statements < MAX_STEPS }
         requires last { self.old.active.last ≤ self.old.statements }
         ensures ok { IfOk result (λ reply. (tables : List Table) →
-            Applies tables versions.now self.old self.new reply (s.read (select_view select.now))
-            (refusal_in tables versions.now self.old self.new reply
+            Applies tables versions.now newest self.old self.new reply (s.read (select_view select.now))
+            (refusal_in tables versions.now newest self.old self.new reply
             (s.read (select_view select.now)))) }
         ensures err { OnErr result (self.new ≡ self.old) }
     {
-        match self.active.select(select, versions) {
+        let version = self.active.snapshot(newest);
+        match self.active.select(select, version, versions) {
             Ok(rows) => {
                 self.statements += 1;
                 Ok(Reply::Rows(rows))
@@ -132,12 +141,13 @@ impl Running {
         }
     }
 
-    /// A statement that was checked.
+    /// A statement that was checked, where this is the newest version.
     pub fn apply(
         &mut self,
         stmt: &Stmt,
         catalog: &Catalog,
         versions: &[VersionTable],
+        newest: u32,
     ) -> Result<Reply, NoMemory>
         requires few { length versions.now ≤ MAX_TABLES }
         requires tables { length versions.now ≡ length catalog.now }
@@ -146,14 +156,14 @@ impl Running {
         requires last { self.old.active.last ≤ self.old.statements }
         requires others { HoldsOthers self.old.active.t versions.now }
         ensures ok { IfOk result (λ reply.
-            Applies catalog.now versions.now self.old self.new reply (statement_view stmt.now)
-            (refusal_in catalog.now versions.now self.old self.new reply
+            Applies catalog.now versions.now newest self.old self.new reply (statement_view stmt.now)
+            (refusal_in catalog.now versions.now newest self.old self.new reply
             (statement_view stmt.now))) }
         ensures err { OnErr result (self.new ≡ self.old) }
     {
         match stmt {
-            Stmt::Read { select } => self.select(select, versions),
-            _ => self.write(stmt, catalog, versions),
+            Stmt::Read { select } => self.select(select, versions, newest),
+            _ => self.write(stmt, catalog, versions, newest),
         }
     }
 

@@ -66,9 +66,10 @@ impl State {
         ensures log { self.new.log ≡ self.old.log }
         ensures err { OnErr result (self.new ≡ self.old) }
     {
+        let newest = self.log.commits();
         match &mut self.sessions[place] {
             None => Ok(Reply::Refused(Refusal::E10)),
-            Some(running) => running.apply(stmt, self.log.catalog(), &self.versions),
+            Some(running) => running.apply(stmt, self.log.catalog(), &self.versions, newest),
         }
     }
 

@@ -1,5 +1,5 @@
 use Rattle.std.proofs.Common.{◌≡◌, suc, get_or, ap, sym, ◌∙◌, subst}
-use Rattle.gp_txn.specs.Overlay.{AreOthers, table_at}
+use Rattle.gp_txn.specs.Transactions.{AreOthers, table_at}
 use Rattle.gp_engine.specs.Engine.{Engine}
 use Rattle.gp_engine.proofs.InvariantLemmas.{within-sessions}
 use Rattle.gp_engine.proofs.SessionLemmas.{session-there}

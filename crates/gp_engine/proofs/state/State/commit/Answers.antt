@@ -16,5 +16,5 @@ publish-requires-clause-others c running is = (c.requires.engine.each (suc c.arg
 
 pub returns-in-Err-clause-ok : goal.returns-in-Err-clause-ok
 returns-in-Err-clause-ok c = ok-map _ _ c.stop.result (λ answer stops running is.
-    stopped c.args.self.now c.publish.new.self c.stop.new.self answer c.args.line c.args.place running c.in-Err.stop c.in-Err.ensures.unchanged (c.in-Err.ensures.cause running is)
+    stopped c.args.self.now c.publish.new.self c.stop.new.self answer c.args.line c.args.place running c.in-Err.stop (c.number-t.ensures.own running is) c.in-Err.ensures.unchanged (c.in-Err.ensures.cause running is)
     (rw (sym (c.number-t.ensures.number running is)) stops)) c.stop.ensures.ok
