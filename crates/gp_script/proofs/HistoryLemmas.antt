@@ -18,7 +18,7 @@ use Rattle.gp_script.specs.History.{NumberedReply, final_state, line_outcome, li
 
 refused-unrecorded : (action : Action) (refusal : Refusal) → is_lost refusal ≡ false → is_recorded action (reply.Refused refusal) ≡ false
 refused-unrecorded (Create table) refusal kept = refl
-refused-unrecorded Begin refusal kept = refl
+refused-unrecorded (Begin read_committed) refusal kept = refl
 refused-unrecorded Commit refusal kept = kept
 refused-unrecorded Rollback refusal kept = refl
 refused-unrecorded (Run command) refusal kept = refl
