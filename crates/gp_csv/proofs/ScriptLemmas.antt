@@ -55,8 +55,8 @@ tail name n (line ∷ others) = script_text (insert name line ∷ (inserts_from 
 script-append : (a b : List Command) → script_text (a ++ b) ≡ script_text a ++ script_text b
 script-append a b = flat_map-append ended_line a b
 
-transaction_break-by : (n : ℕ) (b : Bool) → eqb (n % MAX_STEPS) 0 ≡ b → codes "\n" ++ script_text (cond b (Command.commit ∷ begin ∷ []) []) ≡ cond b (codes "\ns1: COMMIT\ns1: BEGIN\n") (codes "\n")
-transaction_break-by n true e = ap (λ (t : List ℕ). codes "\n" ++ (t ++ (ended_line begin ++ []))) commit-line ∙ ap (λ (t : List ℕ). codes "\ns1: COMMIT\n" ++ (t ++ [])) begin-line
+transaction_break-by : (n : ℕ) (b : Bool) → eqb (n % MAX_STEPS) 0 ≡ b → codes "\n" ++ script_text (cond b (Command.commit ∷ begin false ∷ []) []) ≡ cond b (codes "\ns1: COMMIT\ns1: BEGIN\n") (codes "\n")
+transaction_break-by n true e = ap (λ (t : List ℕ). codes "\n" ++ (t ++ (ended_line (begin false) ++ []))) commit-line ∙ ap (λ (t : List ℕ). codes "\ns1: COMMIT\n" ++ (t ++ [])) begin-line
 transaction_break-by n false e = refl
 
 not_zero : (n : ℕ) → eqb (suc n) 0 ≡ false
@@ -203,14 +203,14 @@ put-is before name number n first line (row ∷ rows) plain others rest =
     ∙ expected-more before name n (first ∷ line) (batches_from name (suc number) (suc (suc n)) (row ∷ []) rows) (lines-full name (suc number) (suc (suc n)) (row ∷ []) rows)))))
 
 -- the lines before the first INSERT
-head-text : (name : List ℕ) (cols : List Column) (rest : List ℕ) → script_head name cols ++ rest ≡ ended_line (create_of name cols) ++ (ended_line begin ++ rest)
+head-text : (name : List ℕ) (cols : List Column) (rest : List ℕ) → script_head name cols ++ rest ≡ ended_line (create_of name cols) ++ (ended_line (begin false) ++ rest)
 head-text name cols rest =
     append_assoc (codes "s1: ") (command_text (create_of name cols) ++ codes "\ns1: BEGIN\n") rest
     ∙ ap (λ (t : List ℕ). codes "s1: " ++ t) (append_assoc (command_text (create_of name cols)) (codes "\ns1: BEGIN\n") rest)
     ∙ sym (ap (λ (t : List ℕ). ended_line (create_of name cols) ++ (t ++ rest)) begin-line ∙ append_assoc (line_of (create_of name cols)) (codes "\n") (codes "s1: BEGIN\n" ++ rest) ∙ append_assoc (codes "s1: ") (command_text (create_of name cols)) (codes "\n" ++ (codes "s1: BEGIN\n" ++ rest)))
 
 abbrev whole : List ℕ → List Column → List (List (List Cell)) → List ℕ
-whole name cols lines = script_text (create_of name cols ∷ begin ∷ (inserts_of name lines ++ (Command.commit ∷ [])))
+whole name cols lines = script_text (create_of name cols ∷ begin false ∷ (inserts_of name lines ++ (Command.commit ∷ [])))
 
 expected-whole : (name : List ℕ) (cols : List Column) (r : Result (List (List (List Cell))) Fault) → IfOk r IsFull
     → expected (script_head name cols) name 1 r ≡ result_map (λ (lines : List (List (List Cell))). whole name cols lines) r
@@ -226,7 +226,7 @@ first-written name cols row plain =
 packed-rows : (name : List ℕ) (cols : List Column) (rows : List (List Cell)) → ArePlainRows rows
     → finished (put_rows (insert_text name) 2 (script_head name cols, no_line) rows) ≡ result_map (λ (lines : List (List (List Cell))). whole name cols lines) (batches_of name rows)
 unfolding put_row batches_of
-packed-rows name cols [] plain = ap (λ (t : List ℕ). Ok t) (head-text name cols (codes "s1: COMMIT\n") ∙ ap (λ (t : List ℕ). ended_line (create_of name cols) ++ (ended_line begin ++ (t ++ []))) (sym commit-line))
+packed-rows name cols [] plain = ap (λ (t : List ℕ). Ok t) (head-text name cols (codes "s1: COMMIT\n") ∙ ap (λ (t : List ℕ). ended_line (create_of name cols) ++ (ended_line (begin false) ++ (t ++ []))) (sym commit-line))
 packed-rows name cols (row ∷ rows) plain =
     let f : Result Output Fault → Result (List ℕ) Fault = λ r. finished (result_then (λ (next : Output). put_rows (insert_text name) 3 next rows) r) in
     let g : Result (List (List (List Cell))) Fault → Result (List ℕ) Fault = λ r. result_map (λ (lines : List (List (List Cell))). whole name cols lines) r in

@@ -176,6 +176,6 @@ pub commit-line : ended_line Command.commit ≡ codes "s1: COMMIT\n"
 unfolding written symbol_text
 commit-line = refl
 
-pub begin-line : ended_line begin ≡ codes "s1: BEGIN\n"
+pub begin-line : ended_line (begin false) ≡ codes "s1: BEGIN\n"
 unfolding written symbol_text
 begin-line = refl

@@ -1,6 +1,6 @@
 -- Part of the statement: the script that fills a table with the rows of a sheet. It is of one session, each of its lines is a command in canonical
 -- text, and each INSERT takes a batch of rows.
-use Rattle.std.specs.Prelude.{ℕ, suc, ◌+◌, ◌%◌, nat_le, nat_lt, Bool, ◌&&◌, List, [], ◌∷◌, ◌++◌, length, Result, Ok, if◌then◌else◌, ◌==◌, codes}
+use Rattle.std.specs.Prelude.{ℕ, suc, ◌+◌, ◌%◌, nat_le, nat_lt, Bool, false, ◌&&◌, List, [], ◌∷◌, ◌++◌, length, Result, Ok, if◌then◌else◌, ◌==◌, codes}
 use Rattle.std.specs.List.{flat_map}
 use Rattle.gp_base.specs.Cells.{ArePlain}
 use Rattle.gp_base.specs.declared.cell.Cell.{Cell}
@@ -60,7 +60,7 @@ rows_in batches = flat_map (λ (batch : List Row). batch) batches
 
 -- COMMIT and BEGIN after so many INSERTs, if the transaction can have no more
 abbrev pub transaction_break : ℕ → List Command
-transaction_break count = if count % MAX_STEPS == 0 then Command.commit ∷ begin ∷ [] else []
+transaction_break count = if count % MAX_STEPS == 0 then Command.commit ∷ begin false ∷ [] else []
 
 -- the INSERTs of these batches, after so many others
 abbrev pub inserts_from : List ℕ → ℕ → List (List Row) → List Command
@@ -73,7 +73,7 @@ inserts_of name (batch ∷ batches) = insert name batch ∷ inserts_from name 1 
 
 -- the commands of a sheet, given its batches
 abbrev pub commands_of : List ℕ → Sheet → List (List Row) → List Command
-commands_of name sheet batches = create (record { name = name; cols = sheet.cols }) ∷ begin ∷ (inserts_of name batches ++ (Command.commit ∷ []))
+commands_of name sheet batches = create (record { name = name; cols = sheet.cols }) ∷ begin false ∷ (inserts_of name batches ++ (Command.commit ∷ []))
 
 abbrev pub script_text : List Command → List ℕ
 script_text commands = flat_map ended_line commands
