@@ -203,6 +203,7 @@ utf8-all (t ∷ ls) all = (all.0, utf8-all ls all.1)
 pub insert-readable : (name : List ℕ) (rows : List (List Cell)) → is_name name ≡ true → IsSome rows → AllByRecursion IsUserRow rows → length rows ≤ MAX_VALUES
     → length (line_of (y.insert name rows)) ≤ MAX_LINE_LENGTH → IsReadable (y.insert name rows)
 insert-readable name rows named some all few short = record {
+  laid = refl;
   derived = g.insert name (listed_lexemes tuple_lexemes rows) rows (list-derived IsTuple tuple_lexemes IsUserRow tuple-derived rows some all);
   within = let fits : ltb MAX_VALUES (length rows) ≡ false = le-ltb MAX_VALUES (length rows) few in rw fits refl;
   proper = proper-all (command_lexemes (y.insert name rows)) (insert-usual IsProper proper-usual name rows named all);
@@ -289,6 +290,7 @@ create-short table named all few =
 
 pub create-readable : (table : Table) → is_name table.name ≡ true → IsSome table.cols → AllByRecursion IsNamed table.cols → length table.cols ≤ MAX_COLUMNS → IsReadable (y.create table)
 create-readable table named some all few = record {
+  laid = refl;
   derived = g.create table.name (listed_lexemes column_definition_lexemes table.cols) table.cols (list-derived IsColumn column_definition_lexemes IsNamed column-derived table.cols some all);
   within = let fits : ltb MAX_COLUMNS (length table.cols) ≡ false = le-ltb MAX_COLUMNS (length table.cols) few in rw fits refl;
   proper = proper-all (command_lexemes (y.create table)) (create-usual IsProper proper-usual table named all);
@@ -298,13 +300,13 @@ create-readable table named some all few = record {
 
 -- ---- the other lines
 
-pub begin-readable : IsReadable y.begin
+pub begin-readable : IsReadable (y.begin false)
 unfolding symbol_text
-begin-readable = record { derived = g.begin; within = refl; proper = (tt, tt); texts = (tt, tt); short = let a = laid_out-length (command_lexemes y.begin) in omega (arith, a) }
+begin-readable = record { laid = refl; derived = g.begin; within = refl; proper = (tt, tt); texts = (tt, tt); short = let a = laid_out-length (command_lexemes (y.begin false)) in omega (arith, a) }
 
-pub begin-short : length (line_of y.begin) ≤ 20
+pub begin-short : length (line_of (y.begin false)) ≤ 20
 unfolding symbol_text
-begin-short = let a = laid_out-length (command_lexemes y.begin) in omega (arith, a)
+begin-short = let a = laid_out-length (command_lexemes (y.begin false)) in omega (arith, a)
 
 pub commit-short : length (line_of y.Command.commit) ≤ 20
 unfolding symbol_text
@@ -312,4 +314,4 @@ commit-short = let a = laid_out-length (command_lexemes y.Command.commit) in ome
 
 pub commit-readable : IsReadable y.Command.commit
 unfolding symbol_text
-commit-readable = record { derived = g.commit; within = refl; proper = (tt, tt); texts = (tt, tt); short = let a = laid_out-length (command_lexemes y.Command.commit) in omega (arith, a) }
+commit-readable = record { laid = refl; derived = g.commit; within = refl; proper = (tt, tt); texts = (tt, tt); short = let a = laid_out-length (command_lexemes y.Command.commit) in omega (arith, a) }

@@ -4,6 +4,7 @@ use Rattle.std.specs.List.{AllByRecursion, list_all, list_any}
 use Rattle.std.specs.Str.{bytes_eq}
 use Rattle.std.proofs.lemmas.Bool.{and_parts, and_from}
 use Rattle.std.proofs.lemmas.List.Folds.{list_any-append}
+use Rattle.std.proofs.lemmas.Map.Views.{any-filter_same}
 use Rattle.std.proofs.lemmas.Slice.Eq.{bytes_eq-Decides}
 use Rattle.gp_base.specs.Annotated.{Annotated, Database, plain}
 use Rattle.gp_base.specs.Identities.{Identity, identity, no_sources, nodes, same_identity, transaction_of}
@@ -21,6 +22,8 @@ use Rattle.gp_check.specs.Checking.{checked}
 use Rattle.gp_check.specs.Faults.{cells_agree}
 use Rattle.gp_check.specs.Typing.{agrees, cell_type, kind_type}
 use Rattle.gp_exec.specs.declared.limit.TheConstants.{MAX_TABLE_ROWS}
+use Rattle.gp_machine.proofs.Made.{eq_from, same_equal}
+use Rattle.gp_machine.specs.Bases.{Based, is_new, pairs}
 use Rattle.gp_machine.specs.Committed.{is_written, unmarked}
 use Rattle.gp_machine.specs.Event.{refusal_of}
 use Rattle.gp_log.specs.Limits.{limits}
@@ -136,6 +139,23 @@ written-before written others row e = list_any-append _ written others ∙ first
 
 pub written-after : (written others : List Written) (row : Row) → IsWritten others row → IsWritten (written ++ others) row
 written-after written others row e = list_any-append _ written others ∙ either (is_written 0 row.identity written) (is_written 0 row.identity others) e
+
+-- a pair of this row is new if the row was not written
+new-pair : (written : List Based) (id : Identity) → is_written 0 id (pairs written) ≡ false → (pair : Written) → (eqb pair.table 0 && same_identity pair.identity id) ≡ true → is_new written pair ≡ true
+new-pair written id fresh pair found =
+    let h = and_parts (eqb pair.table 0) (same_identity pair.identity id) found in
+    let table : pair.table ≡ 0 = eq_from pair.table 0 h.0 in
+    let same : pair.identity ≡ id = same_equal pair.identity id h.1 in
+    rw (table, same, fresh) refl
+
+-- a row that is written now is among the rows that were written and the new ones
+pub written-new : (written : List Based) (more : List Written) (row : Row) → IsWritten more row → IsWritten (pairs written ++ filter (is_new written) more) row
+written-new written more row e = by (is_written 0 row.identity (pairs written)) refl
+  where
+    by : (b : Bool) → is_written 0 row.identity (pairs written) ≡ b → IsWritten (pairs written ++ filter (is_new written) more) row
+    by true found = written-before (pairs written) (filter (is_new written) more) row found
+    by false fresh =
+        written-after (pairs written) (filter (is_new written) more) row (any-filter_same _ (is_new written) true (new-pair written row.identity fresh) more ∙ e)
 
 same-made : (t k n : ℕ) → same_identity (identity t k n no_sources) (identity t k n no_sources) ≡ true
 same-made t k n = rw (eq-eqb t t refl, eq-eqb k k refl, eq-eqb n n refl) refl

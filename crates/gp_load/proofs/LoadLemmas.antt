@@ -150,7 +150,7 @@ module _ (table : Table) (named : is_name table.name ≡ true) (columns : IsSome
 break-readable : (count : ℕ) → AllByRecursion IsReadable (transaction_break count)
 break-readable count = by (eqb (count % MAX_STEPS) 0)
   where
-    by : (b : Bool) → AllByRecursion IsReadable (cond b (y.Command.commit ∷ y.begin ∷ []) [])
+    by : (b : Bool) → AllByRecursion IsReadable (cond b (y.Command.commit ∷ y.begin false ∷ []) [])
     by true = (commit-readable, (begin-readable, tt))
     by false = tt
 
@@ -224,7 +224,7 @@ module _ (table : Table) (all : Rows) (short : length all ≤ MAX_ROWS) where
       elim (cases_Bool (eqb (count % MAX_STEPS) 0)) [
         | inl e ↦
             let whole_transaction = full q k count is some most e in
-            rw e (commits table rows (suc q) k count (10000 * q) (10000 * suc q) line state (y.begin ∷ y.insert table.name batch ∷ rest) Ends h (omega (arith, short, size)) (omega (arith, is, some, few))
+            rw e (commits table rows (suc q) k count (10000 * q) (10000 * suc q) line state (y.begin false ∷ y.insert table.name batch ∷ rest) Ends h (omega (arith, short, size)) (omega (arith, is, some, few))
             (λ s1 l1 idle. begins table rows (suc q) count (10000 * suc q) l1 s1 (y.insert table.name batch ∷ rest) Ends idle (omega (arith, is, few))
             (λ s2 l2 running. inserts table rows batch (suc (suc q)) 0 count (10000 * suc q) l2 s2 rest Ends running (omega arith) (omega (arith, few)) (omega (arith, short, size)) good.0.rows
             (λ s3 l3 next. accepts-from (suc q) 1 (suc count) (rows ++ batch) batches s3 l3 next (omega (arith, is, whole_transaction)) (omega arith) (omega arith) (omega (arith, few)) whole good.1))))
@@ -244,10 +244,10 @@ module _ (table : Table) (all : Rows) (short : length all ≤ MAX_ROWS) where
       (λ next l running. accepts-from 0 1 1 batch batches next l running (omega arith) (omega arith) (omega arith) (omega (arith, few)) same good.1)
 
   accepts-all : (batches : List Rows) → limits.created [] table ≡ None → length batches ≤ MAX_INSERTS → rows_in batches ≡ all → AllByRecursion (IsBatch table) batches
-      → Accepts start 1 (y.create table ∷ y.begin ∷ (inserts_of table.name batches ++ (y.Command.commit ∷ []))) Ends
+      → Accepts start 1 (y.create table ∷ y.begin false ∷ (inserts_of table.name batches ++ (y.Command.commit ∷ []))) Ends
   accepts-all batches named few same good =
       let rest : List Command = inserts_of table.name batches ++ (y.Command.commit ∷ []) in
-      creates table 1 (y.begin ∷ rest) Ends named
+      creates table 1 (y.begin false ∷ rest) Ends named
       (λ s1 l1 idle. begins table [] 0 0 0 l1 s1 rest Ends idle (omega arith)
       (λ s2 l2 running. accepts-batches batches s2 l2 running few same good))
 
@@ -278,10 +278,10 @@ both-length cs others = ap (λ (text : List ℕ). length text) (flat_map-append 
 break-length : (count : ℕ) → length (script_text (transaction_break count)) ≤ 42
 break-length count = by (eqb (count % MAX_STEPS) 0)
   where
-    by : (b : Bool) → length (script_text (cond b (y.Command.commit ∷ y.begin ∷ []) [])) ≤ 42
+    by : (b : Bool) → length (script_text (cond b (y.Command.commit ∷ y.begin false ∷ []) [])) ≤ 42
     by true =
-        let a = cons-length y.Command.commit (y.begin ∷ []) in
-        let b = cons-length y.begin [] in
+        let a = cons-length y.Command.commit (y.begin false ∷ []) in
+        let b = cons-length (y.begin false) [] in
         let c = commit-short in
         let d = begin-short in
         omega (arith, a, b, c, d)
@@ -307,11 +307,11 @@ of-length table (batch ∷ batches) all =
     omega (arith, a, d, e)
 
 script-short : (table : Table) (batches : List Rows) → IsReadable (y.create table) → AllByRecursion (IsBatch table) batches → length batches ≤ MAX_INSERTS
-    → length (script_text (y.create table ∷ y.begin ∷ (inserts_of table.name batches ++ (y.Command.commit ∷ [])))) ≤ MAX_SCRIPT_LENGTH
+    → length (script_text (y.create table ∷ y.begin false ∷ (inserts_of table.name batches ++ (y.Command.commit ∷ [])))) ≤ MAX_SCRIPT_LENGTH
 script-short table batches readable all few =
     let ends : List Command = y.Command.commit ∷ [] in
-    let a = cons-length (y.create table) (y.begin ∷ (inserts_of table.name batches ++ ends)) in
-    let b = cons-length y.begin (inserts_of table.name batches ++ ends) in
+    let a = cons-length (y.create table) (y.begin false ∷ (inserts_of table.name batches ++ ends)) in
+    let b = cons-length (y.begin false) (inserts_of table.name batches ++ ends) in
     let c = both-length (inserts_of table.name batches) ends in
     let d = cons-length y.Command.commit [] in
     let e = of-length table batches all in

@@ -1,5 +1,5 @@
 -- A line of session 1 with a command in canonical text is read as this command.
-use Rattle.std.proofs.Common.{◌≡◌, ℕ, zero, suc, ◌+◌, ◌-◌, ◌≤◌, false, List, [], ◌∷◌, ◌++◌, length, Option, Some, None, Ok, Err, refl, sym, ap, ◌∙◌, arith, inl, inr, lit≤}
+use Rattle.std.proofs.Common.{◌≡◌, ℕ, zero, suc, ◌+◌, ◌-◌, ◌≤◌, false, List, [], ◌∷◌, ◌++◌, length, Option, Some, None, Ok, Err, refl, sym, ap, subst, ◌∙◌, arith, inl, inr, lit≤}
 use Rattle.std.specs.Prelude.{codes}
 use Rattle.std.specs.List.{list_any}
 use Rattle.std.specs.Char.{is_ascii_control}
@@ -10,6 +10,7 @@ use Rattle.std.proofs.lemmas.Bool.{cases_Bool}
 use Rattle.gp_lexer.specs.declared.lexeme.Symbol.TheVariants as s
 use Rattle.gp_lexer.specs.declared.lexeme.Lexeme.{Lexeme}
 use Rattle.gp_lexer.specs.declared.lexeme.Lexeme.TheVariants.{Symbol as Sign, Word}
+use Rattle.gp_lexer.specs.Layout.{laid_out}
 use Rattle.gp_lexer.specs.Lexemes.{AreProper, HaveUtf8Texts, symbol_text}
 use Rattle.gp_lexer.specs.Lexing.{Lexed, Scanned, is_blank, lexed, lexed_at, lexed_from, lexeme_at, lexemes_of, reserved_word, sign_at, with_lexeme, word_at}
 use Rattle.gp_lexer.proofs.LayoutLemmas.{lexemes_of-laid_out}
@@ -95,6 +96,7 @@ session-one = refl
 
 -- what a command has that can be read from its canonical text
 pub record IsReadable (c : Command) : Type 0 where
+  pub laid : command_text c ≡ laid_out (command_lexemes c)
   pub derived : IsCommand (command_lexemes c) c
   pub within : passed_limit (command_shape c) ≡ None
   pub proper : AreProper (command_lexemes c)
@@ -107,13 +109,13 @@ line-utf8 text utf8 =
 
 pub line-read : (c : Command) → IsReadable c → script_line_of (line_of c) ≡ Ok (record { session = 1; command = c })
 line-read c h =
-    let found = columns-by (line_of c) (session_lexemes (command_lexemes c)) (lexed (line_of c)) refl (line-lexemes (command_text c) (command_lexemes c) (lexemes_of-laid_out (command_lexemes c) h.proper)) in
+    let found = columns-by (line_of c) (session_lexemes (command_lexemes c)) (lexed (line_of c)) refl (line-lexemes (command_text c) (command_lexemes c) (ap lexemes_of h.laid ∙ lexemes_of-laid_out (command_lexemes c) h.proper)) in
     (lines-read script_line IsScriptLine capped_line line_shape lawful-line lines-fair (line_of c) (record { session = 1; command = c })).1 (record {
       short = h.short;
       text = record {
         lexemes = session_lexemes (command_lexemes c);
         columns = found.columns;
-        lexical = record { utf8 = line-utf8 (command_text c) (laid_out-utf8 (command_lexemes c) h.proper h.texts); found = found.found };
+        lexical = record { utf8 = line-utf8 (command_text c) (subst IsUtf8 (sym h.laid) (laid_out-utf8 (command_lexemes c) h.proper h.texts)); found = found.found };
         shallow = command-shallow c h.within;
         derived = g.open_end (session_lexemes (command_lexemes c)) (record { session = 1; command = c }) (g.in_session (codes "s1") 1 (command_lexemes c) c session-one h.derived);
         within = h.within;
@@ -122,4 +124,4 @@ line-read c h =
 
 -- it has no control character, and so no line feed and no carriage return
 pub line-plain : (c : Command) → IsReadable c → list_any is_ascii_control (line_of c) ≡ false
-line-plain c h = laid_out-plain (command_lexemes c) h.proper
+line-plain c h = ap (λ (text : List ℕ). list_any is_ascii_control (codes "s1: " ++ text)) h.laid ∙ laid_out-plain (command_lexemes c) h.proper

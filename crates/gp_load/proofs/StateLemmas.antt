@@ -1,31 +1,33 @@
 -- The lines of the script of a sheet, one after another: after each the table has the rows so far.
-use Rattle.std.proofs.Common.{◌≡◌, ℕ, suc, ◌+◌, ◌-◌, ◌<◌, ◌≤◌, Bool, true, false, not, leb, List, [], ◌∷◌, ◌++◌, length, map, filter, Option, Some, None, Result, Ok, refl, sym, ap, subst, ◌∙◌, append_assoc, append-nil, eq-eqb, le-ltb, leb-true, arith}
+use Rattle.std.proofs.Common.{◌≡◌, ℕ, suc, ◌+◌, ◌-◌, ◌<◌, ◌≤◌, Bool, true, false, cond, not, leb, List, [], ◌∷◌, ◌++◌, length, map, filter, Option, Some, None, Result, Ok, refl, sym, ap, subst, ◌∙◌, append_assoc, append-nil, eq-eqb, le-ltb, leb-true, arith}
 use Rattle.std.specs.List.{AllByRecursion, list_all}
 use Rattle.std.proofs.lemmas.List.{map-append}
 use Rattle.std.proofs.lemmas.List.Elements.{filter-append}
-use Rattle.gp_base.specs.Annotated.{plain}
+use Rattle.gp_base.specs.Annotated.{Database, plain}
 use Rattle.gp_base.specs.declared.cell.Cell.{Cell}
 use Rattle.gp_base.specs.declared.table.Table.{Table}
 use Rattle.gp_grammar.specs.Syntax as y
 use Rattle.gp_grammar.specs.Syntax.{Command}
-use Rattle.gp_algebra.specs.Effects.{Written, given_from, step, written_in}
+use Rattle.gp_algebra.specs.Effects.{Written, given_from, written_in}
 use Rattle.gp_algebra.specs.Statements as s
 use Rattle.gp_check.specs.Checking.{checked}
 use Rattle.gp_machine.specs.declared.reply.Reply.{Reply}
 use Rattle.gp_machine.specs.declared.reply.Reply.TheVariants as reply
 use Rattle.gp_machine.specs.Actions.{Begin, Commit, Run}
+use Rattle.gp_machine.specs.Bases.{Based, is_new, pairs, with_base, with_bases}
 use Rattle.gp_machine.specs.Committed.{is_written, merged, unmarked}
 use Rattle.gp_machine.specs.Conflicts.{least_conflict}
-use Rattle.gp_machine.specs.Entries.{begin_version, statements_in, transactions_in, versions_in}
-use Rattle.gp_machine.specs.Event.{accepted, answered, beginning, began, committing, conflict_of, count_refusal, created, creating, event, is_full, published, published_rows, ran, refusal_of, running}
+use Rattle.gp_machine.specs.Entries.{statements_in, transactions_in, versions_in}
+use Rattle.gp_machine.specs.Event.{accepted, answered, beginning, began, committing, conflict_of, count_refusal, created, creating, event, is_full, published, published_rows, ran, refusal_of, running, seen_next, start_now, version_now}
 use Rattle.gp_machine.specs.Replies.{is_refusal}
 use Rattle.gp_machine.specs.State.{Active, State, start}
 use Rattle.gp_exec.specs.declared.limit.TheConstants.{MAX_TABLE_ROWS}
 use Rattle.gp_log.specs.Limits.{limits}
 use Rattle.gp_log.specs.declared.limit.TheConstants.{MAX_STATEMENTS, MAX_STEPS, MAX_TRANSACTIONS}
+use Rattle.gp_txn.proofs.PairLemmas.{all-filter}
 use Rattle.gp_txn.specs.declared.counting.TheConstants.{MAX_SPANS}
 use Rattle.gp_csv.specs.Sheets.{is_row_of}
-use Rattle.gp_load.proofs.InsertLemmas.{IsBefore, IsBy, IsWritten, Row, all-append, all-mapped, checked-insert, filter-few, given-before, given-by, given-cells, given-written, keeps-all, keeps-none, not-refused, not-written, unmarked-before, unmarked-cells, written-after, written-before}
+use Rattle.gp_load.proofs.InsertLemmas.{IsBefore, IsBy, IsWritten, Row, all-append, all-mapped, checked-insert, filter-few, given-before, given-by, given-cells, given-written, keeps-all, keeps-none, not-refused, not-written, unmarked-before, unmarked-cells, written-before, written-new}
 
 abbrev pub Plain : Type 0
 Plain = State (Unit {0})
@@ -68,15 +70,17 @@ pub record Running (table : Table) (rows : List (List Cell)) (t k n most : ℕ) 
   pub is : state.active 1 ≡ Some active
   pub transaction : active.transaction ≡ t
   pub steps : active.statements ≡ k
+  pub kind : active.read_committed ≡ false
   pub began : transactions_in state.entries ≡ t
   pub statements : statements_in state.entries ≡ n
-  pub begun : begin_version active.transaction state.entries ≡ versions_in state.entries
+  pub version : active.version ≡ versions_in state.entries
   pub new : List Row
-  pub view : active.view 0 ≡ newest state ++ new
-  pub cells : cells_in (active.view 0) ≡ rows
+  pub view : active.seen.view 0 ≡ newest state ++ new
+  pub cells : cells_in (active.seen.view 0) ≡ rows
   pub before : AllByRecursion (IsBefore t) (newest state)
-  pub own : AllByRecursion (IsBy t) active.written
-  pub wrote : AllByRecursion (IsWritten active.written) new
+  pub own : AllByRecursion (IsBy t) (pairs active.seen.written)
+  pub bases : AllByRecursion (λ (based : Based). based.base ≡ versions_in state.entries) active.seen.written
+  pub wrote : AllByRecursion (IsWritten (pairs active.seen.written)) new
   pub recent : AllByRecursion (IsBefore (suc t)) new
   pub published : state.rows ≤ most
 
@@ -111,32 +115,44 @@ creates table line cs P named others =
 -- ---- BEGIN
 
 pub begins : (table : Table) (rows : List (List Cell)) (t n most line : ℕ) (state : Plain) (cs : List Command) (P : Plain → Type 0) → Idle table rows t n most state → t < MAX_TRANSACTIONS
-    → ((next : Plain) (l : ℕ) → Running table rows (suc t) 0 n most next → Accepts next l cs P) → Accepts state line (y.begin ∷ cs) P
+    → ((next : Plain) (l : ℕ) → Running table rows (suc t) 0 n most next → Accepts next l cs P) → Accepts state line (y.begin false ∷ cs) P
 begins table rows t n most line state cs P h few others =
     let count = h.began in
     let room : leb MAX_TRANSACTIONS (transactions_in state.entries) ≡ false = not-le MAX_TRANSACTIONS (transactions_in state.entries) (omega (arith, count, few)) in
-    accepts-by state line y.begin cs P (began state line 1, reply.Began (suc (transactions_in state.entries)) (versions_in state.entries))
-    (ap (λ (a : Option (Active (Unit {0}))). answered plain limits state line 1 a Begin) h.idle ∙ ap (beginning state line 1) room) refl
-    (others (began state line 1) (line + 1) (record {
+    accepts-by state line (y.begin false) cs P (began state line 1 false, reply.Began (suc (transactions_in state.entries)) (versions_in state.entries))
+    (ap (λ (a : Option (Active (Unit {0}))). answered plain limits state line 1 a (Begin false)) h.idle ∙ ap (beginning state line 1 false) room) refl
+    (others (began state line 1 false) (line + 1) (record {
       catalogue = h.catalogue;
-      active = record { transaction = suc (transactions_in state.entries); statements = 0; view = state.committed (versions_in state.entries); written = [] };
+      active = record {
+        transaction = suc (transactions_in state.entries);
+        read_committed = false;
+        version = versions_in state.entries;
+        statements = 0;
+        seen = record { view = state.committed (versions_in state.entries); written = [] };
+      };
       is = refl;
       transaction = ap suc h.began;
       steps = refl;
       began = ap suc h.began;
       statements = h.statements;
-      begun = rw (eq-eqb (suc (transactions_in state.entries)) (suc (transactions_in state.entries)) refl) refl;
+      kind = refl;
+      version = refl;
       new = [];
       view = sym (append-nil (newest state));
       cells = h.cells;
       before = h.before;
       own = tt;
+      bases = tt;
       wrote = tt;
       recent = tt;
       published = h.published;
     }))
 
 -- ---- INSERT
+
+pairs-based : (version : ℕ) (more : List Written) → pairs (map (with_base version) more) ≡ more
+pairs-based version [] = refl
+pairs-based version (pair ∷ more) = ap (λ (others : List Written). pair ∷ others) (pairs-based version more)
 
 module _ (table : Table) (rows batch : List (List Cell)) (t k n most line : ℕ) (state : Plain) (cs : List Command) (P : Plain → Type 0) (h : Running table rows t k n most state)
     (steps : k < MAX_STEPS) (statements : n < MAX_STATEMENTS) (few : length rows + length batch ≤ MAX_TABLE_ROWS) (fits : list_all (is_row_of table.cols) batch ≡ true) where
@@ -149,6 +165,13 @@ module _ (table : Table) (rows batch : List (List Cell)) (t k n most line : ℕ)
   abbrev made : List Row
   made = given_from plain a.transaction (suc a.statements) 1 batch
 
+  -- it reads what it has read and written so far
+  now-is : version_now state a ≡ a.version
+  now-is = ap (λ b. cond b (versions_in state.entries) a.version) h.kind
+
+  start-is : start_now state a ≡ a.seen.view
+  start-is = ap (λ b. cond b a.seen.view (merged (state.committed (version_now state a)) a.seen.view (pairs a.seen.written))) (eq-eqb (version_now state a) a.version now-is)
+
   counts : count_refusal limits a.statements (statements_in state.entries) ≡ None
   counts =
       let x : leb MAX_STEPS a.statements ≡ false = not-le MAX_STEPS a.statements (let e = h.steps in omega (arith, e, steps)) in
@@ -158,8 +181,10 @@ module _ (table : Table) (rows batch : List (List Cell)) (t k n most line : ℕ)
   checks : limits.checked state.catalogue command ≡ Ok (s.insert 0 batch)
   checks = ap (λ (tables : List Table). checked tables command) h.catalogue ∙ checked-insert table batch fits
 
-  within : refusal_of plain limits state.catalogue a.transaction (suc a.statements) (s.insert 0 batch) a.view ≡ None
-  within = not-refused state.catalogue a.transaction (suc a.statements) batch a.view (let e = cells-length (a.view 0) rows h.cells in omega (arith, e, few))
+  within : refusal_of plain limits state.catalogue a.transaction (suc a.statements) (s.insert 0 batch) (start_now state a) ≡ None
+  within =
+      ap (refusal_of plain limits state.catalogue a.transaction (suc a.statements) (s.insert 0 batch)) start-is
+      ∙ not-refused state.catalogue a.transaction (suc a.statements) batch a.seen.view (let e = cells-length (a.seen.view 0) rows h.cells in omega (arith, e, few))
 
   abbrev next : Plain
   next = accepted plain state line 1 a command (s.insert 0 batch)
@@ -171,24 +196,44 @@ module _ (table : Table) (rows batch : List (List Cell)) (t k n most line : ℕ)
       ∙ ap (λ (x : Result s.Statement _). running plain state line 1 a command limits None x) checks
       ∙ ap (ran plain state line 1 a command (s.insert 0 batch)) within
 
+  all-based : version_now state a ≡ versions_in state.entries → (more : List Written) → AllByRecursion (λ (based : Based). based.base ≡ versions_in state.entries) (map (with_base (version_now state a)) more)
+  all-based is [] = tt
+  all-based is (pair ∷ more) = (is, all-based is more)
+
+  -- the rows that it wrote now and not before
+  abbrev first-written : List Written
+  first-written = filter (is_new a.seen.written) (written_in 0 made)
+
+  pairs-more : pairs (with_bases (version_now state a) a.seen.written (written_in 0 made)) ≡ pairs a.seen.written ++ first-written
+  pairs-more =
+      map-append (λ (based : Based). based.pair) a.seen.written (map (with_base (version_now state a)) first-written)
+      ∙ ap (λ (x : List Written). pairs a.seen.written ++ x) (pairs-based (version_now state a) first-written)
+
   runs-on : Running table (rows ++ batch) t (suc k) (suc n) most next
   runs-on = record {
     catalogue = h.catalogue;
-    active = record a { statements = suc a.statements; view = step plain a.transaction (suc a.statements) (s.insert 0 batch) a.view; written = a.written ++ written_in 0 made };
+    active = record a { version = version_now state a; statements = suc a.statements; seen = seen_next plain state line 1 a command (s.insert 0 batch) };
     is = refl;
     transaction = h.transaction;
     steps = ap suc h.steps;
     began = h.began;
     statements = ap suc h.statements;
-    begun = h.begun;
+    kind = h.kind;
+    version = now-is ∙ h.version;
     new = h.new ++ made;
-    view = ap (λ (x : List Row). x ++ made) h.view ∙ append_assoc (newest state) h.new made;
-    cells = map-append (λ (row : Row). row.cells) (a.view 0) made ∙ ap (λ (x : List (List Cell)). x ++ cells_in made) h.cells ∙ ap (λ (x : List (List Cell)). rows ++ x) (given-cells a.transaction (suc a.statements) 1 batch);
+    view = ap (λ (db : Database (Unit {0})). db 0 ++ made) start-is ∙ ap (λ (x : List Row). x ++ made) h.view ∙ append_assoc (newest state) h.new made;
+    cells = ap (λ (db : Database (Unit {0})). cells_in (db 0 ++ made)) start-is ∙ map-append (λ (row : Row). row.cells) (a.seen.view 0) made ∙ ap (λ (x : List (List Cell)). x ++ cells_in made) h.cells ∙ ap (λ (x : List (List Cell)). rows ++ x) (given-cells a.transaction (suc a.statements) 1 batch);
     before = h.before;
-    own = all-append (IsBy t) a.written (written_in 0 made) h.own (subst (λ (x : ℕ). AllByRecursion (IsBy x) (written_in 0 made)) h.transaction (given-by a.transaction (suc a.statements) 1 batch));
-    wrote = all-append (IsWritten (a.written ++ written_in 0 made)) h.new made
-        (all-mapped (IsWritten a.written) (IsWritten (a.written ++ written_in 0 made)) (written-before a.written (written_in 0 made)) h.new h.wrote)
-        (all-mapped (IsWritten (written_in 0 made)) (IsWritten (a.written ++ written_in 0 made)) (written-after a.written (written_in 0 made)) made (given-written a.transaction (suc a.statements) 1 batch));
+    own = subst (AllByRecursion (IsBy t)) (sym pairs-more)
+        (all-append (IsBy t) (pairs a.seen.written) first-written h.own
+        (all-filter (IsBy t) (is_new a.seen.written) (written_in 0 made) (subst (λ (x : ℕ). AllByRecursion (IsBy x) (written_in 0 made)) h.transaction (given-by a.transaction (suc a.statements) 1 batch))));
+    bases = all-append (λ (based : Based). based.base ≡ versions_in state.entries) a.seen.written (map (with_base (version_now state a)) first-written) h.bases
+        (all-based (now-is ∙ h.version) first-written);
+    wrote = subst (λ (x : List Written). AllByRecursion (IsWritten x) (h.new ++ made)) (sym pairs-more)
+        (all-append (IsWritten (pairs a.seen.written ++ first-written)) h.new made
+        (all-mapped (IsWritten (pairs a.seen.written)) (IsWritten (pairs a.seen.written ++ first-written)) (written-before (pairs a.seen.written) first-written) h.new h.wrote)
+        (all-mapped (IsWritten (written_in 0 made)) (IsWritten (pairs a.seen.written ++ first-written)) (written-new a.seen.written (written_in 0 made)) made
+        (given-written a.transaction (suc a.statements) 1 batch)));
     recent = all-append (IsBefore (suc t)) h.new made h.recent (subst (λ (x : ℕ). AllByRecursion (IsBefore (suc x)) made) h.transaction (given-before a.transaction (suc a.statements) 1 batch));
     published = h.published;
   }
@@ -198,9 +243,11 @@ module _ (table : Table) (rows batch : List (List Cell)) (t k n most line : ℕ)
 
 -- ---- COMMIT
 
-no_conflict : (written : ℕ → List Written) (begin versions : ℕ) (pairs : List Written) → versions - begin ≡ 0 → least_conflict written begin versions pairs ≡ None
-no_conflict written begin versions [] e = refl
-no_conflict written begin versions (pair ∷ pairs) e = rw (e, no_conflict written begin versions pairs e) refl
+no_conflict : (written : ℕ → List Written) (versions : ℕ) (all : List Based) → AllByRecursion (λ (based : Based). based.base ≡ versions) all → least_conflict written versions all ≡ None
+no_conflict written versions [] bases = refl
+no_conflict written versions (based ∷ others) bases =
+    let none : versions - based.base ≡ 0 = let e = bases.0 in omega (arith, e) in
+    rw (none, no_conflict written versions others bases.1) refl
 
 module _ (table : Table) (rows : List (List Cell)) (t k n most bound line : ℕ) (state : Plain) (cs : List Command) (P : Plain → Type 0) (h : Running table rows t k n most state)
     (grows : most + length rows ≤ bound) (room : bound ≤ MAX_SPANS) where
@@ -208,15 +255,15 @@ module _ (table : Table) (rows : List (List Cell)) (t k n most bound line : ℕ)
   own = h.active
 
   abbrev test : Row → Bool
-  test row = is_written 0 row.identity own.written
+  test row = is_written 0 row.identity (pairs own.seen.written)
 
   alone : conflict_of state own ≡ None
-  alone = no_conflict state.written (begin_version own.transaction state.entries) (versions_in state.entries) own.written (let e = h.begun in omega (arith, e))
+  alone = no_conflict state.written (versions_in state.entries) own.seen.written h.bases
 
-  few-published : length (filter test (own.view 0)) ≤ length rows
-  few-published = let e = cells-length (own.view 0) rows h.cells in let f = filter-few test (own.view 0) in omega (arith, e, f)
+  few-published : length (filter test (own.seen.view 0)) ≤ length rows
+  few-published = let e = cells-length (own.seen.view 0) rows h.cells in let f = filter-few test (own.seen.view 0) in omega (arith, e, f)
 
-  count-done : published_rows own (length state.catalogue) ≡ length (filter test (own.view 0))
+  count-done : published_rows own (length state.catalogue) ≡ length (filter test (own.seen.view 0))
   count-done = let e = ap (λ (tables : List Table). published_rows own (length tables)) h.catalogue in omega (arith, e)
 
   not-full : is_full limits state own ≡ false
@@ -233,21 +280,21 @@ module _ (table : Table) (rows : List (List Cell)) (t k n most bound line : ℕ)
 
   -- the rows of the newest version, which it did not write, and then its own
   old-rows : AllByRecursion (λ (row : Row). test row ≡ false) (newest state)
-  old-rows = all-mapped (IsBefore t) (λ (row : Row). test row ≡ false) (λ row before. not-written t own.written row h.own before) (newest state) h.before
+  old-rows = all-mapped (IsBefore t) (λ (row : Row). test row ≡ false) (λ row before. not-written t (pairs own.seen.written) row h.own before) (newest state) h.before
 
-  kept-rows : merged (state.committed (versions_in state.entries)) own.view own.written 0 ≡ own.view 0
+  kept-rows : merged (state.committed (versions_in state.entries)) own.seen.view (pairs own.seen.written) 0 ≡ own.seen.view 0
   kept-rows =
       let p : Row → Bool = λ row. not (test row) in
       let old : filter p (newest state) ≡ newest state = keeps-all p (newest state) (all-mapped (λ (row : Row). test row ≡ false) (λ (row : Row). p row ≡ true) (λ row e. rw e refl) (newest state) old-rows) in
       let mine : filter test (newest state ++ h.new) ≡ h.new =
       filter-append test (newest state) h.new ∙ ap (λ (x : List Row). x ++ filter test h.new) (keeps-none test (newest state) old-rows) ∙ keeps-all test h.new h.wrote in
-      ap (λ (x : List Row). x ++ filter test (own.view 0)) old ∙ ap (λ (x : List Row). newest state ++ filter test x) h.view ∙ ap (λ (x : List Row). newest state ++ x) mine ∙ sym h.view
+      ap (λ (x : List Row). x ++ filter test (own.seen.view 0)) old ∙ ap (λ (x : List Row). newest state ++ filter test x) h.view ∙ ap (λ (x : List Row). newest state ++ x) mine ∙ sym h.view
 
-  newest-is : newest done ≡ map unmarked (own.view 0)
+  newest-is : newest done ≡ map unmarked (own.seen.view 0)
   newest-is = rw (eq-eqb (suc (versions_in state.entries)) (suc (versions_in state.entries)) refl) (ap (map unmarked) kept-rows)
 
   before-done : AllByRecursion (IsBefore (suc t)) (newest done)
-  before-done = subst (AllByRecursion (IsBefore (suc t))) (sym newest-is) (unmarked-before (suc t) (own.view 0) (subst (AllByRecursion (IsBefore (suc t))) (sym h.view)
+  before-done = subst (AllByRecursion (IsBefore (suc t))) (sym newest-is) (unmarked-before (suc t) (own.seen.view 0) (subst (AllByRecursion (IsBefore (suc t))) (sym h.view)
       (all-append (IsBefore (suc t)) (newest state) h.new (all-mapped (IsBefore t) (IsBefore (suc t)) (λ row before. omega (arith, before)) (newest state) h.before) h.recent)))
 
   pub commits : ((other : Plain) (l : ℕ) → Idle table rows t n bound other → Accepts other l cs P) → Accepts state line (y.Command.commit ∷ cs) P
@@ -258,7 +305,7 @@ module _ (table : Table) (rows : List (List Cell)) (t k n most bound line : ℕ)
         idle = refl;
         began = h.began;
         statements = h.statements;
-        cells = ap cells_in newest-is ∙ unmarked-cells (own.view 0) ∙ h.cells;
+        cells = ap cells_in newest-is ∙ unmarked-cells (own.seen.view 0) ∙ h.cells;
         before = before-done;
         published = let f = few-published in let g = h.published in let c = count-done in omega (arith, f, g, c, grows);
       }))
