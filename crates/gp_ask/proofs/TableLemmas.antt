@@ -9,7 +9,7 @@ use Rattle.gp_log.specs.LogFacts.{tables_in}
 use Rattle.gp_machine.specs.Actions.{Action, Create, Begin, Commit, Rollback, Run, action_of}
 use Rattle.gp_machine.specs.Conflicts.{Conflict}
 use Rattle.gp_machine.specs.Event as e
-use Rattle.gp_machine.specs.Event.{Line, after, conflict_of, count_refusal, creation_refusal, is_full, line_event, refusal_of}
+use Rattle.gp_machine.specs.Event.{Line, after, conflict_of, count_refusal, creation_refusal, is_full, line_event, refusal_of, start_now}
 use Rattle.gp_machine.specs.Entries.{statements_in, transactions_in}
 use Rattle.gp_machine.specs.Limits.{Limits}
 use Rattle.gp_machine.specs.State.{Active, State}
@@ -23,9 +23,9 @@ module _ {M : Type 0} (kind : Annotations M) (limits : Limits) (state : State M)
   creating table None = ap (λ tables. tables ++ table ∷ []) same
   creating table (Some refusal) = same
 
-  beginning : (full : Bool) → HasTables (e.beginning state line session full).0
-  beginning true = same
-  beginning false = same
+  beginning : (read_committed full : Bool) → HasTables (e.beginning state line session read_committed full).0
+  beginning read_committed true = same
+  beginning read_committed false = same
 
   committing : (active : Active M) (conflict : Option Conflict) (full : Bool) → HasTables (e.committing state line session active conflict full).0
   committing active None true = same
@@ -39,18 +39,18 @@ module _ {M : Type 0} (kind : Annotations M) (limits : Limits) (state : State M)
   running : (active : Active M) (command : Command) (refusal : Option Refusal) (checked : Result Statement Refusal)
       → HasTables (e.running kind state line session active command limits refusal checked).0
   running active command None (Ok statement) =
-      ran active command statement (refusal_of kind limits state.catalogue active.transaction (suc active.statements) statement active.view)
+      ran active command statement (refusal_of kind limits state.catalogue active.transaction (suc active.statements) statement (start_now state active))
   running active command None (Err refusal) = same
   running active command (Some refusal) checked = same
 
   answered : (active : Option (Active M)) (action : Action) → HasTables (e.answered kind limits state line session active action).0
   answered None (Create table) = creating table (creation_refusal limits state.catalogue table)
-  answered None Begin = beginning (nat_le limits.transactions (transactions_in state.entries))
+  answered None (Begin read_committed) = beginning read_committed (nat_le limits.transactions (transactions_in state.entries))
   answered None Commit = same
   answered None Rollback = same
   answered None (Run command) = same
   answered (Some active) (Create table) = same
-  answered (Some active) Begin = same
+  answered (Some active) (Begin read_committed) = same
   answered (Some active) Commit = committing active (conflict_of state active) (is_full limits state active)
   answered (Some active) Rollback = same
   answered (Some active) (Run command) =

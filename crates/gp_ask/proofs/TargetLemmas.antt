@@ -18,7 +18,7 @@ there tables name none = ltb-true (number_of_table tables name) (length tables) 
 
 target : (tables : List Table) (command : Command) → first_refusal tables command ≡ None → HasTarget (length tables) (statement_of tables command)
 target tables (y.create table) none = tt
-target tables y.begin none = tt
+target tables (y.begin read_committed) none = tt
 target tables y.Command.commit none = tt
 target tables y.rollback none = tt
 target tables (y.insert table rows) none = there tables table (none_of (table_fault tables table) _ none).0
