@@ -1,5 +1,5 @@
-//! The program gprom: it runs a script of transactions under snapshot isolation, writes the dump of their history, and answers
-//! questions from such a dump. All that it does is [`gprom_cli::gprom`], called here on the files and the standard output of the
+//! The program gprom: it runs a script of transactions, each under snapshot isolation or read committed, writes the dump of their
+//! history, and answers questions from such a dump. All that it does is [`gprom_cli::gprom`], called here on the files and the standard output of the
 //! system.
 #![tactic(auto)]
 

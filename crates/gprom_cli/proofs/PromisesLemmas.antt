@@ -8,6 +8,7 @@ use Rattle.gp_script.specs.History.{final_state, replies_of, replies_text, has_r
 use Rattle.gp_script.specs.declared.script.TheConstants.{MAX_SCRIPT_LENGTH}
 use Rattle.gp_dump.specs.declared.dump.TheConstants.{MAX_DUMP_LENGTH}
 use Rattle.gp_dump.specs.Dumps.{Dump, IsDump, WellFormed, dump_of}
+use Rattle.gp_dump.proofs.LawLemmas.{written-well-formed}
 use Rattle.gp_dump.specs.Rules.{Holds, verdict_on}
 use Rattle.gp_ask.specs.Answers.{answer_to, held_to}
 use Rattle.gp_ask.specs.Explained.{ExplainsQuestions}
@@ -223,7 +224,7 @@ module _ (laws : DumpLaws) (call : Call) (has : HasOutcome call) where
       (answered_status (has_refused (held_to (final_state monomials script)) questions)) call.sink call.sink_after call.status
   held files dump name script questions ask is quiet brief found small asked short =
       let contents = dump_of (final_state plain script) in
-      let holds : verdict_on (script_dump script) ≡ Holds contents = laws.reads (script_dump script) contents (record { text = refl; rules = laws.formed script brief }) in
+      let holds : verdict_on (script_dump script) ≡ Holds contents = laws.reads (script_dump script) contents (written-well-formed contents (laws.formed script brief)) in
       let expected : outcome_by call.command files ≡ Answered contents questions =
       ap (λ (c : Option Command). outcome_by c files) ask ∙ ask-outcome files dump name (script_dump script) questions contents found small asked short holds in
       let answered : WritesOutput (answers_text (answer_to contents) questions) (answered_status (has_refused (answer_to contents) questions)) call.sink call.sink_after call.status =

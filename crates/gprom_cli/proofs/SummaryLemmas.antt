@@ -15,7 +15,7 @@ use Rattle.gp_script.specs.History.{final_state}
 use Rattle.gp_dump.specs.Dumps.{Dump, IsDump, dump_of, spans_in}
 use Rattle.gp_dump.specs.Rules.{Holds, Fails, verdict_on}
 use Rattle.gp_dump.specs.Views.{tables_view}
-use Rattle.gp_dump.proofs.LawLemmas.{read}
+use Rattle.gp_dump.proofs.LawLemmas.{read, written-well-formed}
 use Rattle.gp_ask.specs.Answers.{answer_to, held_to}
 use Rattle.gprom_cli.specs.declared.summary.Summary.{Summary}
 use Rattle.gprom_cli.specs.Call.{script_dump}
@@ -80,7 +80,7 @@ spans-by versions = sum-map (λ (spans : List Span). length spans) (tables_view 
 transactions-few : (entries : List Entry) → transactions_in entries ≤ length entries
 transactions-few [] = omega arith
 transactions-few (Created line session table ∷ older) = let before = transactions-few older in omega (arith, before)
-transactions-few (Began line session t ∷ older) = let before = transactions-few older in omega (arith, before)
+transactions-few (Began line session t level ∷ older) = let before = transactions-few older in omega (arith, before)
 transactions-few (Ran line session command t statement ∷ older) = let before = transactions-few older in omega (arith, before)
 transactions-few (Committed line session t ∷ older) = let before = transactions-few older in omega (arith, before)
 transactions-few (Ended line session end t ∷ older) = let before = transactions-few older in omega (arith, before)
@@ -88,7 +88,7 @@ transactions-few (Ended line session end t ∷ older) = let before = transaction
 versions-few : (entries : List Entry) → versions_in entries ≤ length entries
 versions-few [] = omega arith
 versions-few (Created line session table ∷ older) = let before = versions-few older in omega (arith, before)
-versions-few (Began line session t ∷ older) = let before = versions-few older in omega (arith, before)
+versions-few (Began line session t level ∷ older) = let before = versions-few older in omega (arith, before)
 versions-few (Ran line session command t statement ∷ older) = let before = versions-few older in omega (arith, before)
 versions-few (Committed line session t ∷ older) = let before = versions-few older in omega (arith, before)
 versions-few (Ended line session end t ∷ older) = let before = versions-few older in omega (arith, before)
@@ -132,14 +132,14 @@ short-questions entries few =
 -- a dump that was read is the one that was written
 pub same-dump : (script bytes : List ℕ) (dump : Dump) → IsDump (dump_of (final_state plain script)) → bytes ≡ script_dump script → verdict_on bytes ≡ Holds dump → dump ≡ dump_of (final_state plain script)
 same-dump script bytes dump rules same holds =
-    let written = read (script_dump script) (dump_of (final_state plain script)) (record { text = refl; rules = rules }) in
+    let written = read (script_dump script) (dump_of (final_state plain script)) (written-well-formed (dump_of (final_state plain script)) rules) in
     let both : Holds dump ≡ Holds (dump_of (final_state plain script)) = sym holds ∙ ap verdict_on same ∙ written in
     cc
 
 -- and it is read
 pub no-fault-there : (script bytes : List ℕ) (f line : ℕ) → IsDump (dump_of (final_state plain script)) → bytes ≡ script_dump script → verdict_on bytes ≡ Fails f line → ⊥
 no-fault-there script bytes f line rules same fails =
-    let written = read (script_dump script) (dump_of (final_state plain script)) (record { text = refl; rules = rules }) in
+    let written = read (script_dump script) (dump_of (final_state plain script)) (written-well-formed (dump_of (final_state plain script)) rules) in
     let both : Fails f line ≡ Holds (dump_of (final_state plain script)) = sym fails ∙ ap verdict_on same ∙ written in
     cc
 

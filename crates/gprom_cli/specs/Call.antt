@@ -8,7 +8,7 @@ use Rattle.gp_io.specs.Sink.{SinkState, appended, WritesPrefix, Increased}
 use Rattle.gp_script.specs.History.{final_state, replies_of, replies_text, has_refusal}
 use Rattle.gp_script.specs.declared.script.TheConstants.{MAX_SCRIPT_LENGTH}
 use Rattle.gp_dump.specs.declared.dump.TheConstants.{MAX_DUMP_LENGTH}
-use Rattle.gp_dump.specs.Dumps.{Dump, WellFormed, dump_of, dump_text}
+use Rattle.gp_dump.specs.Dumps.{Dump, WellFormed, dump_of, written_text}
 use Rattle.gp_dump.specs.Rules.{Verdict, Holds, Fails, verdict_on, first_fault}
 use Rattle.gp_ask.specs.Answers.{answer_to}
 use Rattle.gp_ask.specs.Explained.{ExplainsQuestions}
@@ -56,7 +56,7 @@ pub record WritesOutput (text : List ℕ) (expected : Status) (before after : Si
 
 -- the text of the dump of a script
 abbrev pub script_dump : List ℕ → List ℕ
-script_dump script = dump_text (dump_of (final_state plain script))
+script_dump script = written_text (dump_of (final_state plain script))
 
 -- what becomes of a call, before its output is written
 pub data Outcome : Type 0 where
