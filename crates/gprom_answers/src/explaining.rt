@@ -1,7 +1,7 @@
 //! The query that a past transaction was, merged, as text.
 
 use crate::call::{Asked, plays};
-use crate::scripts::{BANK, DIFFERENT_ROWS, LARGE_QUERIES, PAIRS};
+use crate::scripts::{BANK, DIFFERENT_ROWS, LARGE_QUERIES, PAIRS, TWO_VERSIONS};
 use std::test::Fail;
 
 /// A transaction that updates all rows eight times.
@@ -13,6 +13,12 @@ const ASKED: &[Asked] = &[
     (
         DIFFERENT_ROWS,
         b"EXPLAIN REENACT 3 COMMIT SELECT * FROM r\n> 1 program 1\n>   QUERY PROJECT(PUBLISH(3, SCAN(r, 1), PROJECT(SCAN(r, 1), #1, CASE WHEN (#1 = 2) THEN (#2 + 5) ELSE #2 END, #3, CASE WHEN (#1 = 2) THEN YES ELSE #4 END), SCAN(r, 2)), #1, #2)\nEXPLAIN AS OF 2 SELECT * FROM r\n> 2 program 1\n>   QUERY PROJECT(SCAN(r, 2), #1, #2)\n",
+        0,
+    ),
+    // The second statement of a read committed transaction reads the next version, with what the first one wrote.
+    (
+        TWO_VERSIONS,
+        b"REENACT 2 AFTER 1 SELECT * FROM r\n> 1 rows 2\n>   1, 11\n>   2, 20\nPROVENANCE OF REENACT 2 AFTER 2 SELECT * FROM r\n> 2 rows 2\n>   1, 22 : i1.1.1*u2.1*u2.2\n>   2, 50 : i1.1.2*u2.2*u3.1\nEXPLAIN REENACT 2 AFTER 2 SELECT * FROM r\n> 3 program 1\n>   QUERY PROJECT(PUBLISH(3, SCAN(r, 1), PROJECT(SCAN(r, 1), #1, CASE WHEN (#1 = 1) THEN (#2 + 1) ELSE #2 END, #3, CASE WHEN (#1 = 1) THEN YES ELSE #4 END), SCAN(r, 2)), #1, CASE WHEN TRUE THEN (#2 * 2) ELSE #2 END)\n",
         0,
     ),
     // A DELETE keeps a row unless its condition is true.

@@ -4,6 +4,10 @@
 pub(crate) const DIFFERENT_ROWS: &[u8] =
     b"s1: CREATE TABLE r (a INT, b INT)\ns1: BEGIN\ns1: INSERT INTO r VALUES (1, 10), (2, 20)\ns1: COMMIT\ns1: BEGIN\ns2: BEGIN\ns1: UPDATE r SET b = b + 1 WHERE a = 1\ns2: UPDATE r SET b = b + 5 WHERE a = 2\ns1: COMMIT\ns2: COMMIT\n";
 
+/// A read committed transaction whose two statements read two versions.
+pub(crate) const TWO_VERSIONS: &[u8] =
+    b"s1: CREATE TABLE r (a INT, b INT)\ns1: BEGIN\ns1: INSERT INTO r VALUES (1, 10), (2, 20)\ns1: COMMIT\ns1: BEGIN READ COMMITTED\ns1: UPDATE r SET b = b + 1 WHERE a = 1\ns2: BEGIN\ns2: UPDATE r SET b = b + 5 WHERE a = 2\ns2: COMMIT\ns1: UPDATE r SET b = b * 2\ns1: COMMIT\n";
+
 /// A transaction inserts a row for each pair of rows.
 pub(crate) const PAIRS: &[u8] =
     b"s1: CREATE TABLE r (a INT)\ns1: BEGIN\ns1: INSERT INTO r VALUES (1), (2)\ns1: COMMIT\ns1: BEGIN\ns1: INSERT INTO r SELECT x.a + y.a FROM r x, r y\ns1: COMMIT\n";

@@ -46,6 +46,8 @@ const CHANGES: &[Change] = &[
     ),
     (10, b"8 s2 EXPLAIN\n", b"F07 at line 10"),
     (12, b"10 s2 lost\n", b"F07 at line 12"),
+    (7, b"5 s1 BEGIN READ COMMITTED\n", b"F07 at line 7"),
+    (7, b"5 s1 BEGIN READ\n", b"F07 at line 7"),
     (4, b"2 s1 COMMIT\n", b"F08 at line 4"),
     (4, b"2 s1 LOST\n", b"F08 at line 4"),
     (5, b"3 s1 BEGIN\n", b"F08 at line 5"),
@@ -156,6 +158,15 @@ const NO_DUMPS: &[(&[u8], &[u8])] = &[
         b"gprom-dump 1\nlog 1\n1 s1 CREATE TABLE r (a INT)\nend\n",
         b"dump refused: F10 at line 4\n",
     ),
+    (b"gprom-dump 2", b"dump refused: F03 at line 1\n"),
+    (
+        b"gprom-dump 2\nlog 1\n1 s1 begin read committed\nend\n",
+        b"dump refused: F07 at line 3\n",
+    ),
+    (
+        b"gprom-dump 1\nlog 11\n1 s1 CREATE TABLE r (a INT, b INT)\n2 s1 BEGIN\n3 s1 INSERT INTO r VALUES (1, 10), (2, 20)\n4 s1 COMMIT\n5 s1 BEGIN READ COMMITTED\n6 s1 UPDATE r SET b = (b + 1) WHERE (a = 1)\n7 s2 BEGIN\n8 s2 UPDATE r SET b = (b + 5) WHERE (a = 2)\n9 s2 COMMIT\n10 s1 UPDATE r SET b = (b * 2)\n11 s1 COMMIT\ntable r 5\n1.1.1 1 3 1, 10\n1.1.1 3 - 1, 22\n1.1.2 1 2 2, 20\n1.1.2 2 3 2, 25\n1.1.2 3 - 2, 50\nend\n",
+        b"dump refused: F07 at line 7\n",
+    ),
 ];
 
 #[test]
@@ -170,6 +181,8 @@ fn a_dump_has_all_its_lines(rt: HostRuntime) -> Result<(), Fail> {
 const DUMPS: &[&[u8]] = &[
     DUMP,
     b"gprom-dump 1\nlog 0\nend\n",
+    b"gprom-dump 2\nlog 0\nend\n",
+    b"gprom-dump 2\nlog 2\n1 s1 BEGIN READ COMMITTED\n2 s2 BEGIN\nend\n",
     b"gprom-dump 1\nlog 3\n16777215 s64 CREATE TABLE r (a TEXT)\n16777216 s1 BEGIN\n16777217 s1 COMMIT\ntable r 1\n999999999.999999999.999999999(1.1.1,2.1.1(3.1.1)) 1 - 'it''s, too'\nend\n",
     b"gprom-dump 1\nlog 5\n1 s1 CREATE TABLE r (a INT)\n2 s1 BEGIN\n3 s1 COMMIT\n4 s1 BEGIN\n5 s1 COMMIT\ntable r 3\n1.1.1 1 2 -9223372036854775808\n1.1.1 2 - NULL\n1.1.1(1.1.1) 1 - 9223372036854775807\nend\n",
 ];

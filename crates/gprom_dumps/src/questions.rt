@@ -22,6 +22,10 @@ const BANK_QUESTIONS: &[u8] =
 /// A script, questions to its dump with their answers, and the status.
 pub type Asked = (&'static [u8], &'static [u8], u8);
 
+/// A table of 240 rows.
+pub const MANY_ROWS: &[u8] =
+    b"s1: CREATE TABLE r (a INT)\ns1: BEGIN\ns1: INSERT INTO r VALUES (1), (1), (1), (1), (1), (1), (1), (1), (1), (1), (1), (1), (1), (1), (1)\ns1: INSERT INTO r SELECT x.a + 1 FROM r x, r y\ns1: COMMIT\n";
+
 const ASKED: &[Asked] = &[
     // What the log says of transactions; transaction 0 is none.
     (
@@ -68,9 +72,21 @@ const ASKED: &[Asked] = &[
     ),
     // An answer has 50,000 rows at most.
     (
-        b"s1: CREATE TABLE r (a INT)\ns1: BEGIN\ns1: INSERT INTO r VALUES (1), (1), (1), (1), (1), (1), (1), (1), (1), (1), (1), (1), (1), (1), (1)\ns1: INSERT INTO r SELECT x.a + 1 FROM r x, r y\ns1: COMMIT\n",
+        MANY_ROWS,
         b"AS OF 1 SELECT x.a FROM r x, r y\n> 1 E27 more than 50000 rows\nAS OF 1 SELECT x.a FROM r x, r y WHERE x.a = 3\n> 2 rows 0\nAS OF 2 SELECT x.a FROM r x, r y\n> 3 E23 versions end at 1\n",
         1,
+    ),
+    // The limit is found while the choices are made: there are over three thousand million of them here.
+    (
+        MANY_ROWS,
+        b"AS OF 1 SELECT x.a FROM r x, r y, r z, r v\n> 1 E27 more than 50000 rows\nAS OF 1 SELECT x.a FROM r x, r y, r z, r v WHERE 4 != x.a\n> 2 E27 more than 50000 rows\nAS OF 1 SELECT a FROM r WHERE a = 3 UNION ALL SELECT x.a FROM r x, r y, r z\n> 3 E27 more than 50000 rows\n",
+        1,
+    ),
+    // Few choices of three tables satisfy a condition.
+    (
+        BANK,
+        b"AS OF 3 SELECT o.name, x.bal, a.amt FROM owner o, acct x, audit a WHERE o.id = x.id AND a.id = x.id\n> 1 rows 2\n>   'Ann', 70, 70\n>   'Bo', 80, 80\nAS OF 3 SELECT o.name, x.bal FROM owner o, acct x, audit a WHERE x.bal + a.amt = 87 AND o.id < a.id\n> 2 rows 1\n>   'Ann', 7\n",
+        0,
     ),
     // Provenance, a program and values, one of each.
     (

@@ -1,6 +1,8 @@
 //! Past transactions, replayed from the dumps of scripts and from dumps that no script makes.
 
-use crate::questions::{ALTERED, Asked, BANK, LOST_UPDATE, dump_answers, exploding_dump, plays};
+use crate::questions::{
+    ALTERED, Asked, BANK, LOST_UPDATE, MANY_ROWS, dump_answers, exploding_dump, plays,
+};
 use std::alloc::{AllocError, Global};
 use std::test::Fail;
 
@@ -65,8 +67,14 @@ const ASKED: &[Asked] = &[
     ),
     // An answer has 50,000 rows at most.
     (
-        b"s1: CREATE TABLE r (a INT)\ns1: BEGIN\ns1: INSERT INTO r VALUES (1), (1), (1), (1), (1), (1), (1), (1), (1), (1), (1), (1), (1), (1), (1)\ns1: INSERT INTO r SELECT x.a + 1 FROM r x, r y\ns1: COMMIT\n",
+        MANY_ROWS,
         b"REENACT 1 AFTER 1 SELECT x.a FROM r x, r y WHERE x.a = 2\n> 1 rows 0\nREENACT 1 AFTER 2 SELECT x.a FROM r x, r y\n> 2 E27 more than 50000 rows\nREENACT 1 COMMIT SELECT x.a FROM r x, r y\n> 3 E27 more than 50000 rows\n",
+        1,
+    ),
+    // The limit is found while the choices are made: there are over three thousand million of them here.
+    (
+        MANY_ROWS,
+        b"REENACT 1 COMMIT SELECT x.a FROM r x, r y, r z, r v WHERE 4 != x.a\n> 1 E27 more than 50000 rows\nREENACT 1 AFTER 2 SELECT x.a FROM r x, r y, r z, r v\n> 2 E27 more than 50000 rows\nREENACT 1 AFTER 1 SELECT x.a FROM r x, r y, r z WHERE x.a + y.a = z.a\n> 3 rows 0\n",
         1,
     ),
 ];
@@ -142,6 +150,20 @@ fn rows_come_before_identities(rt: HostRuntime) -> Result<(), Fail> {
     )?;
     let questions = b"REENACT 1 AFTER 65 SELECT * FROM r\n";
     let answers = b"1 E25 rows over limit in transaction 1 at 65\n";
+    assert!(rt; dump_answers(rt.alloc(), &dump, questions, answers, 1)?);
+    Ok(())
+}
+
+/// The rows of a statement are counted while they are made: the last one would append more than sixteen million.
+#[test]
+fn rows_are_counted_as_they_are_made(rt: HostRuntime) -> Result<(), Fail> {
+    let dump = deep_dump(
+        rt.alloc(),
+        b"INSERT INTO r SELECT x.a FROM r x, r y, r z, r v",
+    )?;
+    let questions = b"REENACT 1 AFTER 65 SELECT * FROM r\nREENACT 1 COMMIT SELECT * FROM r\n";
+    let answers =
+        b"1 E25 rows over limit in transaction 1 at 65\n2 E25 rows over limit in transaction 1 at 65\n";
     assert!(rt; dump_answers(rt.alloc(), &dump, questions, answers, 1)?);
     Ok(())
 }

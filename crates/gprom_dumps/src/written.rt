@@ -35,6 +35,27 @@ const SCRIPTS: &[Written] = &[
         b"gprom-dump 1\nlog 7\n1 s1 CREATE TABLE r (a INT)\n2 s1 BEGIN\n3 s1 INSERT INTO r VALUES (1)\n4 s1 DELETE FROM r WHERE (a = 1)\n5 s1 COMMIT\n8 s2 BEGIN\n10 s2 INSERT INTO r VALUES (NULL)\ntable r 0\nend\n",
         1,
     ),
+    // The second statement of a read committed transaction reads what another one committed since its first. The dump has the second format.
+    (
+        b"s1: CREATE TABLE r (a INT, b INT)\ns1: BEGIN\ns1: INSERT INTO r VALUES (1, 10), (2, 20)\ns1: COMMIT\ns1: BEGIN READ COMMITTED\ns1: UPDATE r SET b = b + 1 WHERE a = 1\ns2: BEGIN\ns2: UPDATE r SET b = b + 5 WHERE a = 2\ns2: COMMIT\ns1: UPDATE r SET b = b * 2\ns1: COMMIT\n",
+        b"1 created r\n2 begin 1 at 0\n3 wrote 2\n4 committed 1 as 1\n5 begin 2 at 1\n6 wrote 1\n7 begin 3 at 1\n8 wrote 1\n9 committed 3 as 2\n10 wrote 2\n11 committed 2 as 3\n",
+        b"gprom-dump 2\nlog 11\n1 s1 CREATE TABLE r (a INT, b INT)\n2 s1 BEGIN\n3 s1 INSERT INTO r VALUES (1, 10), (2, 20)\n4 s1 COMMIT\n5 s1 BEGIN READ COMMITTED\n6 s1 UPDATE r SET b = (b + 1) WHERE (a = 1)\n7 s2 BEGIN\n8 s2 UPDATE r SET b = (b + 5) WHERE (a = 2)\n9 s2 COMMIT\n10 s1 UPDATE r SET b = (b * 2)\n11 s1 COMMIT\ntable r 5\n1.1.1 1 3 1, 10\n1.1.1 3 - 1, 22\n1.1.2 1 2 2, 20\n1.1.2 2 3 2, 25\n1.1.2 3 - 2, 50\nend\n",
+        0,
+    ),
+    // A snapshot transaction with the same statements is lost.
+    (
+        b"s1: CREATE TABLE r (a INT, b INT)\ns1: BEGIN\ns1: INSERT INTO r VALUES (1, 10), (2, 20)\ns1: COMMIT\ns1: BEGIN\ns1: UPDATE r SET b = b + 1 WHERE a = 1\ns2: BEGIN\ns2: UPDATE r SET b = b + 5 WHERE a = 2\ns2: COMMIT\ns1: UPDATE r SET b = b * 2\ns1: COMMIT\n",
+        b"1 created r\n2 begin 1 at 0\n3 wrote 2\n4 committed 1 as 1\n5 begin 2 at 1\n6 wrote 1\n7 begin 3 at 1\n8 wrote 1\n9 committed 3 as 2\n10 wrote 2\n11 E11 transaction 2 lost to 3 on r 1.1.2\n",
+        b"gprom-dump 1\nlog 11\n1 s1 CREATE TABLE r (a INT, b INT)\n2 s1 BEGIN\n3 s1 INSERT INTO r VALUES (1, 10), (2, 20)\n4 s1 COMMIT\n5 s1 BEGIN\n6 s1 UPDATE r SET b = (b + 1) WHERE (a = 1)\n7 s2 BEGIN\n8 s2 UPDATE r SET b = (b + 5) WHERE (a = 2)\n9 s2 COMMIT\n10 s1 UPDATE r SET b = (b * 2)\n11 s1 LOST\ntable r 3\n1.1.1 1 - 1, 10\n1.1.2 1 2 2, 20\n1.1.2 2 - 2, 25\nend\n",
+        1,
+    ),
+    // So is a read committed one, if the other commits a row after its own first write of the row.
+    (
+        b"s1: CREATE TABLE r (a INT, b INT)\ns1: BEGIN\ns1: INSERT INTO r VALUES (1, 10), (2, 20)\ns1: COMMIT\ns1: BEGIN READ COMMITTED\ns1: UPDATE r SET b = b + 1 WHERE a = 1\ns2: BEGIN\ns2: UPDATE r SET b = b + 5 WHERE a = 1\ns2: COMMIT\ns1: UPDATE r SET b = b * 2\ns1: COMMIT\n",
+        b"1 created r\n2 begin 1 at 0\n3 wrote 2\n4 committed 1 as 1\n5 begin 2 at 1\n6 wrote 1\n7 begin 3 at 1\n8 wrote 1\n9 committed 3 as 2\n10 wrote 2\n11 E11 transaction 2 lost to 3 on r 1.1.1\n",
+        b"gprom-dump 2\nlog 11\n1 s1 CREATE TABLE r (a INT, b INT)\n2 s1 BEGIN\n3 s1 INSERT INTO r VALUES (1, 10), (2, 20)\n4 s1 COMMIT\n5 s1 BEGIN READ COMMITTED\n6 s1 UPDATE r SET b = (b + 1) WHERE (a = 1)\n7 s2 BEGIN\n8 s2 UPDATE r SET b = (b + 5) WHERE (a = 1)\n9 s2 COMMIT\n10 s1 UPDATE r SET b = (b * 2)\n11 s1 LOST\ntable r 3\n1.1.1 1 2 1, 10\n1.1.1 2 - 1, 15\n1.1.2 1 - 2, 20\nend\n",
+        1,
+    ),
     // Texts with quotes and commas, tables in order of creation, identities with sources; a deleted row's span ends.
     (
         b"s1: CREATE TABLE v (x TEXT)\ns1: CREATE TABLE u (y TEXT, n INT)\ns1: BEGIN\ns1: INSERT INTO v VALUES ('a, ''b'''), ('')\ns1: INSERT INTO u SELECT x, -5 FROM v WHERE x <> ''\ns1: COMMIT\ns1: BEGIN\ns1: DELETE FROM v WHERE x = ''\ns1: COMMIT\ns1: BEGIN\ns1: ROLLBACK\n",

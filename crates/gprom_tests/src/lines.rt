@@ -79,6 +79,13 @@ fn reads(alloc: Global, line: &[u8], session: u32, text: &[u8]) -> bool {
 /// Lines, their sessions and their canonical texts.
 const COMMANDS: &[(&[u8], u32, &[u8])] = &[
     (b"s1: BEGIN", 1, b"BEGIN"),
+    (b"s1: BEGIN READ COMMITTED", 1, b"BEGIN READ COMMITTED"),
+    (b" s2:begin\tRead   committed ;", 2, b"BEGIN READ COMMITTED"),
+    (
+        b"s1: UPDATE read SET committed = 1",
+        1,
+        b"UPDATE read SET committed = 1",
+    ),
     (b"S64:commit;", 64, b"COMMIT"),
     (b"s7 : Rollback ;", 7, b"ROLLBACK"),
     (
@@ -167,13 +174,49 @@ fn canonical_texts_are_read_again(rt: HostRuntime) {
     }
 }
 
-/// Whether the question is refused so, or read if the text is empty.
-fn refuses(alloc: Global, line: &[u8], refusal: &str) -> bool {
-    match &read_question(alloc, line).err() {
+/// Whether there is this refusal, or none if the text is empty.
+fn is_refused(alloc: Global, stop: &Option<ReadStop>, refusal: &str) -> bool {
+    match stop {
         Some(ReadStop::Refused(stop)) => is_refusal(alloc, stop, refusal),
         Some(ReadStop::NoMemory) => false,
         None => refusal.is_empty(),
     }
+}
+
+/// Script lines in which READ or COMMITTED is in a wrong place, and one in which both are names.
+const MISPLACED: &[(&[u8], &str)] = &[
+    (b"s1: BEGIN READ", "E03 syntax fault at column 15"),
+    (b"s1: BEGIN READ;", "E03 syntax fault at column 15"),
+    (b"s1: BEGIN READ COMMIT", "E03 syntax fault at column 16"),
+    (
+        b"s1: begin read 'committed'",
+        "E03 syntax fault at column 16",
+    ),
+    (
+        b"s1: BEGIN READ COMMITTED x",
+        "E03 syntax fault at column 26",
+    ),
+    (b"s1: BEGIN COMMITTED", "E03 syntax fault at column 11"),
+    (b"s1: BEGIN COMMITTED READ", "E03 syntax fault at column 11"),
+    (b"s1: READ COMMITTED", "E03 syntax fault at column 5"),
+    (
+        b"s1: COMMIT READ COMMITTED",
+        "E03 syntax fault at column 12",
+    ),
+    (b"s1: CREATE TABLE read (committed INT)", ""),
+];
+
+#[test]
+fn misplaced_words_are_refused(rt: HostRuntime) {
+    for (line, refusal) in MISPLACED {
+        let stop = read_line(rt.alloc(), line).err();
+        assert!(rt; is_refused(rt.alloc(), &stop, refusal), "{line:?}");
+    }
+}
+
+/// Whether the question is refused so, or read if the text is empty.
+fn refuses(alloc: Global, line: &[u8], refusal: &str) -> bool {
+    is_refused(alloc, &read_question(alloc, line).err(), refusal)
 }
 
 /// Questions of each form, and some that are refused.
