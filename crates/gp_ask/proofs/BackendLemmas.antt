@@ -1,5 +1,5 @@
 -- Answers over a backend, and over the executor.
-use Rattle.std.proofs.Common.{◌≡◌, ℕ, true, false, List, Vec, Global, refl, sym, ap, ◌∙◌, subst, Option, Some, None, Result, Ok, Err}
+use Rattle.std.proofs.Common.{◌≡◌, ℕ, true, false, List, refl, ap, ◌∙◌, Option, Some, None, Result, Ok, Err}
 use Rattle.gp_base.specs.declared.cell.Cell.{Cell}
 use Rattle.gp_base.specs.declared.refusal.Refusal.{Refusal}
 use Rattle.gp_base.specs.declared.refusal.Refusal.TheVariants.{E25, E26, E27}
@@ -23,17 +23,16 @@ use Rattle.gp_travel.specs.Encoding.{encoded}
 use Rattle.gp_travel.specs.Travel as travels
 use Rattle.gp_versions.specs.declared.span.Span.{Span}
 use Rattle.gp_versions.specs.Spans.{Versions}
-use Rattle.gp_reenact.specs.Backends.{IsGivenOver, IsStop, RefusedBy, ReenactsBy}
-use Rattle.gp_reenact.specs.declared.error.ReenactStop.{ReenactStop}
+use Rattle.gp_reenact.specs.Backends.{IsGivenOver, RefusedBy}
 use Rattle.gp_reenact.specs.declared.error.ReenactStop.TheVariants as stop
-use Rattle.gp_reenact.specs.Reenacting.{Reenacts, RunsOver, merged_at, spans_of, stopped, transaction_at}
+use Rattle.gp_reenact.specs.Reenacting.{RunsOver, merged_at, spans_of, stopped, transaction_at}
 use Rattle.gp_reenact.proofs.BackendLemmas.{runs_over_same}
 use Rattle.gp_reenact.proofs.ReplayLemmas.{Replays, found_is, planned_replays, stop_is}
 use Rattle.gp_dump.specs.Views.{tables_view}
 use Rattle.gp_ask.specs.declared.answered.Answered.{Answered}
 use Rattle.gp_ask.specs.declared.answered.Answered.TheVariants.{Refused, Rows}
 use Rattle.gp_ask.specs.Answers.{of_elements, query_answer, spans_at}
-use Rattle.gp_ask.specs.Backends.{AnswersChecked, AnswersQuery, IsAnswered, Shows}
+use Rattle.gp_ask.specs.Backends.{AnswersQuery, IsAnswered, Shows}
 use Rattle.gp_ask.proofs.ReenactedLemmas.{dump-spans, in-order, refused}
 
 -- the rows of past versions, of the code and of its dump

@@ -1,5 +1,5 @@
 -- What the check makes of a query has as many items in each FROM.
-use Rattle.std.proofs.Common.{◌≡◌, ◌≤◌, Bool, true, false, not, ltb, List, [], ◌∷◌, length, map, Option, Some, None, Result, Ok, refl, sym, ap, subst}
+use Rattle.std.proofs.Common.{◌≡◌, ◌≤◌, Bool, true, false, not, ltb, List, [], ◌∷◌, length, Option, Some, None, Ok, refl, sym, ap, subst}
 use Rattle.std.specs.Result.{result_unwrap_or}
 use Rattle.std.proofs.lemmas.Bool.{ltb-false}
 use Rattle.std.proofs.lemmas.List.{length-map}

@@ -1,5 +1,6 @@
 mod BackendLemmas
 mod FewLemmas
+mod FormatLemmas
 mod HeldLemmas
 mod LogLemmas
 mod ProvenanceLemmas

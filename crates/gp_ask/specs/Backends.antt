@@ -1,6 +1,6 @@
 -- Part of the statement: the answer to a question about rows over a backend. A question is refused first as any other is: its version, transaction or
 -- statement is not in the log, or the check of its query. Then what the backend gives for the merged program decides alone.
-use Rattle.std.specs.Prelude.{◌≡◌, ℕ, Bool, true, false, List, Option, Some, None, Result, Ok, Err}
+use Rattle.std.specs.Prelude.{◌≡◌, ℕ, true, false, List, Option, Some, None, Result, Ok, Err}
 use Rattle.gp_base.specs.declared.refusal.Refusal.{Refusal}
 use Rattle.gp_base.specs.declared.refusal.Refusal.TheVariants.{E25, E26, E27}
 use Rattle.gp_base.specs.declared.table.Table.{Table}
@@ -57,8 +57,3 @@ module _ (gives : PlainProgram → PlainEnvironment → Given → Type 0) where
   AnswersBy dump (y.ask y.rows point query) answered =
       AnswersQuery (tables_in dump.entries) (transaction_at point) (merged_at false dump.entries point) (past_of dump) (log_refusal dump.entries point) (checked_query (tables_in dump.entries) query) answered
   AnswersBy dump question answered = Unit {0}
-
--- a plain AS OF or REENACT
-abbrev pub asks_rows : y.Question → Bool
-asks_rows (y.ask y.rows point query) = true
-asks_rows question = false

@@ -2,6 +2,7 @@ pub mod Answerable
 pub mod Answers
 pub mod Backends
 pub mod Explained
+pub mod Formats
 pub mod Lines
 pub mod Operations
 pub mod Programs

@@ -7,7 +7,8 @@ use Rattle.gp_syntax.specs.Lines.{script_lines}
 use Rattle.gp_syntax.specs.Refusals.{refusal_of}
 use Rattle.gp_ask.specs.declared.answered.Answered.{Answered}
 use Rattle.gp_ask.specs.declared.answered.Answered.TheVariants.{Rows, Listed, Values, Log, Versions, Program, Refused}
-use Rattle.gp_ask.specs.Texts.{answer_text}
+use Rattle.gp_ask.specs.declared.format.Format.{Format}
+use Rattle.gp_ask.specs.Formats.{answers_in, text_in}
 
 abbrev pub is_refused : Answered → Bool
 is_refused (Refused refusal) = true
@@ -29,8 +30,13 @@ module _ (answers : y.Question → Answered) where
   abbrev pub line_answer : ℕ × List ℕ → Answered
   line_answer line = answered (question_of line.1)
 
+module _ (format : Format) (answers : y.Question → Answered) where
+  -- the answer to a line in a format
+  abbrev pub line_answer_in : ℕ × List ℕ → Answered
+  line_answer_in line = line_answer (answers_in format answers) line
+
   abbrev pub line_answer_text : ℕ × List ℕ → List ℕ
-  line_answer_text line = answer_text line.0 (line_answer line)
+  line_answer_text line = text_in format line.0 (line_answer_in line)
 
   -- the answers to the lines of a file, one after another
   abbrev pub answers_text : List ℕ → List ℕ
@@ -38,4 +44,4 @@ module _ (answers : y.Question → Answered) where
 
   -- whether some question is refused
   abbrev pub has_refused : List ℕ → Bool
-  has_refused questions = list_any (λ line. is_refused (line_answer line)) (script_lines questions)
+  has_refused questions = list_any (λ line. is_refused (line_answer_in line)) (script_lines questions)

@@ -1,7 +1,6 @@
 //! Answering questions.
 
 ghost use Rattle.std.specs.Prelude.{◌≡◌, true, IfOk};
-ghost use Rattle.gp_grammar.specs.LineReading.{question_of};
 ghost use Rattle.gp_grammar.specs.Syntax as y;
 ghost use Rattle.gp_syntax.specs.Views.{how_view, query_view, question_view, state_view};
 ghost use Rattle.gp_check.specs.Valid.{query_is_valid, tables_are_valid};
@@ -10,9 +9,9 @@ ghost use Rattle.gp_dump.specs.Dumps.{IsDump};
 ghost use Rattle.gp_dump.specs.Views.{dump_view};
 ghost use Rattle.gp_ask.specs.Answerable.{has_few_items, question_is_valid};
 ghost use Rattle.gp_ask.specs.Answers.{answer_to};
-ghost use Rattle.gp_ask.specs.Backends.{AnswersBy, asks_rows};
-ghost use Rattle.gp_ask.specs.Explained.{ExplainsQuestion, ExplainsRead};
-ghost use Rattle.gp_ask.specs.Questions.{answered};
+ghost use Rattle.gp_ask.specs.Backends.{AnswersBy};
+ghost use Rattle.gp_ask.specs.Explained.{ExplainsQuestion};
+ghost use Rattle.gp_ask.specs.Formats.{asks_rows};
 
 use crate::answered::Answered;
 use crate::logs::log_answer;
@@ -24,7 +23,7 @@ use crate::values::value_answer;
 use gp_base::NoMemory;
 use gp_dump::Dump;
 use gp_exec::Backend;
-use gp_syntax::{How, Query, Question, ReadStop, State, read_question};
+use gp_syntax::{How, Query, Question, State};
 use std::alloc::Global;
 
 /// Answers a query over a state.
@@ -137,22 +136,5 @@ pub fn answer_by<B: Backend>(
             ask_answer_by(alloc, dump, how, *state, query, backend)
         }
         _ => unreachable!(),
-    }
-}
-
-/// Answers a line of a file of questions from a dump. A line that is no question is refused as
-/// [`read_question`](gp_syntax::read_question) refuses it, any other as [`answer`] does. Running out of memory is the only error.
-pub fn answer_line(alloc: Global, dump: &Dump, line: &[u8]) -> Result<Answered, NoMemory>
-    requires rules { IsDump (dump_view dump.now) }
-    requires valid { tables_are_valid (tables_in (dump_view dump.now).entries) ≡ true }
-    ensures answered { IfOk result (λ found. found
-        ≡ answered (answer_to (dump_view dump.now)) (question_of line.now)) }
-    ensures explained { IfOk result (λ found.
-        ExplainsRead (dump_view dump.now).entries (question_of line.now)) }
-{
-    match read_question(alloc, line) {
-        Ok(question) => answer(alloc, dump, &question),
-        Err(ReadStop::Refused(refusal)) => Ok(Answered::Refused(refusal)),
-        Err(ReadStop::NoMemory) => Err(NoMemory),
     }
 }

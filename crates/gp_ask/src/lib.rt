@@ -8,7 +8,8 @@
 //!
 //! In reading order: [`Answered`] is the answer to a question, [`answer`] answers a question that was read, [`answer_line`]
 //! a line, [`answer_by`] a plain AS OF or REENACT by what a [`Backend`] gives, of which [`Plain`] is the executor, and
-//! [`write_answer`] writes the answer. In `specs/`, `Answers` says what the answer is, `Questions` which answers the lines of a file
+//! [`write_answer`] writes the answer. [`answer_line_in`] and [`write_answer_in`] do the same in a [`Format`]: as text, or as CSV. In
+//! `specs/`, `Answers` says what the answer is, `Formats` which of them are exported as CSV, `Questions` which answers the lines of a file
 //! get, and `Texts` how they are written. `Values` has the semirings and the rules of VALUE IN. Inside, `logs` answers LOG,
 //! `row_versions` VERSIONS, `queries` AS OF and REENACT, `provenance` PROVENANCE OF, and `values` VALUE IN.
 //!
@@ -22,6 +23,8 @@
 mod answered;
 mod answering;
 mod display;
+mod exporting;
+mod format;
 mod laws;
 mod logs;
 mod programs;
@@ -32,7 +35,9 @@ mod rules;
 mod values;
 
 pub use answered::{Answered, Valued};
-pub use answering::{answer, answer_by, answer_line};
+pub use answering::{answer, answer_by};
 pub use display::write_answer;
+pub use exporting::{answer_line, answer_line_in, write_answer_in};
+pub use format::Format;
 pub use gp_exec::{Backend, Plain};
 pub use laws::{histories_answer_as_their_dumps, read_questions_are_valid};

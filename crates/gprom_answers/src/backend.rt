@@ -9,7 +9,7 @@ ghost use Rattle.gp_log.specs.LogFacts.{tables_in};
 ghost use Rattle.gp_dump.specs.Dumps.{IsDump};
 ghost use Rattle.gp_dump.specs.Views.{dump_view};
 ghost use Rattle.gp_ask.specs.Answerable.{question_is_valid};
-ghost use Rattle.gp_ask.specs.Backends.{asks_rows};
+ghost use Rattle.gp_ask.specs.Formats.{asks_rows};
 
 use gp_algebra::PProgram;
 use gp_ask::{Answered, Backend, answer_by, read_questions_are_valid};

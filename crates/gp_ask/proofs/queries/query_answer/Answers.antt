@@ -1,7 +1,5 @@
-use Rattle.std.proofs.Common.{false, List, Option, Result, ap, subst, sym, refl, ℕ, ◌∙◌, ◌≡◌}
+use Rattle.std.proofs.Common.{false, List, ap, subst, sym, refl, ℕ, ◌∙◌, ◌≡◌}
 use Rattle.std.proofs.lemmas.Result.{IfOk-weaker}
-use Rattle.gp_base.specs.declared.refusal.Refusal.{Refusal}
-use Rattle.gp_base.specs.Annotated.{plain}
 use Rattle.gp_grammar.specs.Syntax as y
 use Rattle.gp_syntax.specs.Views.{query_view, state_view}
 use Rattle.gp_algebra.specs.Plain.{PlainEnvironment}
@@ -12,14 +10,12 @@ use Rattle.gp_log.specs.LogFacts.{tables_in}
 use Rattle.gp_log.specs.LogFitting.{SpansFit}
 use Rattle.gp_log.specs.Logs.{log_view}
 use Rattle.gp_machine.specs.Questions.{log_refusal, rows_answer}
-use Rattle.gp_reenact.specs.Reenacting.{merged_at, spans_of, transaction_at}
-use Rattle.gp_travel.specs.Encoding.{encoded}
-use Rattle.gp_travel.specs.Travel.{as_of}
+use Rattle.gp_reenact.specs.Reenacting.{merged_at, transaction_at}
 use Rattle.gp_versions.specs.declared.span.Span.{Span}
-use Rattle.gp_dump.specs.Views.{dump_view, tables_view}
+use Rattle.gp_dump.specs.Views.{dump_view}
 use Rattle.gp_dump.proofs.FittingTables.{spans_of_dumps, statements_of_dumps}
 use Rattle.gp_ask.specs.declared.answered.Answered.{Answered}
-use Rattle.gp_ask.specs.Answers.{answer_to, of_elements, query_answer, spans_at}
+use Rattle.gp_ask.specs.Answers.{answer_to, of_elements, query_answer}
 use Rattle.gp_ask.specs.Backends.{AnswersBy, AnswersQuery}
 use Rattle.gp_ask.proofs.BackendLemmas.{executed_answers, past_is}
 use Rattle.gp_ask.proofs.ReenactedLemmas.{dump-spans}

@@ -1,6 +1,5 @@
-use Rattle.std.proofs.Common.{false, Global, List, Ok, Vec, ap, subst, sym, ℕ, ◌∙◌, ◌≡◌}
+use Rattle.std.proofs.Common.{false, Ok, ap, subst, sym, ◌∙◌, ◌≡◌}
 use Rattle.std.proofs.lemmas.Result.{IfOk-weaker}
-use Rattle.gp_base.specs.declared.row.Row.{Row}
 use Rattle.gp_base.specs.Annotated.{plain}
 use Rattle.gp_base.specs.Order.{row_cmp, sorted_by}
 use Rattle.gp_syntax.specs.Views.{state_view}

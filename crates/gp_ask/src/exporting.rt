@@ -1,0 +1,173 @@
+//! Questions answered in a format.
+
+ghost use Rattle.std.specs.Prelude.{◌≡◌, ◌++◌, true, IfOk, OnErr, OnOk};
+ghost use Rattle.gp_grammar.specs.LineReading.{question_of};
+ghost use Rattle.gp_grammar.specs.Syntax as y;
+ghost use Rattle.gp_syntax.specs.Views.{how_view, question_view};
+ghost use Rattle.gp_check.specs.Valid.{tables_are_valid};
+ghost use Rattle.gp_csv.specs.Answers.{csv_text};
+ghost use Rattle.gp_dump.specs.Dumps.{IsDump};
+ghost use Rattle.gp_dump.specs.Views.{dump_view};
+ghost use Rattle.gp_log.specs.LogFacts.{tables_in};
+ghost use Rattle.gp_ask.specs.Answerable.{question_is_valid};
+ghost use Rattle.gp_ask.specs.Answers.{answer_to};
+ghost use Rattle.gp_ask.specs.Explained.{ExplainsQuestion, ExplainsRead};
+ghost use Rattle.gp_ask.specs.Formats.{ExplainsIn, answers_in, asks_rows, exported, exported_records, text_in};
+ghost use Rattle.gp_ask.specs.Questions.{answered};
+
+use crate::answered::Answered;
+use crate::answering::answer;
+use crate::display::write_answer;
+use crate::format::Format;
+use gp_base::{NoMemory, Refusal};
+use gp_csv::{write_answer_csv, write_refusal_csv};
+use gp_dump::Dump;
+use gp_syntax::{How, Question, ReadStop, read_question};
+use std::alloc::Global;
+
+/// Whether rows are asked for.
+fn are_rows(how: &How) -> bool
+    ensures { (state : y.State) (query : y.Query)
+        → result ≡ asks_rows (y.ask (how_view how.now) state query) }
+{
+    match how {
+        How::Rows => true,
+        How::Provenance => false,
+        How::Explain { .. } => false,
+        How::Value { .. } => false,
+    }
+}
+
+/// Whether the question is a plain AS OF or REENACT.
+fn asks_rows(question: &Question) -> bool
+    ensures { result ≡ asks_rows (question_view question.now) }
+{
+    match question {
+        Question::Log { .. } => false,
+        Question::Versions { .. } => false,
+        Question::Ask { how, .. } => are_rows(how),
+    }
+}
+
+/// Answers a question that was read, or refuses it as one that is not exported (E30).
+fn exported(alloc: Global, dump: &Dump, question: &Question) -> Result<Answered, NoMemory>
+    requires rules { IsDump (dump_view dump.now) }
+    requires valid { tables_are_valid (tables_in (dump_view dump.now).entries) ≡ true }
+    requires question { question_is_valid (question_view question.now) ≡ true }
+    ensures { IfOk result (λ found. found
+        ≡ exported (answer_to (dump_view dump.now)) (question_view question.now)) }
+{
+    if asks_rows(question) {
+        answer(alloc, dump, question)
+    } else {
+        Ok(Answered::Refused(Refusal::E30))
+    }
+}
+
+/// Answers a question that was read ([`read_questions_are_valid`](crate::read_questions_are_valid)), in a format: as [`answer`] does, but
+/// CSV refuses one that is no plain AS OF or REENACT (E30), whatever it would have been refused for otherwise. Running out of memory is
+/// the only error.
+fn answer_in(
+    alloc: Global,
+    format: Format,
+    dump: &Dump,
+    question: &Question,
+) -> Result<Answered, NoMemory>
+    requires rules { IsDump (dump_view dump.now) }
+    requires valid { tables_are_valid (tables_in (dump_view dump.now).entries) ≡ true }
+    requires question { question_is_valid (question_view question.now) ≡ true }
+    ensures answered { IfOk result (λ found. found
+        ≡ answers_in format (answer_to (dump_view dump.now)) (question_view question.now)) }
+    ensures explained { IfOk result (λ found.
+        ExplainsIn format (ExplainsQuestion (dump_view dump.now).entries (question_view question.now))) }
+{
+    match format {
+        Format::Text => answer(alloc, dump, question),
+        Format::Csv => exported(alloc, dump, question),
+    }
+}
+
+/// Answers a line of a file of questions from a dump, in a format. A line that is no question is refused as
+/// [`read_question`](gp_syntax::read_question) refuses it, in either format. Any other is answered as [`answer`] does, but CSV refuses a
+/// question that is no plain AS OF or REENACT (E30). Running out of memory is the only error.
+pub fn answer_line_in(
+    alloc: Global,
+    format: Format,
+    dump: &Dump,
+    line: &[u8],
+) -> Result<Answered, NoMemory>
+    requires rules { IsDump (dump_view dump.now) }
+    requires valid { tables_are_valid (tables_in (dump_view dump.now).entries) ≡ true }
+    ensures answered { IfOk result (λ found. found
+        ≡ answered (answers_in format (answer_to (dump_view dump.now))) (question_of line.now)) }
+    ensures explained { IfOk result (λ found.
+        ExplainsIn format (ExplainsRead (dump_view dump.now).entries (question_of line.now))) }
+{
+    match read_question(alloc, line) {
+        Ok(question) => answer_in(alloc, format, dump, &question),
+        Err(ReadStop::Refused(refusal)) => Ok(Answered::Refused(refusal)),
+        Err(ReadStop::NoMemory) => Err(NoMemory),
+    }
+}
+
+/// Answers a line of a file of questions from a dump. A line that is no question is refused as
+/// [`read_question`](gp_syntax::read_question) refuses it, any other as [`answer`] does. Running out of memory is the only error.
+pub fn answer_line(alloc: Global, dump: &Dump, line: &[u8]) -> Result<Answered, NoMemory>
+    requires rules { IsDump (dump_view dump.now) }
+    requires valid { tables_are_valid (tables_in (dump_view dump.now).entries) ≡ true }
+    ensures answered { IfOk result (λ found. found
+        ≡ answered (answer_to (dump_view dump.now)) (question_of line.now)) }
+    ensures explained { IfOk result (λ found.
+        ExplainsRead (dump_view dump.now).entries (question_of line.now)) }
+{
+    answer_line_in(alloc, Format::Text, dump, line)
+}
+
+/// The CSV text of an answer. Only rows and refusals are exported.
+fn exported_text(alloc: Global, number: u32, answered: &Answered) -> Result<Vec<u8>, NoMemory>
+    ensures { IfOk result (λ text. text.items ≡ csv_text (exported_records number answered.now)) }
+{
+    match answered {
+        Answered::Rows(rows) => write_answer_csv(alloc, number, rows.as_slice()),
+        Answered::Refused(refusal) => write_refusal_csv(alloc, number, refusal),
+        Answered::Listed(_)
+        | Answered::Values(_)
+        | Answered::Log(_)
+        | Answered::Versions(_)
+        | Answered::Program(_) => write_refusal_csv(alloc, number, &Refusal::E30),
+    }
+}
+
+/// Appends an answer as CSV. If memory runs out, `out` is unchanged.
+fn write_exported(
+    alloc: Global,
+    number: u32,
+    answered: &Answered,
+    out: &mut Vec<u8>,
+) -> Result<(), NoMemory>
+    ensures ok { OnOk result (out.new.items
+        ≡ out.old.items ++ csv_text (exported_records number answered.now)) }
+    ensures err { OnErr result (out.new.items ≡ out.old.items) }
+{
+    let text = exported_text(alloc, number, answered)?;
+    out.extend_from_slice(&text)?;
+    Ok(())
+}
+
+/// Appends the answer to a question in a format: as text as [`write_answer`] does, as CSV a header, and a record for each row or for the
+/// refusal, which begins with the number of the question's line. If memory runs out, `out` is unchanged.
+pub fn write_answer_in(
+    alloc: Global,
+    format: Format,
+    number: u32,
+    answered: Answered,
+    out: &mut Vec<u8>,
+) -> Result<(), NoMemory>
+    ensures ok { OnOk result (out.new.items ≡ out.old.items ++ text_in format number answered) }
+    ensures err { OnErr result (out.new.items ≡ out.old.items) }
+{
+    match format {
+        Format::Text => write_answer(alloc, number, answered, out),
+        Format::Csv => write_exported(alloc, number, &answered, out),
+    }
+}

@@ -1,0 +1,10 @@
+//! The formats in which questions are answered.
+
+/// How the answers to questions are written.
+#[derive(Clone, Copy)]
+pub enum Format {
+    /// As text. Every question is answered.
+    Text,
+    /// As CSV (RFC 4180). Plain AS OF and REENACT are answered, and any other question is refused.
+    Csv,
+}
