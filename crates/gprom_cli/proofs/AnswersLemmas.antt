@@ -1,5 +1,5 @@
 -- Answers that are written one after another.
-use Rattle.std.proofs.Common.{◌≡◌, ℕ, Bool, true, false, ◌||◌, List, [], ◌∷◌, ◌++◌, Result, Ok, Err, refl, sym, ap, ◌∙◌, subst, append_assoc}
+use Rattle.std.proofs.Common.{◌≡◌, ℕ, Bool, true, false, ◌||◌, cond, List, [], ◌∷◌, ◌++◌, Result, Ok, Err, refl, sym, ap, ◌∙◌, subst, append_assoc}
 use Rattle.std.specs.List.{AllByRecursion, flat_map, list_any}
 use Rattle.std.specs.Result.{IsErrAnd}
 use Rattle.std.proofs.lemmas.List.{append-nil}
@@ -9,28 +9,42 @@ use Rattle.gp_io.proofs.SinkLemmas.{appended-append, appended-nothing, WritesPre
 use Rattle.gp_syntax.specs.Lines.{script_lines}
 use Rattle.gp_grammar.specs.LineReading.{Fault, question_of}
 use Rattle.gp_grammar.specs.Syntax as y
+use Rattle.gp_base.specs.declared.refusal.Refusal.TheVariants.{E30}
 use Rattle.gp_ask.specs.declared.answered.Answered.{Answered}
+use Rattle.gp_ask.specs.declared.answered.Answered.TheVariants.{Refused}
+use Rattle.gp_ask.specs.declared.format.Format.{Format}
+use Rattle.gp_ask.specs.declared.format.Format.TheVariants.{Text, Csv}
 use Rattle.gp_ask.specs.Explained.{ExplainsQuestions, ExplainsRead}
+use Rattle.gp_ask.specs.Formats.{ExplainsIn, answers_in, asks_rows, text_in}
 use Rattle.gp_machine.specs.Entries.{Entry}
-use Rattle.gp_ask.specs.Questions.{answered, answers_text, has_refused, is_refused, line_answer, line_answer_text}
-use Rattle.gp_ask.specs.Texts.{answer_text}
+use Rattle.gp_ask.specs.Questions.{answered, answers_text, has_refused, is_refused, line_answer_in, line_answer_text}
 use Rattle.gprom_cli.specs.Steps.{WritesAnswers}
 
-abbrev pub is_line_refused : (y.Question → Answered) → ℕ × List ℕ → Bool
-is_line_refused answers line = is_refused (line_answer answers line)
+abbrev pub is_line_refused : Format → (y.Question → Answered) → ℕ × List ℕ → Bool
+is_line_refused format answers line = is_refused (line_answer_in format answers line)
 
 -- each line is explained
 abbrev AreExplained : List Entry → List (ℕ × List ℕ) → Type 0
 AreExplained entries lines = AllByRecursion (λ (line : ℕ × List ℕ). ExplainsRead entries (question_of line.1)) lines
 
 -- the answers to the lines before were written, and the remaining ones decide the rest
-pub record IsProgress (answers : y.Question → Answered) (entries : List Entry) (questions : List ℕ) (lines : List (ℕ × List ℕ)) (refused : Bool) (old new : SinkState) : Type 0 where
+pub record IsProgress (format : Format) (answers : y.Question → Answered) (entries : List Entry) (questions : List ℕ) (lines : List (ℕ × List ℕ)) (refused : Bool) (old new : SinkState) : Type 0 where
   pub text : List ℕ
   pub taken : new.taken ≡ appended old.taken text
   pub faults : new.faults ≡ old.faults
-  pub all : text ++ flat_map (line_answer_text answers) lines ≡ answers_text answers questions
-  pub refusals : (refused || list_any (is_line_refused answers) lines) ≡ has_refused answers questions
-  pub explained : AreExplained entries lines → ExplainsQuestions entries questions
+  pub all : text ++ flat_map (line_answer_text format answers) lines ≡ answers_text format answers questions
+  pub refusals : (refused || list_any (is_line_refused format answers) lines) ≡ has_refused format answers questions
+  pub explained : ExplainsIn format (AreExplained entries lines) → ExplainsIn format (ExplainsQuestions entries questions)
+
+-- what is explained of a line, and of the lines after it
+both-explained : (format : Format) (entries : List Entry) (line : ℕ × List ℕ) (lines : List (ℕ × List ℕ)) → ExplainsIn format (ExplainsRead entries (question_of line.1))
+    → ExplainsIn format (AreExplained entries lines) → ExplainsIn format (AreExplained entries (line ∷ lines))
+both-explained Text entries line lines one others = (one, others)
+both-explained Csv entries line lines one others = tt
+
+none-explained : (format : Format) (entries : List Entry) → ExplainsIn format (AreExplained entries [])
+none-explained Text entries = tt
+none-explained Csv entries = tt
 
 or-nothing : (a : Bool) → (a || false) ≡ a
 or-nothing true = refl
@@ -40,57 +54,57 @@ or-again : (a b c : Bool) → ((a || b) || c) ≡ (a || (b || c))
 or-again true b c = refl
 or-again false b c = refl
 
-module _ (answers : y.Question → Answered) (entries : List Entry) (questions : List ℕ) (old new : SinkState) where
+module _ (format : Format) (answers : y.Question → Answered) (entries : List Entry) (questions : List ℕ) (old new : SinkState) where
   -- before the first line
-  pub starts : (lines : List (ℕ × List ℕ)) → lines ≡ script_lines questions → IsProgress answers entries questions lines false old old
+  pub starts : (lines : List (ℕ × List ℕ)) → lines ≡ script_lines questions → IsProgress format answers entries questions lines false old old
   starts lines whole = record {
     text = [];
     taken = sym (appended-nothing old.taken);
     faults = refl;
-    all = ap (flat_map (line_answer_text answers)) whole;
-    refusals = ap (list_any (is_line_refused answers)) whole;
-    explained = λ are. subst (AreExplained entries) whole are;
+    all = ap (flat_map (line_answer_text format answers)) whole;
+    refusals = ap (list_any (is_line_refused format answers)) whole;
+    explained = λ are. subst (λ (all : List (ℕ × List ℕ)). ExplainsIn format (AreExplained entries all)) whole are;
   }
 
   -- after the last line
-  pub ends : (refused : Bool) → IsProgress answers entries questions [] refused old new → WritesAnswers (answers_text answers questions) (has_refused answers questions) old new (Ok refused)
+  pub ends : (refused : Bool) → IsProgress format answers entries questions [] refused old new → WritesAnswers (answers_text format answers questions) (has_refused format answers questions) old new (Ok refused)
   ends refused way =
-      let whole : way.text ≡ answers_text answers questions = sym (append-nil way.text) ∙ way.all in
-      let taken : new.taken ≡ appended old.taken (answers_text answers questions) = way.taken ∙ ap (appended old.taken) whole in
+      let whole : way.text ≡ answers_text format answers questions = sym (append-nil way.text) ∙ way.all in
+      let taken : new.taken ≡ appended old.taken (answers_text format answers questions) = way.taken ∙ ap (appended old.taken) whole in
       record {
         refused = sym (or-nothing refused) ∙ way.refusals;
         complete = taken;
-        prefix = WritesPrefix-all (answers_text answers questions) old.taken new.taken taken;
+        prefix = WritesPrefix-all (answers_text format answers questions) old.taken new.taken taken;
         faults = way.faults;
       }
 
-  pub ends-explained : (refused : Bool) → IsProgress answers entries questions [] refused old new → ExplainsQuestions entries questions
-  ends-explained refused way = way.explained tt
+  pub ends-explained : (refused : Bool) → IsProgress format answers entries questions [] refused old new → ExplainsIn format (ExplainsQuestions entries questions)
+  ends-explained refused way = way.explained (none-explained format entries)
 
   module _ (line : ℕ × List ℕ) (lines : List (ℕ × List ℕ)) (refused : Bool) (newest : SinkState) where
     abbrev line_text : List ℕ
-    line_text = line_answer_text answers line
+    line_text = line_answer_text format answers line
 
     abbrev later_text : List ℕ
-    later_text = flat_map (line_answer_text answers) lines
+    later_text = flat_map (line_answer_text format answers) lines
 
     -- one more line was answered
-    pub goes_on : (one : Bool) → IsProgress answers entries questions (line ∷ lines) refused old new → WritesAnswers line_text (is_line_refused answers line) new newest (Ok one)
-        → ExplainsRead entries (question_of line.1) → IsProgress answers entries questions lines (refused || one) old newest
+    pub goes_on : (one : Bool) → IsProgress format answers entries questions (line ∷ lines) refused old new → WritesAnswers line_text (is_line_refused format answers line) new newest (Ok one)
+        → ExplainsIn format (ExplainsRead entries (question_of line.1)) → IsProgress format answers entries questions lines (refused || one) old newest
     goes_on one way wrote explains = record {
       text = way.text ++ line_text;
       taken = wrote.complete ∙ ap (λ t. appended t line_text) way.taken ∙ appended-append old.taken way.text line_text;
       faults = wrote.faults ∙ way.faults;
       all = append_assoc way.text line_text later_text ∙ way.all;
       refusals =
-          or-again refused one (list_any (is_line_refused answers) lines)
-          ∙ ap (λ (b : Bool). refused || (b || list_any (is_line_refused answers) lines)) wrote.refused ∙ way.refusals;
-      explained = λ later. way.explained (explains, later);
+          or-again refused one (list_any (is_line_refused format answers) lines)
+          ∙ ap (λ (b : Bool). refused || (b || list_any (is_line_refused format answers) lines)) wrote.refused ∙ way.refusals;
+      explained = λ later. way.explained (both-explained format entries line lines explains later);
     }
 
     -- the answer to a line was not written
-    pub stops : (stop : SinkStop) → IsProgress answers entries questions (line ∷ lines) refused old new → WritesAnswers line_text (is_line_refused answers line) new newest (Err stop)
-        → WritesAnswers (answers_text answers questions) (has_refused answers questions) old newest (Err stop)
+    pub stops : (stop : SinkStop) → IsProgress format answers entries questions (line ∷ lines) refused old new → WritesAnswers line_text (is_line_refused format answers line) new newest (Err stop)
+        → WritesAnswers (answers_text format answers questions) (has_refused format answers questions) old newest (Err stop)
     stops stop way wrote = record {
       refused = tt;
       complete = tt;
@@ -102,39 +116,36 @@ module _ (answers : y.Question → Answered) (entries : List Entry) (questions :
     }
 
     -- the same, where the error is handed on
-    pub stops_with : (result : Result Bool SinkStop) (stop : SinkStop) → IsErrAnd result (λ other. other ≡ stop) → IsProgress answers entries questions (line ∷ lines) refused old new
-        → WritesAnswers line_text (is_line_refused answers line) new newest (Err stop) → WritesAnswers (answers_text answers questions) (has_refused answers questions) old newest result
+    pub stops_with : (result : Result Bool SinkStop) (stop : SinkStop) → IsErrAnd result (λ other. other ≡ stop) → IsProgress format answers entries questions (line ∷ lines) refused old new
+        → WritesAnswers line_text (is_line_refused format answers line) new newest (Err stop) → WritesAnswers (answers_text format answers questions) (has_refused format answers questions) old newest result
     stops_with (Ok value) stop same way wrote = absurd same
     stops_with (Err other) stop same way wrote =
-        subst (λ (e : SinkStop). WritesAnswers (answers_text answers questions) (has_refused answers questions) old newest (Err e)) (sym same) (stops stop way wrote)
+        subst (λ (e : SinkStop). WritesAnswers (answers_text format answers questions) (has_refused format answers questions) old newest (Err e)) (sym same) (stops stop way wrote)
 
--- ---- answers with the same texts
+-- ---- answers that are the same
 
-module _ (answers others : y.Question → Answered) where
-  module _ (same : (question : y.Question) (number : ℕ) → answer_text number (answers question) ≡ answer_text number (others question)) where
-    read-text : (number : ℕ) (read : Result y.Question Fault) → answer_text number (answered answers read) ≡ answer_text number (answered others read)
-    read-text number (Err fault) = refl
-    read-text number (Ok question) = same question number
+module _ (answers others : y.Question → Answered) (same : (question : y.Question) → answers question ≡ others question) where
+  -- so they are in a format, for a line that is read as this
+  read-same : (format : Format) (read : Result y.Question Fault) → answered (answers_in format answers) read ≡ answered (answers_in format others) read
+  read-same format (Err fault) = refl
+  read-same Text (Ok question) = same question
+  read-same Csv (Ok question) = ap (λ (a : Answered). cond (asks_rows question) a (Refused E30)) (same question)
 
-    texts-same : (lines : List (ℕ × List ℕ)) → flat_map (line_answer_text answers) lines ≡ flat_map (line_answer_text others) lines
+  module _ (format : Format) where
+    texts-same : (lines : List (ℕ × List ℕ)) → flat_map (line_answer_text format answers) lines ≡ flat_map (line_answer_text format others) lines
     texts-same [] = refl
     texts-same (line ∷ lines) =
-        ap (λ (text : List ℕ). text ++ flat_map (line_answer_text answers) lines) (read-text line.0 (question_of line.1))
-        ∙ ap (λ (rest : List ℕ). line_answer_text others line ++ rest) (texts-same lines)
+        ap (λ (a : Answered). text_in format line.0 a ++ flat_map (line_answer_text format answers) lines) (read-same format (question_of line.1))
+        ∙ ap (λ (rest : List ℕ). line_answer_text format others line ++ rest) (texts-same lines)
 
-    pub same-texts : (questions : List ℕ) → answers_text answers questions ≡ answers_text others questions
+    pub same-texts : (questions : List ℕ) → answers_text format answers questions ≡ answers_text format others questions
     same-texts questions = texts-same (script_lines questions)
 
-  module _ (same : (question : y.Question) → is_refused (answers question) ≡ is_refused (others question)) where
-    read-refused : (read : Result y.Question Fault) → is_refused (answered answers read) ≡ is_refused (answered others read)
-    read-refused (Err fault) = refl
-    read-refused (Ok question) = same question
-
-    refusals-same : (lines : List (ℕ × List ℕ)) → list_any (is_line_refused answers) lines ≡ list_any (is_line_refused others) lines
+    refusals-same : (lines : List (ℕ × List ℕ)) → list_any (is_line_refused format answers) lines ≡ list_any (is_line_refused format others) lines
     refusals-same [] = refl
     refusals-same (line ∷ lines) =
-        ap (λ (b : Bool). b || list_any (is_line_refused answers) lines) (read-refused (question_of line.1))
-        ∙ ap (λ (b : Bool). is_line_refused others line || b) (refusals-same lines)
+        ap (λ (a : Answered). is_refused a || list_any (is_line_refused format answers) lines) (read-same format (question_of line.1))
+        ∙ ap (λ (b : Bool). is_line_refused format others line || b) (refusals-same lines)
 
-    pub same-refusals : (questions : List ℕ) → has_refused answers questions ≡ has_refused others questions
+    pub same-refusals : (questions : List ℕ) → has_refused format answers questions ≡ has_refused format others questions
     same-refusals questions = refusals-same (script_lines questions)

@@ -1,5 +1,5 @@
 -- Each promise follows from the outcome of a call.
-use Rattle.std.proofs.Common.{◌≡◌, ℕ, ◌≤◌, ◌⊎◌, inl, inr, Bool, List, length, Option, Some, None, refl, sym, ap, ◌∙◌, subst, ⊎_elim}
+use Rattle.std.proofs.Common.{◌≡◌, ℕ, ◌≤◌, ◌⊎◌, inl, inr, Bool, List, length, Option, Some, None, Result, Ok, Err, refl, sym, ap, ◌∙◌, subst, ⊎_elim}
 use Rattle.std.specs.Prelude.{IsSomeAnd}
 use Rattle.gp_base.specs.Annotated.{monomials, plain}
 use Rattle.gp_io.specs.Shelf.{ShelfState, Files, FilesRelate, OthersStay, Replaced, Reports, content}
@@ -10,18 +10,23 @@ use Rattle.gp_dump.specs.declared.dump.TheConstants.{MAX_DUMP_LENGTH}
 use Rattle.gp_dump.specs.Dumps.{Dump, IsDump, WellFormed, dump_of}
 use Rattle.gp_dump.proofs.LawLemmas.{written-well-formed}
 use Rattle.gp_dump.specs.Rules.{Holds, verdict_on}
+use Rattle.gp_csv.specs.Faults.{Fault}
+use Rattle.gp_load.specs.Loading.{LoadsText, loaded_of}
+use Rattle.gp_ask.specs.declared.format.Format.{Format}
+use Rattle.gp_ask.specs.declared.format.Format.TheVariants.{Text}
 use Rattle.gp_ask.specs.Answers.{answer_to, held_to}
 use Rattle.gp_ask.specs.Explained.{ExplainsQuestions}
 use Rattle.gp_ask.specs.Questions.{answers_text, has_refused}
+use Rattle.gprom_cli.specs.declared.load.TheConstants.{MAX_SHEET_LENGTH}
 use Rattle.gprom_cli.specs.declared.status.Status.{Status}
 use Rattle.gprom_cli.specs.declared.status.Status.TheVariants as exit
-use Rattle.gprom_cli.specs.Args.{Command, Run, Ask, Generate}
+use Rattle.gprom_cli.specs.Args.{Command, Run, Ask, Generate, Load}
 use Rattle.gprom_cli.specs.Status.{number_of, status_of}
-use Rattle.gprom_cli.specs.Call.{Call, Outcome, Usage, Absent, Unreadable, TooLong, NotReplaced, Replied, Damaged, Answered, Summarized, OutOfMemory, ExplainsOutcome, HasOutcome, Writes, WritesOutcome, WritesOutput, IsAnswered, IsOrFails, IsOutcomeOf, RunEnds, AskEnds, exit_status, answered_status, outcome_by, script_dump}
+use Rattle.gprom_cli.specs.Call.{Call, Outcome, Usage, Absent, Unreadable, TooLong, NotReplaced, Replied, Damaged, Answered, Summarized, SheetRefused, Loaded, OutOfMemory, ExplainsOutcome, HasContent, HasOutcome, Writes, WritesOutcome, WritesOutput, IsAnswered, IsOrFails, IsOutcomeOf, RunEnds, AskEnds, LoadEnds, exit_status, answered_status, loading, outcome_by, script_dump}
 use Rattle.gprom_cli.specs.Summary.{summary_of, summary_text}
-use Rattle.gprom_cli.specs.Promises.{Promises, IsClean, LeavesOthers, NoFault, ReportsNothing, ReportsNotReplaced, ReportsOne, files_read, files_replaced}
+use Rattle.gprom_cli.specs.Promises.{Promises, IsClean, LeavesOthers, LoadsSheet, NoFault, ReportsNothing, ReportsNotReplaced, ReportsOne, files_read, files_replaced}
 use Rattle.gprom_cli.proofs.WritesLemmas.{IsWritten, absent-is, expected-is, no-fault, nothing-of, status-of, unreadable-is, unwritten-is, usage-is}
-use Rattle.gprom_cli.proofs.FilesLemmas.{Determines, ReadsWellFormed, ask-outcome, outcome-determined, replaced-others, run-outcome, same-others}
+use Rattle.gprom_cli.proofs.FilesLemmas.{Determines, ReadsWellFormed, ask-outcome, known, load-outcome, outcome-determined, replaced-others, run-outcome, same-others}
 
 -- a status has one number
 pub status_of-number_of : (s : Status) → status_of (number_of s) ≡ s
@@ -34,14 +39,15 @@ status_of-number_of exit.Unwritten = refl
 status_of-number_of exit.TooLong = refl
 status_of-number_of exit.Damaged = refl
 status_of-number_of exit.OutOfMemory = refl
+status_of-number_of exit.SheetRefused = refl
 
 -- ---- what the dumps of scripts are
 
 pub record DumpLaws : Type 0 where
   pub reads : ReadsWellFormed
   pub formed : (script : List ℕ) → length script ≤ MAX_SCRIPT_LENGTH → IsDump (dump_of (final_state plain script))
-  pub texts : (script questions : List ℕ) → answers_text (answer_to (dump_of (final_state plain script))) questions ≡ answers_text (held_to (final_state monomials script)) questions
-  pub refusals : (script questions : List ℕ) → has_refused (answer_to (dump_of (final_state plain script))) questions ≡ has_refused (held_to (final_state monomials script)) questions
+  pub texts : (format : Format) (script questions : List ℕ) → answers_text format (answer_to (dump_of (final_state plain script))) questions ≡ answers_text format (held_to (final_state monomials script)) questions
+  pub refusals : (format : Format) (script questions : List ℕ) → has_refused format (answer_to (dump_of (final_state plain script))) questions ≡ has_refused format (held_to (final_state monomials script)) questions
 
 -- ---- a status and its outcome
 
@@ -61,7 +67,8 @@ module _ (before after : ShelfState) where
   usage-at : (command : Option Command) (o : Outcome) → IsOutcomeOf command before after o → exit_status o ≡ exit.Usage → command ≡ None
   usage-at None o ends at = refl
   usage-at (Some (Run script dump)) o ends at = absurd (subst (λ (u : Outcome). RunEnds script dump before after u) (usage-is o at) ends)
-  usage-at (Some (Ask dump questions)) o ends at = absurd (subst (λ (u : Outcome). AskEnds dump questions before after u) (usage-is o at) ends)
+  usage-at (Some (Ask format dump questions)) o ends at = absurd (subst (λ (u : Outcome). AskEnds format dump questions before after u) (usage-is o at) ends)
+  usage-at (Some (Load csv table script)) o ends at = absurd (subst (λ (u : Outcome). LoadEnds csv table script before after u) (usage-is o at) ends)
   usage-at (Some (Generate rounds)) o ends at = absurd (let impossible : exit.Done ≡ exit.Usage = sym (ap exit_status ends.1) ∙ at in cc)
 
   absent-at : (command : Option Command) (o : Outcome) → IsOutcomeOf command before after o → exit_status o ≡ exit.Absent
@@ -71,13 +78,17 @@ module _ (before after : ShelfState) where
       let which = absent-is o at in
       let there : RunEnds script dump before after (Absent which.0) = subst (λ (u : Outcome). RunEnds script dump before after u) which.1 ends in
       inl there.1.reported
-  absent-at (Some (Ask dump questions)) o ends at =
+  absent-at (Some (Ask format dump questions)) o ends at =
       let which = absent-is o at in
-      let there : AskEnds dump questions before after (Absent which.0) = subst (λ (u : Outcome). AskEnds dump questions before after u) which.1 ends in
+      let there : AskEnds format dump questions before after (Absent which.0) = subst (λ (u : Outcome). AskEnds format dump questions before after u) which.1 ends in
       ⊎_elim
       (λ e. inl (subst (λ (name : List ℕ). Reports name before.misses after.misses) e there.1.reported))
       (λ e. inr (inl (subst (λ (name : List ℕ). Reports name before.misses after.misses) e.0 there.1.reported)))
       there.0
+  absent-at (Some (Load csv table script)) o ends at =
+      let which = absent-is o at in
+      let there : LoadEnds csv table script before after (Absent which.0) = subst (λ (u : Outcome). LoadEnds csv table script before after u) which.1 ends in
+      inl there.1.reported
   absent-at (Some (Generate rounds)) o ends at = absurd (let impossible : exit.Done ≡ exit.Absent = sym (ap exit_status ends.1) ∙ at in cc)
 
   unreadable-at : (command : Option Command) (o : Outcome) → IsOutcomeOf command before after o → exit_status o ≡ exit.Unreadable
@@ -87,20 +98,25 @@ module _ (before after : ShelfState) where
       let which = unreadable-is o at in
       let there : RunEnds script dump before after (Unreadable which.0) = subst (λ (u : Outcome). RunEnds script dump before after u) which.1 ends in
       inl there.1.reported
-  unreadable-at (Some (Ask dump questions)) o ends at =
+  unreadable-at (Some (Ask format dump questions)) o ends at =
       let which = unreadable-is o at in
-      let there : AskEnds dump questions before after (Unreadable which.0) = subst (λ (u : Outcome). AskEnds dump questions before after u) which.1 ends in
+      let there : AskEnds format dump questions before after (Unreadable which.0) = subst (λ (u : Outcome). AskEnds format dump questions before after u) which.1 ends in
       ⊎_elim
       (λ e. inl (subst (λ (name : List ℕ). Reports name before.read_faults after.read_faults) e there.1.reported))
       (λ e. inr (inl (subst (λ (name : List ℕ). Reports name before.read_faults after.read_faults) e.0 there.1.reported)))
       there.0
+  unreadable-at (Some (Load csv table script)) o ends at =
+      let which = unreadable-is o at in
+      let there : LoadEnds csv table script before after (Unreadable which.0) = subst (λ (u : Outcome). LoadEnds csv table script before after u) which.1 ends in
+      inl there.1.reported
   unreadable-at (Some (Generate rounds)) o ends at = absurd (let impossible : exit.Done ≡ exit.Unreadable = sym (ap exit_status ends.1) ∙ at in cc)
 
   not-replaced-at : (command : Option Command) (name : List ℕ) → IsOutcomeOf command before after (NotReplaced name)
       → IsSomeAnd command (λ (c : Command). ReportsOne (files_replaced c) before.replace_faults after.replace_faults)
   not-replaced-at None name ends = absurd (let impossible : NotReplaced name ≡ Usage = ends.1 in cc)
   not-replaced-at (Some (Run script dump)) name ends = inl ends.1.reported
-  not-replaced-at (Some (Ask dump questions)) name ends = absurd ends
+  not-replaced-at (Some (Ask format dump questions)) name ends = absurd ends
+  not-replaced-at (Some (Load csv table script)) name ends = inl ends.1.reported
   not-replaced-at (Some (Generate rounds)) name ends = absurd (let impossible : NotReplaced name ≡ Summarized rounds = ends.1 in cc)
 
   -- the shelf reported nothing
@@ -120,26 +136,46 @@ module _ (before after : ShelfState) where
   run-quiet script dump OutOfMemory ends clean = absurd clean
   run-quiet script dump Usage ends clean = absurd ends
   run-quiet script dump (Damaged f line) ends clean = absurd ends
-  run-quiet script dump (Answered contents questions) ends clean = absurd ends
+  run-quiet script dump (Answered format contents questions) ends clean = absurd ends
   run-quiet script dump (Summarized rounds) ends clean = absurd ends
+  run-quiet script dump (SheetRefused c number) ends clean = absurd ends
+  run-quiet script dump (Loaded text rows) ends clean = absurd ends
 
-  ask-quiet : (dump questions : List ℕ) (o : Outcome) → AskEnds dump questions before after o → IsClean (exit_status o) → IsQuiet
-  ask-quiet dump questions (Absent name) ends clean = absurd clean
-  ask-quiet dump questions (Unreadable name) ends clean = absurd clean
-  ask-quiet dump questions (TooLong name) ends clean = quiet-unchanged ends.0
-  ask-quiet dump questions (Damaged f line) ends clean = quiet-unchanged ends.0
-  ask-quiet dump questions (Answered contents asked) ends clean = quiet-unchanged ends.0
-  ask-quiet dump questions OutOfMemory ends clean = absurd clean
-  ask-quiet dump questions Usage ends clean = absurd ends
-  ask-quiet dump questions (NotReplaced name) ends clean = absurd ends
-  ask-quiet dump questions (Replied script) ends clean = absurd ends
-  ask-quiet dump questions (Summarized rounds) ends clean = absurd ends
+  load-quiet : (csv table script : List ℕ) (o : Outcome) → LoadEnds csv table script before after o → IsClean (exit_status o) → IsQuiet
+  load-quiet csv table script (Absent name) ends clean = absurd clean
+  load-quiet csv table script (Unreadable name) ends clean = absurd clean
+  load-quiet csv table script (TooLong name) ends clean = quiet-unchanged ends.0
+  load-quiet csv table script (NotReplaced name) ends clean = absurd clean
+  load-quiet csv table script (SheetRefused c number) ends clean = quiet-unchanged ends.0
+  load-quiet csv table script (Loaded text rows) ends clean =
+      (ap (λ (h : ShelfState). h.misses) ends.0.others, ap (λ (h : ShelfState). h.read_faults) ends.0.others, ap (λ (h : ShelfState). h.replace_faults) ends.0.others)
+  load-quiet csv table script OutOfMemory ends clean = absurd clean
+  load-quiet csv table script Usage ends clean = absurd ends
+  load-quiet csv table script (Replied bytes) ends clean = absurd ends
+  load-quiet csv table script (Damaged f line) ends clean = absurd ends
+  load-quiet csv table script (Answered format contents questions) ends clean = absurd ends
+  load-quiet csv table script (Summarized rounds) ends clean = absurd ends
+
+  ask-quiet : (format : Format) (dump questions : List ℕ) (o : Outcome) → AskEnds format dump questions before after o → IsClean (exit_status o) → IsQuiet
+  ask-quiet format dump questions (Absent name) ends clean = absurd clean
+  ask-quiet format dump questions (Unreadable name) ends clean = absurd clean
+  ask-quiet format dump questions (TooLong name) ends clean = quiet-unchanged ends.0
+  ask-quiet format dump questions (Damaged f line) ends clean = quiet-unchanged ends.0
+  ask-quiet format dump questions (Answered chosen contents asked) ends clean = quiet-unchanged ends.0
+  ask-quiet format dump questions OutOfMemory ends clean = absurd clean
+  ask-quiet format dump questions Usage ends clean = absurd ends
+  ask-quiet format dump questions (NotReplaced name) ends clean = absurd ends
+  ask-quiet format dump questions (Replied script) ends clean = absurd ends
+  ask-quiet format dump questions (Summarized rounds) ends clean = absurd ends
+  ask-quiet format dump questions (SheetRefused c number) ends clean = absurd ends
+  ask-quiet format dump questions (Loaded text rows) ends clean = absurd ends
 
   quiet-at : (command : Option Command) (o : Outcome) → IsOutcomeOf command before after o → IsClean (exit_status o) → IsQuiet
   quiet-at None o ends clean = quiet-unchanged ends.0
   quiet-at (Some (Run script dump)) o ends clean = run-quiet script dump o ends clean
-  quiet-at (Some (Ask dump questions)) o ends clean = ask-quiet dump questions o ends clean
+  quiet-at (Some (Ask format dump questions)) o ends clean = ask-quiet format dump questions o ends clean
   quiet-at (Some (Generate rounds)) o ends clean = quiet-unchanged ends.0
+  quiet-at (Some (Load csv table script)) o ends clean = load-quiet csv table script o ends clean
 
   -- ---- files
 
@@ -155,20 +191,38 @@ module _ (before after : ShelfState) where
   run-files script dump OutOfMemory ends = unchanged-others dump ends
   run-files script dump Usage ends = absurd ends
   run-files script dump (Damaged f line) ends = absurd ends
-  run-files script dump (Answered contents questions) ends = absurd ends
+  run-files script dump (Answered format contents questions) ends = absurd ends
   run-files script dump (Summarized rounds) ends = absurd ends
+  run-files script dump (SheetRefused c number) ends = absurd ends
+  run-files script dump (Loaded text rows) ends = absurd ends
 
-  ask-files : (dump questions : List ℕ) (o : Outcome) → AskEnds dump questions before after o → after.holds ≡ before.holds
-  ask-files dump questions (Absent name) ends = ap (λ (h : ShelfState). h.holds) ends.1.others
-  ask-files dump questions (Unreadable name) ends = ap (λ (h : ShelfState). h.holds) ends.1.others
-  ask-files dump questions (TooLong name) ends = ap (λ (h : ShelfState). h.holds) ends.0
-  ask-files dump questions (Damaged f line) ends = ap (λ (h : ShelfState). h.holds) ends.0
-  ask-files dump questions (Answered contents asked) ends = ap (λ (h : ShelfState). h.holds) ends.0
-  ask-files dump questions OutOfMemory ends = ap (λ (h : ShelfState). h.holds) ends
-  ask-files dump questions Usage ends = absurd ends
-  ask-files dump questions (NotReplaced name) ends = absurd ends
-  ask-files dump questions (Replied script) ends = absurd ends
-  ask-files dump questions (Summarized rounds) ends = absurd ends
+  load-files : (csv table script : List ℕ) (o : Outcome) → LoadEnds csv table script before after o → FilesRelate (OthersStay script) before.holds after.holds
+  load-files csv table script (Absent name) ends = same-others script before.holds after.holds (ap (λ (h : ShelfState). h.holds) ends.1.others)
+  load-files csv table script (Unreadable name) ends = same-others script before.holds after.holds (ap (λ (h : ShelfState). h.holds) ends.1.others)
+  load-files csv table script (TooLong name) ends = unchanged-others script ends.0
+  load-files csv table script (NotReplaced name) ends = ends.1.files
+  load-files csv table script (SheetRefused c number) ends = unchanged-others script ends.0
+  load-files csv table script (Loaded text rows) ends = replaced-others script text before.holds after.holds ends.0.files
+  load-files csv table script OutOfMemory ends = unchanged-others script ends
+  load-files csv table script Usage ends = absurd ends
+  load-files csv table script (Replied bytes) ends = absurd ends
+  load-files csv table script (Damaged f line) ends = absurd ends
+  load-files csv table script (Answered format contents questions) ends = absurd ends
+  load-files csv table script (Summarized rounds) ends = absurd ends
+
+  ask-files : (format : Format) (dump questions : List ℕ) (o : Outcome) → AskEnds format dump questions before after o → after.holds ≡ before.holds
+  ask-files format dump questions (Absent name) ends = ap (λ (h : ShelfState). h.holds) ends.1.others
+  ask-files format dump questions (Unreadable name) ends = ap (λ (h : ShelfState). h.holds) ends.1.others
+  ask-files format dump questions (TooLong name) ends = ap (λ (h : ShelfState). h.holds) ends.0
+  ask-files format dump questions (Damaged f line) ends = ap (λ (h : ShelfState). h.holds) ends.0
+  ask-files format dump questions (Answered chosen contents asked) ends = ap (λ (h : ShelfState). h.holds) ends.0
+  ask-files format dump questions OutOfMemory ends = ap (λ (h : ShelfState). h.holds) ends
+  ask-files format dump questions Usage ends = absurd ends
+  ask-files format dump questions (NotReplaced name) ends = absurd ends
+  ask-files format dump questions (Replied script) ends = absurd ends
+  ask-files format dump questions (Summarized rounds) ends = absurd ends
+  ask-files format dump questions (SheetRefused c number) ends = absurd ends
+  ask-files format dump questions (Loaded text rows) ends = absurd ends
 
   -- ---- one outcome
 
@@ -191,6 +245,29 @@ module _ (before after : ShelfState) where
         let none : Writes OutOfMemory sink sink' s = subst (λ (u : Outcome). Writes u sink sink' s) e w in
         let there : RunEnds script dump before after OutOfMemory = subst (λ (u : Outcome). RunEnds script dump before after u) e ends in
         inr (none.1, ap (λ (h : ShelfState). h.holds) there))
+        which
+
+    -- the script of a sheet is replaced by one that loads it, unless memory ran out before
+    pub loaded-as : (csv table script text : List ℕ) (rows : ℕ) (bytes : List ℕ) (o : Outcome) → LoadEnds csv table script before after o → Writes o sink sink' s
+        → ((other : List ℕ) → HasContent csv before other → other ≡ bytes) → (o ≡ Loaded text rows) ⊎ (o ≡ OutOfMemory)
+        → (FilesRelate (Replaced script text) before.holds after.holds × LoadsText table bytes text) ⊎ ((s ≡ exit.OutOfMemory) × (after.holds ≡ before.holds))
+    loaded-as csv table script text rows bytes o ends w only which =
+        ⊎_elim
+        (λ e.
+        let there : LoadEnds csv table script before after (Loaded text rows) = subst (λ (u : Outcome). LoadEnds csv table script before after u) e ends in
+        inl (there.0.files, subst (λ (b : List ℕ). LoadsText table b text) (only there.1.0 there.1.4) there.1.3))
+        (λ e.
+        let none : Writes OutOfMemory sink sink' s = subst (λ (u : Outcome). Writes u sink sink' s) e w in
+        let there : LoadEnds csv table script before after OutOfMemory = subst (λ (u : Outcome). LoadEnds csv table script before after u) e ends in
+        inr (none.1, ap (λ (h : ShelfState). h.holds) there))
+        which
+
+    -- nothing is replaced where the sheet is refused
+    pub refused-as : (csv table script : List ℕ) (c number : ℕ) (o : Outcome) → LoadEnds csv table script before after o → (o ≡ SheetRefused c number) ⊎ (o ≡ OutOfMemory) → after.holds ≡ before.holds
+    refused-as csv table script c number o ends which =
+        ⊎_elim
+        (λ e. let there : LoadEnds csv table script before after (SheetRefused c number) = subst (λ (u : Outcome). LoadEnds csv table script before after u) e ends in ap (λ (h : ShelfState). h.holds) there.0)
+        (λ e. let there : LoadEnds csv table script before after OutOfMemory = subst (λ (u : Outcome). LoadEnds csv table script before after u) e ends in ap (λ (h : ShelfState). h.holds) there)
         which
 
 -- ---- every promise
@@ -217,27 +294,27 @@ module _ (laws : DumpLaws) (call : Call) (has : HasOutcome call) where
       let which : Determines has.outcome (Replied script) = subst (λ (o : Outcome). Determines has.outcome o) expected (determined-at files is quiet) in
       (writes-as (Replied script) which, replaced-as call.shelf call.shelf_after call.sink call.sink_after call.status name dump script has.outcome ends has.writes which)
 
-  held : (files : Files) (dump name script questions : List ℕ) → call.command ≡ Some (Ask dump name) → call.shelf.holds ≡ Some files → NoFault call
+  held : (files : Files) (format : Format) (dump name script questions : List ℕ) → call.command ≡ Some (Ask format dump name) → call.shelf.holds ≡ Some files → NoFault call
       → length script ≤ MAX_SCRIPT_LENGTH → content dump files ≡ Some (script_dump script) → length (script_dump script) ≤ MAX_DUMP_LENGTH
       → content name files ≡ Some questions → length questions ≤ MAX_SCRIPT_LENGTH
-      → WritesOutput (answers_text (held_to (final_state monomials script)) questions)
-      (answered_status (has_refused (held_to (final_state monomials script)) questions)) call.sink call.sink_after call.status
-  held files dump name script questions ask is quiet brief found small asked short =
+      → WritesOutput (answers_text format (held_to (final_state monomials script)) questions)
+      (answered_status (has_refused format (held_to (final_state monomials script)) questions)) call.sink call.sink_after call.status
+  held files format dump name script questions ask is quiet brief found small asked short =
       let contents = dump_of (final_state plain script) in
       let holds : verdict_on (script_dump script) ≡ Holds contents = laws.reads (script_dump script) contents (written-well-formed contents (laws.formed script brief)) in
-      let expected : outcome_by call.command files ≡ Answered contents questions =
-      ap (λ (c : Option Command). outcome_by c files) ask ∙ ask-outcome files dump name (script_dump script) questions contents found small asked short holds in
-      let answered : WritesOutput (answers_text (answer_to contents) questions) (answered_status (has_refused (answer_to contents) questions)) call.sink call.sink_after call.status =
-      writes-as (Answered contents questions) (subst (λ (o : Outcome). Determines has.outcome o) expected (determined-at files is quiet)) in
-      subst (λ (text : List ℕ). WritesOutput text (answered_status (has_refused (held_to (final_state monomials script)) questions)) call.sink call.sink_after call.status) (laws.texts script questions)
-      (subst (λ (refused : Bool). WritesOutput (answers_text (answer_to contents) questions) (answered_status refused) call.sink call.sink_after call.status) (laws.refusals script questions) answered)
+      let expected : outcome_by call.command files ≡ Answered format contents questions =
+      ap (λ (c : Option Command). outcome_by c files) ask ∙ ask-outcome files format dump name (script_dump script) questions contents found small asked short holds in
+      let answered : WritesOutput (answers_text format (answer_to contents) questions) (answered_status (has_refused format (answer_to contents) questions)) call.sink call.sink_after call.status =
+      writes-as (Answered format contents questions) (subst (λ (o : Outcome). Determines has.outcome o) expected (determined-at files is quiet)) in
+      subst (λ (text : List ℕ). WritesOutput text (answered_status (has_refused format (held_to (final_state monomials script)) questions)) call.sink call.sink_after call.status) (laws.texts format script questions)
+      (subst (λ (refused : Bool). WritesOutput (answers_text format (answer_to contents) questions) (answered_status refused) call.sink call.sink_after call.status) (laws.refusals format script questions) answered)
 
   -- the outcome that is known, with what it explains
-  explains-as : (contents : Dump) (questions : List ℕ) → Determines has.outcome (Answered contents questions) → IsAnswered call.status → ExplainsQuestions contents.entries questions
+  explains-as : (contents : Dump) (questions : List ℕ) → Determines has.outcome (Answered Text contents questions) → IsAnswered call.status → ExplainsQuestions contents.entries questions
   explains-as contents questions which answered =
       ⊎_elim
-      (λ (e : has.outcome ≡ Answered contents questions).
-      let explains : ExplainsOutcome call.status (Answered contents questions) = subst (λ (o : Outcome). ExplainsOutcome call.status o) e has.explains in
+      (λ (e : has.outcome ≡ Answered Text contents questions).
+      let explains : ExplainsOutcome call.status (Answered Text contents questions) = subst (λ (o : Outcome). ExplainsOutcome call.status o) e has.explains in
       explains answered)
       (λ (e : has.outcome ≡ OutOfMemory).
       let none : Writes OutOfMemory call.sink call.sink_after call.status = subst (λ (o : Outcome). Writes o call.sink call.sink_after call.status) e has.writes in
@@ -245,19 +322,39 @@ module _ (laws : DumpLaws) (call : Call) (has : HasOutcome call) where
       absurd no)
       which
 
-  explained : (files : Files) (dump name bytes questions : List ℕ) (contents : Dump) → call.command ≡ Some (Ask dump name) → call.shelf.holds ≡ Some files → NoFault call
+  explained : (files : Files) (dump name bytes questions : List ℕ) (contents : Dump) → call.command ≡ Some (Ask Text dump name) → call.shelf.holds ≡ Some files → NoFault call
       → content dump files ≡ Some bytes → length bytes ≤ MAX_DUMP_LENGTH → WellFormed bytes contents
       → content name files ≡ Some questions → length questions ≤ MAX_SCRIPT_LENGTH
       → IsAnswered call.status → ExplainsQuestions contents.entries questions
   explained files dump name bytes questions contents ask is quiet found small formed asked short =
-      let expected : outcome_by call.command files ≡ Answered contents questions =
-      ap (λ (c : Option Command). outcome_by c files) ask ∙ ask-outcome files dump name bytes questions contents found small asked short (laws.reads bytes contents formed) in
+      let expected : outcome_by call.command files ≡ Answered Text contents questions =
+      ap (λ (c : Option Command). outcome_by c files) ask ∙ ask-outcome files Text dump name bytes questions contents found small asked short (laws.reads bytes contents formed) in
       explains-as contents questions (subst (λ (o : Outcome). Determines has.outcome o) expected (determined-at files is quiet))
 
   generated : (rounds : ℕ) → call.command ≡ Some (Generate rounds) → WritesOutput (summary_text (summary_of rounds)) exit.Done call.sink call.sink_after call.status
   generated rounds generate =
       let ends : IsOutcomeOf (Some (Generate rounds)) call.shelf call.shelf_after has.outcome = subst (λ (c : Option Command). IsOutcomeOf c call.shelf call.shelf_after has.outcome) generate has.is in
       writes-as (Summarized rounds) (inl ends.1)
+
+  module _ (files : Files) (name table script bytes : List ℕ) (is : call.shelf.holds ≡ Some files) (found : content name files ≡ Some bytes) (ends : LoadEnds name table script call.shelf call.shelf_after has.outcome) where
+    only-bytes : (other : List ℕ) → HasContent name call.shelf other → other ≡ bytes
+    only-bytes other there =
+        let same : Some other ≡ Some bytes = sym (known call.shelf.holds files (λ (f : Files). content name f ≡ Some other) is there) ∙ found in
+        cc
+
+    loads-as : (read : Result (List ℕ × ℕ) Fault) → Determines has.outcome (loading read) → LoadsSheet table script bytes call read
+    loads-as (Ok made) which =
+        (writes-as (Loaded made.0 made.1) which, loaded-as call.shelf call.shelf_after call.sink call.sink_after call.status name table script made.0 made.1 bytes has.outcome ends has.writes only-bytes which)
+    loads-as (Err fault) which =
+        (writes-as (SheetRefused fault.c fault.number) which, refused-as call.shelf call.shelf_after call.sink call.sink_after call.status name table script fault.c fault.number has.outcome ends which)
+
+  loaded : (files : Files) (name table script bytes : List ℕ) → call.command ≡ Some (Load name table script) → call.shelf.holds ≡ Some files → NoFault call
+      → content name files ≡ Some bytes → length bytes ≤ MAX_SHEET_LENGTH → LoadsSheet table script bytes call (loaded_of table bytes)
+  loaded files name table script bytes load is quiet found short =
+      let ends : LoadEnds name table script call.shelf call.shelf_after has.outcome = subst (λ (c : Option Command). IsOutcomeOf c call.shelf call.shelf_after has.outcome) load has.is in
+      let expected : outcome_by call.command files ≡ loading (loaded_of table bytes) =
+      ap (λ (c : Option Command). outcome_by c files) load ∙ load-outcome files name table script bytes found short in
+      loads-as files name table script bytes is found ends (loaded_of table bytes) (subst (λ (o : Outcome). Determines has.outcome o) expected (determined-at files is quiet))
 
   invalid : call.command ≡ None → IsOrFails exit.Usage call.status
   invalid none =
@@ -287,8 +384,9 @@ module _ (laws : DumpLaws) (call : Call) (has : HasOutcome call) where
   files-at : (command : Option Command) → IsOutcomeOf command call.shelf call.shelf_after has.outcome → LeavesOthers command call
   files-at None ends = ap (λ (h : ShelfState). h.holds) ends.0
   files-at (Some (Run script dump)) ends = run-files call.shelf call.shelf_after script dump has.outcome ends
-  files-at (Some (Ask dump questions)) ends = ask-files call.shelf call.shelf_after dump questions has.outcome ends
+  files-at (Some (Ask format dump questions)) ends = ask-files call.shelf call.shelf_after format dump questions has.outcome ends
   files-at (Some (Generate rounds)) ends = ap (λ (h : ShelfState). h.holds) ends.0
+  files-at (Some (Load csv table script)) ends = load-files call.shelf call.shelf_after csv table script has.outcome ends
 
   pub promised : Promises call
   promised = record {
@@ -298,6 +396,7 @@ module _ (laws : DumpLaws) (call : Call) (has : HasOutcome call) where
     held = held;
     explained = explained;
     generated = generated;
+    loaded = loaded;
     usage = λ at. usage-at call.shelf call.shelf_after call.command has.outcome has.is (expected-at exit.Usage at usage-written);
     invalid = invalid;
     absent = λ at. absent-at call.shelf call.shelf_after call.command has.outcome has.is (expected-at exit.Absent at absent-written);

@@ -12,10 +12,11 @@ use Rattle.std.proofs.lemmas.Bool.Decides.{nat_tests}
 use Rattle.std.proofs.lemmas.Str.Parse.{digit_from_value}
 use Rattle.gp_grammar.specs.CommandGrammar.{is_number_without_zero}
 use Rattle.gp_syntax.proofs.NameLemmas.{number-digits}
+use Rattle.gp_ask.specs.declared.format.Format.TheVariants.{Text, Csv}
 use Rattle.gprom_cli.specs.declared.args.Command as code
 use Rattle.gprom_cli.specs.declared.args.Command.TheVariants as command
 use Rattle.gprom_cli.specs.declared.generated.TheConstants.{MAX_ROUNDS}
-use Rattle.gprom_cli.specs.Args.{Run, Ask, Generate, command_of, command_of_words, is_word, rounds_of}
+use Rattle.gprom_cli.specs.Args.{Run, Ask, Generate, Load, command_of, command_of_words, is_word, rounds_of, table_name}
 use Rattle.gprom_cli.specs.Views.{HasFewRounds, command_view}
 
 -- ---- reading
@@ -99,17 +100,25 @@ few-if : (gen : Bool) (word : List ℕ) (n : ℕ) → cond gen (option_map Gener
 few-if true word n at = few-mapped (rounds_of word) n (few-read word) at
 few-if false word n at = absurd cc
 
-no-names : (run ask : Bool) (first second : List ℕ) (n : ℕ) → cond run (Some (Run first second)) (cond ask (Some (Ask first second)) None) ≡ Some (Generate n) → n ≤ MAX_ROUNDS
-no-names true ask first second n at = absurd cc
-no-names false true first second n at = absurd cc
-no-names false false first second n at = absurd cc
+no-names : (run ask export : Bool) (first second : List ℕ) (n : ℕ)
+    → cond run (Some (Run first second)) (cond ask (Some (Ask Text first second)) (cond export (Some (Ask Csv first second)) None)) ≡ Some (Generate n) → n ≤ MAX_ROUNDS
+no-names true ask export first second n at = absurd cc
+no-names false true export first second n at = absurd cc
+no-names false false true first second n at = absurd cc
+no-names false false false first second n at = absurd cc
+
+no-table : (load : Bool) (csv script : List ℕ) (table : Option (List ℕ)) (n : ℕ) → cond load (option_map (λ name. Load csv name script) table) None ≡ Some (Generate n) → n ≤ MAX_ROUNDS
+no-table true csv script None n at = absurd cc
+no-table true csv script (Some table) n at = absurd cc
+no-table false csv script table n at = absurd cc
 
 few-words : (words : List (List ℕ)) (n : ℕ) → command_of_words words ≡ Some (Generate n) → n ≤ MAX_ROUNDS
 few-words [] n at = absurd cc
 few-words (word ∷ []) n at = absurd cc
 few-words (word ∷ first ∷ []) n at = few-if (bytes_eq word (codes "gen")) first n at
-few-words (word ∷ first ∷ second ∷ []) n at = no-names (bytes_eq word (codes "run")) (bytes_eq word (codes "ask")) first second n at
-few-words (word ∷ first ∷ second ∷ other ∷ others) n at = absurd cc
+few-words (word ∷ first ∷ second ∷ []) n at = no-names (bytes_eq word (codes "run")) (bytes_eq word (codes "ask")) (bytes_eq word (codes "export")) first second n at
+few-words (word ∷ first ∷ second ∷ third ∷ []) n at = no-table (bytes_eq word (codes "load")) first third (table_name second) n at
+few-words (word ∷ first ∷ second ∷ third ∷ other ∷ others) n at = absurd cc
 
 few-asked : (plain : Bool) (words : List (List ℕ)) (n : ℕ) → cond plain (command_of_words words) None ≡ Some (Generate n) → n ≤ MAX_ROUNDS
 few-asked true words n at = few-words words n at
@@ -119,5 +128,6 @@ few-asked false words n at = absurd cc
 pub few-rounds : (command : Option code.Command) (words : List (List ℕ)) → option_map command_view command ≡ command_of words → IfSome command HasFewRounds
 few-rounds None words is = tt
 few-rounds (Some (command.Run script dump)) words is = tt
-few-rounds (Some (command.Ask dump questions)) words is = tt
+few-rounds (Some (command.Ask format dump questions)) words is = tt
+few-rounds (Some (command.Load csv table script)) words is = tt
 few-rounds (Some (command.Generate rounds)) words is = few-asked (list_all is_word words) words rounds (sym is)

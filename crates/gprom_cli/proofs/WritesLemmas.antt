@@ -7,7 +7,7 @@ use Rattle.gp_io.specs.Sink.{SinkState, appended, CountsFault, Increased, Writes
 use Rattle.gp_io.proofs.SinkLemmas.{WritesPrefix-none}
 use Rattle.gprom_cli.specs.declared.status.Status.{Status}
 use Rattle.gprom_cli.specs.declared.status.Status.TheVariants as exit
-use Rattle.gprom_cli.specs.Call.{Outcome, Usage, Absent, Unreadable, TooLong, NotReplaced, Replied, Damaged, Answered, Summarized, OutOfMemory, WritesAll, WritesOutput, Writes, IsAnswered, IsOrFails, expected_output, exit_status}
+use Rattle.gprom_cli.specs.Call.{Outcome, Usage, Absent, Unreadable, TooLong, NotReplaced, Replied, Damaged, Answered, Summarized, SheetRefused, Loaded, OutOfMemory, WritesAll, WritesOutput, Writes, IsAnswered, IsOrFails, expected_output, exit_status}
 use Rattle.gprom_cli.specs.Steps.{stop_status}
 
 -- the status of a write, by its result
@@ -67,9 +67,11 @@ nothing-of (TooLong name) old new actual same memory = nothing-written (expected
 nothing-of (NotReplaced name) old new actual same memory = nothing-written (expected_output (NotReplaced name)) exit.Unwritten old new actual same memory
 nothing-of (Replied script) old new actual same memory = nothing-written (expected_output (Replied script)) (exit_status (Replied script)) old new actual same memory
 nothing-of (Damaged f line) old new actual same memory = nothing-written (expected_output (Damaged f line)) exit.Damaged old new actual same memory
-nothing-of (Answered dump questions) old new actual same memory =
-    nothing-written (expected_output (Answered dump questions)) (exit_status (Answered dump questions)) old new actual same memory
+nothing-of (Answered format dump questions) old new actual same memory =
+    nothing-written (expected_output (Answered format dump questions)) (exit_status (Answered format dump questions)) old new actual same memory
 nothing-of (Summarized rounds) old new actual same memory = nothing-written (expected_output (Summarized rounds)) exit.Done old new actual same memory
+nothing-of (SheetRefused c number) old new actual same memory = nothing-written (expected_output (SheetRefused c number)) exit.SheetRefused old new actual same memory
+nothing-of (Loaded text rows) old new actual same memory = nothing-written (expected_output (Loaded text rows)) exit.Done old new actual same memory
 nothing-of OutOfMemory old new actual same memory = (same, memory)
 
 -- the status of an outcome, unless the write failed
@@ -81,8 +83,10 @@ status-of (TooLong name) old new actual w = w.status
 status-of (NotReplaced name) old new actual w = w.status
 status-of (Replied script) old new actual w = w.status
 status-of (Damaged f line) old new actual w = w.status
-status-of (Answered dump questions) old new actual w = w.status
+status-of (Answered format dump questions) old new actual w = w.status
 status-of (Summarized rounds) old new actual w = w.status
+status-of (SheetRefused c number) old new actual w = w.status
+status-of (Loaded text rows) old new actual w = w.status
 status-of OutOfMemory old new actual w = inl w.1
 
 -- lines that are answered end in Done or Refused
@@ -100,8 +104,10 @@ usage-is (TooLong name) at = cc
 usage-is (NotReplaced name) at = cc
 usage-is (Replied script) at = absurd (answered_is_not _ exit.Usage at (λ e. cc) (λ e. cc))
 usage-is (Damaged f line) at = cc
-usage-is (Answered dump questions) at = absurd (answered_is_not _ exit.Usage at (λ e. cc) (λ e. cc))
+usage-is (Answered format dump questions) at = absurd (answered_is_not _ exit.Usage at (λ e. cc) (λ e. cc))
 usage-is (Summarized rounds) at = cc
+usage-is (SheetRefused c number) at = cc
+usage-is (Loaded text rows) at = cc
 usage-is OutOfMemory at = cc
 
 pub absent-is : (o : Outcome) → exit_status o ≡ exit.Absent → (name : List ℕ) × (o ≡ Absent name)
@@ -112,8 +118,10 @@ absent-is (TooLong name) at = absurd cc
 absent-is (NotReplaced name) at = absurd cc
 absent-is (Replied script) at = absurd (answered_is_not _ exit.Absent at (λ e. cc) (λ e. cc))
 absent-is (Damaged f line) at = absurd cc
-absent-is (Answered dump questions) at = absurd (answered_is_not _ exit.Absent at (λ e. cc) (λ e. cc))
+absent-is (Answered format dump questions) at = absurd (answered_is_not _ exit.Absent at (λ e. cc) (λ e. cc))
 absent-is (Summarized rounds) at = absurd cc
+absent-is (SheetRefused c number) at = absurd cc
+absent-is (Loaded text rows) at = absurd cc
 absent-is OutOfMemory at = absurd cc
 
 pub unreadable-is : (o : Outcome) → exit_status o ≡ exit.Unreadable → (name : List ℕ) × (o ≡ Unreadable name)
@@ -124,11 +132,13 @@ unreadable-is (TooLong name) at = absurd cc
 unreadable-is (NotReplaced name) at = absurd cc
 unreadable-is (Replied script) at = absurd (answered_is_not _ exit.Unreadable at (λ e. cc) (λ e. cc))
 unreadable-is (Damaged f line) at = absurd cc
-unreadable-is (Answered dump questions) at = absurd (answered_is_not _ exit.Unreadable at (λ e. cc) (λ e. cc))
+unreadable-is (Answered format dump questions) at = absurd (answered_is_not _ exit.Unreadable at (λ e. cc) (λ e. cc))
 unreadable-is (Summarized rounds) at = absurd cc
+unreadable-is (SheetRefused c number) at = absurd cc
+unreadable-is (Loaded text rows) at = absurd cc
 unreadable-is OutOfMemory at = absurd cc
 
--- a write error is that of the dump, or was counted
+-- a write error is that of the file that is replaced, or was counted
 pub unwritten-is : (o : Outcome) (old new : SinkState) (actual : Status) → Writes o old new actual → actual ≡ exit.Unwritten
     → ((name : List ℕ) × (o ≡ NotReplaced name)) ⊎ Increased old.faults new.faults
 unwritten-is Usage old new actual w at = inr (w.unwritten at (λ e. cc))
@@ -138,8 +148,10 @@ unwritten-is (TooLong name) old new actual w at = inr (w.unwritten at (λ e. cc)
 unwritten-is (NotReplaced name) old new actual w at = inl (name, refl)
 unwritten-is (Replied script) old new actual w at = inr (w.unwritten at (λ e. answered_is_not _ exit.Unwritten e (λ d. cc) (λ d. cc)))
 unwritten-is (Damaged f line) old new actual w at = inr (w.unwritten at (λ e. cc))
-unwritten-is (Answered dump questions) old new actual w at = inr (w.unwritten at (λ e. answered_is_not _ exit.Unwritten e (λ d. cc) (λ d. cc)))
+unwritten-is (Answered format dump questions) old new actual w at = inr (w.unwritten at (λ e. answered_is_not _ exit.Unwritten e (λ d. cc) (λ d. cc)))
 unwritten-is (Summarized rounds) old new actual w at = inr (w.unwritten at (λ e. cc))
+unwritten-is (SheetRefused c number) old new actual w at = inr (w.unwritten at (λ e. cc))
+unwritten-is (Loaded text rows) old new actual w at = inr (w.unwritten at (λ e. cc))
 unwritten-is OutOfMemory old new actual w at = absurd (let impossible : exit.Unwritten ≡ exit.OutOfMemory = sym at ∙ w.1 in cc)
 
 -- ---- statuses under which all was written
@@ -162,8 +174,10 @@ no-fault (TooLong name) old new actual w is = no-new-fault _ _ old new actual w 
 no-fault (NotReplaced name) old new actual w is = no-new-fault _ _ old new actual w is
 no-fault (Replied script) old new actual w is = no-new-fault _ _ old new actual w is
 no-fault (Damaged f line) old new actual w is = no-new-fault _ _ old new actual w is
-no-fault (Answered dump questions) old new actual w is = no-new-fault _ _ old new actual w is
+no-fault (Answered format dump questions) old new actual w is = no-new-fault _ _ old new actual w is
 no-fault (Summarized rounds) old new actual w is = no-new-fault _ _ old new actual w is
+no-fault (SheetRefused c number) old new actual w is = no-new-fault _ _ old new actual w is
+no-fault (Loaded text rows) old new actual w is = no-new-fault _ _ old new actual w is
 no-fault OutOfMemory old new actual w is = absurd (is.1 w.1)
 
 -- a status that is no failure to write is the expected one

@@ -1,7 +1,7 @@
 -- Part of the statement: what every call of the program promises. This is the contract of `gprom`, for every shelf and every sink that keep
 -- their own contracts. A promise about the content of a file holds where the shelf knows its files, one about the bytes of the output where the
 -- sink knows them; the real files and the real output know neither.
-use Rattle.std.specs.Prelude.{◌≡◌, ◌⊎◌, ℕ, ◌≤◌, List, [], ◌∷◌, length, Option, Some, None, IsSomeAnd}
+use Rattle.std.specs.Prelude.{◌≡◌, ◌⊎◌, ℕ, ◌≤◌, List, [], ◌∷◌, length, Option, Some, None, Result, Ok, Err, IsSomeAnd}
 use Rattle.gp_base.specs.Annotated.{monomials}
 use Rattle.gp_io.specs.Shelf.{Files, FilesRelate, OthersStay, Replaced, Reports, content}
 use Rattle.gp_io.specs.Sink.{Increased}
@@ -9,13 +9,18 @@ use Rattle.gp_script.specs.History.{final_state, replies_of, replies_text, has_r
 use Rattle.gp_script.specs.declared.script.TheConstants.{MAX_SCRIPT_LENGTH}
 use Rattle.gp_dump.specs.declared.dump.TheConstants.{MAX_DUMP_LENGTH}
 use Rattle.gp_dump.specs.Dumps.{Dump, WellFormed}
+use Rattle.gp_csv.specs.Faults.{Fault}
+use Rattle.gp_load.specs.Loading.{LoadsText, loaded_of}
+use Rattle.gp_ask.specs.declared.format.Format.{Format}
+use Rattle.gp_ask.specs.declared.format.Format.TheVariants.{Text}
 use Rattle.gp_ask.specs.Answers.{held_to}
 use Rattle.gp_ask.specs.Explained.{ExplainsQuestions}
 use Rattle.gp_ask.specs.Questions.{answers_text, has_refused}
+use Rattle.gprom_cli.specs.declared.load.TheConstants.{MAX_SHEET_LENGTH}
 use Rattle.gprom_cli.specs.declared.status.Status.{Status}
-use Rattle.gprom_cli.specs.declared.status.Status.TheVariants.{Done, Refused, Usage, Absent, Unreadable, Unwritten, TooLong, Damaged, OutOfMemory}
-use Rattle.gprom_cli.specs.Args.{Command, Run, Ask, Generate}
-use Rattle.gprom_cli.specs.Call.{Call, HasOutcome, WritesOutput, WritesOutcome, IsAnswered, IsOrFails, answered_status, outcome_by, script_dump}
+use Rattle.gprom_cli.specs.declared.status.Status.TheVariants.{Done, Refused, Usage, Absent, Unreadable, Unwritten, TooLong, Damaged, OutOfMemory, SheetRefused}
+use Rattle.gprom_cli.specs.Args.{Command, Run, Ask, Generate, Load}
+use Rattle.gprom_cli.specs.Call.{Call, HasOutcome, WritesOutput, WritesOutcome, IsAnswered, IsOrFails, answered_status, loaded_message, outcome_by, script_dump, sheet_message}
 use Rattle.gprom_cli.specs.Summary.{summary_of, summary_text}
 
 -- no file was reported unreadable or not replaced during the call
@@ -25,13 +30,15 @@ NoFault call = (call.shelf_after.read_faults ≡ call.shelf.read_faults) × (cal
 -- the names of the files that a command reads, and of the one that it replaces
 abbrev pub files_read : Command → List (List ℕ)
 files_read (Run script dump) = script ∷ []
-files_read (Ask dump questions) = dump ∷ questions ∷ []
+files_read (Ask format dump questions) = dump ∷ questions ∷ []
 files_read (Generate rounds) = []
+files_read (Load csv table script) = csv ∷ []
 
 abbrev pub files_replaced : Command → List (List ℕ)
 files_replaced (Run script dump) = dump ∷ []
-files_replaced (Ask dump questions) = []
+files_replaced (Ask format dump questions) = []
 files_replaced (Generate rounds) = []
+files_replaced (Load csv table script) = script ∷ []
 
 -- one of these names was reported
 abbrev pub ReportsOne : List (List ℕ) → List (List ℕ) → List (List ℕ) → Type 0
@@ -65,13 +72,23 @@ IsClean Unwritten = ⊥
 IsClean TooLong = Unit {0}
 IsClean Damaged = Unit {0}
 IsClean OutOfMemory = ⊥
+IsClean SheetRefused = Unit {0}
 
 -- the file that a command may change: all others have the content that they had
 abbrev pub LeavesOthers : Option Command → Call → Type 0
 LeavesOthers None call = call.shelf_after.holds ≡ call.shelf.holds
 LeavesOthers (Some (Run script dump)) call = FilesRelate (OthersStay dump) call.shelf.holds call.shelf_after.holds
-LeavesOthers (Some (Ask dump questions)) call = call.shelf_after.holds ≡ call.shelf.holds
+LeavesOthers (Some (Ask format dump questions)) call = call.shelf_after.holds ≡ call.shelf.holds
 LeavesOthers (Some (Generate rounds)) call = call.shelf_after.holds ≡ call.shelf.holds
+LeavesOthers (Some (Load csv table script)) call = FilesRelate (OthersStay script) call.shelf.holds call.shelf_after.holds
+
+-- what `load` does with a sheet of these bytes, by what it comes to: the text of its script, which loads its rows, and their number, or its first fault
+abbrev pub LoadsSheet : List ℕ → List ℕ → List ℕ → Call → Result (List ℕ × ℕ) Fault → Type 0
+LoadsSheet table script bytes call (Ok made) = WritesOutput (loaded_message made.1) Done call.sink call.sink_after call.status
+    × ((FilesRelate (Replaced script made.0) call.shelf.holds call.shelf_after.holds × LoadsText table bytes made.0)
+    ⊎ ((call.status ≡ OutOfMemory) × (call.shelf_after.holds ≡ call.shelf.holds)))
+LoadsSheet table script bytes call (Err fault) = WritesOutput (sheet_message fault.c fault.number) SheetRefused call.sink call.sink_after call.status
+    × (call.shelf_after.holds ≡ call.shelf.holds)
 
 pub record Promises (call : Call) : Type 0 where
   -- The arguments, the files and the reported I/O errors determine the output, the exit status and what becomes of the dump. The output is complete,
@@ -87,31 +104,35 @@ pub record Promises (call : Call) : Type 0 where
       × (FilesRelate (Replaced dump (script_dump script)) call.shelf.holds call.shelf_after.holds
       ⊎ ((call.status ≡ OutOfMemory) × (call.shelf_after.holds ≡ call.shelf.holds)))
   -- `ask` answers from the dump of a script, whichever script made it, as the history of the script held it, with the provenance of each row there,
-  -- though the dump has none.
-  pub held : (files : Files) (dump name script questions : List ℕ) → call.command ≡ Some (Ask dump name) → call.shelf.holds ≡ Some files → NoFault call
+  -- though the dump has none. `export` writes the same answers as CSV, but refuses questions that are not exported.
+  pub held : (files : Files) (format : Format) (dump name script questions : List ℕ) → call.command ≡ Some (Ask format dump name) → call.shelf.holds ≡ Some files → NoFault call
       → length script ≤ MAX_SCRIPT_LENGTH → content dump files ≡ Some (script_dump script) → length (script_dump script) ≤ MAX_DUMP_LENGTH
       → content name files ≡ Some questions → length questions ≤ MAX_SCRIPT_LENGTH
-      → WritesOutput (answers_text (held_to (final_state monomials script)) questions)
-      (answered_status (has_refused (held_to (final_state monomials script)) questions)) call.sink call.sink_after call.status
+      → WritesOutput (answers_text format (held_to (final_state monomials script)) questions)
+      (answered_status (has_refused format (held_to (final_state monomials script)) questions)) call.sink call.sink_after call.status
   -- Where `ask` answers all questions, each program that it prints is one program in normal form that, on every database of past versions, gives the
   -- answer of the query over the state that the logged statements lead to. The dump is any that is well formed.
-  pub explained : (files : Files) (dump name bytes questions : List ℕ) (contents : Dump) → call.command ≡ Some (Ask dump name) → call.shelf.holds ≡ Some files → NoFault call
+  pub explained : (files : Files) (dump name bytes questions : List ℕ) (contents : Dump) → call.command ≡ Some (Ask Text dump name) → call.shelf.holds ≡ Some files → NoFault call
       → content dump files ≡ Some bytes → length bytes ≤ MAX_DUMP_LENGTH → WellFormed bytes contents
       → content name files ≡ Some questions → length questions ≤ MAX_SCRIPT_LENGTH
       → IsAnswered call.status → ExplainsQuestions contents.entries questions
   -- `gen` writes the summary of the history of the generated script: its dump, and the rows with which that history, annotated, answered the generated
   -- questions.
   pub generated : (rounds : ℕ) → call.command ≡ Some (Generate rounds) → WritesOutput (summary_text (summary_of rounds)) Done call.sink call.sink_after call.status
+  -- `load` replaces the script by one that creates the table and fills it with the rows of the sheet: no line of it is refused, and the last version of its
+  -- history has exactly these rows. A sheet that has a fault is refused for the first, and no file is modified.
+  pub loaded : (files : Files) (name table script bytes : List ℕ) → call.command ≡ Some (Load name table script) → call.shelf.holds ≡ Some files → NoFault call
+      → content name files ≡ Some bytes → length bytes ≤ MAX_SHEET_LENGTH → LoadsSheet table script bytes call (loaded_of table bytes)
   -- Each status has its cause: invalid arguments and no others give the usage line,
   pub usage : call.status ≡ Usage → call.command ≡ None
   pub invalid : call.command ≡ None → IsOrFails Usage call.status
   -- a file is called absent or unreadable only where the shelf reported it so during the call,
   pub absent : call.status ≡ Absent → ReportsMissing call
   pub unreadable : call.status ≡ Unreadable → ReportsUnreadable call
-  -- a write error is claimed only where the shelf reported that the dump was not replaced, or the output counted an error (or its counter is
+  -- a write error is claimed only where the shelf reported that the dump or the script was not replaced, or the output counted an error (or its counter is
   -- saturated),
   pub unwritten : call.status ≡ Unwritten → ReportsNotReplaced call ⊎ Increased call.sink.faults call.sink_after.faults
   -- and under the other statuses nothing was reported. Memory may run out in any call: no postcondition can rule that out.
   pub clean : IsClean call.status → ReportsNothing call
-  -- No file is modified but the dump of `run`.
+  -- No file is modified but the dump of `run` and the script of `load`.
   pub files : LeavesOthers call.command call

@@ -2,7 +2,7 @@
 -- something was not done.
 use Rattle.std.specs.Prelude.{ℕ, ◌==◌, if◌then◌else◌}
 use Rattle.gprom_cli.specs.declared.status.Status.{Status}
-use Rattle.gprom_cli.specs.declared.status.Status.TheVariants.{Done, Refused, Usage, Absent, Unreadable, Unwritten, TooLong, Damaged, OutOfMemory}
+use Rattle.gprom_cli.specs.declared.status.Status.TheVariants.{Done, Refused, Usage, Absent, Unreadable, Unwritten, TooLong, Damaged, OutOfMemory, SheetRefused}
 
 -- the number of a status
 abbrev pub number_of : Status → ℕ
@@ -15,6 +15,7 @@ number_of Unwritten = 5
 number_of TooLong = 6
 number_of Damaged = 7
 number_of OutOfMemory = 8
+number_of SheetRefused = 9
 
 -- the status of a number; the program ends with no other number than those above
 abbrev pub status_of : ℕ → Status
@@ -27,4 +28,5 @@ status_of number =
     else (if number == 5 then Unwritten
     else (if number == 6 then TooLong
     else (if number == 7 then Damaged
-    else OutOfMemory)))))))
+    else (if number == 8 then OutOfMemory
+    else SheetRefused))))))))

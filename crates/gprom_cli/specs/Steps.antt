@@ -6,9 +6,10 @@ use Rattle.gp_io.specs.declared.error.SinkStop.{SinkStop}
 use Rattle.gp_io.specs.declared.error.SinkStop.TheVariants.{Failed, NoMemory}
 use Rattle.gp_dump.specs.Dumps.{WellFormed}
 use Rattle.gp_dump.specs.Rules.{first_fault}
+use Rattle.gp_ask.specs.declared.format.Format.{Format}
 use Rattle.gprom_cli.specs.declared.status.Status.{Status}
 use Rattle.gprom_cli.specs.declared.status.Status.TheVariants as exit
-use Rattle.gprom_cli.specs.Call.{Outcome, Usage, Absent, Unreadable, TooLong, NotReplaced, Replied, Damaged, Answered, Summarized, OutOfMemory, ExplainsOutcome, HasContent, IsLonger, Writes}
+use Rattle.gprom_cli.specs.Call.{Outcome, Usage, Absent, Unreadable, TooLong, NotReplaced, Replied, Damaged, Answered, Summarized, SheetRefused, Loaded, OutOfMemory, ExplainsOutcome, HasContent, IsLonger, Writes}
 
 -- ---- writing
 
@@ -35,8 +36,10 @@ ReadEnds file most before after Usage = ⊥
 ReadEnds file most before after (NotReplaced name) = ⊥
 ReadEnds file most before after (Replied script) = ⊥
 ReadEnds file most before after (Damaged f line) = ⊥
-ReadEnds file most before after (Answered dump questions) = ⊥
+ReadEnds file most before after (Answered format dump questions) = ⊥
 ReadEnds file most before after (Summarized rounds) = ⊥
+ReadEnds file most before after (SheetRefused c number) = ⊥
+ReadEnds file most before after (Loaded text rows) = ⊥
 
 -- the file was not read, and this was written
 pub record StopsReading (file : List ℕ) (most : ℕ) (before after : ShelfState) (sink sink_after : SinkState) (status : Status) : Type 0 where
@@ -54,20 +57,22 @@ pub record WritesAnswers (text : List ℕ) (refuses : Bool) (before after : Sink
   pub faults : CountsFault result before.faults after.faults
 
 -- the outcome of a call that has read a dump and questions
-abbrev pub AnswerEnds : List ℕ → List ℕ → Outcome → Type 0
-AnswerEnds bytes asked (Damaged f line) = first_fault bytes ≡ Some (f, line)
-AnswerEnds bytes asked (Answered dump questions) = (questions ≡ asked) × WellFormed bytes dump
-AnswerEnds bytes asked OutOfMemory = Unit {0}
-AnswerEnds bytes asked Usage = ⊥
-AnswerEnds bytes asked (Absent name) = ⊥
-AnswerEnds bytes asked (Unreadable name) = ⊥
-AnswerEnds bytes asked (TooLong name) = ⊥
-AnswerEnds bytes asked (NotReplaced name) = ⊥
-AnswerEnds bytes asked (Replied script) = ⊥
-AnswerEnds bytes asked (Summarized rounds) = ⊥
+abbrev pub AnswerEnds : Format → List ℕ → List ℕ → Outcome → Type 0
+AnswerEnds format bytes asked (Damaged f line) = first_fault bytes ≡ Some (f, line)
+AnswerEnds format bytes asked (Answered chosen dump questions) = (chosen ≡ format) × (questions ≡ asked) × WellFormed bytes dump
+AnswerEnds format bytes asked OutOfMemory = Unit {0}
+AnswerEnds format bytes asked Usage = ⊥
+AnswerEnds format bytes asked (Absent name) = ⊥
+AnswerEnds format bytes asked (Unreadable name) = ⊥
+AnswerEnds format bytes asked (TooLong name) = ⊥
+AnswerEnds format bytes asked (NotReplaced name) = ⊥
+AnswerEnds format bytes asked (Replied script) = ⊥
+AnswerEnds format bytes asked (Summarized rounds) = ⊥
+AnswerEnds format bytes asked (SheetRefused c number) = ⊥
+AnswerEnds format bytes asked (Loaded text rows) = ⊥
 
-pub record Answers (bytes asked : List ℕ) (sink sink_after : SinkState) (status : Status) : Type 0 where
+pub record Answers (format : Format) (bytes asked : List ℕ) (sink sink_after : SinkState) (status : Status) : Type 0 where
   pub outcome : Outcome
-  pub is : AnswerEnds bytes asked outcome
+  pub is : AnswerEnds format bytes asked outcome
   pub writes : Writes outcome sink sink_after status
   pub explains : ExplainsOutcome status outcome

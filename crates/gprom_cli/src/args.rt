@@ -4,17 +4,18 @@ ghost use Rattle.std.specs.Prelude.{◌≡◌, IfOk, map, nat_le, string_bytes};
 ghost use Rattle.std.specs.List.{list_all};
 ghost use Rattle.std.specs.Option.{option_map};
 ghost use Rattle.std.specs.Str.{bytes_eq};
-ghost use Rattle.gprom_cli.specs.Args.{command_of, command_of_names, command_of_number, is_word, rounds_of};
+ghost use Rattle.gprom_cli.specs.Args.{command_of, command_of_names, command_of_number, command_of_table, is_word, rounds_of, table_name};
 ghost use Rattle.gprom_cli.specs.Views.{command_view};
-ghost use Rattle.gprom_cli.specs.Words.{command_of_parts, command_of_triple, words_view};
+ghost use Rattle.gprom_cli.specs.Words.{command_of_found, command_of_parts, words_view};
 
 use crate::generated::MAX_ROUNDS;
 use crate::words::{Words, read_words};
-use gp_base::NoMemory;
+use gp_ask::Format;
+use gp_base::{Name, NoMemory, is_name};
 use std::alloc::Global;
 
 /// What the arguments ask for, with the names of the files.
-#[derive(Clone, Copy)]
+#[derive(Drop)]
 pub enum Command<'a> {
     /// `run SCRIPT DUMP`: the script is read, and the dump is replaced.
     Run {
@@ -23,8 +24,10 @@ pub enum Command<'a> {
         /// The name of the dump.
         dump: &'a str,
     },
-    /// `ask DUMP QUESTIONS`: both files are read.
+    /// `ask DUMP QUESTIONS` and `export DUMP QUESTIONS`: both files are read.
     Ask {
+        /// How the answers are written: as text by `ask`, as CSV by `export`.
+        format: Format,
         /// The name of the dump.
         dump: &'a str,
         /// The name of the questions.
@@ -34,6 +37,15 @@ pub enum Command<'a> {
     Generate {
         /// The number of rounds, from 1 to [`MAX_ROUNDS`].
         rounds: u32,
+    },
+    /// `load CSV TABLE SCRIPT`: the sheet is read, and the script is replaced.
+    Load {
+        /// The name of the sheet.
+        csv: &'a str,
+        /// The name of the table.
+        table: Name,
+        /// The name of the script.
+        script: &'a str,
     },
 }
 
@@ -79,6 +91,13 @@ fn command_of_names<'a>(word: &str, first: &'a str, second: &'a str) -> Option<C
         })
     } else if is_same(word, "ask") {
         Some(Command::Ask {
+            format: Format::Text,
+            dump: first,
+            questions: second,
+        })
+    } else if is_same(word, "export") {
+        Some(Command::Ask {
+            format: Format::Csv,
             dump: first,
             questions: second,
         })
@@ -123,37 +142,84 @@ fn command_of_number<'a>(word: &str, number: &str) -> Option<Command<'a>>
     }
 }
 
-/// The command of two or three words.
-fn command_of_parts<'a>(word: &str, first: &'a str, second: Option<&'a str>) -> Option<Command<'a>>
-    ensures { option_map command_view result
-        ≡ command_of_parts word.now first.now (option_map (λ s. s.now) second.entry) }
+/// The name of a table that a word writes, with letters of either case.
+fn table_name(alloc: Global, word: &str) -> Result<Option<Name>, NoMemory>
+    ensures { IfOk result (λ name. name ≡ table_name word.now) }
+{
+    let name = word.as_bytes().to_ascii_lowercase(alloc)?;
+    if is_name(&name) {
+        Ok(Some(Name::new(alloc, &name)?))
+    } else {
+        Ok(None)
+    }
+}
+
+/// The command of a word, if it is one, a name, a table and a name.
+fn command_of_table<'a>(
+    alloc: Global,
+    word: &str,
+    csv: &'a str,
+    table: &str,
+    script: &'a str,
+) -> Result<Option<Command<'a>>, NoMemory>
+    ensures { IfOk result (λ command. option_map command_view command
+        ≡ command_of_table word.now csv.now table.now script.now) }
+{
+    if !is_same(word, "load") {
+        return Ok(None);
+    }
+    match table_name(alloc, table)? {
+        Some(table) => Ok(Some(Command::Load { csv, table, script })),
+        None => Ok(None),
+    }
+}
+
+/// The command of two to four words.
+fn command_of_parts<'a>(
+    alloc: Global,
+    word: &str,
+    first: &'a str,
+    second: Option<&'a str>,
+    third: Option<&'a str>,
+) -> Result<Option<Command<'a>>, NoMemory>
+    ensures { IfOk result (λ command. option_map command_view command
+        ≡ command_of_parts word.now first.now (option_map (λ s. s.now) second.entry)
+        (option_map (λ s. s.now) third.entry)) }
 {
     match second {
-        Some(second) => command_of_names(word, first, second),
-        None => command_of_number(word, first),
+        None => Ok(command_of_number(word, first)),
+        Some(second) => match third {
+            None => Ok(command_of_names(word, first, second)),
+            Some(third) => command_of_table(alloc, word, first, second, third),
+        },
     }
 }
 
 /// The command of the words, if they were read.
-fn command_of_triple(words: Option<Words<'_>>) -> Option<Command<'_>>
-    ensures { option_map command_view result ≡ command_of_triple (option_map words_view words.entry) }
+fn command_of_found(
+    alloc: Global,
+    words: Option<Words<'_>>,
+) -> Result<Option<Command<'_>>, NoMemory>
+    ensures { IfOk result (λ command. option_map command_view command
+        ≡ command_of_found (option_map words_view words.entry)) }
 {
     match words {
-        Some(words) => command_of_parts(words.word, words.first, words.second),
-        None => None,
+        Some(words) => command_of_parts(alloc, words.word, words.first, words.second, words.third),
+        None => Ok(None),
     }
 }
 
-/// The command that the arguments ask for, or `None` where they are invalid: `run` or `ask` and two names that are not empty and do not
-/// begin with a hyphen, or `gen` and a number from 1 to [`MAX_ROUNDS`]. Running out of memory is the only error.
+/// The command that the arguments ask for, or `None` where they are invalid: `run`, `ask` or `export` and two names that are not empty
+/// and do not begin with a hyphen, `gen` and a number from 1 to [`MAX_ROUNDS`], or `load` and three such names, of which the second is
+/// that of a table ([`is_name`], in letters of either case). Running out of memory is the only error.
 #[tactic(auto, using(crate::proofs::WordsLemmas::words_command))]
 pub(crate) fn parse(alloc: Global, args: &[String]) -> Result<Option<Command<'_>>, NoMemory>
     ensures { IfOk result (λ command. option_map command_view command
         ≡ command_of (map string_bytes args.now)) }
 {
-    if are_words(args) {
-        Ok(command_of_triple(read_words(alloc, args)?))
-    } else {
-        Ok(None)
+    if !are_words(args) {
+        return Ok(None);
     }
+    let command = command_of_found(alloc, read_words(alloc, args)?)?;
+    Ok(command)
 }

@@ -1,4 +1,4 @@
-//! `ask DUMP QUESTIONS`: answers questions from a dump.
+//! `ask DUMP QUESTIONS` and `export DUMP QUESTIONS`: answers questions from a dump, as text or as CSV.
 
 ghost use Rattle.std.specs.Prelude.{◌≡◌, ◌≤◌, ℕ, List, IfOk, length, Some, true};
 ghost use Rattle.gp_check.specs.Valid.{tables_are_valid};
@@ -6,7 +6,8 @@ ghost use Rattle.gp_log.specs.LogFacts.{tables_in};
 ghost use Rattle.gp_grammar.specs.LineReading.{question_of};
 ghost use Rattle.gp_ask.specs.Answers.{answer_to};
 ghost use Rattle.gp_ask.specs.Explained.{ExplainsQuestions, ExplainsRead};
-ghost use Rattle.gp_ask.specs.Questions.{answers_text, has_refused, is_refused, line_answer, line_answer_text};
+ghost use Rattle.gp_ask.specs.Formats.{ExplainsIn};
+ghost use Rattle.gp_ask.specs.Questions.{answers_text, has_refused, is_refused, line_answer_in, line_answer_text};
 ghost use Rattle.gp_dump.specs.Dumps.{IsDump};
 ghost use Rattle.gp_dump.specs.Views.{dump_view};
 ghost use Rattle.gprom_cli.specs.Args.{Ask};
@@ -16,7 +17,7 @@ ghost use Rattle.gprom_cli.specs.Steps.{Answers, WritesAnswers};
 use crate::output::{stop_status, write_damage};
 use crate::read::read_file;
 use crate::status::Status;
-use gp_ask::{answer_line, write_answer};
+use gp_ask::{Format, answer_line_in, write_answer_in};
 use gp_base::NoMemory;
 use gp_dump::{Dump, DumpStop, MAX_DUMP_LENGTH, read_dump};
 use gp_io::{Shelf, Sink, SinkStop};
@@ -32,26 +33,33 @@ struct LineAnswer {
 }
 
 /// Answers a line of questions.
-fn answered(alloc: Global, dump: &Dump, number: u32, bytes: &[u8]) -> Result<LineAnswer, NoMemory>
+fn answered(
+    alloc: Global,
+    format: Format,
+    dump: &Dump,
+    number: u32,
+    bytes: &[u8],
+) -> Result<LineAnswer, NoMemory>
     requires rules { IsDump (dump_view dump.now) }
     requires valid { tables_are_valid (tables_in (dump_view dump.now).entries) ≡ true }
     ensures text { IfOk result (λ answer. answer.text.items
-        ≡ line_answer_text (answer_to (dump_view dump.now)) (number, bytes.now)) }
+        ≡ line_answer_text format (answer_to (dump_view dump.now)) (number, bytes.now)) }
     ensures refused { IfOk result (λ answer. answer.refused
-        ≡ is_refused (line_answer (answer_to (dump_view dump.now)) (number, bytes.now))) }
+        ≡ is_refused (line_answer_in format (answer_to (dump_view dump.now)) (number, bytes.now))) }
     ensures explained { IfOk result (λ answer.
-        ExplainsRead (dump_view dump.now).entries (question_of bytes.now)) }
+        ExplainsIn format (ExplainsRead (dump_view dump.now).entries (question_of bytes.now))) }
 {
-    let answer = answer_line(alloc, dump, bytes)?;
+    let answer = answer_line_in(alloc, format, dump, bytes)?;
     let refused = answer.is_refused();
     let mut text = Vec::new(alloc);
-    write_answer(alloc, number, answer, &mut text)?;
+    write_answer_in(alloc, format, number, answer, &mut text)?;
     Ok(LineAnswer { text, refused })
 }
 
 /// Answers a line of questions and writes the answer. Gives whether the question was refused.
 fn write_line<K: Sink>(
     alloc: Global,
+    format: Format,
     dump: &Dump,
     number: u32,
     bytes: &[u8],
@@ -60,13 +68,13 @@ fn write_line<K: Sink>(
     requires rules { IsDump (dump_view dump.now) }
     requires valid { tables_are_valid (tables_in (dump_view dump.now).entries) ≡ true }
     ensures written { WritesAnswers
-        (line_answer_text (answer_to (dump_view dump.now)) (number, bytes.now))
-        (is_refused (line_answer (answer_to (dump_view dump.now)) (number, bytes.now)))
+        (line_answer_text format (answer_to (dump_view dump.now)) (number, bytes.now))
+        (is_refused (line_answer_in format (answer_to (dump_view dump.now)) (number, bytes.now)))
         (K.state out.old) (K.state out.new) result }
     ensures explained { IfOk result (λ refused.
-        ExplainsRead (dump_view dump.now).entries (question_of bytes.now)) }
+        ExplainsIn format (ExplainsRead (dump_view dump.now).entries (question_of bytes.now))) }
 {
-    match answered(alloc, dump, number, bytes) {
+    match answered(alloc, format, dump, number, bytes) {
         Ok(answer) => match out.write_all(&answer.text) {
             Ok(()) => Ok(answer.refused),
             Err(stop) => Err(stop),
@@ -78,6 +86,7 @@ fn write_line<K: Sink>(
 /// Answers each line of questions in order, and writes each answer when it is made. Gives whether a question was refused.
 fn write_lines<K: Sink>(
     alloc: Global,
+    format: Format,
     dump: &Dump,
     questions: &[u8],
     out: &mut K,
@@ -85,45 +94,59 @@ fn write_lines<K: Sink>(
     requires rules { IsDump (dump_view dump.now) }
     requires valid { tables_are_valid (tables_in (dump_view dump.now).entries) ≡ true }
     requires short { length questions.now ≤ MAX_SCRIPT_LENGTH }
-    ensures written { WritesAnswers (answers_text (answer_to (dump_view dump.now)) questions.now)
-        (has_refused (answer_to (dump_view dump.now)) questions.now)
+    ensures written { WritesAnswers
+        (answers_text format (answer_to (dump_view dump.now)) questions.now)
+        (has_refused format (answer_to (dump_view dump.now)) questions.now)
         (K.state out.old) (K.state out.new) result }
     ensures explained { IfOk result (λ refused.
-        ExplainsQuestions (dump_view dump.now).entries questions.now) }
+        ExplainsIn format (ExplainsQuestions (dump_view dump.now).entries questions.now)) }
 {
     let mut refused = false;
     let mut rest = lines(questions);
     while let Some(line) = rest.next() {
-        refused = refused | write_line(alloc, dump, line.number, line.bytes, out)?;
+        refused = refused | write_line(alloc, format, dump, line.number, line.bytes, out)?;
     }
     Ok(refused)
 }
 
 /// Answers questions from a dump that is well formed.
-fn write_answers<K: Sink>(alloc: Global, dump: &Dump, questions: &[u8], out: &mut K) -> Status
+fn write_answers<K: Sink>(
+    alloc: Global,
+    format: Format,
+    dump: &Dump,
+    questions: &[u8],
+    out: &mut K,
+) -> Status
     requires rules { IsDump (dump_view dump.now) }
     requires valid { tables_are_valid (tables_in (dump_view dump.now).entries) ≡ true }
     requires short { length questions.now ≤ MAX_SCRIPT_LENGTH }
-    ensures written { WritesOutput (answers_text (answer_to (dump_view dump.now)) questions.now)
-        (answered_status (has_refused (answer_to (dump_view dump.now)) questions.now))
+    ensures written { WritesOutput
+        (answers_text format (answer_to (dump_view dump.now)) questions.now)
+        (answered_status (has_refused format (answer_to (dump_view dump.now)) questions.now))
         (K.state out.old) (K.state out.new) result }
     ensures explained { IsAnswered result
-        → ExplainsQuestions (dump_view dump.now).entries questions.now }
+        → ExplainsIn format (ExplainsQuestions (dump_view dump.now).entries questions.now) }
 {
-    match write_lines(alloc, dump, questions, out) {
+    match write_lines(alloc, format, dump, questions, out) {
         Ok(refused) => Status::answered(refused),
         Err(stop) => stop_status(stop),
     }
 }
 
 /// Tests a dump against its rules, and answers questions from it.
-fn answer<K: Sink>(alloc: Global, bytes: &[u8], questions: &[u8], out: &mut K) -> Status
+fn answer<K: Sink>(
+    alloc: Global,
+    format: Format,
+    bytes: &[u8],
+    questions: &[u8],
+    out: &mut K,
+) -> Status
     requires dump { length bytes.now ≤ MAX_DUMP_LENGTH }
     requires questions { length questions.now ≤ MAX_SCRIPT_LENGTH }
-    ensures { Answers bytes.now questions.now (K.state out.old) (K.state out.new) result }
+    ensures { Answers format bytes.now questions.now (K.state out.old) (K.state out.new) result }
 {
     match read_dump(alloc, bytes) {
-        Ok(dump) => write_answers(alloc, &dump, questions, out),
+        Ok(dump) => write_answers(alloc, format, &dump, questions, out),
         Err(DumpStop::Fault { f, line }) => write_damage(alloc, out, f, line),
         Err(DumpStop::NoMemory) => Status::OutOfMemory,
     }
@@ -132,6 +155,7 @@ fn answer<K: Sink>(alloc: Global, bytes: &[u8], questions: &[u8], out: &mut K) -
 /// Answers questions from a dump that was read.
 fn ask_bytes<H: Shelf, K: Sink>(
     alloc: Global,
+    format: Format,
     bytes: &[u8],
     questions: &str,
     shelf: &mut H,
@@ -140,7 +164,7 @@ fn ask_bytes<H: Shelf, K: Sink>(
     requires { length bytes.now ≤ MAX_DUMP_LENGTH }
     ensures { (dump : List ℕ) → HasContent dump (H.state shelf.old) bytes.now
         → HasOutcome (record {
-          command = Some (Ask dump questions.now);
+          command = Some (Ask format dump questions.now);
           shelf = H.state shelf.old;
           shelf_after = H.state shelf.new;
           sink = K.state out.old;
@@ -149,7 +173,7 @@ fn ask_bytes<H: Shelf, K: Sink>(
         }) }
 {
     match read_file(alloc, questions, MAX_SCRIPT_LENGTH, shelf, out) {
-        Ok(asked) => answer(alloc, bytes, &asked, out),
+        Ok(asked) => answer(alloc, format, bytes, &asked, out),
         Err(status) => status,
     }
 }
@@ -157,13 +181,14 @@ fn ask_bytes<H: Shelf, K: Sink>(
 /// Reads the dump, then the questions, tests the dump, answers each question in order, and writes each answer when it is made.
 pub(crate) fn ask<H: Shelf, K: Sink>(
     alloc: Global,
+    format: Format,
     dump: &str,
     questions: &str,
     shelf: &mut H,
     out: &mut K,
 ) -> Status
     ensures { HasOutcome (record {
-      command = Some (Ask dump.now questions.now);
+      command = Some (Ask format dump.now questions.now);
       shelf = H.state shelf.old;
       shelf_after = H.state shelf.new;
       sink = K.state out.old;
@@ -172,7 +197,7 @@ pub(crate) fn ask<H: Shelf, K: Sink>(
     }) }
 {
     match read_file(alloc, dump, MAX_DUMP_LENGTH, shelf, out) {
-        Ok(bytes) => ask_bytes(alloc, &bytes, questions, shelf, out),
+        Ok(bytes) => ask_bytes(alloc, format, &bytes, questions, shelf, out),
         Err(status) => status,
     }
 }

@@ -11,6 +11,7 @@ ghost use Rattle.gprom_cli.specs.Views.{HasFewRounds, command_view};
 use crate::args::{Command, parse};
 use crate::ask::ask;
 use crate::laws::scripts_have_well_formed_dumps;
+use crate::load::load;
 use crate::output::write_output;
 use crate::run::run;
 use crate::status::Status;
@@ -20,7 +21,8 @@ use gp_io::{Shelf, Sink};
 use std::alloc::Global;
 
 /// The usage line.
-const USAGE: &[u8] = b"usage: gprom run SCRIPT DUMP, gprom ask DUMP QUESTIONS, gprom gen N\n";
+const USAGE: &[u8] =
+    b"usage: gprom run SCRIPT DUMP, gprom ask DUMP QUESTIONS, gprom gen N, gprom load CSV TABLE SCRIPT, gprom export DUMP QUESTIONS\n";
 
 /// Does what a command asks for, or writes the usage line.
 fn execute_command<H: Shelf, K: Sink>(
@@ -41,8 +43,15 @@ fn execute_command<H: Shelf, K: Sink>(
 {
     match command {
         Some(Command::Run { script, dump }) => run(alloc, script, dump, shelf, out),
-        Some(Command::Ask { dump, questions }) => ask(alloc, dump, questions, shelf, out),
+        Some(
+            Command::Ask {
+                format,
+                dump,
+                questions,
+            },
+        ) => ask(alloc, format, dump, questions, shelf, out),
         Some(Command::Generate { rounds }) => generate(alloc, rounds, out),
+        Some(Command::Load { csv, table, script }) => load(alloc, csv, &table, script, shelf, out),
         None => write_output(out, USAGE, Status::Usage),
     }
 }
@@ -65,19 +74,21 @@ fn execute<H: Shelf, K: Sink>(alloc: Global, args: &[String], shelf: &mut H, out
 }
 
 /// Does all that the program does: parses the arguments (those after the program's name), reads files from `shelf`, replaces the dump of
-/// `run` there, writes replies, answers, a summary or a message to `out`, and returns the exit status. A step that fails ends the call.
+/// `run` or the script of `load` there, writes replies, answers, a summary or a message to `out`, and returns the exit status. A step that
+/// fails ends the call.
 ///
 /// | Status | Meaning |
 /// |---|---|
-/// | 0 | every line was answered, none was refused; or the summary was made |
+/// | 0 | every line was answered, none was refused; or the summary was made; or the sheet was loaded |
 /// | 1 | every line was answered, some were refused |
 /// | 2 | the arguments are invalid |
 /// | 3 | a file that is read does not exist |
 /// | 4 | a file that is read cannot be read |
-/// | 5 | the dump cannot be written, or the output reported a write error |
-/// | 6 | a script or questions are longer than 16,777,216 bytes, or a dump is longer than 67,108,864 |
+/// | 5 | the dump of `run` or the script of `load` cannot be written, or the output reported a write error |
+/// | 6 | a script, questions or a sheet are longer than 16,777,216 bytes, or a dump is longer than 67,108,864 |
 /// | 7 | the dump is not well formed |
 /// | 8 | memory ran out |
+/// | 9 | the sheet has a fault |
 pub fn gprom<H: Shelf, K: Sink>(alloc: Global, args: &[String], shelf: &mut H, out: &mut K) -> u8
     ensures number { result ≡ number_of (status_of result) }
     ensures promises { Promises (record {

@@ -4,6 +4,7 @@ ghost use Rattle.std.specs.Prelude.{◌≡◌, ◌≤◌, ℕ, List, length};
 ghost use Rattle.gp_base.specs.Annotated.{monomials, plain};
 ghost use Rattle.gp_script.specs.History.{final_state};
 ghost use Rattle.gp_dump.specs.Dumps.{IsDump, dump_of};
+ghost use Rattle.gp_ask.specs.declared.format.Format.{Format};
 ghost use Rattle.gp_ask.specs.Answers.{answer_to, held_to};
 ghost use Rattle.gp_ask.specs.Questions.{answers_text, has_refused};
 ghost use Rattle.gprom_cli.specs.Summary.{rows_in};
@@ -14,16 +15,16 @@ use gp_dump::dumps_of_histories_are_well_formed;
 use gp_script::{MAX_SCRIPT_LENGTH, lines_of_scripts_are_script_lines, scripts_lead_to_histories};
 
 /// The dump of every script is well formed, and answers every file of questions as the annotated history of the script held it: with the same
-/// text, as many rows, and refusing a question where the history refuses one.
+/// text in either format, as many rows, and refusing a question where the history refuses one.
 pub fn scripts_have_well_formed_dumps()
     ensures formed { (script : List ℕ) → length script ≤ MAX_SCRIPT_LENGTH
         → IsDump (dump_of (final_state plain script)) }
-    ensures answers { (script questions : List ℕ)
-        → answers_text (answer_to (dump_of (final_state plain script))) questions
-        ≡ answers_text (held_to (final_state monomials script)) questions }
-    ensures refusals { (script questions : List ℕ)
-        → has_refused (answer_to (dump_of (final_state plain script))) questions
-        ≡ has_refused (held_to (final_state monomials script)) questions }
+    ensures answers { (format : Format) (script questions : List ℕ)
+        → answers_text format (answer_to (dump_of (final_state plain script))) questions
+        ≡ answers_text format (held_to (final_state monomials script)) questions }
+    ensures refusals { (format : Format) (script questions : List ℕ)
+        → has_refused format (answer_to (dump_of (final_state plain script))) questions
+        ≡ has_refused format (held_to (final_state monomials script)) questions }
     ensures rows { (script questions : List ℕ)
         → rows_in (answer_to (dump_of (final_state plain script))) questions
         ≡ rows_in (held_to (final_state monomials script)) questions }

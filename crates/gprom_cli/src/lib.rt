@@ -1,7 +1,7 @@
 //! The program gprom as a library: one call, [`gprom`], does all that the program does, over any shelf of files and any sink of bytes.
 //!
 //! In reading order: `status.rt` (how a call ends), `words.rt` and `args.rt` (what the arguments ask for), `output.rt` and `read.rt` (what is
-//! written and read), `run.rt` and `ask.rt` (the two commands over files), `generated.rt` and `summary.rt` (scripts and
+//! written and read), `run.rt`, `ask.rt` and `load.rt` (the commands over files), `generated.rt` and `summary.rt` (scripts and
 //! questions that are generated, and what they come to), `laws.rt` (what dumps of scripts are), `call.rt` (the call). The contract of [`gprom`] is `Promises` in `specs/Promises.antt`.
 //!
 //! ```
@@ -16,6 +16,7 @@ mod ask;
 mod call;
 mod generated;
 mod laws;
+mod load;
 mod output;
 mod read;
 mod run;
@@ -26,5 +27,6 @@ mod words;
 pub use call::gprom;
 pub use generated::{MAX_ROUNDS, generate_questions, generate_script};
 pub use laws::scripts_have_well_formed_dumps;
+pub use load::MAX_SHEET_LENGTH;
 pub use status::Status;
 pub use summary::Summary;

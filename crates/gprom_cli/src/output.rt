@@ -1,7 +1,7 @@
 //! Writing what a call has to say.
 
 ghost use Rattle.std.specs.Prelude.{◌≡◌, IfOk, string_bytes};
-ghost use Rattle.gprom_cli.specs.Call.{WritesOutput, message, damage_message, rule_prefix};
+ghost use Rattle.gprom_cli.specs.Call.{WritesOutput, damage_message, loaded_message, message, rule_prefix, sheet_message};
 ghost use Rattle.gprom_cli.specs.Steps.{stop_status};
 
 use crate::status::Status;
@@ -75,6 +75,42 @@ pub(crate) fn write_damage<K: Sink>(alloc: Global, out: &mut K, f: u8, line: u32
 {
     match damage_message(alloc, f, line) {
         Ok(text) => write_output(out, text.as_bytes(), Status::Damaged),
+        Err(NoMemory) => Status::OutOfMemory,
+    }
+}
+
+/// A message about a sheet that has a fault.
+fn sheet_message(alloc: Global, c: u8, number: u32) -> Result<String, NoMemory>
+    ensures { IfOk result (λ text. string_bytes text ≡ sheet_message c number) }
+{
+    Ok(format!(in alloc; "csv refused: C0{c} at record {number}\n")?)
+}
+
+/// Writes that a sheet has a fault: the number of the fault, and that of its record.
+pub(crate) fn write_sheet_fault<K: Sink>(alloc: Global, out: &mut K, c: u8, number: u32) -> Status
+    ensures { WritesOutput (sheet_message c number) Status.SheetRefused
+        (K.state out.old) (K.state out.new) result }
+{
+    match sheet_message(alloc, c, number) {
+        Ok(text) => write_output(out, text.as_bytes(), Status::SheetRefused),
+        Err(NoMemory) => Status::OutOfMemory,
+    }
+}
+
+/// A message about a sheet that was loaded.
+fn loaded_message(alloc: Global, rows: usize) -> Result<String, NoMemory>
+    ensures { IfOk result (λ text. string_bytes text ≡ loaded_message rows) }
+{
+    Ok(format!(in alloc; "loaded {rows}\n")?)
+}
+
+/// Writes how many rows a sheet has that was loaded.
+pub(crate) fn write_loaded<K: Sink>(alloc: Global, out: &mut K, rows: usize) -> Status
+    ensures { WritesOutput (loaded_message rows) Status.Done
+        (K.state out.old) (K.state out.new) result }
+{
+    match loaded_message(alloc, rows) {
+        Ok(text) => write_output(out, text.as_bytes(), Status::Done),
         Err(NoMemory) => Status::OutOfMemory,
     }
 }

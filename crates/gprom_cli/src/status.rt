@@ -17,15 +17,18 @@ pub enum Status {
     Absent,
     /// A file that is read cannot be read.
     Unreadable,
-    /// The dump cannot be written, or the output reported a write error.
+    /// The dump, or the script of a sheet, cannot be written, or the output reported a write error.
     Unwritten,
     /// A file that is read, or the dump that is written, is too long: a script or questions longer than
-    /// [`MAX_SCRIPT_LENGTH`](gp_script::MAX_SCRIPT_LENGTH), a dump longer than [`MAX_DUMP_LENGTH`](gp_dump::MAX_DUMP_LENGTH).
+    /// [`MAX_SCRIPT_LENGTH`](gp_script::MAX_SCRIPT_LENGTH), a dump longer than [`MAX_DUMP_LENGTH`](gp_dump::MAX_DUMP_LENGTH), a sheet
+    /// longer than [`MAX_SHEET_LENGTH`](crate::MAX_SHEET_LENGTH).
     TooLong,
     /// The dump is not well formed.
     Damaged,
     /// Memory ran out.
     OutOfMemory,
+    /// The sheet has a fault.
+    SheetRefused,
 }
 
 impl Status {
@@ -54,6 +57,7 @@ impl Status {
             Status::TooLong => 6,
             Status::Damaged => 7,
             Status::OutOfMemory => 8,
+            Status::SheetRefused => 9,
         }
     }
 }

@@ -12,32 +12,36 @@ use clap::{Arg, ArgMatches, Command, Error};
 use gp_base::NoMemory;
 use std::alloc::{AllocError, Global};
 
-/// Two words, and a third that may be missing.
+/// Two words, and two more that may be missing.
 #[derive(Clone, Copy)]
 pub(crate) struct Words<'a> {
     /// The name of the command.
     pub(crate) word: &'a str,
     /// The first name, or a number.
     pub(crate) first: &'a str,
-    /// The second name.
+    /// The second name, or that of a table.
     pub(crate) second: Option<&'a str>,
+    /// The third name.
+    pub(crate) third: Option<&'a str>,
 }
 
 // The words are told apart by their number and the first of them, so clap sees one simple command, and neither asks for help nor prints it.
-/// The command line: three positional arguments, of which the last may be missing.
+/// The command line: four positional arguments, of which the last two may be missing.
 fn command_line<'a>(alloc: Global) -> Result<Command<'a>, AllocError>
     ensures { IfOk result (λ command. app_of command ≡ command_line) }
 {
     let command = Arg::new(alloc, "command").required(true);
     let first = Arg::new(alloc, "first").required(true);
     let second = Arg::new(alloc, "second");
+    let third = Arg::new(alloc, "third");
     Command::new(alloc, "gprom")
         .no_binary_name(true)
         .disable_help_flag(true)
         .disable_version_flag(true)
         .arg(command)?
         .arg(first)?
-        .arg(second)
+        .arg(second)?
+        .arg(third)
 }
 
 /// The words that a parse found.
@@ -46,13 +50,19 @@ fn found<'a>(matches: &ArgMatches<'a>) -> Option<Words<'a>>
         → first_value (found_of matches.now) (codes "command") ≡ Some word
         → first_value (found_of matches.now) (codes "first") ≡ Some first
         → option_map words_view result
-        ≡ Some (word, first, first_value (found_of matches.now) (codes "second")) }
+        ≡ Some (
+          word,
+          first,
+          first_value (found_of matches.now) (codes "second"),
+          first_value (found_of matches.now) (codes "third"),
+        ) }
 {
     match (matches.get_str("command"), matches.get_str("first")) {
         (Some(word), Some(first)) => Some(Words {
             word,
             first,
             second: matches.get_str("second"),
+            third: matches.get_str("third"),
         }),
         _ => None,
     }
@@ -69,7 +79,7 @@ fn refused<'a>(error: &Error) -> Result<Option<Words<'a>>, NoMemory>
     }
 }
 
-/// Two or three words, or none where there are fewer or more. Running out of memory is the only error.
+/// Two to four words, or none where there are fewer or more. Running out of memory is the only error.
 pub(crate) fn read_words<'a>(
     alloc: Global,
     args: &'a [String],

@@ -7,8 +7,8 @@ use Rattle.gprom_cli.proofs.ask.answer.Goals as goal
 
 pub returns-in-Ok : goal.returns-in-Ok
 returns-in-Ok g c = record {
-  outcome = Answered (dump_view c.in-Ok.dump) c.args.questions.now;
-  is = (refl, only c.args.bytes.now (dump_view c.in-Ok.dump) c.in-Ok.ensures.exact);
+  outcome = Answered c.args.format (dump_view c.in-Ok.dump) c.args.questions.now;
+  is = (refl, refl, only c.args.bytes.now (dump_view c.in-Ok.dump) c.in-Ok.ensures.exact);
   writes = c.write_answers.ensures.written;
   explains = c.write_answers.ensures.explained;
 }
@@ -19,7 +19,7 @@ returns-in-Err-Fault g c =
     record {
       outcome = Damaged c.in-Err-Fault.f c.in-Err-Fault.line;
       is = ap fault_in (rw is at c.read_dump.ensures.exact);
-      writes = c.write_damage.ensures;
+      writes = rw c.in-Err-Fault.field-0-is at c.write_damage.ensures;
       explains = tt;
     }
 

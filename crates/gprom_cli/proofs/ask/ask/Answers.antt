@@ -14,11 +14,11 @@ returns-in-Ok g c =
     let there : HasContent name middle c.deref.result.now =
     subst (λ (h : ShelfState). HasContent name h c.deref.result.now) (sym found.unchanged)
     (subst (λ (bytes : List ℕ). HasContent name before bytes) (sym c.deref.ensures.value) found.content) in
-    goes-on (Some (Ask name c.args.questions.now)) before middle (g.H.Shelf.state c.ask_bytes.new.shelf)
+    goes-on (Some (Ask c.args.format name c.args.questions.now)) before middle (g.H.Shelf.state c.ask_bytes.new.shelf)
     (g.K.Sink.state c.args.out.now) (g.K.Sink.state c.read_file.new.out) (g.K.Sink.state c.ask_bytes.new.out) c.ask_bytes.result
     found.unchanged c.in-Ok.ensures.unwritten (c.ask_bytes.ensures name there)
 
 pub returns-in-Err : goal.returns-in-Err
 returns-in-Err g c =
     ask-stopped (g.H.Shelf.state c.args.shelf.now) (g.H.Shelf.state c.read_file.new.shelf) (g.K.Sink.state c.args.out.now) (g.K.Sink.state c.read_file.new.out) c.in-Err.status
-    c.args.dump.now c.args.questions.now c.in-Err.ensures.stopped
+    c.args.format c.args.dump.now c.args.questions.now c.in-Err.ensures.stopped

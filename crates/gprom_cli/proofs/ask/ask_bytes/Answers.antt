@@ -11,12 +11,12 @@ returns-in-Ok g c = λ dump found.
     let sink_after = g.K.Sink.state c.answer.new.out in
     let asked = c.in-Ok.ensures.read in
     let answers =
-    subst (λ (k : SinkState). Answers c.args.bytes.now c.in-Ok.asked.items k sink_after c.answer.result) c.in-Ok.ensures.unwritten
-    (subst (λ (x : List ℕ). Answers c.args.bytes.now x (g.K.Sink.state c.read_file.new.out) sink_after c.answer.result) c.deref.ensures.value c.answer.ensures) in
+    subst (λ (k : SinkState). Answers c.args.format c.args.bytes.now c.in-Ok.asked.items k sink_after c.answer.result) c.in-Ok.ensures.unwritten
+    (subst (λ (x : List ℕ). Answers c.args.format c.args.bytes.now x (g.K.Sink.state c.read_file.new.out) sink_after c.answer.result) c.deref.ensures.value c.answer.ensures) in
     ask-answered before after (g.K.Sink.state c.args.out.now) sink_after c.answer.result
-    dump c.args.questions.now c.args.bytes.now c.in-Ok.asked.items asked.unchanged found c.requires asked.content asked.short answers
+    c.args.format dump c.args.questions.now c.args.bytes.now c.in-Ok.asked.items asked.unchanged found c.requires asked.content asked.short answers
 
 pub returns-in-Err : goal.returns-in-Err
 returns-in-Err g c = λ dump found.
     questions-stopped (g.H.Shelf.state c.args.shelf.now) (g.H.Shelf.state c.read_file.new.shelf) (g.K.Sink.state c.args.out.now) (g.K.Sink.state c.read_file.new.out) c.in-Err.status
-    dump c.args.questions.now c.args.bytes.now found c.requires c.in-Err.ensures.stopped
+    c.args.format dump c.args.questions.now c.args.bytes.now found c.requires c.in-Err.ensures.stopped

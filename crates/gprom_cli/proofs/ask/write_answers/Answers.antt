@@ -10,8 +10,8 @@ use Rattle.gprom_cli.proofs.ask.write_answers.Goals as goal
 pub returns-in-Ok-clause-written : goal.returns-in-Ok-clause-written
 returns-in-Ok-clause-written g c =
     let answers = answer_to (dump_view c.args.dump.now) in
-    let text = answers_text answers c.args.questions.now in
-    let status = answered_status (has_refused answers c.args.questions.now) in
+    let text = answers_text c.args.format answers c.args.questions.now in
+    let status = answered_status (has_refused c.args.format answers c.args.questions.now) in
     let old = g.K.Sink.state c.args.out.now in
     let new = g.K.Sink.state c.write_lines.new.out in
     let wrote = c.in-Ok.ensures.written in
@@ -21,8 +21,8 @@ returns-in-Ok-clause-written g c =
 pub returns-in-Err-clause-written : goal.returns-in-Err-clause-written
 returns-in-Err-clause-written g c =
     let answers = answer_to (dump_view c.args.dump.now) in
-    let text = answers_text answers c.args.questions.now in
-    let status = answered_status (has_refused answers c.args.questions.now) in
+    let text = answers_text c.args.format answers c.args.questions.now in
+    let status = answered_status (has_refused c.args.format answers c.args.questions.now) in
     let old = g.K.Sink.state c.args.out.now in
     let new = g.K.Sink.state c.write_lines.new.out in
     let wrote = c.in-Err.ensures.written in

@@ -6,7 +6,7 @@ use Rattle.gprom_cli.proofs.ask.write_lines.Given as goal
 
 abbrev pub invariant-loop-line : goal.invariant-loop-line
 invariant-loop-line g l =
-    IsProgress (answer_to (dump_view l.dump)) (dump_view l.dump).entries l.questions l.rest l.refused (g.K.Sink.state l.initial.out) (g.K.Sink.state l.out)
+    IsProgress l.format (answer_to (dump_view l.dump)) (dump_view l.dump).entries l.questions l.rest l.refused (g.K.Sink.state l.initial.out) (g.K.Sink.state l.out)
 
 abbrev pub decreases-loop-line : goal.decreases-loop-line
 decreases-loop-line g l = length l.rest

@@ -7,10 +7,8 @@ use Rattle.gp_machine.specs.State.{State, start}
 use Rattle.gp_log.specs.Limits.{limits}
 use Rattle.gp_script.specs.History.{lines_read}
 use Rattle.gp_dump.specs.Dumps.{IsDump, dump_of}
-use Rattle.gp_ask.specs.declared.answered.Answered.{Answered}
 use Rattle.gp_ask.specs.Answers.{answer_to, held_to}
-use Rattle.gp_ask.specs.Questions.{answers_text, has_refused, is_refused}
-use Rattle.gp_ask.specs.Texts.{answer_text}
+use Rattle.gp_ask.specs.Questions.{answers_text, has_refused}
 use Rattle.gprom_cli.specs.Summary.{row_count, rows_in}
 use Rattle.gprom_cli.proofs.AnswersLemmas.{same-refusals, same-texts}
 use Rattle.gprom_cli.proofs.RowCountLemmas.{same-rows}
@@ -22,22 +20,22 @@ returns-clause-formed c = λ script short.
     (c.dumps_of_histories_are_well_formed.ensures.rules (lines_read (script_lines script)) (c.lines_of_scripts_are_script_lines.ensures.lines script short))
 
 pub returns-clause-answers : goal.returns-clause-answers
-returns-clause-answers c = λ script questions.
+returns-clause-answers c = λ format script questions.
     let lines = lines_read (script_lines script) in
     let plainly = after plain limits start lines in
     let state = after monomials limits start lines in
-    subst (λ (s : State (Unit {0})). answers_text (answer_to (dump_of s)) questions ≡ answers_text (held_to (after monomials limits start lines)) questions) (sym (c.scripts_lead_to_histories.ensures.reached plain script))
-    (same-texts (answer_to (dump_of plainly)) (held_to state) (λ question number. ap (λ (a : Answered). answer_text number a) (c.histories_answer_as_their_dumps.ensures lines question)) questions)
-    ∙ ap (λ (s : State Monomial). answers_text (held_to s) questions) (sym (c.scripts_lead_to_histories-2.ensures.reached monomials script))
+    subst (λ (s : State (Unit {0})). answers_text format (answer_to (dump_of s)) questions ≡ answers_text format (held_to (after monomials limits start lines)) questions) (sym (c.scripts_lead_to_histories.ensures.reached plain script))
+    (same-texts (answer_to (dump_of plainly)) (held_to state) (c.histories_answer_as_their_dumps.ensures lines) format questions)
+    ∙ ap (λ (s : State Monomial). answers_text format (held_to s) questions) (sym (c.scripts_lead_to_histories-2.ensures.reached monomials script))
 
 pub returns-clause-refusals : goal.returns-clause-refusals
-returns-clause-refusals c = λ script questions.
+returns-clause-refusals c = λ format script questions.
     let lines = lines_read (script_lines script) in
     let plainly = after plain limits start lines in
     let state = after monomials limits start lines in
-    subst (λ (s : State (Unit {0})). has_refused (answer_to (dump_of s)) questions ≡ has_refused (held_to (after monomials limits start lines)) questions) (sym (c.scripts_lead_to_histories.ensures.reached plain script))
-    (same-refusals (answer_to (dump_of plainly)) (held_to state) (λ question. ap (λ (a : Answered). is_refused a) (c.histories_answer_as_their_dumps.ensures lines question)) questions)
-    ∙ ap (λ (s : State Monomial). has_refused (held_to s) questions) (sym (c.scripts_lead_to_histories-2.ensures.reached monomials script))
+    subst (λ (s : State (Unit {0})). has_refused format (answer_to (dump_of s)) questions ≡ has_refused format (held_to (after monomials limits start lines)) questions) (sym (c.scripts_lead_to_histories.ensures.reached plain script))
+    (same-refusals (answer_to (dump_of plainly)) (held_to state) (c.histories_answer_as_their_dumps.ensures lines) format questions)
+    ∙ ap (λ (s : State Monomial). has_refused format (held_to s) questions) (sym (c.scripts_lead_to_histories-2.ensures.reached monomials script))
 
 pub returns-clause-rows : goal.returns-clause-rows
 returns-clause-rows c = λ script questions.
