@@ -9,7 +9,8 @@ use std::test::Fail;
 const SCRIPT: &[u8] =
     b"s1: CREATE TABLE r (a INT, b INT)\ns1: BEGIN\ns1: INSERT INTO r VALUES (1, 10)\ns1: SELECT * FROM r\ns1: COMMIT\n";
 
-const USAGE: &str = "usage: gprom run SCRIPT DUMP, gprom ask DUMP QUESTIONS, gprom gen N\n";
+const USAGE: &str =
+    "usage: gprom run SCRIPT DUMP, gprom ask DUMP QUESTIONS, gprom gen N, gprom load CSV TABLE SCRIPT, gprom export DUMP QUESTIONS\n";
 
 const RUN: &[&str] = &["run", "S", "D"];
 

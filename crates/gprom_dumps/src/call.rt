@@ -79,7 +79,7 @@ pub(crate) fn called(
 }
 
 /// Whether the file D is as expected.
-fn holds(shelf: &mut MemShelf, dump: Option<&[u8]>) -> bool {
+pub(crate) fn holds(shelf: &mut MemShelf, dump: Option<&[u8]>) -> bool {
     match (shelf.read("D", MOST), dump) {
         (Ok(bytes), Some(dump)) => bytes.as_slice() == dump,
         (Err(_), None) => true,

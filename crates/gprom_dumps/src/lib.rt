@@ -10,7 +10,7 @@
 //!
 //! Reading order: `call.rt` (a call and how it ends), `written.rt` (the dumps of scripts), `questions.rt` (answers from a dump),
 //! `reenacting.rt` (past transactions replayed), `damage.rt` (dumps that are refused), `outside.rt` (arguments, files and output that
-//! fail), `travel.rt` (the rows of past versions).
+//! fail), `sheets.rt` (sheets loaded as scripts, and answers exported as CSV), `travel.rt` (the rows of past versions).
 #![tactic(auto)]
 
 #[cfg(test)]
@@ -23,6 +23,8 @@ mod outside;
 mod questions;
 #[cfg(test)]
 mod reenacting;
+#[cfg(test)]
+mod sheets;
 #[cfg(test)]
 mod travel;
 #[cfg(test)]

@@ -14,7 +14,8 @@ const REPLIES: &[u8] =
 const DUMP: &[u8] =
     b"gprom-dump 1\nlog 5\n1 s1 CREATE TABLE r (a INT, b INT)\n2 s1 BEGIN\n3 s1 INSERT INTO r VALUES (1, 10)\n4 s1 SELECT * FROM r\n5 s1 COMMIT\ntable r 1\n1.1.1 1 - 1, 10\nend\n";
 
-const USAGE: &[u8] = b"usage: gprom run SCRIPT DUMP, gprom ask DUMP QUESTIONS, gprom gen N\n";
+const USAGE: &[u8] =
+    b"usage: gprom run SCRIPT DUMP, gprom ask DUMP QUESTIONS, gprom gen N, gprom load CSV TABLE SCRIPT, gprom export DUMP QUESTIONS\n";
 
 /// A call, and its end.
 type Case = (Call<'static>, End<'static>);
