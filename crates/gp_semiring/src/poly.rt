@@ -84,10 +84,9 @@ impl Semiring for Poly {
     }
 
     #[tactic(auto, using(crate::proofs::TermLemmas::with_terms_is))]
-    fn plus(&self, alloc: Global, other: &Poly) -> Result<Poly, NoMemory> {
+    fn plus(&self, _alloc: Global, other: Poly) -> Result<Poly, NoMemory> {
         let left = self.terms.as_slice();
-        let right = other.terms.as_slice();
-        let mut terms = copied(alloc, right)?;
+        let mut terms = other.terms;
         add_terms(&mut terms, left)?;
         Ok(Poly { terms })
     }
