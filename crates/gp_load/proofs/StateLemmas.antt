@@ -263,11 +263,11 @@ module _ (table : Table) (rows : List (List Cell)) (t k n most bound line : ℕ)
   few-published : length (filter test (own.seen.view 0)) ≤ length rows
   few-published = let e = cells-length (own.seen.view 0) rows h.cells in let f = filter-few test (own.seen.view 0) in omega (arith, e, f)
 
-  count-done : published_rows own (length state.catalogue) ≡ length (filter test (own.seen.view 0))
-  count-done = let e = ap (λ (tables : List Table). published_rows own (length tables)) h.catalogue in omega (arith, e)
+  count-done : published_rows own.seen (length state.catalogue) ≡ length (filter test (own.seen.view 0))
+  count-done = let e = ap (λ (tables : List Table). published_rows own.seen (length tables)) h.catalogue in omega (arith, e)
 
   not-full : is_full limits state own ≡ false
-  not-full = le-ltb MAX_SPANS (state.rows + published_rows own (length state.catalogue)) (let f = few-published in let g = h.published in let c = count-done in omega (arith, f, g, c, grows, room))
+  not-full = le-ltb MAX_SPANS (state.rows + published_rows own.seen (length state.catalogue)) (let f = few-published in let g = h.published in let c = count-done in omega (arith, f, g, c, grows, room))
 
   abbrev done : Plain
   done = published state line 1 own

@@ -1,8 +1,8 @@
--- The invariant of a running transaction: at its BEGIN, after a statement, and in a reached state.
-use Rattle.std.proofs.Common.{◌≡◌, ◌≢◌, ◌∙◌, ℕ, zero, suc, ◌≤◌, false, List, [], ◌++◌, refl, sym, subst, arith, Some}
+-- The invariant of a running transaction: at its BEGIN, after a statement, over a history, and in a reached state.
+use Rattle.std.proofs.Common.{◌≡◌, ◌≢◌, ◌∙◌, ℕ, zero, suc, ◌<◌, ◌≤◌, false, List, [], ◌++◌, refl, sym, subst, arith, Some}
 use Rattle.gp_algebra.specs.Effects.{Written, step, wrote}
 use Rattle.gp_algebra.specs.Statements.{Statement}
-use Rattle.gp_base.specs.Annotated.{Annotated, Annotations, Database}
+use Rattle.gp_base.specs.Annotated.{Annotated, Annotations, Database, Environment}
 use Rattle.gp_base.specs.Identities.{statement_of, transaction_of}
 use Rattle.gp_machine.proofs.CommitLemmas.{Clean, IsMadeBy, all_sound, bases_within, made_view, view_kept}
 use Rattle.gp_machine.proofs.Distinct.{each_append, each_filter, each_weaker}
@@ -11,10 +11,11 @@ use Rattle.gp_machine.proofs.StepViews.{AllKept, MadeBy, step_each, step_kept}
 use Rattle.gp_machine.proofs.ViewLemmas.{kept_merged}
 use Rattle.gp_machine.specs.Bases.{Based, pairs}
 use Rattle.gp_machine.specs.Committed.{is_written, merged, unmarked}
-use Rattle.gp_machine.specs.Entries.{begin_version, log_of, statement_version, versions_in}
+use Rattle.gp_machine.specs.Entries.{Log, log_of, versions_in}
+use Rattle.gp_machine.specs.Histories.{IsHistory}
 use Rattle.gp_machine.specs.Limits.{Limits}
 use Rattle.gp_machine.specs.Reached.{IsReached}
-use Rattle.gp_machine.specs.Reading.{Seen}
+use Rattle.gp_machine.specs.Reading.{Seen, seen_by}
 use Rattle.gp_machine.specs.State.{Active, State}
 use Rattle.gp_machine.specs.Views.{HaveDifferentIdentities, IsViewOf}
 use Rattle.std.specs.List.{AllByRecursion}
@@ -36,41 +37,55 @@ step_view kind t k statement base view written is = record {
       (λ table. each_weaker _ _ (λ row l e. let m = l e in omega arith) (view table) (is.own table));
 }
 
-module _ {M : Type 0} (kind : Annotations M) (limits : Limits) (state : State M) (reached : IsReached kind limits state) (session : ℕ) (active : Active M) (e : state.active session ≡ Some active) where
-  -- no row of a version was made by a transaction that is active
-  pub made_by_others : (v : ℕ) → v ≤ versions_in state.entries → (place : ℕ) → AllByRecursion (λ row. transaction_of row.identity ≢ active.transaction) (state.committed v place)
-  made_by_others v l place = each_weaker _ _ (λ row m own. apart row m own) (state.committed v place) (all_sound kind (log_of state.entries) state.committed state.written reached.history v l v (omega arith) place).makers
+-- A transaction that has made no version of a history, with what its statements read and wrote over it.
+pub record IsOver {M : Type 0} (kind : Annotations M) (log : Log) (committed : Environment M) (active : Active M) : Type 0 where
+  pub seen : active.seen ≡ seen_by kind log active.transaction active.statements committed
+  pub version : active.version ≡ log.version active.transaction active.statements
+  pub read : (k : ℕ) → k ≤ active.statements → log.version active.transaction k ≤ log.versions
+  pub rising : (k : ℕ) → k < active.statements → log.version active.transaction k ≤ log.version active.transaction (suc k)
+  pub unfinished : (u : ℕ) → u < log.versions → log.committer (suc u) ≢ active.transaction
+
+module _ {M : Type 0} (kind : Annotations M) (log : Log) (committed : Environment M) (written : ℕ → List Written) (history : IsHistory kind log committed written) (active : Active M) (over : IsOver kind log committed active) where
+  -- it made no row of a version
+  pub made_by_others : (v : ℕ) → v ≤ log.versions → (place : ℕ) → AllByRecursion (λ row. transaction_of row.identity ≢ active.transaction) (committed v place)
+  made_by_others v l place = each_weaker _ _ (λ row m own. apart row m own) (committed v place) (all_sound kind log committed written history v l v (omega arith) place).makers
     where
-      apart : (row : Annotated M) → IsMadeBy (log_of state.entries) v row.identity → transaction_of row.identity ≡ active.transaction → ⊥
-      apart row (u, m, is) own = (reached.running session active e).unfinished u (omega arith) (sym is ∙ own)
+      apart : (row : Annotated M) → IsMadeBy log v row.identity → transaction_of row.identity ≡ active.transaction → ⊥
+      apart row (u, m, is) own = over.unfinished u (omega arith) (sym is ∙ own)
 
   -- the versions that it has read are fit for it
-  pub active_clean : Clean kind (log_of state.entries) state.committed state.written reached.history active.transaction active.statements
+  pub active_clean : Clean kind log committed written history active.transaction active.statements
   active_clean =
-      let within = λ (j : ℕ). versions_le active.transaction j state.entries in
-      let sound = λ (j : ℕ). all_sound kind (log_of state.entries) state.committed state.written reached.history (statement_version active.transaction j state.entries) (within j) (statement_version active.transaction j state.entries) (omega arith) in
+      let sound = λ (j : ℕ) (l : j ≤ active.statements). all_sound kind log committed written history (log.version active.transaction j) (over.read j l) (log.version active.transaction j) (omega arith) in
       record {
-        different = λ j l table. (sound j table).different;
-        unmarked = λ j l table. (sound j table).unmarked;
-        others = λ j l table. made_by_others (statement_version active.transaction j state.entries) (within j) table;
+        different = λ j l table. (sound j l table).different;
+        unmarked = λ j l table. (sound j l table).unmarked;
+        others = λ j l table. made_by_others (log.version active.transaction j) (over.read j l) table;
       }
 
-  -- the marked rows of an active transaction are those that it wrote
-  pub active_kept : AllKept (state.committed active.version) active.seen.view (pairs active.seen.written)
+  -- its marked rows are those that it wrote
+  pub active_kept : AllKept (committed active.version) active.seen.view (pairs active.seen.written)
   active_kept =
-      let r = reached.running session active e in
-      subst (λ (x : ℕ × Seen M). AllKept (state.committed x.0) x.1.view (pairs x.1.written)) (λ i. (sym r.version i, sym r.seen i))
-      (view_kept kind (log_of state.entries) state.committed state.written reached.history active.transaction active.statements active_clean)
+      subst (λ (x : ℕ × Seen M). AllKept (committed x.0) x.1.view (pairs x.1.written)) (λ i. (sym over.version i, sym over.seen i))
+      (view_kept kind log committed written history active.transaction active.statements active_clean)
 
   -- a row that it wrote has a base that it has read
-  pub active_bases : AllByRecursion (λ (based : Based). (begin_version active.transaction state.entries ≤ based.base) × (based.base ≤ active.version)) active.seen.written
+  pub active_bases : AllByRecursion (λ (based : Based). (log.version active.transaction zero ≤ based.base) × (based.base ≤ active.version)) active.seen.written
   active_bases =
-      let r = reached.running session active e in
-      subst (λ (x : ℕ × Seen M). AllByRecursion (λ (based : Based). (begin_version active.transaction state.entries ≤ based.base) × (based.base ≤ x.0)) x.1.written) (λ i. (sym r.version i, sym r.seen i))
-      (bases_within kind (log_of state.entries) state.committed state.written reached.history active.transaction active.statements r.rising)
+      subst (λ (x : ℕ × Seen M). AllByRecursion (λ (based : Based). (log.version active.transaction zero ≤ based.base) × (based.base ≤ x.0)) x.1.written) (λ i. (sym over.version i, sym over.seen i))
+      (bases_within kind log committed written history active.transaction active.statements over.rising)
 
-  pub active_version : active.version ≤ versions_in state.entries
-  active_version = let r = reached.running session active e in subst (λ v. v ≤ versions_in state.entries) (sym r.version) (versions_le active.transaction active.statements state.entries)
+-- an active transaction of a reached state is one
+pub active_over : {M : Type 0} (kind : Annotations M) (limits : Limits) (state : State M) → IsReached kind limits state → (session : ℕ) (active : Active M) → state.active session ≡ Some active
+    → IsOver kind (log_of state.entries) state.committed active
+active_over kind limits state reached session active e =
+    let r = reached.running session active e in
+    record { seen = r.seen; version = r.version; read = λ k l. versions_le active.transaction k state.entries; rising = r.rising; unfinished = r.unfinished }
+
+pub active_version : {M : Type 0} (kind : Annotations M) (limits : Limits) (state : State M) → IsReached kind limits state → (session : ℕ) (active : Active M) → state.active session ≡ Some active
+    → active.version ≤ versions_in state.entries
+active_version kind limits state reached session active e =
+    let r = reached.running session active e in subst (λ v. v ≤ versions_in state.entries) (sym r.version) (versions_le active.transaction active.statements state.entries)
 
 -- before a statement that reads a later version
 pub refreshed_view : {M : Type 0} (t k : ℕ) (base view later : Database M) (written : List Written) → IsViewOf t k base view written → ((table : ℕ) → HaveDifferentIdentities (later table))
@@ -87,9 +102,10 @@ refreshed_view t k base view later written is different unmarked others = record
 pub active_view : {M : Type 0} (kind : Annotations M) (limits : Limits) (state : State M) → IsReached kind limits state → (session : ℕ) (active : Active M) → state.active session ≡ Some active
     → IsViewOf active.transaction active.statements (state.committed active.version) active.seen.view (pairs active.seen.written)
 active_view kind limits state reached session active e =
-    let r = reached.running session active e in
+    let over = active_over kind limits state reached session active e in
     record {
-      tables = active_kept kind limits state reached session active e;
-      own = subst (λ (x : Seen _). MadeBy active.transaction active.statements x.view) (sym r.seen)
-          (made_view kind (log_of state.entries) state.committed state.written reached.history active.transaction active.statements (active_clean kind limits state reached session active e).others);
+      tables = active_kept kind (log_of state.entries) state.committed state.written reached.history active over;
+      own = subst (λ (x : Seen _). MadeBy active.transaction active.statements x.view) (sym over.seen)
+          (made_view kind (log_of state.entries) state.committed state.written reached.history active.transaction active.statements
+          (active_clean kind (log_of state.entries) state.committed state.written reached.history active over).others);
     }

@@ -10,29 +10,27 @@ use Rattle.gp_base.specs.Annotated.{Annotated, Annotations, Database, Environmen
 use Rattle.gp_base.specs.Identities.{Identity, same_identity, transaction_of}
 use Rattle.gp_base.specs.declared.cell.Cell.{Cell}
 use Rattle.gp_expr.specs.Values.{passes}
-use Rattle.gp_machine.proofs.ActiveLemmas.{active_clean, made_by_others}
+use Rattle.gp_machine.proofs.ActiveLemmas.{IsOver, active_clean, active_over, made_by_others}
 use Rattle.gp_machine.proofs.BaseLemmas.{base_is, bases_kept, found as what_holds, is_based, of_based}
 use Rattle.gp_machine.proofs.CommitLemmas.{Clean, IsMadeBy, all_sound, clean, started_kept, view_kept}
 use Rattle.gp_machine.proofs.Distinct.{each_append, each_both, each_filter, each_map, each_weaker, or_true}
 use Rattle.gp_machine.proofs.EngineLemmas.{line_follows}
 use Rattle.gp_machine.proofs.LeastLemmas.{least_conflict_is, least_once, next_first}
-use Rattle.gp_machine.proofs.LogLemmas.{versions_le}
 use Rattle.gp_machine.proofs.Made.{and_true, eq_from, eq_itself, same_equal, same_itself}
 use Rattle.gp_machine.proofs.ReachedLemmas.{all_reached, not_lost}
-use Rattle.gp_machine.proofs.RepresentLemmas.{committed_rows}
 use Rattle.gp_machine.proofs.SpanEnds.{spans_end}
-use Rattle.gp_machine.proofs.SpanLaws.{each_span, spans_apart, spans_whole}
+use Rattle.gp_machine.proofs.SpanLaws.{each_span, plain_spans_rows, spans_apart, spans_whole}
 use Rattle.gp_machine.proofs.SpanOrder.{next_bounds, next_upto}
 use Rattle.gp_machine.proofs.StepViews.{is_written_in}
 use Rattle.gp_machine.proofs.ViewLemmas.{holds_others}
 use Rattle.gp_machine.specs.Actions.{action_of}
 use Rattle.gp_machine.specs.Bases.{Based, is_new, pairs, with_base}
 use Rattle.gp_machine.specs.Committed.{is_written}
-use Rattle.gp_machine.specs.Conflicts.{Conflict, HaveOneBase, IsBased, IsLeastConflict}
+use Rattle.gp_machine.specs.Conflicts.{Conflict, HaveOneBase, IsBased, IsLeastConflict, least_conflict}
 use Rattle.gp_machine.specs.EngineLine.{Answers, FindsConflict, Follows, ShowsConflict, next_write}
-use Rattle.gp_machine.specs.Entries.{Log, begin_version, log_of, versions_in}
-use Rattle.gp_machine.specs.Event.{Line, after, conflict_of}
-use Rattle.gp_machine.specs.HistorySpans.{next_written, state_spans}
+use Rattle.gp_machine.specs.Entries.{Log, begin_version, log_of}
+use Rattle.gp_machine.specs.Event.{Line, after}
+use Rattle.gp_machine.specs.HistorySpans.{as_of, next_written, spans_of}
 use Rattle.gp_machine.specs.Histories.{IsHistory}
 use Rattle.gp_machine.specs.Limits.{Limits}
 use Rattle.gp_machine.specs.Publishing.{holds}
@@ -52,7 +50,7 @@ or_cases : (a b : Bool) → (a || b) ≡ true → (a ≡ true) ⊎ (b ≡ true)
 or_cases true b e = inl refl
 or_cases false b e = inr e
 
-holds_own : {M : Type 0} (P : Identity → Type 0) (id : Identity) (rows : List (Annotated M)) → AllByRecursion (λ row. P row.identity) rows → holds id rows ≡ true → P id
+pub holds_own : {M : Type 0} (P : Identity → Type 0) (id : Identity) (rows : List (Annotated M)) → AllByRecursion (λ row. P row.identity) rows → holds id rows ≡ true → P id
 holds_own P id [] each e = absurd (false≢true e)
 holds_own P id (row ∷ rows) each e =
     (elim (same_identity row.identity id) as (λ b. same_identity row.identity id ≡ b → (b || holds id rows) ≡ true → P id) [
@@ -167,31 +165,31 @@ no_write : (id : Identity) (v : ℕ) (spans : List Span) → AllByRecursion (λ 
 no_write id v [] each = refl
 no_write id v (span ∷ spans) each = ap (λ b. cond b (least (least (later v span.from) (later_end v span.to)) (written_after id v spans)) (written_after id v spans)) each.0 ∙ no_write id v spans each.1
 
-module _ (limits : Limits) (state : State (Unit {0})) (kept : Kept) (represents : Represents kept state) (reached : IsReached plain limits state) (session : ℕ) (active : Active (Unit {0})) (overlay : Overlay)
-    (e : state.active session ≡ Some active) (runs : RepresentsActive kept.spans (begin_version active.transaction state.entries) overlay active) where
+module _ (log : Log) (committed : Environment (Unit {0})) (written : ℕ → List Written) (history : IsHistory plain log committed written) (active : Active (Unit {0})) (over : IsOver plain log committed active)
+    (kept : Kept) (represented : (place : ℕ) → kept.spans place ≡ spans_of log.versions committed written place)
+    (begun : ℕ) (overlay : Overlay) (runs : RepresentsActive kept.spans begun overlay active) where
   abbrev last : ℕ
-  last = versions_in state.entries
+  last = log.versions
 
   abbrev wrote_all : List Based
   wrote_all = active.seen.written
 
   -- each row that it wrote is its own, or is in the version of its base
-  read_each : AllByRecursion (λ (based : Based). (based.base ≤ last) × ((transaction_of based.pair.identity ≡ active.transaction) ⊎ (holds based.pair.identity (state.committed based.base based.pair.table) ≡ true))) wrote_all
+  read_each : AllByRecursion (λ (based : Based). (based.base ≤ last) × ((transaction_of based.pair.identity ≡ active.transaction) ⊎ (holds based.pair.identity (committed based.base based.pair.table) ≡ true))) wrote_all
   read_each =
-      let r = reached.running session active e in
-      subst (λ (seen : Seen (Unit {0})). AllByRecursion (λ (based : Based). (based.base ≤ last) × ((transaction_of based.pair.identity ≡ active.transaction) ⊎ (holds based.pair.identity (state.committed based.base based.pair.table) ≡ true))) seen.written) (sym r.seen)
-      (each_weaker _ _ (λ based b. (let l = versions_le active.transaction b.number state.entries in omega (arith, b.base), b.read)) _
-      (bases_read plain (log_of state.entries) state.committed state.written reached.history active.transaction active.statements (active_clean plain limits state reached session active e)))
+      subst (λ (seen : Seen (Unit {0})). AllByRecursion (λ (based : Based). (based.base ≤ last) × ((transaction_of based.pair.identity ≡ active.transaction) ⊎ (holds based.pair.identity (committed based.base based.pair.table) ≡ true))) seen.written) (sym over.seen)
+      (each_weaker _ _ (λ based b. (let l = over.read b.number b.within in omega (arith, b.base), b.read)) _
+      (bases_read plain log committed written history active.transaction active.statements (active_clean plain log committed written history active over)))
 
   bases : HaveOneBase wrote_all
-  bases = let r = reached.running session active e in subst (λ (seen : Seen (Unit {0})). HaveOneBase seen.written) (sym r.seen) (one_base plain (log_of state.entries) state.committed state.written reached.history active.transaction active.statements)
+  bases = subst (λ (seen : Seen (Unit {0})). HaveOneBase seen.written) (sym over.seen) (one_base plain log committed written history active.transaction active.statements)
 
   -- no span is of a row that the transaction made
   other_spans : (place : ℕ) → AllByRecursion (λ (span : Span). transaction_of span.id ≢ active.transaction) (kept.spans place)
   other_spans place =
-      subst (AllByRecursion (λ (span : Span). transaction_of span.id ≢ active.transaction)) (sym (represents.spans place))
-      (each_span last state.committed state.written place (λ span. transaction_of span.id ≢ active.transaction) (λ row. transaction_of row.identity ≢ active.transaction) (λ from row l n. n)
-      (λ v l. made_by_others plain limits state reached session active e v l place) last (omega arith))
+      subst (AllByRecursion (λ (span : Span). transaction_of span.id ≢ active.transaction)) (sym (represented place))
+      (each_span last committed written place (λ span. transaction_of span.id ≢ active.transaction) (λ row. transaction_of row.identity ≢ active.transaction) (λ from row l n. n)
+      (λ v l. made_by_others plain log committed written history active over v l place) last (omega arith))
 
   some_none : (v : ℕ) → Some v ≡ None → ⊥
   some_none v e = cc
@@ -206,33 +204,36 @@ module _ (limits : Limits) (state : State (Unit {0})) (kept : Kept) (represents 
         | false ↦ λ is. refl
       ] refl
 
+  -- the spans hold the rows of each version
+  held_rows : (version place : ℕ) → version ≤ last → as_of plain kept.spans version place ≡ committed version place
+  held_rows version place l = ap (rows_at plain version) (represented place) ∙ plain_spans_rows log committed written history version place l
+
   -- the next write of a row of a version
-  next_is : (place base : ℕ) (id : Identity) → base ≤ last → holds id (state.committed base place) ≡ true → written_after id base (kept.spans place) ≡ next_written state.written place id base (last - base)
+  next_is : (place base : ℕ) (id : Identity) → base ≤ last → holds id (committed base place) ≡ true → written_after id base (kept.spans place) ≡ next_written written place id base (last - base)
   next_is place base id within held =
-      ap (written_after id base) (represents.spans place)
-      ∙ holds_own (λ id. written_after id base (state_spans state place) ≡ next_written state.written place id base (last - base)) id (rows_at plain base (state_spans state place))
-      (each_map _ (λ (span : Span). written_after span.id base (state_spans state place) ≡ next_written state.written place span.id base (last - base)) (row_of plain) (λ span is. is) (spans_at base (state_spans state place))
-      (each_both _ _ _ (λ span a b. a ∙ b) (spans_at base (state_spans state place))
-      (held-end base (state_spans state place) (spans_apart plain (log_of state.entries) state.committed state.written reached.history place) (spans_whole last state.committed state.written place))
-      (each_filter _ (λ (span : Span). (v : ℕ) → v ≤ last → holds_at v span ≡ true → span.to ≡ next_written state.written place span.id v (last - v)) (holds_at base) (λ span there right. right base within there)
-      (state_spans state place) (spans_end state.committed state.written last place))))
-      (ap (holds id) (sym (ap (rows_at plain base) (represents.spans place)) ∙ committed_rows limits state kept represents reached base place within) ∙ held)
+      ap (written_after id base) (represented place)
+      ∙ holds_own (λ id. written_after id base (spans_of last committed written place) ≡ next_written written place id base (last - base)) id (rows_at plain base (spans_of last committed written place))
+      (each_map _ (λ (span : Span). written_after span.id base (spans_of last committed written place) ≡ next_written written place span.id base (last - base)) (row_of plain) (λ span is. is) (spans_at base (spans_of last committed written place))
+      (each_both _ _ _ (λ span a b. a ∙ b) (spans_at base (spans_of last committed written place))
+      (held-end base (spans_of last committed written place) (spans_apart plain log committed written history place) (spans_whole last committed written place))
+      (each_filter _ (λ (span : Span). (v : ℕ) → v ≤ last → holds_at v span ≡ true → span.to ≡ next_written written place span.id v (last - v)) (holds_at base) (λ span there right. right base within there)
+      (spans_of last committed written place) (spans_end committed written last place))))
+      (ap (holds id) (sym (ap (rows_at plain base) (represented place)) ∙ held_rows base place within) ∙ held)
 
   -- a row that a version wrote is none of the transaction's own
-  others_wrote : (place v : ℕ) (id : Identity) → 0 < v → v ≤ last → is_written place id (state.written v) ≡ true → transaction_of id ≢ active.transaction
+  others_wrote : (place v : ℕ) (id : Identity) → 0 < v → v ≤ last → is_written place id (written v) ≡ true → transaction_of id ≢ active.transaction
   others_wrote place zero id p l there own = absurd (omega arith)
   others_wrote place (suc u) id p l there own =
-      let r = reached.running session active e in
-      let by = committed_own plain (log_of state.entries) state.committed state.written reached.history u place id l there in
-      r.unfinished by.0 by.1 (sym by.2 ∙ own)
+      let by = committed_own plain log committed written history u place id l there in
+      over.unfinished by.0 by.1 (sym by.2 ∙ own)
 
   -- a row that the transaction wrote and a version after its base too: its next write
-  wrote_next : (based : Based) (v : ℕ) → IsBased based wrote_all → based.base < v → v ≤ last → is_written based.pair.table based.pair.identity (state.written v) ≡ true
+  wrote_next : (based : Based) (v : ℕ) → IsBased based wrote_all → based.base < v → v ≤ last → is_written based.pair.table based.pair.identity (written v) ≡ true
       → (w : ℕ) × (next_write kept overlay based.pair.table based.pair.identity ≡ Some w)
   wrote_next based v among l m there =
       let r = of_based _ wrote_all read_each based among in
       let other = others_wrote based.pair.table v based.pair.identity (omega arith) m there in
-      let upto = next_upto state.written based.pair.table based.pair.identity (last - based.base) based.base v there l (omega (arith, r.0)) in (
+      let upto = next_upto written based.pair.table based.pair.identity (last - based.base) based.base v there l (omega (arith, r.0)) in (
         upto.0,
         ap (option_and_then (λ base. written_after based.pair.identity base (kept.spans based.pair.table))) (runs.base based.pair.table based.pair.identity (λ own. other (own ∙ runs.transaction)) ∙ base_is wrote_all based bases among)
             ∙ ⊎_elim (λ own. absurd (other own)) (λ held. next_is based.pair.table based.base based.pair.identity r.0 held) r.1 ∙ upto.1,
@@ -243,7 +244,7 @@ module _ (limits : Limits) (state : State (Unit {0})) (kept : Kept) (represents 
     base : ℕ
     among : IsBased (record { pair = record { table = place; identity = id }; base = base }) wrote_all
     within : base ≤ last
-    next : next_written state.written place id base (last - base) ≡ Some version
+    next : next_written written place id base (last - base) ≡ Some version
 
   shown_next : (place version : ℕ) (id : Identity) → next_write kept overlay place id ≡ Some version → IsNext place version id
   shown_next place version id shows = go (base_in kept.spans overlay place id) refl shows
@@ -264,11 +265,11 @@ module _ (limits : Limits) (state : State (Unit {0})) (kept : Kept) (represents 
             next = ⊎_elim (λ own. absurd (other own)) (λ held. sym (next_is place base id r.0 held) ∙ shows) r.1;
           }
 
-  shown_least : (conflict : Conflict) → ShowsConflict kept overlay (Some conflict) → IsLeastConflict state.written last wrote_all conflict
+  shown_least : (conflict : Conflict) → ShowsConflict kept overlay (Some conflict) → IsLeastConflict written last wrote_all conflict
   shown_least conflict (shows, least) =
       let is = shown_next conflict.pair.table conflict.version conflict.pair.identity shows in
-      let bounds = next_bounds state.written conflict.pair.table conflict.pair.identity (last - is.base) is.base conflict.version is.next in
-      let first = next_first state.written conflict.pair.table conflict.pair.identity (last - is.base) is.base conflict.version is.next in
+      let bounds = next_bounds written conflict.pair.table conflict.pair.identity (last - is.base) is.base conflict.version is.next in
+      let first = next_first written conflict.pair.table conflict.pair.identity (last - is.base) is.base conflict.version is.next in
       let l = is.within in
       record {
         base = is.base;
@@ -280,25 +281,26 @@ module _ (limits : Limits) (state : State (Unit {0})) (kept : Kept) (represents 
         least = λ other v among l m there. let next = wrote_next other v among l m there in least other.pair next.0 next.1;
       }
 
-  pub shown_is : (o : Option Conflict) → ShowsConflict kept overlay o → o ≡ conflict_of state active
-  shown_is o shows = go o (conflict_of state active) refl shows
+  pub shown_is : (o : Option Conflict) → ShowsConflict kept overlay o → o ≡ least_conflict written last wrote_all
+  shown_is o shows = go o (least_conflict written last wrote_all) refl shows
     where
-      go : (o p : Option Conflict) → conflict_of state active ≡ p → ShowsConflict kept overlay o → o ≡ p
+      go : (o p : Option Conflict) → least_conflict written last wrote_all ≡ p → ShowsConflict kept overlay o → o ≡ p
       go None None is shows = refl
       go None (Some conflict) is shows =
-          let least = least_conflict_is state.written last wrote_all conflict is in
+          let least = least_conflict_is written last wrote_all conflict is in
           let next = wrote_next (record { pair = conflict.pair; base = least.base }) conflict.version least.among least.later least.there least.version in
           absurd (some_none next.0 (sym next.1 ∙ shows conflict.pair.table conflict.pair.identity))
       go (Some conflict) None is shows =
           let least = shown_least conflict shows in
-          let first = of_based _ wrote_all (not_lost state.written last wrote_all is) (record { pair = conflict.pair; base = least.base }) least.among in
+          let first = of_based _ wrote_all (not_lost written last wrote_all is) (record { pair = conflict.pair; base = least.base }) least.among in
           absurd (false≢true (sym (first conflict.version least.later least.there) ∙ least.version))
-      go (Some conflict) (Some other) is shows = ap Some (least_once state.written last wrote_all conflict other bases (shown_least conflict shows) (least_conflict_is state.written last wrote_all other is))
+      go (Some conflict) (Some other) is shows = ap Some (least_once written last wrote_all conflict other bases (shown_least conflict shows) (least_conflict_is written last wrote_all other is))
 
 -- so an engine that finds it by its spans finds the conflict of the history
 pub found : (limits : Limits) (state : State (Unit {0})) (kept : Kept) → Represents kept state → IsReached plain limits state → (session : ℕ) (conflict : Overlay → Option Conflict)
     → ((overlay : Overlay) → kept.sessions session ≡ Some overlay → ShowsConflict kept overlay (conflict overlay)) → FindsConflict kept state session conflict
-found limits state kept represents reached session conflict shows overlay active f e runs = shown_is limits state kept represents reached session active overlay e runs (conflict overlay) (shows overlay f)
+found limits state kept represents reached session conflict shows overlay active f e runs =
+    shown_is (log_of state.entries) state.committed state.written reached.history active (active_over plain limits state reached session active e) kept represents.spans (begin_version active.transaction state.entries) overlay runs (conflict overlay) (shows overlay f)
 
 pub line_shown : (limits : Limits) (line : Line) (kept new : Kept) (answer : Reply) (conflict : Overlay → Option Conflict)
     → ((overlay : Overlay) → kept.sessions line.session ≡ Some overlay → ShowsConflict kept overlay (conflict overlay))

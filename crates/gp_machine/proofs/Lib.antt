@@ -1,7 +1,7 @@
-mod ActiveLemmas
+pub mod ActiveLemmas
 mod AnnotationLemmas
 pub mod AskedLemmas
-mod BaseLemmas
+pub mod BaseLemmas
 mod CommitLemmas
 mod CommitterLemmas
 mod ConflictLemmas
@@ -14,17 +14,19 @@ mod LeastLemmas
 pub mod LimitLemmas
 pub mod LogLemmas
 pub mod Made
-mod OverlayLemmas
+pub mod OverlayLemmas
 pub mod PointReannotation
 mod PublishLemmas
 mod QuestionLemmas
 pub mod ReachedLemmas
 mod RecordedLemmas
 mod ReplaceLemmas
+pub mod ReplayLemmas
 mod RepresentLemmas
 mod RunBags
+pub mod RunLemmas
 pub mod Simulation
-mod SpanCommit
+pub mod SpanCommit
 mod SpanEnds
 mod SpanGrowth
 pub mod SpanLaws

@@ -4,19 +4,22 @@ use Rattle.std.specs.Prelude.{◌==◌, not}
 use Rattle.std.specs.List.{filter}
 use Rattle.std.specs.Option.{is_none}
 use Rattle.std.proofs.lemmas.List.Elements.{filter-append}
-use Rattle.gp_base.specs.Annotated.{Annotated, plain}
-use Rattle.gp_machine.proofs.ActiveLemmas.{active_kept, active_version, made_by_others}
+use Rattle.gp_algebra.specs.Effects.{Written}
+use Rattle.gp_base.specs.Annotated.{Annotated, Environment, plain}
+use Rattle.gp_machine.proofs.ActiveLemmas.{IsOver, active_kept, active_over, active_version, made_by_others}
 use Rattle.gp_machine.proofs.BaseLemmas.{base_or_none}
 use Rattle.gp_machine.proofs.Distinct.{each_all, each_filter, each_map, each_weaker, filter_each, filter_every, filter_none}
 use Rattle.gp_machine.proofs.LogLemmas.{eq_not}
 use Rattle.gp_machine.proofs.Made.{eq_from, eq_itself}
 use Rattle.gp_machine.specs.Bases.{pairs}
 use Rattle.gp_machine.specs.Committed.{is_written, merged}
-use Rattle.gp_machine.specs.Entries.{begin_version, versions_in}
+use Rattle.gp_machine.specs.Entries.{Log, begin_version, log_of, versions_in}
 use Rattle.gp_machine.specs.Event.{start_now, version_now}
+use Rattle.gp_machine.specs.Histories.{IsHistory}
 use Rattle.gp_machine.specs.HistorySpans.{as_of}
 use Rattle.gp_machine.specs.Limits.{Limits}
 use Rattle.gp_machine.specs.Reached.{IsReached}
+use Rattle.gp_machine.specs.Reading.{started}
 use Rattle.gp_machine.specs.Represents.{Overlay, RepresentsActive, base_in, version_to_read, view_at, view_of}
 use Rattle.gp_machine.specs.State.{Active, State}
 use Rattle.gp_versions.specs.Spans.{row_of, spans_at}
@@ -45,13 +48,44 @@ marks_of_view spans overlay version place =
     twice : filter (λ (row : Annotated (Unit {0})). row.mark) (filter (λ row. row.mark) (view_of spans overlay place)) ≡ filter (λ row. row.mark) (view_of spans overlay place)
     twice = filter_every _ _ (each_filter _ (λ row. Unit {0}) _ (λ row e f. e) (view_of spans overlay place) (each_all _ (λ row. tt) (view_of spans overlay place)))
 
-module _ (limits : Limits) (state : State (Unit {0})) (reached : IsReached plain limits state) (session : ℕ) (active : Active (Unit {0})) (e : state.active session ≡ Some active)
-    (spans : ℕ → List Span) (overlay : Overlay) (runs : RepresentsActive spans (begin_version active.transaction state.entries) overlay active) where
+module _ (log : Log) (committed : Environment (Unit {0})) (written : ℕ → List Written) (history : IsHistory plain log committed written) (active : Active (Unit {0})) (over : IsOver plain log committed active)
+    (spans : ℕ → List Span) (begun : ℕ) (overlay : Overlay) (runs : RepresentsActive spans begun overlay active) where
   -- the marked rows are those that the transaction wrote
   pub marked_are : (place : ℕ) → filter (λ row. row.mark) (view_of spans overlay place) ≡ filter (λ row. is_written place row.identity (pairs active.seen.written)) (active.seen.view place)
   marked_are place =
       sym (marks_of_view spans overlay active.version place) ∙ ap (filter (λ (row : Annotated (Unit {0})). row.mark)) (runs.view place)
-      ∙ filter_each _ _ (active.seen.view place) (active_kept plain limits state reached session active e place).marks
+      ∙ filter_each _ _ (active.seen.view place) (active_kept plain log committed written history active over place).marks
+
+  -- what is shown in a version that is not before the last one that it read is what it reads there
+  pub shown_at : (version : ℕ) → active.version ≤ version → version ≤ log.versions → ((place : ℕ) → as_of plain spans version place ≡ committed version place) → (place : ℕ)
+      → view_at spans overlay version place ≡ started active.version version (committed version) active.seen place
+  shown_at version later within held place =
+      elim (version == active.version) as (λ b. (version == active.version) ≡ b
+      → view_at spans overlay version place ≡ (cond b active.seen.view (merged (committed version) active.seen.view (pairs active.seen.written))) place) [
+        | true ↦ λ is. ap (λ v. view_at spans overlay v place) (eq_from version active.version is) ∙ runs.view place
+        | false ↦ λ is.
+            view_there spans overlay version place (λ same. let l = runs.version place in let n : version ≢ active.version = different is in n (omega arith))
+            ∙ (λ i. unwritten i ++ marked_are place i)
+      ] refl
+    where
+      different : (version == active.version) ≡ false → version ≢ active.version
+      different f same = absurd (differ (version == active.version) f (ap (λ v. v == active.version) same ∙ eq_itself active.version))
+        where
+          differ : (b : Bool) → b ≡ false → b ≡ true → ⊥
+          differ true e f = cc
+          differ false e f = cc
+
+      unwritten : filter (λ row. is_none (base_in spans overlay place row.identity)) (as_of plain spans version place) ≡ filter (λ row. not (is_written place row.identity (pairs active.seen.written))) (committed version place)
+      unwritten =
+          ap (filter (λ (row : Annotated (Unit {0})). is_none (base_in spans overlay place row.identity))) (held place)
+          ∙ filter_each _ _ (committed version place)
+          (each_weaker _ _ (λ row n. ap is_none (runs.base place row.identity (λ own. n (own ∙ runs.transaction))) ∙ base_or_none place row.identity active.seen.written)
+          (committed version place) (made_by_others plain log committed written history active over version within place))
+
+module _ (limits : Limits) (state : State (Unit {0})) (reached : IsReached plain limits state) (session : ℕ) (active : Active (Unit {0})) (e : state.active session ≡ Some active)
+    (spans : ℕ → List Span) (overlay : Overlay) (runs : RepresentsActive spans (begin_version active.transaction state.entries) overlay active) where
+  over : IsOver plain (log_of state.entries) state.committed active
+  over = active_over plain limits state reached session active e
 
   -- the version of the next statement
   pub now_is : (newest : ℕ) → newest ≡ versions_in state.entries → version_to_read overlay newest ≡ version_now state active
@@ -79,25 +113,4 @@ module _ (limits : Limits) (state : State (Unit {0})) (reached : IsReached plain
   pub start_shown : ((place : ℕ) → as_of plain spans (version_now state active) place ≡ state.committed (version_now state active) place) → (place : ℕ)
       → view_at spans overlay (version_now state active) place ≡ start_now state active place
   start_shown held place =
-      elim (version_now state active == active.version) as (λ b. (version_now state active == active.version) ≡ b
-      → view_at spans overlay (version_now state active) place ≡ (cond b active.seen.view (merged (state.committed (version_now state active)) active.seen.view (pairs active.seen.written))) place) [
-        | true ↦ λ is. ap (λ v. view_at spans overlay v place) (eq_from (version_now state active) active.version is) ∙ runs.view place
-        | false ↦ λ is.
-            view_there spans overlay (version_now state active) place (λ same. let l = runs.version place in let m = not_before in let n : version_now state active ≢ active.version = different is in n (omega arith))
-            ∙ (λ i. unwritten i ++ marked_are place i)
-      ] refl
-    where
-      different : (version_now state active == active.version) ≡ false → version_now state active ≢ active.version
-      different f same = absurd (differ (version_now state active == active.version) f (ap (λ v. v == active.version) same ∙ eq_itself active.version))
-        where
-          differ : (b : Bool) → b ≡ false → b ≡ true → ⊥
-          differ true e f = cc
-          differ false e f = cc
-
-      unwritten : filter (λ row. is_none (base_in spans overlay place row.identity)) (as_of plain spans (version_now state active) place)
-          ≡ filter (λ row. not (is_written place row.identity (pairs active.seen.written))) (state.committed (version_now state active) place)
-      unwritten =
-          ap (filter (λ (row : Annotated (Unit {0})). is_none (base_in spans overlay place row.identity))) (held place)
-          ∙ filter_each _ _ (state.committed (version_now state active) place)
-          (each_weaker _ _ (λ row n. ap is_none (runs.base place row.identity (λ own. n (own ∙ runs.transaction))) ∙ base_or_none place row.identity active.seen.written)
-          (state.committed (version_now state active) place) (made_by_others plain limits state reached session active e (version_now state active) now_within place))
+      shown_at (log_of state.entries) state.committed state.written reached.history active over spans (begin_version active.transaction state.entries) overlay runs (version_now state active) not_before now_within held place

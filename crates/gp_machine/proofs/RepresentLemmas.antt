@@ -8,7 +8,7 @@ use Rattle.gp_algebra.specs.Statements.{Statement}
 use Rattle.gp_base.specs.Annotated.{Database, plain}
 use Rattle.gp_base.specs.declared.table.Table.{Table}
 use Rattle.gp_grammar.specs.Syntax.{Command}
-use Rattle.gp_machine.proofs.ActiveLemmas.{active_version}
+use Rattle.gp_machine.proofs.ActiveLemmas.{active_over, active_version}
 use Rattle.gp_machine.proofs.BaseLemmas.{base_more}
 use Rattle.gp_machine.proofs.LogLemmas.{at_other, eq_not}
 use Rattle.gp_machine.proofs.Made.{eq_itself}
@@ -184,7 +184,7 @@ module _ (limits : Limits) (state : State (Unit {0})) (kept : Kept) (represents 
 
     -- COMMIT: the spans grow, and the other sessions are represented as before
     pub published_represented : conflict_of state active ≡ None
-        → (writes : ℕ → List Write) (count : ℕ) → ((place : ℕ) → AreWritesOf kept.spans overlay place (writes place)) → count ≡ published_rows active (length state.catalogue)
+        → (writes : ℕ → List Write) (count : ℕ) → ((place : ℕ) → AreWritesOf kept.spans overlay place (writes place)) → count ≡ published_rows active.seen (length state.catalogue)
         → Represents (record kept {
           entries = Committed line session overlay.transaction ∷ kept.entries;
           versions = suc kept.versions;
@@ -209,7 +209,7 @@ module _ (limits : Limits) (state : State (Unit {0})) (kept : Kept) (represents 
         exact : (place : ℕ) → after_commit (suc kept.versions) (writes place) (kept.spans place) ≡ spans_of (suc (versions_in state.entries)) next.committed next.written place
         exact place =
             ap (λ n. after_commit (suc n) (writes place) (kept.spans place)) represents.versions
-            ∙ commit_spans limits state reached line session active e kept.spans overlay place (writes place) (represents.spans place) runs (are place)
+            ∙ commit_spans (log_of state.entries) state.committed state.written reached.history active (active_over plain limits state reached session active e) kept.spans (begin_version active.transaction state.entries) overlay place (writes place) (represents.spans place) runs (are place)
 
         same : KeepVersions kept.spans (λ place. after_commit (suc kept.versions) (writes place) (kept.spans place)) (versions_in state.entries)
         same version place l =

@@ -163,14 +163,14 @@ module _ {M : Type 0} (kind : Annotations M) (state : State M) (line session : �
 abbrev pub conflict_of : {M : Type 0} → State M → Active M → Option Conflict
 conflict_of state active = least_conflict state.written (versions_in state.entries) active.seen.written
 
--- the rows that a commit publishes in the first tables, this many
-abbrev pub published_rows : {M : Type 0} → Active M → ℕ → ℕ
-published_rows active zero = zero
-published_rows active (suc table) = published_rows active table + length (filter (λ row. is_written table row.identity (pairs active.seen.written)) (active.seen.view table))
+-- how many rows a commit publishes in the first tables, this many, of what its transaction reads and wrote
+abbrev pub published_rows : {M : Type 0} → Seen M → ℕ → ℕ
+published_rows seen zero = zero
+published_rows seen (suc table) = published_rows seen table + length (filter (λ row. is_written table row.identity (pairs seen.written)) (seen.view table))
 
 -- whether a commit would publish too many rows
 abbrev pub is_full : {M : Type 0} → Limits → State M → Active M → Bool
-is_full limits state active = nat_lt limits.published (state.rows + published_rows active (length state.catalogue))
+is_full limits state active = nat_lt limits.published (state.rows + published_rows active.seen (length state.catalogue))
 
 module _ {M : Type 0} (state : State M) (line session : ℕ) (active : Active M) where
   -- ROLLBACK, or a COMMIT that is lost: the session has no transaction
@@ -185,7 +185,7 @@ module _ {M : Type 0} (state : State M) (line session : ℕ) (active : Active M)
         entries = Committed line session active.transaction ∷ state.entries;
         committed = with_value version (next_version (state.committed (versions_in state.entries)) active.seen.view (pairs active.seen.written)) state.committed;
         written = with_value version (pairs active.seen.written) state.written;
-        rows = state.rows + published_rows active (length state.catalogue);
+        rows = state.rows + published_rows active.seen (length state.catalogue);
         active = with_value session None state.active;
       }
 

@@ -16,6 +16,7 @@ pub mod Questions
 pub mod Reached
 pub mod Reading
 pub mod Recorded
+pub mod Replaying
 pub mod Replies
 pub mod Replacing
 pub mod Represents

@@ -25,7 +25,7 @@ ghost use Rattle.gp_machine.specs.EngineLine.{Answers, FindsConflict, Follows, S
 ghost use Rattle.gp_machine.specs.Entries.{Entry, Log, begin_version, committer_of, log_of, statement_count, version_of, versions_in};
 ghost use Rattle.gp_machine.specs.Event.{Line, after, conflict_of, line_event, published};
 ghost use Rattle.gp_machine.specs.HistorySpans.{as_of, next_written, span_after, span_count, spans_from, state_spans};
-ghost use Rattle.gp_machine.specs.Histories.{IsFirst};
+ghost use Rattle.gp_machine.specs.Histories.{IsFirst, IsHistory};
 ghost use Rattle.gp_machine.specs.Limits.{ChecksTargets, Limits};
 ghost use Rattle.gp_machine.specs.Points.{IsAsked, at_point, held_at, run_stop};
 ghost use Rattle.gp_machine.specs.Publishing.{publish};
@@ -33,6 +33,7 @@ ghost use Rattle.gp_machine.specs.Replacing.{AddsNoneOf, Replaces, rows_with};
 ghost use Rattle.gp_machine.specs.Questions.{AreAlike, annotated_answer, held_answer, rows_answer};
 ghost use Rattle.gp_machine.specs.Reached.{CountsAreWithin, IsReached};
 ghost use Rattle.gp_machine.specs.Recorded.{is_recorded};
+ghost use Rattle.gp_machine.specs.Replaying.{CommitsInOrder, replay_stop, replayed, replayed_spans, upto_version};
 ghost use Rattle.gp_machine.specs.Represents.{Kept, Overlay, Represents, kept_start};
 ghost use Rattle.gp_machine.specs.Runs.{at_commit};
 ghost use Rattle.gp_machine.specs.State.{Active, State, start};
@@ -345,4 +346,24 @@ pub fn questions_are_answered_by_the_history<M>()
         → (point : y.State) (query : Select) → AreAlike
         (rows_answer limits (after plain limits start lines).entries spans point query)
         (held_answer plain limits (after plain limits start lines) point query) }
+{}
+
+/// The commits of a history, made again from its log alone, are that history: none stops, and the row versions are its own
+/// (`unstopped`, `spans`). Commits made again from any log that keeps its sessions are a history of their own, up to the first
+/// stop (`history`).
+pub fn histories_are_made_again<M>()
+    ensures unstopped { (kind : Annotations M) (limits : Limits) → ChecksTargets limits
+        → (lines : List Line) → replay_stop kind (log_of (after kind limits start lines).entries) limits
+        (length (after kind limits start lines).catalogue)
+        (versions_in (after kind limits start lines).entries) ≡ None }
+    ensures spans { (kind : Annotations M) (limits : Limits) → ChecksTargets limits
+        → (lines : List Line) (place : ℕ)
+        → replayed_spans kind (log_of (after kind limits start lines).entries)
+        (length (after kind limits start lines).catalogue)
+        (versions_in (after kind limits start lines).entries) place
+        ≡ state_spans (after kind limits start lines) place }
+    ensures history { (kind : Annotations M) (limits : Limits) (log : Log) (tables u : ℕ)
+        → CommitsInOrder log → u ≤ log.versions → replay_stop kind log limits tables u ≡ None
+        → IsHistory kind (upto_version u log)
+        (replayed kind log tables u).committed (replayed kind log tables u).written }
 {}

@@ -1,0 +1,94 @@
+-- Part of the statement: the commits of a log made again, whatever a history held. Each transaction that made a version runs its statements again, each
+-- on the version that it reads, over the versions made so far, and its commit makes the next one, unless it stops.
+use Rattle.std.specs.Prelude.{◌≡◌, ℕ, zero, suc, ◌+◌, ◌<◌, ◌≤◌, nat_lt, Bool, true, false, List, [], Option, Some, None}
+use Rattle.std.specs.Option.{option_or}
+use Rattle.gp_base.specs.Annotated.{Annotations, Environment}
+use Rattle.gp_algebra.specs.Effects.{Written}
+use Rattle.gp_versions.specs.declared.span.Span.{Span}
+use Rattle.gp_machine.specs.Bases.{Based, pairs, with_bases}
+use Rattle.gp_machine.specs.Committed.{next_version}
+use Rattle.gp_machine.specs.Conflicts.{Conflict, least_conflict}
+use Rattle.gp_machine.specs.Entries.{Log}
+use Rattle.gp_machine.specs.Event.{published_rows}
+use Rattle.gp_machine.specs.HistorySpans.{spans_of}
+use Rattle.gp_machine.specs.Limits.{Limits}
+use Rattle.gp_machine.specs.Points.{RunStop, run_stop}
+use Rattle.gp_machine.specs.Reading.{Seen, wrote_by}
+use Rattle.gp_machine.specs.Runs.{run, run_before}
+use Rattle.gp_machine.specs.State.{empty_database, with_value}
+
+-- the versions made so far, the rows that each of their commits wrote, and how many rows they published
+pub record Replay (M : Type 0) : Type 0 where
+  pub committed : Environment M
+  pub written : ℕ → List Written
+  pub rows : ℕ
+
+-- Why a commit is not made again: its run passes a limit; it is lost, by the version that it would have made and its conflict; or too many rows are
+-- published.
+pub data ReplayStop : Type 0 where
+  Passes : RunStop → ReplayStop
+  Loses : ℕ → Conflict → ReplayStop
+  Fills : ReplayStop
+
+-- by the stop of the run, then by the conflict, then by whether the rows are too many
+abbrev pub first_stop : ℕ → Option RunStop → Option Conflict → Bool → Option ReplayStop
+first_stop version (Some stop) conflict full = Some (Passes stop)
+first_stop version None (Some conflict) full = Some (Loses version conflict)
+first_stop version None None true = Some Fills
+first_stop version None None false = None
+
+-- the versions after a commit, given the number of tables and of the versions before, and what its transaction reads and wrote
+abbrev pub remade : {M : Type 0} → ℕ → ℕ → Seen M → Replay M → Replay M
+remade tables versions seen before = record {
+  committed = with_value (suc versions) (next_version (before.committed versions) seen.view (pairs seen.written)) before.committed;
+  written = with_value (suc versions) (pairs seen.written) before.written;
+  rows = before.rows + published_rows seen tables;
+}
+
+module _ {M : Type 0} (kind : Annotations M) (log : Log) where
+  -- the rows that a transaction wrote in the run of its first statements, this many, each with its base
+  abbrev pub run_written : ℕ → ℕ → Environment M → List Based
+  run_written t zero versions = []
+  run_written t (suc k) versions =
+      with_bases (log.version t (suc k)) (run_written t k versions) (wrote_by kind t (suc k) (log.statement t (suc k)) (run_before kind log t k versions))
+
+  -- what a transaction reads and has written at its end, run again over these versions
+  abbrev pub rerun : ℕ → Environment M → Seen M
+  rerun t versions = record { view = run kind log t (log.statement_count t) versions; written = run_written t (log.statement_count t) versions }
+
+  -- the first versions made again, this many, given the number of tables
+  abbrev pub replayed : ℕ → ℕ → Replay M
+  replayed tables zero = record { committed = λ version. empty_database; written = λ version. []; rows = 0 }
+  replayed tables (suc u) = let before = replayed tables u in remade tables u (rerun (log.committer (suc u)) before.committed) before
+
+  module _ (limits : Limits) (tables : ℕ) where
+    -- the stop of the commit of a transaction over the versions before, this many
+    abbrev pub commit_stop : ℕ → ℕ → Replay M → Option ReplayStop
+    commit_stop versions t before =
+        let seen = rerun t before.committed in
+        first_stop (suc versions) (run_stop kind limits log t (log.statement_count t) before.committed) (least_conflict before.written versions seen.written)
+        (nat_lt limits.published (before.rows + published_rows seen tables))
+
+    abbrev pub version_stop : ℕ → Option ReplayStop
+    version_stop u = commit_stop u (log.committer (suc u)) (replayed tables u)
+
+    -- the first stop of the first versions, this many
+    abbrev pub replay_stop : ℕ → Option ReplayStop
+    replay_stop zero = None
+    replay_stop (suc u) = option_or (replay_stop u) (version_stop u)
+
+  -- the row versions of the first versions, this many, in a table
+  abbrev pub replayed_spans : ℕ → ℕ → ℕ → List Span
+  replayed_spans tables versions place = spans_of versions (replayed tables versions).committed (replayed tables versions).written place
+
+-- a log with its first versions alone, this many
+abbrev pub upto_version : ℕ → Log → Log
+upto_version versions log = record log { versions = versions }
+
+-- In a log that keeps its sessions, a transaction reads versions before the one that it makes, no statement an older one than the statement before it,
+-- and commits once.
+pub record CommitsInOrder (log : Log) : Type 0 where
+  pub order : (u k : ℕ) → u < log.versions → k ≤ log.statement_count (log.committer (suc u)) → log.version (log.committer (suc u)) k ≤ u
+  pub later : (u k : ℕ) → u < log.versions → k < log.statement_count (log.committer (suc u))
+      → log.version (log.committer (suc u)) k ≤ log.version (log.committer (suc u)) (suc k)
+  pub once : (u v : ℕ) → u < log.versions → v < log.versions → log.committer (suc u) ≡ log.committer (suc v) → u ≡ v
