@@ -1,0 +1,185 @@
+-- A changed log keeps its sessions, and its statements fit.
+use Rattle.std.proofs.Common.{◌≡◌, ℕ, suc, ◌+◌, Bool, true, false, cond, List, [], ◌∷◌, ◌++◌, map, Some, None, refl, sym, ap, ◌∙◌, arith}
+use Rattle.std.specs.Prelude.{◌==◌, ◌&&◌}
+use Rattle.std.proofs.lemmas.Bool.{and_parts, eq-eqb}
+use Rattle.std.proofs.lemmas.Bool.Decides.{nat_tests}
+use Rattle.std.specs.List.{list_all}
+use Rattle.gp_base.specs.declared.table.Table.{Table}
+use Rattle.gp_grammar.specs.Syntax.{Command}
+use Rattle.gp_algebra.specs.Fitting.{branches_fit, cond_fits, is_countable, is_there, row_fits, set_fits, statement_fits, width_of}
+use Rattle.gp_algebra.specs.Statements.{Statement, insert, insert_select, update, delete, read}
+use Rattle.gp_machine.specs.Entries.{End, Entry, Created, Began, Ran, Committed, Ended, transactions_in}
+use Rattle.gp_log.specs.Discipline.{line_of, session_of, transaction_in}
+use Rattle.gp_log.specs.LogFitting.{statements_fit}
+use Rattle.gp_log.specs.LogFacts.{tables_in}
+use Rattle.gp_whatif.specs.Changed.{doubled, dropped_statement, is_at, is_step_of, nothing_at, with_added, with_other}
+use Rattle.gp_whatif.specs.Sessions.{KeepsSessions}
+
+eq_from : (a b : ℕ) → (a == b) ≡ true → a ≡ b
+eq_from a b e = grind (arith, nat_tests)
+
+-- ---- two logs with the same sessions and transactions
+
+pub record SameSessions (old new : List Entry) : Type 0 where
+  pub sessions : (session : ℕ) → transaction_in session new ≡ transaction_in session old
+  pub transactions : transactions_in new ≡ transactions_in old
+  pub tables : tables_in new ≡ tables_in old
+  pub keeps : KeepsSessions old → KeepsSessions new
+
+same_itself : (entries : List Entry) → SameSessions entries entries
+same_itself entries = record { sessions = λ s. refl; transactions = refl; tables = refl; keeps = λ k. k }
+
+-- with the same entry in front
+created_same : (line number session : ℕ) (table : Table) (old new : List Entry) → SameSessions old new → SameSessions (Created line session table ∷ old) (Created number session table ∷ new)
+created_same line number session table old new same = record {
+  sessions = same.sessions;
+  transactions = same.transactions;
+  tables = ap (λ ts. ts ++ table ∷ []) same.tables;
+  keeps = λ k. (same.sessions session ∙ k.0, same.keeps k.1);
+}
+
+began_same : (line number session t : ℕ) (level : Bool) (old new : List Entry) → SameSessions old new → SameSessions (Began line session t level ∷ old) (Began number session t level ∷ new)
+began_same line number session t level old new same = record {
+  sessions = λ s. ap (λ o. cond (s == session) (Some t) o) (same.sessions s);
+  transactions = ap suc same.transactions;
+  tables = same.tables;
+  keeps = λ k. (k.0 ∙ ap suc (sym same.transactions), (same.sessions session ∙ k.1.0, same.keeps k.1.1));
+}
+
+ran_same : (line number session t : ℕ) (command other : Command) (statement now : Statement) (old new : List Entry) → SameSessions old new → SameSessions (Ran line session command t statement ∷ old) (Ran number session other t now ∷ new)
+ran_same line number session t command other statement now old new same = record {
+  sessions = same.sessions;
+  transactions = same.transactions;
+  tables = same.tables;
+  keeps = λ k. (same.sessions session ∙ k.0, same.keeps k.1);
+}
+
+committed_same : (line number session t : ℕ) (old new : List Entry) → SameSessions old new → SameSessions (Committed line session t ∷ old) (Committed number session t ∷ new)
+committed_same line number session t old new same = record {
+  sessions = λ s. ap (λ o. cond (s == session) None o) (same.sessions s);
+  transactions = same.transactions;
+  tables = same.tables;
+  keeps = λ k. (same.sessions session ∙ k.0, same.keeps k.1);
+}
+
+ended_same : (line number session t : ℕ) (end : End) (old new : List Entry) → SameSessions old new → SameSessions (Ended line session end t ∷ old) (Ended number session end t ∷ new)
+ended_same line number session t end old new same = record {
+  sessions = λ s. ap (λ o. cond (s == session) None o) (same.sessions s);
+  transactions = same.transactions;
+  tables = same.tables;
+  keeps = λ k. (same.sessions session ∙ k.0, same.keeps k.1);
+}
+
+-- ---- doubled lines, and another statement
+
+pub doubled_same : (entries : List Entry) → SameSessions entries (map doubled entries)
+doubled_same [] = same_itself []
+doubled_same (Created line session table ∷ older) = created_same line (line + line) session table older (map doubled older) (doubled_same older)
+doubled_same (Began line session t level ∷ older) = began_same line (line + line) session t level older (map doubled older) (doubled_same older)
+doubled_same (Ran line session command t statement ∷ older) = ran_same line (line + line) session t command command statement statement older (map doubled older) (doubled_same older)
+doubled_same (Committed line session t ∷ older) = committed_same line (line + line) session t older (map doubled older) (doubled_same older)
+doubled_same (Ended line session end t ∷ older) = ended_same line (line + line) session t end older (map doubled older) (doubled_same older)
+
+module _ (t k : ℕ) (command : Command → Command) (statement : Statement → Statement) where
+  pub other_same : (entries : List Entry) → SameSessions entries (with_other t k command statement entries)
+  other_same [] = same_itself []
+  other_same (Created line session table ∷ older) = created_same line line session table older (with_other t k command statement older) (other_same older)
+  other_same (Began line session u level ∷ older) = began_same line line session u level older (with_other t k command statement older) (other_same older)
+  other_same (Ran line session own u now ∷ older) = by (is_at t k u older) (other_same older)
+    where
+      by : (b : Bool) → SameSessions older (with_other t k command statement older)
+          → SameSessions (Ran line session own u now ∷ older) (cond b (Ran line session (command own) u (statement now) ∷ older) (Ran line session own u now ∷ with_other t k command statement older))
+      by true rest = ran_same line line session u own (command own) now (statement now) older older (same_itself older)
+      by false rest = ran_same line line session u own own now now older (with_other t k command statement older) rest
+  other_same (Committed line session u ∷ older) = committed_same line line session u older (with_other t k command statement older) (other_same older)
+  other_same (Ended line session end u ∷ older) = ended_same line line session u end older (with_other t k command statement older) (other_same older)
+
+-- ---- one statement more
+
+module _ (t : ℕ) (command : Command) (statement : Statement) where
+  -- behind an entry of the transaction, its session has the transaction
+  runs_on : (entry : Entry) (older : List Entry) → is_step_of t entry ≡ true → KeepsSessions (entry ∷ older) → transaction_in (session_of entry) (entry ∷ older) ≡ Some t
+  runs_on (Began line session u level) older is keeps = ap (λ b. cond b (Some u) (transaction_in session older)) (eq-eqb session session refl) ∙ ap Some (eq_from u t is)
+  runs_on (Ran line session other u now) older is keeps = keeps.0 ∙ ap Some (eq_from u t is)
+  runs_on (Created line session table) older is keeps = absurd cc
+  runs_on (Committed line session u) older is keeps = absurd cc
+  runs_on (Ended line session end u) older is keeps = absurd cc
+
+  entry_same : (entry : Entry) (old new : List Entry) → SameSessions old new → SameSessions (entry ∷ old) (entry ∷ new)
+  entry_same (Created line session table) old new same = created_same line line session table old new same
+  entry_same (Began line session u level) old new same = began_same line line session u level old new same
+  entry_same (Ran line session other u now) old new same = ran_same line line session u other other now now old new same
+  entry_same (Committed line session u) old new same = committed_same line line session u old new same
+  entry_same (Ended line session end u) old new same = ended_same line line session u end old new same
+
+  pub added_same : (entries : List Entry) → SameSessions entries (with_added t command statement entries)
+  added_same [] = same_itself []
+  added_same (entry ∷ older) = by (is_step_of t entry) refl (added_same older)
+    where
+      by : (b : Bool) → is_step_of t entry ≡ b → SameSessions older (with_added t command statement older)
+          → SameSessions (entry ∷ older) (cond b (Ran (suc (line_of entry)) (session_of entry) command t statement ∷ entry ∷ older) (entry ∷ with_added t command statement older))
+      by true is rest = record { sessions = λ s. refl; transactions = refl; tables = refl; keeps = λ k. (runs_on entry older is k, k) }
+      by false is rest = entry_same entry older (with_added t command statement older) rest
+
+-- ---- statements that fit
+
+both : (a b : Bool) → a ≡ true → b ≡ true → (a && b) ≡ true
+both true b left right = right
+both false b left right = absurd cc
+
+module _ (tables : List Table) where
+  nothing_fits : (table : ℕ) → is_there tables table ≡ true → statement_fits tables (nothing_at table) ≡ true
+  nothing_fits table there = rw there refl
+
+  pub dropped_fits : (statement : Statement) → statement_fits tables statement ≡ true → statement_fits tables (dropped_statement statement) ≡ true
+  dropped_fits (insert table rows) fits = nothing_fits table (and_parts (is_there tables table) (is_countable rows && list_all (row_fits (width_of tables table)) rows) fits).0
+  dropped_fits (insert_select table select) fits = nothing_fits table (and_parts (is_there tables table) (branches_fit tables (width_of tables table) select) fits).0
+  dropped_fits (update table sets c) fits = nothing_fits table (and_parts (is_there tables table) (list_all (set_fits (width_of tables table)) sets && cond_fits (width_of tables table) c) fits).0
+  dropped_fits (delete table c) fits = nothing_fits table (and_parts (is_there tables table) (cond_fits (width_of tables table) c) fits).0
+  dropped_fits (read select) fits = fits
+
+  pub doubled_fits : (entries : List Entry) → statements_fit tables entries ≡ true → statements_fit tables (map doubled entries) ≡ true
+  doubled_fits [] fits = refl
+  doubled_fits (Created line session table ∷ older) fits = doubled_fits older fits
+  doubled_fits (Began line session t level ∷ older) fits = doubled_fits older fits
+  doubled_fits (Ran line session command t statement ∷ older) fits =
+      let parts = and_parts (statement_fits tables statement) (statements_fit tables older) fits in
+      both (statement_fits tables statement) (statements_fit tables (map doubled older)) parts.0 (doubled_fits older parts.1)
+  doubled_fits (Committed line session t ∷ older) fits = doubled_fits older fits
+  doubled_fits (Ended line session end t ∷ older) fits = doubled_fits older fits
+
+  module _ (t k : ℕ) (command : Command → Command) (statement : Statement → Statement) (kept : (s : Statement) → statement_fits tables s ≡ true → statement_fits tables (statement s) ≡ true) where
+    pub other_fits : (entries : List Entry) → statements_fit tables entries ≡ true → statements_fit tables (with_other t k command statement entries) ≡ true
+    other_fits [] fits = refl
+    other_fits (Created line session table ∷ older) fits = other_fits older fits
+    other_fits (Began line session u level ∷ older) fits = other_fits older fits
+    other_fits (Ran line session own u now ∷ older) fits = by (is_at t k u older) (other_fits older parts.1)
+      where
+        parts : (statement_fits tables now ≡ true) × (statements_fit tables older ≡ true)
+        parts = and_parts (statement_fits tables now) (statements_fit tables older) fits
+
+        by : (b : Bool) → statements_fit tables (with_other t k command statement older) ≡ true
+            → statements_fit tables (cond b (Ran line session (command own) u (statement now) ∷ older) (Ran line session own u now ∷ with_other t k command statement older)) ≡ true
+        by true rest = both (statement_fits tables (statement now)) (statements_fit tables older) (kept now parts.0) parts.1
+        by false rest = both (statement_fits tables now) (statements_fit tables (with_other t k command statement older)) parts.0 rest
+    other_fits (Committed line session u ∷ older) fits = other_fits older fits
+    other_fits (Ended line session end u ∷ older) fits = other_fits older fits
+
+  module _ (t : ℕ) (command : Command) (statement : Statement) (fit : statement_fits tables statement ≡ true) where
+    front_fits : (entry : Entry) (old new : List Entry) → (statements_fit tables old ≡ true → statements_fit tables new ≡ true) → statements_fit tables (entry ∷ old) ≡ true → statements_fit tables (entry ∷ new) ≡ true
+    front_fits (Created line session table) old new rest fits = rest fits
+    front_fits (Began line session u level) old new rest fits = rest fits
+    front_fits (Ran line session other u now) old new rest fits =
+        let parts = and_parts (statement_fits tables now) (statements_fit tables old) fits in
+        both (statement_fits tables now) (statements_fit tables new) parts.0 (rest parts.1)
+    front_fits (Committed line session u) old new rest fits = rest fits
+    front_fits (Ended line session end u) old new rest fits = rest fits
+
+    pub added_fits : (entries : List Entry) → statements_fit tables entries ≡ true → statements_fit tables (with_added t command statement entries) ≡ true
+    added_fits [] fits = refl
+    added_fits (entry ∷ older) fits = by (is_step_of t entry) (added_fits older)
+      where
+        by : (b : Bool) → (statements_fit tables older ≡ true → statements_fit tables (with_added t command statement older) ≡ true)
+            → statements_fit tables (cond b (Ran (suc (line_of entry)) (session_of entry) command t statement ∷ entry ∷ older) (entry ∷ with_added t command statement older)) ≡ true
+        by true rest = both (statement_fits tables statement) (statements_fit tables (entry ∷ older)) fit fits
+        by false rest = front_fits entry older (with_added t command statement older) rest fits

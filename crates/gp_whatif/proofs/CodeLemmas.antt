@@ -1,0 +1,37 @@
+-- What the code tells of a statement, and of tables without row versions.
+use Rattle.std.proofs.Common.{◌≡◌, ℕ, zero, suc, true, List, [], ◌∷◌, ◌++◌, length, refl}
+use Rattle.gp_algebra.specs.Fitting.{statement_fits}
+use Rattle.gp_algebra.specs.Statements.{Statement, insert, insert_select, update, delete, read}
+use Rattle.gp_algebra.specs.Views.{statement_view}
+use Rattle.gp_algebra.specs.declared.statement.Select as code
+use Rattle.gp_algebra.specs.declared.statement.Stmt.{Stmt}
+use Rattle.gp_algebra.specs.declared.statement.Stmt.TheVariants as variant
+use Rattle.gp_base.specs.declared.table.Table.{Table}
+use Rattle.gp_txn.proofs.FitLemmas.{statement-applicable}
+use Rattle.gp_txn.specs.Applying.{is_applicable}
+use Rattle.gp_txn.specs.Transactions.{table_at}
+use Rattle.gp_versions.specs.Spans.{Versions}
+use Rattle.gp_whatif.specs.Remade.{can_run}
+
+-- a statement that fits can run
+pub fitting_runs : (tables : List Table) (statement : Statement) → statement_fits tables statement ≡ true → can_run (length tables) statement ≡ true
+fitting_runs tables (insert table rows) fits = statement-applicable tables (insert table rows) tt fits
+fitting_runs tables (insert_select table select) fits = statement-applicable tables (insert_select table select) tt fits
+fitting_runs tables (update table sets c) fits = statement-applicable tables (update table sets c) tt fits
+fitting_runs tables (delete table c) fits = statement-applicable tables (delete table c) tt fits
+fitting_runs tables (read select) fits = refl
+
+-- one of the code that is no SELECT can be applied
+pub applies : (count : ℕ) (stmt : Stmt) → ((select : code.Select) → stmt ≡ variant.Read select → ⊥) → can_run count (statement_view stmt) ≡ true → is_applicable count (statement_view stmt) ≡ true
+applies count (variant.Insert table rows) other runs = runs
+applies count (variant.InsertSelect table select) other runs = runs
+applies count (variant.Update table sets c) other runs = runs
+applies count (variant.Delete table c) other runs = runs
+applies count (variant.Read select) other runs = absurd (other select refl)
+
+-- a table without row versions has no spans
+pub spans_added : (versions : List Versions) (added : Versions) → added.spans ≡ [] → ((place : ℕ) → (table_at place versions).spans ≡ []) → (place : ℕ) → (table_at place (versions ++ added ∷ [])).spans ≡ []
+spans_added [] added empty none zero = empty
+spans_added [] added empty none (suc place) = refl
+spans_added (held ∷ versions) added empty none zero = none zero
+spans_added (held ∷ versions) added empty none (suc place) = spans_added versions added empty (λ place. none (suc place)) place

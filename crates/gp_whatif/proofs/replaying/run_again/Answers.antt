@@ -1,0 +1,29 @@
+use Rattle.std.proofs.Common.{◌≡◌, ◌+◌, ◌∙◌, ap, suc, subst, arith}
+use Rattle.gp_txn.specs.Transactions.{IsUnwritten, writes_at}
+use Rattle.gp_machine.specs.Entries.{begin_version, committer_of}
+use Rattle.gp_log.specs.Logs.{log_view}
+use Rattle.gp_whatif.proofs.RunLemmas.{started}
+use Rattle.gp_whatif.proofs.SessionLemmas.{orderly}
+use Rattle.gp_whatif.proofs.replaying.run_again.Goals as goal
+
+pub begin-requires-clause-first : goal.begin-requires-clause-first
+begin-requires-clause-first c =
+    let next : c.args.before + 1 ≡ suc c.args.before = omega arith in
+    let made = c.maker-t.ensures ∙ ap (λ n. committer_of n (log_view c.args.log.now.entries)) next in
+    omega (arith, made, ((orderly (log_view c.args.log.now.entries) c.requires.replayable.sessions).makers c.args.before c.requires.within).0)
+
+pub begin-requires-clause-known : goal.begin-requires-clause-known
+begin-requires-clause-known c =
+    let next : c.args.before + 1 ≡ suc c.args.before = omega arith in
+    let made = c.maker-t.ensures ∙ ap (λ n. committer_of n (log_view c.args.log.now.entries)) next in
+    omega (arith, made, ((orderly (log_view c.args.log.now.entries) c.requires.replayable.sessions).makers c.args.before c.requires.within).1)
+
+pub loop-ran-init : goal.loop-ran-init
+loop-ran-init c =
+    let entries = log_view c.args.log.now.entries in
+    let next : c.args.before + 1 ≡ suc c.args.before = omega arith in
+    let made = c.maker-t.ensures ∙ ap (λ n. committer_of n entries) next in
+    let new = c.begin-active.ensures in
+    let version = c.begin.ensures ∙ ap (λ t. begin_version t entries) made in
+    started entries c.requires.replayable c.args.before c.requires.within c.args.versions.now c.requires.made c.begin-active.result (new.t ∙ made) new.last
+    (λ place. subst (λ v. IsUnwritten v (writes_at place c.begin-active.result.tables)) version (new.tables place))

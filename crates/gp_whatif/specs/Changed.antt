@@ -1,0 +1,131 @@
+-- Part of the statement: a log with one statement of a transaction that committed dropped, replaced or added.
+use Rattle.std.specs.Prelude.{◌≡◌, ℕ, suc, ◌+◌, ◌==◌, ◌&&◌, nat_le, Bool, true, false, List, [], ◌∷◌, map, Option, Some, None, Result, Ok, Err, if◌then◌else◌}
+use Rattle.std.specs.Option.{option_or}
+use Rattle.gp_base.specs.declared.cell.Cell.TheVariants as cell
+use Rattle.gp_base.specs.declared.limit.Limit.TheVariants as limit
+use Rattle.gp_base.specs.declared.refusal.Refusal.{Refusal}
+use Rattle.gp_base.specs.declared.refusal.Refusal.TheVariants.{E14}
+use Rattle.gp_base.specs.declared.table.Table.{Table}
+use Rattle.gp_expr.specs.Expressions.{constant}
+use Rattle.gp_grammar.specs.Syntax as y
+use Rattle.gp_grammar.specs.Syntax.{Command}
+use Rattle.gp_algebra.specs.Fitting.{statement_fits}
+use Rattle.gp_algebra.specs.Statements.{Statement, insert, insert_select, update, delete, read}
+use Rattle.gp_machine.specs.Entries.{Entry, Created, Began, Ran, Committed, Ended, statement_count}
+use Rattle.gp_machine.specs.Limits.{Limits}
+use Rattle.gp_machine.specs.Questions.{statement_refusal, transaction_refusal}
+use Rattle.gp_log.specs.Discipline.{line_of, session_of}
+use Rattle.gp_log.specs.LogFacts.{tables_in}
+
+-- the transaction and the number of a statement that is dropped or replaced; the transaction that a statement is added to
+pub data Change : Type 0 where
+  drop : ℕ → ℕ → Change
+  replace : ℕ → ℕ → Command → Change
+  add : ℕ → Command → Change
+
+-- ---- a statement that is dropped
+
+-- SELECT NULL FROM a table, by its name and by its place
+abbrev pub nothing_from : y.Bytes → Command
+nothing_from table = y.select (record { items = y.list (y.null ∷ []); from = record { table = table; name = table } ∷ []; cond = None } ∷ [])
+
+abbrev pub nothing_at : ℕ → Statement
+nothing_at table = read (record { from = table ∷ []; cond = None; items = constant cell.Null ∷ [] } ∷ [])
+
+-- a statement that writes leaves this in its place; a query stays
+abbrev pub dropped_command : Command → Command
+dropped_command (y.insert table rows) = nothing_from table
+dropped_command (y.insert_select table query) = nothing_from table
+dropped_command (y.update table sets cond) = nothing_from table
+dropped_command (y.Command.delete table cond) = nothing_from table
+dropped_command command = command
+
+abbrev pub dropped_statement : Statement → Statement
+dropped_statement (insert table rows) = nothing_at table
+dropped_statement (insert_select table select) = nothing_at table
+dropped_statement (update table sets cond) = nothing_at table
+dropped_statement (delete table cond) = nothing_at table
+dropped_statement (read select) = read select
+
+-- ---- the places of a log
+
+-- statement k of transaction t
+abbrev pub is_at : ℕ → ℕ → ℕ → List Entry → Bool
+is_at t k u older = (u == t) && (suc (statement_count t older) == k)
+
+-- the BEGIN or a statement of a transaction: the newest of these is its last entry before its COMMIT
+abbrev pub is_step_of : ℕ → Entry → Bool
+is_step_of t (Began line session u level) = u == t
+is_step_of t (Ran line session command u statement) = u == t
+is_step_of t _ = false
+
+-- the tables created before statement k
+abbrev pub tables_before : ℕ → ℕ → List Entry → List Table
+tables_before t k [] = []
+tables_before t k (Created line session table ∷ older) = tables_before t k older
+tables_before t k (Began line session u level ∷ older) = tables_before t k older
+tables_before t k (Ran line session command u statement ∷ older) = if is_at t k u older then tables_in older else tables_before t k older
+tables_before t k (Committed line session u ∷ older) = tables_before t k older
+tables_before t k (Ended line session end u ∷ older) = tables_before t k older
+
+-- the tables created before the line after the last entry before the COMMIT
+abbrev pub tables_at_end : ℕ → List Entry → List Table
+tables_at_end t [] = []
+tables_at_end t (entry ∷ older) = if is_step_of t entry then tables_in older else tables_at_end t older
+
+-- ---- the changed log
+
+-- with line numbers doubled, there is a line behind each
+abbrev pub doubled : Entry → Entry
+doubled (Created line session table) = Created (line + line) session table
+doubled (Began line session t level) = Began (line + line) session t level
+doubled (Ran line session command t statement) = Ran (line + line) session command t statement
+doubled (Committed line session t) = Committed (line + line) session t
+doubled (Ended line session end t) = Ended (line + line) session end t
+
+-- statement k by another
+abbrev pub with_other : ℕ → ℕ → (Command → Command) → (Statement → Statement) → List Entry → List Entry
+with_other t k command statement [] = []
+with_other t k command statement (Created line session table ∷ older) = Created line session table ∷ with_other t k command statement older
+with_other t k command statement (Began line session u level ∷ older) = Began line session u level ∷ with_other t k command statement older
+with_other t k command statement (Ran line session own u now ∷ older) =
+    if is_at t k u older then Ran line session (command own) u (statement now) ∷ older else Ran line session own u now ∷ with_other t k command statement older
+with_other t k command statement (Committed line session u ∷ older) = Committed line session u ∷ with_other t k command statement older
+with_other t k command statement (Ended line session end u ∷ older) = Ended line session end u ∷ with_other t k command statement older
+
+-- one statement more, in the session of the entry before it
+abbrev pub with_added : ℕ → Command → Statement → List Entry → List Entry
+with_added t command statement [] = []
+with_added t command statement (entry ∷ older) =
+    if is_step_of t entry then Ran (suc (line_of entry)) (session_of entry) command t statement ∷ entry ∷ older
+    else entry ∷ with_added t command statement older
+
+module _ (limits : Limits) (entries : List Entry) where
+  -- by the refusal of the log, and by the check
+  abbrev pub rewritten : Option Refusal → Result Statement Refusal → (Statement → List Entry) → Result (List Entry) Refusal
+  rewritten (Some refusal) checked put = Err refusal
+  rewritten None (Err refusal) put = Err refusal
+  rewritten None (Ok statement) put = Ok (put statement)
+
+  abbrev pub steps_refusal : ℕ → Option Refusal
+  steps_refusal t = if nat_le limits.steps (statement_count t entries) then Some (E14 limit.Steps) else None
+
+  -- the changed log, or the first refusal
+  abbrev pub changed : Change → Result (List Entry) Refusal
+  changed (drop t k) =
+      rewritten (option_or (transaction_refusal t entries) (statement_refusal t k entries)) (Ok (nothing_at 0))
+      (λ statement. with_other t k dropped_command dropped_statement (map doubled entries))
+  changed (replace t k command) =
+      rewritten (option_or (transaction_refusal t entries) (statement_refusal t k entries)) (limits.checked (tables_before t k entries) command)
+      (λ statement. with_other t k (λ own. command) (λ own. statement) (map doubled entries))
+  changed (add t command) =
+      rewritten (option_or (transaction_refusal t entries) (steps_refusal t)) (limits.checked (tables_at_end t entries) command)
+      (λ statement. with_added t command statement (map doubled entries))
+
+  -- a statement of the change that passes the check on the tables before it fits all tables
+  abbrev pub ChecksFit : Change → Type 0
+  ChecksFit (drop t k) = Unit {0}
+  ChecksFit (replace t k command) =
+      (statement : Statement) → limits.checked (tables_before t k entries) command ≡ Ok statement → statement_fits (tables_in entries) statement ≡ true
+  ChecksFit (add t command) =
+      (statement : Statement) → limits.checked (tables_at_end t entries) command ≡ Ok statement → statement_fits (tables_in entries) statement ≡ true

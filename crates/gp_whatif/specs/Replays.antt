@@ -1,0 +1,39 @@
+-- Part of the statement: what a replay of a log answers.
+use Rattle.std.specs.Prelude.{◌≡◌, ℕ, true, List, length, Option, Some, None}
+use Rattle.gp_base.specs.Annotated.{plain}
+use Rattle.gp_versions.specs.Spans.{Versions}
+use Rattle.gp_txn.specs.Transactions.{table_at}
+use Rattle.gp_machine.specs.Entries.{Entry, log_of}
+use Rattle.gp_machine.specs.Points.{OverRows, OverNodes}
+use Rattle.gp_machine.specs.Replaying as m
+use Rattle.gp_machine.specs.Replaying.{replay_stop, replayed_spans}
+use Rattle.gp_log.specs.Limits.{limits}
+use Rattle.gp_log.specs.LogFacts.{tables_in}
+use Rattle.gp_log.specs.LogFitting.{statements_fit}
+use Rattle.gp_whatif.specs.Sessions.{KeepsSessions}
+use Rattle.gp_whatif.specs.declared.error.ReplayStop.{ReplayStop}
+use Rattle.gp_whatif.specs.declared.error.ReplayStop.TheVariants.{Lost, Rows, Ancestry, Full, NoMemory}
+
+-- A log that can be replayed: it keeps its sessions, and its statements have been checked.
+pub record IsReplayable (entries : List Entry) : Type 0 where
+  pub sessions : KeepsSessions entries
+  pub fits : statements_fit (tables_in entries) entries ≡ true
+
+-- the first stop of the commits of a log, up to this version
+abbrev pub stop_upto : List Entry → ℕ → Option m.ReplayStop
+stop_upto entries u = replay_stop plain (log_of entries) limits (length (tables_in entries)) u
+
+-- what stops; running out of memory may stop any replay
+abbrev pub Stops : ReplayStop → Option m.ReplayStop → Type 0
+Stops (Lost version other table id) due = due ≡ Some (m.Loses version (record { pair = record { table = table; identity = id }; version = other }))
+Stops (Rows t k) due = due ≡ Some (m.Passes (OverRows t k))
+Stops (Ancestry t k) due = due ≡ Some (m.Passes (OverNodes t k))
+Stops Full due = due ≡ Some m.Fills
+Stops NoMemory due = Unit {0}
+
+-- the row versions of the first versions of the log, this many, none of which stops
+pub record IsMade (entries : List Entry) (u : ℕ) (versions : List Versions) : Type 0 where
+  -- one for each table
+  pub count : length versions ≡ length (tables_in entries)
+  pub unstopped : stop_upto entries u ≡ None
+  pub spans : (place : ℕ) → (table_at place versions).spans ≡ replayed_spans plain (log_of entries) (length (tables_in entries)) u place

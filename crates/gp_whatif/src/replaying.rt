@@ -1,0 +1,236 @@
+//! The commits of a log, made again.
+
+ghost use Rattle.std.specs.Prelude.{◌≡◌, ◌<◌, ◌≤◌, ◌+◌, ◌^◌, [], suc, true, IfErr, IfOk, OnOk, Some, length, ℕ};
+ghost use Rattle.gp_base.specs.declared.catalog.TheConstants.{MAX_TABLES};
+ghost use Rattle.gp_algebra.specs.Statements.{Statement};
+ghost use Rattle.gp_algebra.specs.Views.{statement_view};
+ghost use Rattle.gp_txn.specs.Transactions.{HoldsOthers, table_at};
+ghost use Rattle.gp_machine.specs.Entries.{begin_version, committer_of, statement_at, statement_count, statement_version, transactions_in, versions_in};
+ghost use Rattle.gp_log.specs.LogFacts.{tables_in};
+ghost use Rattle.gp_log.specs.Logs.{log_view};
+ghost use Rattle.gp_whatif.specs.Remade.{HasRun, Ran, StopsAt, can_run};
+ghost use Rattle.gp_whatif.specs.Replays.{IsMade, IsReplayable, Stops, stop_upto};
+
+use crate::error::ReplayStop;
+use gp_algebra::Stmt;
+use gp_base::NoMemory;
+use gp_log::Log;
+use gp_txn::{Active, CommitStop, StmtStop};
+use gp_versions::VersionTable;
+use std::alloc::Global;
+
+/// Runs statement k of a transaction, which reads this version. A SELECT changes nothing.
+fn run_statement(
+    active: &mut Active,
+    k: u32,
+    version: u32,
+    stmt: &Stmt,
+    versions: &[VersionTable],
+) -> Result<(), ReplayStop>
+    requires few { length versions.now ≤ MAX_TABLES }
+    requires applicable { can_run (length versions.now) (statement_view stmt.now) ≡ true }
+    requires later { active.old.last < k }
+    requires others { HoldsOthers active.old.t versions.now }
+    ensures ran { OnOk result
+        (Ran k version (statement_view stmt.now) versions.now active.old active.new) }
+    ensures stop { IfErr result (λ stop.
+        StopsAt stop k version (statement_view stmt.now) versions.now active.old) }
+{
+    let t = active.t();
+    match stmt {
+        Stmt::Read { .. } => Ok(()),
+        _ => match active.apply(k, version, stmt, versions) {
+            Ok(_) => Ok(()),
+            Err(StmtStop::Rows) => Err(ReplayStop::Rows { t, k }),
+            Err(StmtStop::Ancestry) => Err(ReplayStop::Ancestry { t, k }),
+            Err(StmtStop::NoMemory) => Err(ReplayStop::NoMemory),
+        },
+    }
+}
+
+/// The version that a statement of the transaction read.
+fn version_read(log: &Log, t: u32, k: u32) -> u32
+    ensures { (statement : Statement)
+        → statement_at t k (log_view log.now.entries) ≡ Some statement
+        → result ≡ statement_version t k (log_view log.now.entries) }
+{
+    match log.statement_version(t, k) {
+        Some(version) => version,
+        None => 0,
+    }
+}
+
+/// Runs the next statement of the transaction that made the version after these, this many; some have run.
+fn run_next(
+    active: &mut Active,
+    log: &Log,
+    before: u32,
+    ran: u32,
+    versions: &[VersionTable],
+) -> Result<(), ReplayStop>
+    requires few { length versions.now ≤ MAX_TABLES }
+    requires replayable { IsReplayable (log_view log.now.entries) }
+    requires within { before < versions_in (log_view log.now.entries) }
+    requires made { IsMade (log_view log.now.entries) before versions.now }
+    requires more { ran < statement_count
+        (committer_of (suc before) (log_view log.now.entries)) (log_view log.now.entries) }
+    requires few_statements { ran + 1 < 2 ^ 32 }
+    requires ran { HasRun (log_view log.now.entries) before versions.now ran active.old }
+    ensures ran { OnOk result
+        (HasRun (log_view log.now.entries) before versions.now (suc ran) active.new) }
+    ensures stop { IfErr result (λ stop.
+        Stops stop (stop_upto (log_view log.now.entries) (suc before))) }
+{
+    let t = active.t();
+    let k = ran + 1;
+    match log.statement(t, k) {
+        Some(stmt) => run_statement(active, k, version_read(log, t, k), stmt, versions),
+        None => Ok(()),
+    }
+}
+
+/// The transaction that made a version.
+fn maker(log: &Log, version: u32) -> u32
+    requires first { 1 ≤ version }
+    requires within { version ≤ versions_in (log_view log.now.entries) }
+    ensures { result ≡ committer_of version (log_view log.now.entries) }
+{
+    match log.committer(version) {
+        Some(t) => t,
+        None => unreachable!(),
+    }
+}
+
+/// The version that a transaction began at.
+fn begin(log: &Log, t: u32) -> u32
+    requires first { 1 ≤ t }
+    requires known { t ≤ transactions_in (log_view log.now.entries) }
+    ensures { result ≡ begin_version t (log_view log.now.entries) }
+{
+    match log.begin_version(t) {
+        Some(version) => version,
+        None => unreachable!(),
+    }
+}
+
+/// Runs the transaction again that made the version after these, this many.
+fn run_again(
+    alloc: Global,
+    log: &Log,
+    before: u32,
+    versions: &[VersionTable],
+) -> Result<Active, ReplayStop>
+    requires few { length versions.now ≤ MAX_TABLES }
+    requires replayable { IsReplayable (log_view log.now.entries) }
+    requires within { before < versions_in (log_view log.now.entries) }
+    requires few_versions { before + 1 < 2 ^ 32 }
+    requires made { IsMade (log_view log.now.entries) before versions.now }
+    ensures ran { IfOk result (λ active. HasRun (log_view log.now.entries) before versions.now
+        (statement_count (committer_of (suc before) (log_view log.now.entries))
+        (log_view log.now.entries)) active) }
+    ensures stop { IfErr result (λ stop.
+        Stops stop (stop_upto (log_view log.now.entries) (suc before))) }
+{
+    let t = maker(log, before + 1);
+    // The log tells which version each statement reads, so the kind of the transaction is not asked for.
+    let mut active = Active::begin(alloc, t, begin(log, t), false);
+    for ran in 0..log.statement_count(t) {
+        run_next(&mut active, log, before, ran, versions)?;
+    }
+    Ok(active)
+}
+
+/// Commits a transaction that has run again over the first versions, this many.
+fn commit_again(
+    active: &Active,
+    log: &Log,
+    before: u32,
+    versions: &mut [VersionTable],
+) -> Result<(), ReplayStop>
+    requires few { length versions.old ≤ MAX_TABLES }
+    requires replayable { IsReplayable (log_view log.now.entries) }
+    requires within { before < versions_in (log_view log.now.entries) }
+    requires few_versions { before + 1 < 2 ^ 32 }
+    requires made { IsMade (log_view log.now.entries) before versions.old }
+    requires ran { HasRun (log_view log.now.entries) before versions.old
+        (statement_count (committer_of (suc before) (log_view log.now.entries))
+        (log_view log.now.entries)) active.now }
+    ensures made { OnOk result (IsMade (log_view log.now.entries) (suc before) versions.new) }
+    ensures stop { IfErr result (λ stop.
+        Stops stop (stop_upto (log_view log.now.entries) (suc before))) }
+{
+    // The rows that it inserted are its own. That is known of it where it is asked for its number.
+    let _t = active.t();
+    let version = before + 1;
+    match active.commit(versions, version) {
+        Ok(()) => Ok(()),
+        Err(
+            CommitStop::Conflict {
+                version: other,
+                table,
+                id,
+            },
+        ) => Err(ReplayStop::Lost {
+            version,
+            other,
+            table,
+            id,
+        }),
+        Err(CommitStop::Full) => Err(ReplayStop::Full),
+        Err(CommitStop::NoMemory) => Err(ReplayStop::NoMemory),
+    }
+}
+
+/// Makes one more version again.
+fn make_version(
+    alloc: Global,
+    log: &Log,
+    before: u32,
+    versions: &mut [VersionTable],
+) -> Result<(), ReplayStop>
+    requires few { length versions.old ≤ MAX_TABLES }
+    requires replayable { IsReplayable (log_view log.now.entries) }
+    requires within { before < versions_in (log_view log.now.entries) }
+    requires few_versions { before + 1 < 2 ^ 32 }
+    requires made { IsMade (log_view log.now.entries) before versions.old }
+    ensures made { OnOk result (IsMade (log_view log.now.entries) (suc before) versions.new) }
+    ensures stop { IfErr result (λ stop.
+        Stops stop (stop_upto (log_view log.now.entries) (suc before))) }
+{
+    let active = run_again(alloc, log, before, versions)?;
+    commit_again(&active, log, before, versions)
+}
+
+/// The row versions of tables, this many, before the first version.
+fn empty_tables(alloc: Global, count: u32) -> Result<Vec<VersionTable>, NoMemory>
+    ensures count { IfOk result (λ tables. length tables.items ≡ count) }
+    ensures empty { IfOk result
+        (λ tables. (place : ℕ) → (table_at place tables.items).spans ≡ []) }
+{
+    let mut tables = Vec::new(alloc);
+    for _ in 0..count {
+        tables.push(VersionTable::new(alloc))?;
+    }
+    Ok(tables)
+}
+
+/// Makes the commits of a log again, from nothing, in the order of their versions. Each transaction runs its statements over
+/// the versions made by then, each on the version that it reads, and commits. The log keeps its sessions, and its statements
+/// have been checked against its tables.
+///
+/// A replay stops at the first commit that has a cause: a statement of its transaction leaves too many rows in its table
+/// or makes an identity of too many nodes, by the first such statement, and in one statement the rows first; else the
+/// commit is lost; else there would be too many row versions. Transactions that did not commit are not run.
+pub fn replay(alloc: Global, log: &Log) -> Result<Vec<VersionTable>, ReplayStop>
+    requires { IsReplayable (log_view log.now.entries) }
+    ensures made { IfOk result (λ versions. IsMade (log_view log.now.entries)
+        (versions_in (log_view log.now.entries)) versions.items) }
+    ensures stop { IfErr result (λ stop. Stops stop
+        (stop_upto (log_view log.now.entries) (versions_in (log_view log.now.entries)))) }
+{
+    let mut versions = empty_tables(alloc, log.catalog().len())?;
+    for before in 0..log.commits() {
+        make_version(alloc, log, before, &mut versions)?;
+    }
+    Ok(versions)
+}
