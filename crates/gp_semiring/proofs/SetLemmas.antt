@@ -1,19 +1,22 @@
 -- Items put in their places come to the set of them, and sets put to others come to the minimal ones.
-use Rattle.std.proofs.Common.{◌≡◌, ◌≤◌, ◌<◌, suc, refl, sym, ap, ◌∙◌, arith, cond, Bool, true, false, ◌&&◌, ◌||◌, List, [], ◌∷◌, ◌++◌, length, slice_index_or, insert}
-use Rattle.std.specs.Prelude.{◌≢◌}
-use Rattle.std.specs.List.{list_any, list_all}
-use Rattle.std.specs.Ordering.{is_gt, eq_by_cmp}
+use Rattle.std.proofs.Common.{◌≡◌, ◌≤◌, ◌<◌, ◌+◌, ℕ, suc, refl, sym, ap, subst, ◌∙◌, arith, cond, T, Bool, true, false, not, ◌&&◌, ◌||◌, List, [], ◌∷◌, ◌++◌, length, drop, slice_index_or, insert}
+use Rattle.std.proofs.lemmas.List.{drop_more}
+use Rattle.std.specs.Prelude.{◌≢◌, Option, Some, None, unwrap_or}
+use Rattle.std.specs.List.{filter, list_any, list_all}
+use Rattle.std.specs.Ordering.{is_lt, is_gt, is_eq, ordering_reverse, eq_by_cmp}
 use Rattle.std.specs.Cmp.{IsTotalOrder}
 use Rattle.std.specs.Cmp.Lexicographic.{slice_cmp}
 use Rattle.std.specs.declared.cmp.Ordering.{Ordering}
 use Rattle.std.specs.declared.cmp.Ordering.TheVariants.{Less, Equal, Greater}
-use Rattle.std.specs.FinMap.Entries.{by_order}
+use Rattle.std.specs.FinMap.{is_sorted}
+use Rattle.std.specs.FinMap.Entries.{by_order, below_all}
 use Rattle.gp_base.specs.declared.token.Token.{Token}
 use Rattle.gp_base.specs.Tokens.{token_cmp}
 use Rattle.gp_base.specs.TokenOrder.{token_cmp_total, token_cmp-exact}
 use Rattle.gp_semiring.specs.Sums.{Each}
-use Rattle.gp_semiring.specs.Witnesses.{IsRising, IsWitness, Sets, placed, set_of, with_set, witness_plus, witness_times}
-use Rattle.gp_semiring.specs.WitnessAdding.{place_in, with_items, with_sets, with_row, with_unions}
+use Rattle.gp_semiring.specs.SumLaws.{first, second, both, less, below_less, is_sorted_of, is_true_of}
+use Rattle.gp_semiring.specs.Witnesses.{IsRising, IsWitness, Sets, tagged, contains, is_within, placed, set_of, with_set, witness_plus, witness_times}
+use Rattle.gp_semiring.specs.WitnessAdding.{place_in, rest_after, with_items, with_sets, with_row, with_unions}
 use Rattle.gp_semiring.specs.WitnessLaws.{or_crossed, or_assoc, or_false, and_false, any_append, all_append, any_placed, all_set, rising_placed, rising_set, same_rising, holds, holds_with, holds_plus, holds_times, with_set_in, none_in, plus_in, times_in, same_witness}
 
 module _ {X : Type 0} (R : X → X → Ordering) where
@@ -77,6 +80,94 @@ set_inside x ys z is other = placed_inside (slice_cmp token_cmp) x ys z (λ l. i
 
 pub set_end : (x : List Token) (ys : Sets) → place_in (slice_cmp token_cmp) x ys ≡ length ys → ys ++ x ∷ [] ≡ placed (slice_cmp token_cmp) x ys
 set_end = placed_end (slice_cmp token_cmp)
+
+-- ---- one rising list within another, walked together
+
+module _ {X : Type 0} (R : X → X → Ordering) where
+  none_below : (x : X) (ys : List X) → T (below_all R x (tagged ys)) → contains R x ys ≡ false
+  none_below x [] h = refl
+  none_below x (y ∷ ys) h =
+      ap (λ r. is_eq r || contains R x ys) (less (R x y) (first (is_lt (R x y)) (below_all R x (tagged ys)) h)) ∙ none_below x ys (second (is_lt (R x y)) (below_all R x (tagged ys)) h)
+
+  below_of : (x : X) (xs : List X) → IsRising R (x ∷ xs) → T (below_all R x (tagged xs))
+  below_of x xs h = first (below_all R x (tagged xs)) (is_sorted R (tagged xs)) (is_sorted_of (is_sorted R (tagged (x ∷ xs))) h)
+
+  rest_rises : (x : X) (xs : List X) → IsRising R (x ∷ xs) → IsRising R xs
+  rest_rises x xs h = is_true_of (is_sorted R (tagged xs)) (second (below_all R x (tagged xs)) (is_sorted R (tagged xs)) (is_sorted_of (is_sorted R (tagged (x ∷ xs))) h))
+
+  module _ (o : IsTotalOrder R) (same : (x y : X) → R x y ≡ Equal → x ≡ y) where
+    below_both : (x y : X) (ys : List X) → R x y ≡ Less → T (below_all R y (tagged ys)) → T (below_all R x (tagged (y ∷ ys)))
+    below_both x y ys p h =
+        both (is_lt (R x y)) (below_all R x (tagged ys)) (subst (λ r. T (is_lt r)) (sym p) tt) (below_less R (λ (a : Unit {0}) (b : Unit {0}). a) o x y (tagged ys) p h)
+
+    -- an item below all of a list is none of them
+    head_skipped : (y : X) (ys xs : List X) → T (below_all R y (tagged xs)) → is_within R xs (y ∷ ys) ≡ is_within R xs ys
+    head_skipped y ys [] h = refl
+    head_skipped y ys (x ∷ xs) h =
+        ap (λ r. (is_eq r || contains R x ys) && is_within R xs (y ∷ ys)) (o.antisymm x y ∙ ap ordering_reverse (less (R y x) (first (is_lt (R y x)) (below_all R y (tagged xs)) h)))
+        ∙ ap (λ b. contains R x ys && b) (head_skipped y ys xs (second (is_lt (R y x)) (below_all R y (tagged xs)) h))
+
+    missing : (x : X) (xs ys : List X) → IsRising R (x ∷ xs) → IsRising R ys → rest_after R x ys ≡ None → is_within R (x ∷ xs) ys ≡ false
+    missing x xs [] h k e = refl
+    missing x xs (y ∷ ys) h k e =
+        elim (R x y) as (λ r. R x y ≡ r → by_order r None (Some ys) (rest_after R x ys) ≡ None → is_within R (x ∷ xs) (y ∷ ys) ≡ false) [
+          | Less ↦ λ p q. ap (λ b. b && is_within R xs (y ∷ ys)) (none_below x (y ∷ ys) (below_both x y ys p (below_of y ys k)))
+          | Equal ↦ λ p q. absurd (cc)
+          | Greater ↦ λ p q. head_skipped y ys (x ∷ xs) (below_both y x xs (o.antisymm y x ∙ ap ordering_reverse p) (below_of x xs h)) ∙ missing x xs ys h (rest_rises y ys k) q
+        ] refl e
+
+    found : (x : X) (xs ys zs : List X) → IsRising R (x ∷ xs) → IsRising R ys → rest_after R x ys ≡ Some zs → is_within R (x ∷ xs) ys ≡ is_within R xs zs
+    found x xs [] zs h k e = absurd (cc)
+    found x xs (y ∷ ys) zs h k e =
+        elim (R x y) as (λ r. R x y ≡ r → by_order r None (Some ys) (rest_after R x ys) ≡ Some zs → is_within R (x ∷ xs) (y ∷ ys) ≡ is_within R xs zs) [
+          | Less ↦ λ p q. absurd (cc)
+          | Equal ↦ λ p q.
+              ap (λ r. (is_eq r || contains R x ys) && is_within R xs (y ∷ ys)) p ∙ head_skipped y ys xs (subst (λ z. T (below_all R z (tagged xs))) (same x y p) (below_of x xs h))
+              ∙ ap (λ l. is_within R xs (unwrap_or l ys)) q
+          | Greater ↦ λ p q. head_skipped y ys (x ∷ xs) (below_both y x xs (o.antisymm y x ∙ ap ordering_reverse p) (below_of x xs h)) ∙ found x xs ys zs h (rest_rises y ys k) q
+        ] refl e
+
+    rest_after_rises : (x : X) (ys zs : List X) → IsRising R ys → rest_after R x ys ≡ Some zs → IsRising R zs
+    rest_after_rises x [] zs k e = absurd (cc)
+    rest_after_rises x (y ∷ ys) zs k e =
+        elim (R x y) as (λ r. by_order r None (Some ys) (rest_after R x ys) ≡ Some zs → IsRising R zs) [
+          | Less ↦ λ q. absurd (cc)
+          | Equal ↦ λ q. subst (λ l. IsRising R (unwrap_or l ys)) q (rest_rises y ys k)
+          | Greater ↦ λ q. rest_after_rises x ys zs (rest_rises y ys k) q
+        ] e
+
+token_missing : (x : Token) (xs ys : List Token) → IsRising token_cmp (x ∷ xs) → IsRising token_cmp ys → rest_after token_cmp x ys ≡ None → is_within token_cmp (x ∷ xs) ys ≡ false
+token_missing = missing token_cmp token_cmp_total token_cmp-exact
+
+token_found : (x : Token) (xs ys zs : List Token) → IsRising token_cmp (x ∷ xs) → IsRising token_cmp ys → rest_after token_cmp x ys ≡ Some zs → is_within token_cmp (x ∷ xs) ys ≡ is_within token_cmp xs zs
+token_found = found token_cmp token_cmp_total token_cmp-exact
+
+pub token_rest : (x : Token) (ys zs : List Token) → IsRising token_cmp ys → rest_after token_cmp x ys ≡ Some zs → IsRising token_cmp zs
+token_rest = rest_after_rises token_cmp token_cmp_total token_cmp-exact
+
+tokens_rise : (x : Token) (xs : List Token) → IsRising token_cmp (x ∷ xs) → IsRising token_cmp xs
+tokens_rise = rest_rises token_cmp
+
+-- a turn of the walk: the token at i is looked for
+pub walk_stops : (tokens : List Token) (i : ℕ) (d : Token) (ys : List Token) → i < length tokens → IsRising token_cmp (drop i tokens) → IsRising token_cmp ys → rest_after token_cmp (slice_index_or tokens i d) ys ≡ None → is_within token_cmp (drop i tokens) ys ≡ false
+walk_stops tokens i d ys lt h k e =
+    ap (λ l. is_within token_cmp l ys) (drop_more tokens i d lt) ∙ token_missing (slice_index_or tokens i d) (drop (i + 1) tokens) ys (subst (IsRising token_cmp) (drop_more tokens i d lt) h) k e
+
+pub walk_goes_on : (tokens : List Token) (i : ℕ) (d : Token) (ys zs : List Token) → i < length tokens → IsRising token_cmp (drop i tokens) → IsRising token_cmp ys → rest_after token_cmp (slice_index_or tokens i d) ys ≡ Some zs → is_within token_cmp (drop (i + 1) tokens) zs ≡ is_within token_cmp (drop i tokens) ys
+walk_goes_on tokens i d ys zs lt h k e =
+    sym (ap (λ l. is_within token_cmp l ys) (drop_more tokens i d lt) ∙ token_found (slice_index_or tokens i d) (drop (i + 1) tokens) ys zs (subst (IsRising token_cmp) (drop_more tokens i d lt) h) k e)
+
+pub walk_rises : (tokens : List Token) (i : ℕ) (d : Token) → i < length tokens → IsRising token_cmp (drop i tokens) → IsRising token_cmp (drop (i + 1) tokens)
+walk_rises tokens i d lt h = tokens_rise (slice_index_or tokens i d) (drop (i + 1) tokens) (subst (IsRising token_cmp) (drop_more tokens i d lt) h)
+
+-- where no item is within, none is left out
+pub all_kept : {X : Type 0} (p : X → Bool) (xs : List X) → list_any p xs ≡ false → filter (λ x. not (p x)) xs ≡ xs
+all_kept p [] h = refl
+all_kept p (x ∷ xs) h =
+    elim (p x) as (λ b. p x ≡ b → (b || list_any p xs) ≡ false → cond (not b) (x ∷ filter (λ y. not (p y)) xs) (filter (λ y. not (p y)) xs) ≡ x ∷ xs) [
+      | true ↦ λ e k. absurd (cc)
+      | false ↦ λ e k. ap (λ ys. x ∷ ys) (all_kept p xs k)
+    ] refl h
 
 -- ---- what the additions come to
 

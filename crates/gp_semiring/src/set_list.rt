@@ -26,11 +26,27 @@ fn has_within(sets: &[TokenSet], set: &TokenSet) -> bool
     false
 }
 
-/// The sets that do not contain the set.
+/// Whether the set is within one of the sets.
+fn has_beyond(sets: &[TokenSet], set: &TokenSet) -> bool
+    ensures { result ≡ list_any (λ other. is_within token_cmp set.now other) sets.now }
+{
+    for other in sets {
+        if set.is_within(other) {
+            return true;
+        }
+    }
+    false
+}
+
+/// The sets that do not contain the set. They stay where they are if none does.
+#[tactic(auto, using(crate::proofs::SetLemmas::all_kept))]
 fn others(alloc: Global, sets: Vec<TokenSet>, set: &TokenSet) -> Result<Vec<TokenSet>, NoMemory>
     ensures { IfOk result (λ kept. kept.items
         ≡ filter (λ other. not (is_within token_cmp set.now other)) sets.items) }
 {
+    if !has_beyond(sets.as_slice(), set) {
+        return Ok(sets);
+    }
     let mut kept = Vec::new(alloc);
     for other in sets {
         if !set.is_within(&other) {

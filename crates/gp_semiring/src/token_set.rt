@@ -1,9 +1,10 @@
 //! Sets of tokens.
 
-ghost use Rattle.std.specs.Prelude.{◌≡◌, ◌++◌, ◌∷◌, [], IfOk, OnOk};
+ghost use Rattle.std.specs.Prelude.{◌≡◌, ◌++◌, ◌∷◌, [], option_map, IfOk, OnOk};
 ghost use Rattle.std.specs.Cmp.Lexicographic.{slice_cmp};
 ghost use Rattle.gp_base.specs.Tokens.{token_cmp};
 ghost use Rattle.gp_base.specs.Tokens as t;
+ghost use Rattle.gp_semiring.specs.WitnessAdding as a;
 ghost use Rattle.gp_semiring.specs.WitnessAdding.{place_in, with_items};
 ghost use Rattle.gp_semiring.specs.Witnesses as w;
 ghost use Rattle.gp_semiring.specs.Witnesses.{IsRising, placed, set_of, set_text};
@@ -42,25 +43,32 @@ fn compare_tokens(left: &Token, right: &Token) -> Ordering
     left.cmp(right)
 }
 
-/// Whether the token is one of these.
-fn contains(tokens: &[Token], token: &Token) -> bool
-    ensures { result ≡ w.contains token_cmp token.now tokens.now }
+/// The tokens after this one, in tokens that rise, if it is one of them.
+fn rest_after<'a>(tokens: &'a [Token], token: &Token) -> Option<&'a [Token]>
+    ensures { option_map (λ rest. rest.now) result
+        ≡ a.rest_after token_cmp token.now tokens.now }
 {
-    for other in tokens {
-        if compare_tokens(token, other) == Ordering::Equal {
-            return true;
+    for (at, other) in tokens.iter().enumerate() {
+        match compare_tokens(token, other) {
+            Ordering::Less => return None,
+            Ordering::Equal => return Some(&tokens[at + 1..]),
+            Ordering::Greater => {}
         }
     }
-    false
+    None
 }
 
-/// Whether each of the tokens is one of the others.
+/// Whether each of the tokens is one of the others: both rise, so they are walked together.
 fn are_within(tokens: &[Token], others: &[Token]) -> bool
+    requires tokens { IsRising token_cmp tokens.now }
+    requires others { IsRising token_cmp others.now }
     ensures { result ≡ w.is_within token_cmp tokens.now others.now }
 {
+    let mut rest = others;
     for token in tokens {
-        if !contains(others, token) {
-            return false;
+        match rest_after(rest, token) {
+            Some(after) => rest = after,
+            None => return false,
         }
     }
     true
