@@ -31,7 +31,7 @@ module _ {K : Type 0} (plus : K → K → K) where
         | Greater ↦ ap (λ rows. pair.0 ∷ rows) (rows_added row a pairs)
       ]
 
-  rows_summed : (pairs : List (List Cell × K)) → rows_of (summed row_cmp plus pairs) ≡ distinct_rows (rows_of pairs)
+  pub rows_summed : (pairs : List (List Cell × K)) → rows_of (summed row_cmp plus pairs) ≡ distinct_rows (rows_of pairs)
   rows_summed [] = refl
   rows_summed (pair ∷ pairs) = rows_added pair.0 pair.1 (summed row_cmp plus pairs) ∙ ap (with_row pair.0) (rows_summed pairs)
 

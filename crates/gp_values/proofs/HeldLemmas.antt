@@ -41,7 +41,7 @@ by_log None None (Some refusal) true e alike = absurd (cc)
 
 module _ (limits : Limits) (agree : List (Annotated Monomial) → List (Annotated Monomial) → Bool) (state : State Monomial) (spans : ℕ → List Span) (point : y.State) where
   -- a query without branches is answered as the history does, so only the log refuses
-  log_refuses : AreAlike (annotated_answer monomials limits agree state.catalogue state.entries spans point []) (held_answer monomials limits state point [])
+  pub log_refuses : AreAlike (annotated_answer monomials limits agree state.catalogue state.entries spans point []) (held_answer monomials limits state point [])
       → history_refusal monomials limits agree state.catalogue state.entries spans point ≡ log_refusal state.entries point
   log_refuses alike =
       by_log (log_refusal state.entries point) (annotation_stop monomials limits agree state.catalogue (log_of state.entries) spans (needed_version state.entries point))

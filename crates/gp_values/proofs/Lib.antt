@@ -1,7 +1,7 @@
 mod AnswerCounts
 mod Bounds
-mod DistinctLemmas
-mod HeldLemmas
+pub mod DistinctLemmas
+pub mod HeldLemmas
 pub mod IgnoringLemmas
 mod MakerBounds
 mod OrderLemmas
@@ -10,5 +10,5 @@ mod RunBounds
 mod SmallLemmas
 mod SpanValues
 mod StatementBounds
-mod ValueLemmas
+pub mod ValueLemmas
 pub mod VersionReannotation

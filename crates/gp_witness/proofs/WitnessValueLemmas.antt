@@ -6,7 +6,7 @@ use Rattle.std.specs.Ordering.{eq_by_cmp}
 use Rattle.gp_base.specs.declared.cell.Cell.{Cell}
 use Rattle.gp_base.specs.declared.token.Token.{Token}
 use Rattle.gp_base.specs.Order.{row_cmp}
-use Rattle.gp_base.specs.Tokens.{ArePowers, IsMonomial, Monomial, token_cmp}
+use Rattle.gp_base.specs.Tokens.{Monomial, token_cmp}
 use Rattle.gp_base.specs.TokenOrder.{token_cmp_total, token_cmp-exact}
 use Rattle.gp_semiring.specs.Powers.{raised}
 use Rattle.gp_semiring.specs.Sums.{Each}
@@ -14,7 +14,7 @@ use Rattle.gp_semiring.specs.Witnesses.{IsRising, IsWitness, Sets, set_of, witne
 use Rattle.gp_semiring.specs.WitnessLaws.{holds, same_witness, holds_plus, holds_times, holds_witness, witness_in, plus_in, times_in, one_in, none_in, rising_set, all_set}
 use Rattle.gp_valuation.specs.Values.{monomial_value}
 use Rattle.gp_kexec.specs.InSemiring.{in_semiring}
-use Rattle.gp_witness.specs.Minimal.{itself, token_sets, tokens_of}
+use Rattle.gp_witness.specs.Minimal.{HasCounts, itself, token_sets, tokens_of}
 
 abbrev value : Monomial → Sets
 value = monomial_value ([] ∷ []) (witness_times token_cmp) itself
@@ -54,10 +54,10 @@ holds_some : (S : Token → Bool) (t : Token) (n : ℕ) → 1 ≤ n → holds S 
 holds_some S t zero some = absurd (omega arith)
 holds_some S t (suc n) some = holds_power S t n
 
-holds_value : (S : Token → Bool) (m : Monomial) → ArePowers m → holds S (value m) ≡ list_all S (tokens_of m)
+holds_value : (S : Token → Bool) (m : Monomial) → HasCounts m → holds S (value m) ≡ list_all S (tokens_of m)
 holds_value S [] are = refl
 holds_value S (p ∷ ps) are =
-    holds_times token_cmp token_cmp_total token_cmp-exact S (power p.0 p.1) (value ps) ∙ ap (λ b. b && holds S (value ps)) (holds_some S p.0 p.1 are.0.1.0) ∙ ap (λ b. S p.0 && b) (holds_value S ps are.1)
+    holds_times token_cmp token_cmp_total token_cmp-exact S (power p.0 p.1) (value ps) ∙ ap (λ b. b && holds S (value ps)) (holds_some S p.0 p.1 are.0) ∙ ap (λ b. S p.0 && b) (holds_value S ps are.1)
 
 module _ (x : List Cell) where
   abbrev total : List (List Cell × Monomial) → Sets
@@ -77,16 +77,16 @@ module _ (x : List Cell) where
     | false ↦ each_set pairs
   ]
 
-  holds_total : (S : Token → Bool) (pairs : List (List Cell × Monomial)) → Each (λ (pair : List Cell × Monomial). IsMonomial pair.1) pairs → holds S (total pairs) ≡ holds S (token_sets x pairs)
+  holds_total : (S : Token → Bool) (pairs : List (List Cell × Monomial)) → Each (λ (pair : List Cell × Monomial). HasCounts pair.1) pairs → holds S (total pairs) ≡ holds S (token_sets x pairs)
   holds_total S [] are = refl
   holds_total S (pair ∷ pairs) are = elim (eq_by_cmp row_cmp x pair.0) as (λ b. holds S (cond b (witness_plus token_cmp (value pair.1) (total pairs)) (total pairs)) ≡ holds S (cond b (set_of token_cmp (tokens_of pair.1) ∷ token_sets x pairs) (token_sets x pairs))) [
     | true ↦ holds_plus token_cmp token_cmp_total token_cmp-exact S (value pair.1) (total pairs)
-        ∙ ap (λ b. b || holds S (total pairs)) (holds_value S pair.1 are.0.powers ∙ sym (all_set token_cmp token_cmp_total token_cmp-exact S (tokens_of pair.1)))
+        ∙ ap (λ b. b || holds S (total pairs)) (holds_value S pair.1 are.0 ∙ sym (all_set token_cmp token_cmp_total token_cmp-exact S (tokens_of pair.1)))
         ∙ ap (λ b. list_all S (set_of token_cmp (tokens_of pair.1)) || b) (holds_total S pairs are.1)
     | false ↦ holds_total S pairs are.1
   ]
 
-  pub witness_value : (pairs : List (List Cell × Monomial)) → Each (λ (pair : List Cell × Monomial). IsMonomial pair.1) pairs → total pairs ≡ witness_of token_cmp (token_sets x pairs)
+  pub witness_value : (pairs : List (List Cell × Monomial)) → Each (λ (pair : List Cell × Monomial). HasCounts pair.1) pairs → total pairs ≡ witness_of token_cmp (token_sets x pairs)
   witness_value pairs are =
       same_witness token_cmp token_cmp_total token_cmp-exact _ _ (total_in pairs) (witness_in token_cmp token_cmp_total token_cmp-exact (token_sets x pairs) (each_set pairs))
       (λ S. holds_total S pairs are ∙ sym (holds_witness token_cmp token_cmp_total token_cmp-exact S (token_sets x pairs)))
