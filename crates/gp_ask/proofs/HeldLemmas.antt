@@ -1,5 +1,6 @@
 -- The answers of the dump of a history are those that the history held.
 use Rattle.std.proofs.Common.{◌≡◌, ℕ, zero, suc, nat_lt, List, [], ◌++◌, ◌∷◌, length, map, Option, Some, None, Result, Ok, Err, refl, ap, ◌∙◌, if◌then◌else◌}
+use Rattle.std.specs.List.Sorted.{IsPermutation}
 use Rattle.std.specs.Option.{option_or}
 use Rattle.std.proofs.lemmas.List.{length-map}
 use Rattle.std.proofs.lemmas.List.Sorted.{IsPermutation-map}
@@ -11,6 +12,7 @@ use Rattle.gp_base.specs.Annotated.{Database, monomials, plain}
 use Rattle.gp_base.specs.Order.{row_cmp, sorted_by}
 use Rattle.gp_base.specs.Tokens.{Monomial}
 use Rattle.gp_grammar.specs.declared.semiring_name.SemiringName.{SemiringName}
+use Rattle.gp_grammar.specs.declared.semiring_name.SemiringName.TheVariants as named
 use Rattle.gp_grammar.specs.Syntax as y
 use Rattle.gp_algebra.specs.Answers.{Element, answer, cells_of}
 use Rattle.gp_algebra.specs.Reannotation.{database_reannotated, element_reannotated, forgotten}
@@ -19,24 +21,33 @@ use Rattle.gp_algebra.proofs.Lists.{map-map}
 use Rattle.gp_check.specs.Checking.{checked_query}
 use Rattle.gp_log.specs.Limits.{limits}
 use Rattle.gp_log.specs.LogFacts.{tables_in}
+use Rattle.gp_machine.specs.Annotating.{annotated_versions}
 use Rattle.gp_machine.specs.Entries.{version_of}
 use Rattle.gp_machine.specs.HistorySpans.{state_spans}
-use Rattle.gp_machine.specs.Points.{at_version, held_at}
+use Rattle.gp_machine.specs.Points.{at_point, at_version, held_at}
 use Rattle.gp_machine.specs.Questions.{AreAlike, annotated_answer, given, held_answer, log_refusal, rows_answer}
 use Rattle.gp_machine.specs.State.{State}
 use Rattle.gp_machine.specs.StateReannotation.{state_reannotated}
+use Rattle.gp_semiring.specs.Witnesses.{sets_text}
 use Rattle.gp_valuation.specs.declared.rules.Rule.{Rule}
+use Rattle.gp_values.specs.ValueAnswers.{history_refusal, limited}
 use Rattle.gp_versions.specs.declared.span.Span.{Span}
 use Rattle.gp_dump.specs.Dumps.{Dump, dump_of, dump_with, spans_in_order}
 use Rattle.gp_history.specs.Agreement.{agree}
 use Rattle.gp_history.specs.Provenance.{occurrence}
 use Rattle.gp_ask.specs.declared.answered.Answered.{Answered}
 use Rattle.gp_ask.specs.declared.answered.Answered.TheVariants.{Listed, Refused, Rows}
-use Rattle.gp_ask.specs.Answers.{answer_to, checked_answer, dump_provenance, dump_query, dump_rows, dump_values, held_provenance, held_rows, held_to, held_values, of_elements, query_answer, spans_at, with_monomials}
-use Rattle.gp_ask.specs.Values.{evaluated, rules_of, semiring_of}
+use Rattle.gp_ask.specs.Answers.{answer_to, dump_minimal, dump_provenance, dump_query, dump_remaining, dump_rows, dump_valued, dump_values, held_minimal, held_provenance, held_remaining, held_rows, held_to, held_valued, held_values, of_elements, query_answer, spans_at, with_monomials}
+use Rattle.gp_ask.specs.Remaining.{has_left_out, is_left_out, pattern_of, remaining_answer}
+use Rattle.gp_ask.specs.Values.{evaluated, rules_of, semiring_of, with_values}
+use Rattle.gp_ask.specs.Witnesses.{minimal_of}
+use Rattle.gp_ask.proofs.CountedLemmas.{answers_count}
+use Rattle.gp_ask.proofs.MovedLemmas.{remaining_moved}
 use Rattle.gp_ask.proofs.ProvenanceLemmas.{same-list}
+use Rattle.gp_ask.proofs.QueryLemmas.{query-same}
 use Rattle.gp_ask.proofs.ReenactedLemmas.{same-order}
 use Rattle.gp_ask.proofs.ValueLemmas.{AreHeld, found_in}
+use Rattle.gp_ask.proofs.WitnessLemmas.{minimal_moved}
 
 -- ---- answers that are alike
 
@@ -51,15 +62,6 @@ alike-monomials (Ok elements) (Ok others) same = ap Listed (same-list (map occur
 alike-monomials (Err refusal) (Err other) same = ap Refused same
 alike-monomials (Ok elements) (Err other) same = absurd same
 alike-monomials (Err refusal) (Ok others) same = absurd same
-
-module _ (found other : Select → Answered) (same : (select : Select) → found select ≡ other select) where
-  checked-same : (checked : Result Select Refusal) → checked_answer found checked ≡ checked_answer other checked
-  checked-same (Ok select) = same select
-  checked-same (Err refusal) = refl
-
-  query-same : (refusal : Option Refusal) (checked : Result Select Refusal) → query_answer found refusal checked ≡ query_answer other refusal checked
-  query-same None checked = checked-same checked
-  query-same (Some refusal) checked = refl
 
 -- ---- a state without its annotations
 
@@ -124,7 +126,10 @@ module _ (forgets : Forgets) (state : State Monomial) where
       module _ (rows-alike : (point : y.State) (select : Select) → AreAlike (rows_answer limits state.entries spans point select) (held_answer plain limits (forgetting state) point select))
           (provenance-alike : (point : y.State) (select : Select)
           → AreAlike (annotated_answer monomials limits agree state.catalogue state.entries spans point select) (held_answer monomials limits state point select))
-          (values-alike : (name : SemiringName) → AreHeld state spans name) where
+          (values-alike : (name : SemiringName) → AreHeld state spans name)
+          (refusals : (point : y.State) → history_refusal monomials limits agree state.catalogue state.entries spans point ≡ log_refusal state.entries point)
+          (elements-moved : (point : y.State) (select : Select) → log_refusal state.entries point ≡ None
+          → IsPermutation (answer monomials select (at_point monomials state.entries point (annotated_versions monomials state.entries spans))) (answer monomials select (held_at state point))) where
         rows-held : (point : y.State) (select : Select) → dump_rows (dump_of (forgetting state)) point select ≡ held_rows state point select
         rows-held point select =
             alike (rows_answer limits state.entries spans point select) (held_answer plain limits (forgetting state) point select) (rows-alike point select)
@@ -141,6 +146,45 @@ module _ (forgets : Forgets) (state : State Monomial) where
             ap (λ (catalogue : List Table). evaluated (semiring_of name) rules name (found_in (semiring_of name) rules state.entries catalogue spans point select)) tables
             ∙ ap (evaluated (semiring_of name) rules name) (values-alike name rules point select)
 
+        -- the elements over the row versions of the dump
+        abbrev found-elements : y.State → Select → List (Element Monomial)
+        found-elements point select = answer monomials select (at_point monomials state.entries point (annotated_versions monomials state.entries spans))
+
+        -- the refusals of the dump are those of the log
+        refusals-held : (point : y.State) → history_refusal monomials limits agree (tables_in state.entries) state.entries spans point ≡ log_refusal state.entries point
+        refusals-held point = ap (λ (catalogue : List Table). history_refusal monomials limits agree catalogue state.entries spans point) tables ∙ refusals point
+
+        minimal-held : (point : y.State) (select : Select) → dump_minimal (dump_of (forgetting state)) point select ≡ held_minimal state point select
+        minimal-held point select =
+            ap (λ (refusal : Option Refusal). with_values sets_text (limited limits.answer minimal_of (given refusal (found-elements point select)))) (refusals-held point)
+            ∙ ap (with_values sets_text)
+            (minimal_moved (log_refusal state.entries point) (found-elements point select) (answer monomials select (held_at state point)) (answers_count state.catalogue state.entries spans point select)
+            (elements-moved point select))
+
+        valued-held : (name : SemiringName) (rules : List y.Rule) (other : Option ℕ) (point : y.State) (select : Select)
+            → dump_valued name rules other (dump_of (forgetting state)) point select ≡ held_valued name rules other state point select
+        valued-held named.Count rules other point select = values-held named.Count (rules_of rules other) point select
+        valued-held named.Bool rules other point select = values-held named.Bool (rules_of rules other) point select
+        valued-held named.Cost rules other point select = values-held named.Cost (rules_of rules other) point select
+        valued-held named.Level rules other point select = values-held named.Level (rules_of rules other) point select
+        valued-held named.Poly rules other point select = values-held named.Poly (rules_of rules other) point select
+        valued-held named.Witness [] None point select = minimal-held point select
+        valued-held named.Witness [] (Some n) point select = values-held named.Witness (rules_of [] (Some n)) point select
+        valued-held named.Witness (rule ∷ rules) None point select = values-held named.Witness (rules_of (rule ∷ rules) None) point select
+        valued-held named.Witness (rule ∷ rules) (Some n) point select = values-held named.Witness (rules_of (rule ∷ rules) (Some n)) point select
+
+        remaining-held : (patterns : List Rule) (point : y.State) (select : Select) → dump_remaining patterns (dump_of (forgetting state)) point select ≡ held_remaining patterns state point select
+        remaining-held patterns point select =
+            ap (λ (refusal : Option Refusal). of_elements (remaining_answer (has_left_out patterns) select db refusal)) (refusals-held point) ∙ by (log_refusal state.entries point) refl
+          where
+            db : Database Monomial
+            db = at_point monomials state.entries point (annotated_versions monomials state.entries spans)
+
+            by : (refusal : Option Refusal) → log_refusal state.entries point ≡ refusal
+                → of_elements (remaining_answer (has_left_out patterns) select db refusal) ≡ of_elements (remaining_answer (has_left_out patterns) select (held_at state point) refusal)
+            by (Some refusal) known = refl
+            by None known = remaining_moved (is_left_out patterns) select db (held_at state point) (elements-moved point select known) None
+
         query-held : (found held : Select → Answered) → ((select : Select) → found select ≡ held select) → (point : y.State) (query : y.Query)
             → dump_query (dump_of (forgetting state)) found point query ≡ query_answer held (log_refusal state.entries point) (checked_query state.catalogue query)
         query-held found held same point query =
@@ -155,5 +199,7 @@ module _ (forgets : Forgets) (state : State Monomial) where
             query-held (dump_provenance (dump_of (forgetting state)) point) (held_provenance state point) (provenance-held point) point query
         held (y.ask (y.explain prov) point query) = ap (λ (dump : Dump). answer_to dump (y.ask (y.explain prov) point query)) dump-same
         held (y.ask (y.value name rules other) point query) =
-            query-held (dump_values (semiring_of name) name (rules_of rules other) (dump_of (forgetting state)) point) (held_values (semiring_of name) name (rules_of rules other) state point)
-            (values-held name (rules_of rules other) point) point query
+            query-held (dump_valued name rules other (dump_of (forgetting state)) point) (held_valued name rules other state point) (valued-held name rules other point) point query
+        held (y.ask (y.without patterns) point query) =
+            query-held (dump_remaining (map pattern_of patterns) (dump_of (forgetting state)) point) (held_remaining (map pattern_of patterns) state point)
+            (remaining-held (map pattern_of patterns) point) point query

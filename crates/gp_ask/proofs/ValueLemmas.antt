@@ -47,12 +47,13 @@ abbrev pub AreHeld : State Monomial → (ℕ → List Span) → SemiringName →
 AreHeld state spans name =
     (rules : List Rule × Option ℕ) (point : y.State) (select : Select) → found_in (semiring_of name) rules state.entries state.catalogue spans point select ≡ held_in (semiring_of name) rules state point select
 
-pub each-semiring : (Holds : SemiringName → Type 0) → Holds named.Count → Holds named.Bool → Holds named.Cost → Holds named.Level → Holds named.Poly → (name : SemiringName) → Holds name
-each-semiring Holds count truth cost level polynomial named.Count = count
-each-semiring Holds count truth cost level polynomial named.Bool = truth
-each-semiring Holds count truth cost level polynomial named.Cost = cost
-each-semiring Holds count truth cost level polynomial named.Level = level
-each-semiring Holds count truth cost level polynomial named.Poly = polynomial
+pub each-semiring : (Holds : SemiringName → Type 0) → Holds named.Count → Holds named.Bool → Holds named.Cost → Holds named.Level → Holds named.Poly → Holds named.Witness → (name : SemiringName) → Holds name
+each-semiring Holds count truth cost level polynomial witness named.Count = count
+each-semiring Holds count truth cost level polynomial witness named.Bool = truth
+each-semiring Holds count truth cost level polynomial witness named.Cost = cost
+each-semiring Holds count truth cost level polynomial witness named.Level = level
+each-semiring Holds count truth cost level polynomial witness named.Poly = polynomial
+each-semiring Holds count truth cost level polynomial witness named.Witness = witness
 
 -- ---- what is found
 

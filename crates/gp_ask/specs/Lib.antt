@@ -1,11 +1,14 @@
 pub mod Answerable
 pub mod Answers
 pub mod Backends
+pub mod Counted
 pub mod Explained
 pub mod Formats
 pub mod Lines
 pub mod Operations
 pub mod Programs
 pub mod Questions
+pub mod Remaining
 pub mod Texts
 pub mod Values
+pub mod Witnesses

@@ -1,11 +1,12 @@
 -- Part of the statement: the values of rows in a semiring. A question names the semiring and gives rules, which say which number each token has
 -- (Green, Karvounarakis and Tannen 2007).
-use Rattle.std.specs.Prelude.{ℕ, min, max, ◌||◌, ◌&&◌, Bool, true, false, List, [], map, codes, Option, Some, None, Result, Ok, Err}
+use Rattle.std.specs.Prelude.{ℕ, min, max, ◌||◌, ◌&&◌, Bool, true, false, List, [], ◌∷◌, map, codes, Option, Some, None, Result, Ok, Err}
 use Rattle.std.specs.Fmt.{decimal}
 use Rattle.gp_base.specs.declared.cell.Cell.{Cell}
 use Rattle.gp_base.specs.declared.refusal.Refusal.{Refusal}
 use Rattle.gp_base.specs.declared.refusal.Refusal.TheVariants.{E28}
 use Rattle.gp_base.specs.declared.token.Token.{Token}
+use Rattle.gp_base.specs.Tokens.{token_cmp}
 use Rattle.gp_grammar.specs.declared.semiring_name.SemiringName.{SemiringName}
 use Rattle.gp_grammar.specs.declared.semiring_name.SemiringName.TheVariants as named
 use Rattle.gp_grammar.specs.declared.token_kind.TokenKind as written
@@ -14,6 +15,7 @@ use Rattle.gp_grammar.specs.Syntax as y
 use Rattle.gp_semiring.specs.Elements.{cost_text, greatest, no_token, nobody, number_up_to, truth_of, truth_text}
 use Rattle.gp_semiring.specs.Polynomials.{Terms, poly_number, poly_one, poly_plus, poly_text, poly_times, poly_token}
 use Rattle.gp_semiring.specs.Sums.{plus_up_to, times_up_to}
+use Rattle.gp_semiring.specs.Witnesses.{Sets, sets_text, witness_number, witness_plus, witness_times, witness_token}
 use Rattle.gp_valuation.specs.declared.rules.Rule.{Rule}
 use Rattle.gp_valuation.specs.declared.token_kind.TokenKind.{TokenKind}
 use Rattle.gp_valuation.specs.declared.token_kind.TokenKind.TheVariants.{I, Q, U}
@@ -101,12 +103,26 @@ polynomial = record {
   text_of = poly_text;
 }
 
+-- the minimal witnesses: the sets of tokens that are enough for a way, and of which no part is
+abbrev pub witness : Semiring
+witness = record {
+  Element = Sets;
+  zero_of = [];
+  one_of = [] ∷ [];
+  plus_of = witness_plus token_cmp;
+  times_of = witness_times token_cmp;
+  number_of = witness_number;
+  itself_of = witness_token;
+  text_of = sets_text;
+}
+
 abbrev pub semiring_of : SemiringName → Semiring
 semiring_of named.Count = count
 semiring_of named.Bool = truth
 semiring_of named.Cost = cost
 semiring_of named.Level = level
 semiring_of named.Poly = polynomial
+semiring_of named.Witness = witness
 
 abbrev pub name_text : SemiringName → List ℕ
 name_text named.Count = codes "COUNT"
@@ -114,6 +130,7 @@ name_text named.Bool = codes "BOOL"
 name_text named.Cost = codes "COST"
 name_text named.Level = codes "LEVEL"
 name_text named.Poly = codes "POLY"
+name_text named.Witness = codes "WITNESS"
 
 -- ---- rules
 

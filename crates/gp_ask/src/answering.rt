@@ -14,6 +14,7 @@ ghost use Rattle.gp_ask.specs.Explained.{ExplainsQuestion};
 ghost use Rattle.gp_ask.specs.Formats.{asks_rows};
 
 use crate::answered::Answered;
+use crate::deletion::remaining_answer;
 use crate::logs::log_answer;
 use crate::programs::program_answer;
 use crate::provenance::provenance_answer;
@@ -60,6 +61,7 @@ fn ask_answer(
             state,
             query,
         ),
+        How::Without { rules } => { remaining_answer(alloc, dump, rules.as_slice(), state, query) }
     }
 }
 
@@ -69,11 +71,12 @@ fn ask_answer(
 /// LOG is refused if no transaction has the number (E20), VERSIONS if no table has the name (E04). AS OF is refused if there is no
 /// such version (E23), REENACT if there is no such transaction (E20), it did not commit (E21) or has no such statement (E22).
 /// Both are then refused by the check of their query (E04 to E07, E15), and VALUE IN by the first number of its rules that stands for
-/// no element of the semiring (E28). PROVENANCE OF and VALUE IN are then refused by the versions that they need, one after another: if
-/// the transaction that made a version does not run (E25, E26), or does not make the rows that the dump has in a table (E24). REENACT
-/// is refused also if a statement of the transaction leaves more rows in its table than a statement may (E25) or makes an identity of
-/// too many nodes (E26), and both if the answer has more than [`MAX_ANSWER_ROWS`](gp_exec::MAX_ANSWER_ROWS) rows (E27), each as often
-/// as it occurs, or once for VALUE IN, in this order. EXPLAIN runs nothing, so none of these limits stops it. E24, E25 and E26 never
+/// no element of the semiring (E28). PROVENANCE OF, VALUE IN and WITHOUT are then refused by the versions that they need, one after
+/// another: if the transaction that made a version does not run (E25, E26), or does not make the rows that the dump has in a table
+/// (E24). REENACT is refused also if a statement of the transaction leaves more rows in its table than a statement may (E25) or makes
+/// an identity of too many nodes (E26), and both if the answer has more than [`MAX_ANSWER_ROWS`](gp_exec::MAX_ANSWER_ROWS) rows (E27),
+/// each as often as it occurs, or once for VALUE IN, in this order. For WITHOUT these are the distinct rows before any is left out, or
+/// the rows that remain. EXPLAIN runs nothing, so none of these limits stops it. E24, E25 and E26 never
 /// come for the dump of a history. Running out of memory is the only error.
 pub fn answer(alloc: Global, dump: &Dump, question: &Question) -> Result<Answered, NoMemory>
     requires rules { IsDump (dump_view dump.now) }

@@ -35,6 +35,7 @@ fn are_rows(how: &How) -> bool
         How::Provenance => false,
         How::Explain { .. } => false,
         How::Value { .. } => false,
+        How::Without { .. } => false,
     }
 }
 

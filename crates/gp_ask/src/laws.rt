@@ -23,9 +23,10 @@ use gp_algebra::annotations_commute;
 use gp_base::Monomial;
 use gp_history::{agreement_is_having_the_same_rows, histories_are_annotated};
 use gp_machine::{
-    annotations_change_no_reply, commits_publish_the_spans, questions_are_answered_by_the_history,
+    annotations_change_no_reply, commits_publish_the_spans, logs_and_spans_hold_the_history,
+    questions_are_answered_by_the_history,
 };
-use gp_semiring::{Bool, Cost, Count, Level, Poly, Semiring};
+use gp_semiring::{Bool, Cost, Count, Level, Poly, PosBool, Semiring};
 use gp_values::values_are_those_of_the_history;
 
 /// Every question that was read is valid: its query is one that the check can answer, and none of its FROM passes the limit of items.
@@ -55,14 +56,17 @@ fn rules_give_the_values_of_the_history<K: Semiring>()
 /// The dump of a history answers every question as the history held it, and refuses it where the history did: the rows of a past
 /// version are those that its commit published, whatever was written since, the statements of a transaction, run again over the
 /// versions that it read, give the rows that it saw, and the commits, run again one after another, give each row the provenance
-/// that it had there, though the dump has none, and so its value in every semiring. They never pass a limit, and never differ from
-/// the dump.
+/// that it had there, though the dump has none, and so its value in every semiring, its minimal witnesses, and whether it remains
+/// without the rows of some tokens. They never pass a limit, and never differ from the dump.
 pub fn histories_answer_as_their_dumps()
     ensures { (lines : List Line) (question : y.Question)
         → answer_to (dump_of (after plain limits start lines)) question
         ≡ held_to (after monomials limits start lines) question }
 {
     questions_are_answered_by_the_history::<()>();
+    questions_are_answered_by_the_history::<Monomial>();
+    logs_and_spans_hold_the_history::<Monomial>();
+    agreement_is_having_the_same_rows::<Monomial>();
     commits_publish_the_spans::<Monomial>();
     annotations_change_no_reply::<Monomial, ()>();
     annotations_commute::<Monomial, ()>();
@@ -71,5 +75,6 @@ pub fn histories_answer_as_their_dumps()
     rules_give_the_values_of_the_history::<Bool>();
     rules_give_the_values_of_the_history::<Cost>();
     rules_give_the_values_of_the_history::<Level>();
-    rules_give_the_values_of_the_history::<Poly>()
+    rules_give_the_values_of_the_history::<Poly>();
+    rules_give_the_values_of_the_history::<PosBool>()
 }

@@ -3,15 +3,17 @@
 //! [`answer_line`] reads a question and answers it from a [`Dump`](gp_dump::Dump) alone: neither the script nor the engine
 //! that made the dump is needed. LOG and VERSIONS print lines of the dump, AS OF answers a query over the rows of a past
 //! version, and REENACT over those that a transaction saw after one of its statements, or that its commit published. PROVENANCE OF
-//! gives each of these rows with its provenance polynomial, and VALUE IN with the value of that polynomial in a semiring. The answers
-//! are those that the history itself would have given: so says the law [`histories_answer_as_their_dumps`].
+//! gives each of these rows with its provenance polynomial, and VALUE IN with the value of that polynomial in a semiring. WITHOUT gives the
+//! rows that the query has over the state without the rows whose provenance has some token. The answers are those that the history
+//! itself would have given: so says the law [`histories_answer_as_their_dumps`].
 //!
 //! In reading order: [`Answered`] is the answer to a question, [`answer`] answers a question that was read, [`answer_line`]
 //! a line, [`answer_by`] a plain AS OF or REENACT by what a [`Backend`] gives, of which [`Plain`] is the executor, and
 //! [`write_answer`] writes the answer. [`answer_line_in`] and [`write_answer_in`] do the same in a [`Format`]: as text, or as CSV. In
 //! `specs/`, `Answers` says what the answer is, `Formats` which of them are exported as CSV, `Questions` which answers the lines of a file
-//! get, and `Texts` how they are written. `Values` has the semirings and the rules of VALUE IN. Inside, `logs` answers LOG,
-//! `row_versions` VERSIONS, `queries` AS OF and REENACT, `provenance` PROVENANCE OF, and `values` VALUE IN.
+//! get, and `Texts` how they are written. `Values` has the semirings and the rules of VALUE IN, `Witnesses` the minimal witnesses of
+//! rows, and `Remaining` what remains for WITHOUT. Inside, `logs` answers LOG, `row_versions` VERSIONS, `queries` AS OF and REENACT,
+//! `provenance` PROVENANCE OF, `values` VALUE IN, and `deletion` WITHOUT.
 //!
 //! ```text
 //! let answered = answer_line(alloc, &dump, b"as of 2 select * from acct")?;
@@ -22,6 +24,7 @@
 
 mod answered;
 mod answering;
+mod deletion;
 mod display;
 mod exporting;
 mod format;

@@ -2,6 +2,7 @@
 
 ghost use Rattle.std.specs.Prelude.{◌≡◌, map, IfOk};
 ghost use Rattle.gp_syntax.specs.Views.{rule_view};
+ghost use Rattle.gp_ask.specs.Remaining as r;
 ghost use Rattle.gp_ask.specs.Values as v;
 
 use gp_base::{NoMemory, Sequence};
@@ -53,5 +54,40 @@ pub fn rules_of(alloc: Global, rules: &[WrittenRule], other: Option<u64>) -> Res
     Ok(Rules {
         rules: in_order(alloc, rules)?,
         other,
+    })
+}
+
+/// A pattern as a rule by which the tokens that it fits count nothing.
+fn pattern_of(rule: &WrittenRule) -> Rule
+    ensures { result ≡ r.pattern_of (rule_view rule.now) }
+{
+    Rule {
+        kind: kind_of(rule.kind),
+        t: rule.t,
+        k: rule.k,
+        n: rule.n,
+        value: 0,
+    }
+}
+
+/// The patterns in order.
+fn patterns_in_order(alloc: Global, rules: &[WrittenRule]) -> Result<Sequence<Rule>, NoMemory>
+    ensures { IfOk result (λ found. found ≡ map r.pattern_of (map rule_view rules.now)) }
+{
+    let mut found = Sequence::new(alloc);
+    for rule in rules {
+        found.push(pattern_of(rule))?;
+    }
+    Ok(found)
+}
+
+/// The rules by which the tokens that a pattern fits count 0, and all other tokens 1.
+pub fn left_out(alloc: Global, rules: &[WrittenRule]) -> Result<Rules, NoMemory>
+    ensures { IfOk result
+        (λ found. (found.rules, found.other) ≡ r.left_out (map rule_view rules.now)) }
+{
+    Ok(Rules {
+        rules: patterns_in_order(alloc, rules)?,
+        other: Some(1),
     })
 }

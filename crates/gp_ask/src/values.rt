@@ -7,7 +7,6 @@ ghost use Rattle.gp_base.specs.declared.refusal.Refusal.TheVariants.{E28};
 ghost use Rattle.gp_check.specs.Valid.{query_is_valid, tables_are_valid};
 ghost use Rattle.gp_dump.specs.Dumps.{IsDump};
 ghost use Rattle.gp_dump.specs.Views.{dump_view};
-ghost use Rattle.gp_grammar.specs.Syntax as y;
 ghost use Rattle.gp_history.specs.Agreement.{agree};
 ghost use Rattle.gp_history.specs.Values.{HasFewItems};
 ghost use Rattle.gp_kexec.specs.Rows.{pair_view};
@@ -18,7 +17,7 @@ ghost use Rattle.gp_valuation.specs.Values.{token_value};
 ghost use Rattle.gp_values.specs.ValueAnswers as a;
 ghost use Rattle.gp_ask.specs.declared.answered.Answered.TheVariants.{Refused};
 ghost use Rattle.gp_ask.specs.Answerable.{has_few_items};
-ghost use Rattle.gp_ask.specs.Answers.{answer_to, dump_values, spans_at};
+ghost use Rattle.gp_ask.specs.Answers.{dump_query, dump_values, spans_at};
 ghost use Rattle.gp_ask.specs.Operations.{semiring_with};
 ghost use Rattle.gp_ask.specs.Values as v;
 
@@ -33,7 +32,7 @@ use gp_grammar::SemiringName;
 use gp_history::values;
 use gp_kexec::KRow;
 use gp_reenact::ReenactStop;
-use gp_semiring::{Bool, Cost, Count, Level, Poly, Semiring};
+use gp_semiring::{Bool, Cost, Count, Level, Poly, PosBool, Semiring};
 use gp_syntax::{Query, Rule, State};
 use gp_valuation::{Rules, by_rules, first_outside};
 use std::alloc::Global;
@@ -48,6 +47,7 @@ fn name_text(name: SemiringName) -> &'static [u8]
         SemiringName::Cost => b"COST",
         SemiringName::Level => b"LEVEL",
         SemiringName::Poly => b"POLY",
+        SemiringName::Witness => b"WITNESS",
     }
 }
 
@@ -162,6 +162,7 @@ fn selected_values(
         SemiringName::Cost => values_in::<Cost>(alloc, dump, state, select, name, rules),
         SemiringName::Level => values_in::<Level>(alloc, dump, state, select, name, rules),
         SemiringName::Poly => values_in::<Poly>(alloc, dump, state, select, name, rules),
+        SemiringName::Witness => values_in::<PosBool>(alloc, dump, state, select, name, rules),
     }
 }
 
@@ -181,8 +182,9 @@ pub fn value_answer(
     requires valid { tables_are_valid (tables_in (dump_view dump.now).entries) ≡ true }
     requires query { query_is_valid (query_view query.now) ≡ true }
     requires few { has_few_items (query_view query.now) ≡ true }
-    ensures { IfOk result (λ answered. answered ≡ answer_to (dump_view dump.now) (y.ask
-        (y.value name (map rule_view rules.now) other) (state_view state) (query_view query.now))) }
+    ensures { IfOk result (λ answered. answered ≡ dump_query (dump_view dump.now)
+        (dump_values (v.semiring_of name) name (v.rules_of (map rule_view rules.now) other)
+        (dump_view dump.now) (state_view state)) (state_view state) (query_view query.now)) }
 {
     match asked(alloc, dump, state, query) {
         Ok(select) => {

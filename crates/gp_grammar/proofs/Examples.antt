@@ -112,6 +112,31 @@ second_part : r.question_of (codes "VALUE IN COUNT (q1.2.3 = 1) OF AS OF 1 SELEC
 unfolding is_utf8 chars lib.Utf8.encode lex.lexed lex.lexed_from lex.lexeme_at lex.word_at lex.reserved_word symbol_text lex.number_at lex.sign_at p.expect q.open_question q.ask q.how q.value q.semiring_name q.rules q.rules_from q.rules_within q.rule
 second_part = refl
 
+-- what is left out is one pattern or more with commas between them
+left_out : r.question_of (codes "without i1.1.2, q OF as of 2 select * from r") ≡ Ok (y.ask
+    (y.without ((record { kind = token.I; t = Some 1; k = Some 1; n = Some 2; value = 0 }) ∷ (record { kind = token.Q; t = None; k = None; n = None; value = 0 }) ∷ []))
+    (y.as_of 2) ((record { items = y.star; from = (record { table = codes "r"; name = codes "r" }) ∷ []; cond = None }) ∷ []))
+unfolding is_utf8 chars lib.Utf8.encode lex.lexed lex.lexed_from lex.lexeme_at lex.word_at lex.reserved_word symbol_text lex.number_at lex.sign_at p.expect q.open_question q.ask q.how q.without q.left_out q.state c.query c.block c.items c.item c.condition c.separated c.many c.repeat
+left_out = refl
+
+second_part_left_out : r.question_of (codes "WITHOUT q1.7,u1.1.1,i1 OF AS OF 1 SELECT * FROM r") ≡ Err (r.syntax 18)
+unfolding is_utf8 chars lib.Utf8.encode lex.lexed lex.lexed_from lex.lexeme_at lex.word_at lex.reserved_word symbol_text lex.number_at lex.sign_at p.expect q.open_question q.ask q.how q.without q.left_out c.separated c.many c.repeat
+second_part_left_out = refl
+
+part_of_a_kind : r.question_of (codes "without q,i,i.1 of as of 6 select * from r") ≡ Err (r.syntax 14)
+unfolding is_utf8 chars lib.Utf8.encode lex.lexed lex.lexed_from lex.lexeme_at lex.word_at lex.reserved_word symbol_text lex.number_at lex.sign_at p.expect q.open_question q.ask q.how q.without q.left_out c.separated c.many c.repeat
+part_of_a_kind = refl
+
+nothing_left_out : r.question_of (codes "WITHOUT OF AS OF 1 SELECT * FROM r") ≡ Err (r.syntax 9)
+unfolding is_utf8 chars lib.Utf8.encode lex.lexed lex.lexed_from lex.lexeme_at lex.word_at lex.reserved_word symbol_text lex.number_at lex.sign_at p.expect q.open_question q.ask q.how q.without q.left_out c.separated c.many c.repeat
+nothing_left_out = refl
+
+-- WITHOUT and WITNESS are names elsewhere
+witness_name : r.question_of (codes "reenact 1 after 2 select * from witness without") ≡ Ok (y.ask y.rows (y.after 1 2)
+    ((record { items = y.star; from = (record { table = codes "witness"; name = codes "without" }) ∷ []; cond = None }) ∷ []))
+unfolding is_utf8 chars lib.Utf8.encode lex.lexed lex.lexed_from lex.lexeme_at lex.word_at lex.reserved_word symbol_text lex.number_at lex.sign_at p.expect q.open_question q.ask q.how q.state c.query c.block c.items c.item c.condition c.separated c.many c.repeat
+witness_name = refl
+
 canonical_update : option_map command_text (result_ok (r.command_of (codes "update R set b = -b * c + 'x' where not a = b and b is null or a <> c")))
     ≡ Some (codes "UPDATE r SET b = (((-b) * c) + 'x') WHERE (((NOT (a = b)) AND (b IS NULL)) OR (a <> c))")
 unfolding is_utf8 chars lib.Utf8.encode lex.lexed lex.lexed_from lex.lexeme_at lex.word_at lex.reserved_word symbol_text lex.number_at lex.sign_at p.expect c.update c.set_term c.separated c.many c.repeat c.condition p.term p.term_within p.joined p.chain p.chain_within p.negation p.full_test p.factor p.column p.brackets p.value_test cap.binary cap.neg cap.not cap.is_null written

@@ -14,14 +14,14 @@ use Rattle.gp_grammar.specs.Capping.{capped_block, capped_question}
 use Rattle.gp_grammar.specs.CommandGrammar as l
 use Rattle.gp_grammar.specs.CommandGrammar.{IsList, comma, IsQuery, Closed}
 use Rattle.gp_grammar.specs.QuestionGrammar as g
-use Rattle.gp_grammar.specs.QuestionGrammar.{IsState, IsSemiring, IsPattern, IsRule, IsRules, IsHow, IsOpenQuestion, pattern_name}
+use Rattle.gp_grammar.specs.QuestionGrammar.{IsState, IsSemiring, IsPattern, IsRule, IsRules, IsLeftOut, IsHow, IsOpenQuestion, pattern_name}
 use Rattle.gp_grammar.specs.Parsing.{Outcome, Parser, ◌>>=◌, by_option, strip, expect, identifier}
-use Rattle.gp_grammar.specs.CommandParsing.{◌then◌, where_next, accept, strip_word, where_word, expect_word, push, query}
+use Rattle.gp_grammar.specs.CommandParsing.{◌then◌, where_next, accept, strip_word, where_word, expect_word, push, separated, query}
 use Rattle.gp_grammar.specs.QuestionParsing as q
 use Rattle.gp_grammar.specs.QuestionParsing.{number_if, number, pattern_of}
 use Rattle.gp_grammar.proofs.Agreement.{Agree, agree-refl, agree-bind, agree-weaken, strip-less}
 use Rattle.gp_grammar.proofs.Shrinking.{Below, Shrinks, Keeps, shrinks-keeps, keeps-accept, shrinks-bind, keeps-bind, keeps-next, shrinks-then}
-use Rattle.gp_grammar.proofs.CommandCompleteness.{EndsQuery, query-complete, closed-complete}
+use Rattle.gp_grammar.proofs.CommandCompleteness.{EndsQuery, separated-exact, query-complete, closed-complete}
 
 -- ---- the parser of rules shrinks, and its bound does not matter
 
@@ -76,6 +76,10 @@ pub shrinks-rule : Shrinks q.rule
 unfolding q.rule
 shrinks-rule = shrinks-bind q.pattern _ shrinks-pattern (λ p. shrinks-keeps _ (shrinks-then s.Eq _
     (keeps-bind number _ (shrinks-keeps _ (shrinks-number_if (λ n. true))) (λ n. keeps-accept (rule_of p n)))))
+
+pub shrinks-left_out : Shrinks q.left_out
+unfolding q.left_out
+shrinks-left_out = shrinks-bind q.pattern _ shrinks-pattern (λ p. keeps-accept (rule_of p 0))
 
 abbrev end_of_rules : List Rule → Parser Rules
 end_of_rules found = s.Close then accept (record { rules = found; other = None })
@@ -138,6 +142,7 @@ semiring-complete _ _ g.bool rest = refl
 semiring-complete _ _ g.cost rest = refl
 semiring-complete _ _ g.level rest = refl
 semiring-complete _ _ g.poly rest = refl
+semiring-complete _ _ g.witness rest = refl
 
 state-complete : (a : Lexemes) (x : State) → IsState a x → (rest : Lexemes) → q.state (a ++ rest) ≡ Ok (x, rest)
 unfolding q.state
@@ -219,18 +224,32 @@ rules-complete _ _ (g.rules_and_else a xs k i) rest n =
     ∙ rules-of (a ++ (Sign s.Comma ∷ Sign s.Else ∷ Number k ∷ Sign s.Close ∷ rest)) rest (record { rules = xs; other = Some k })
     (no-else-list i (Sign s.Comma ∷ Sign s.Else ∷ Number k ∷ Sign s.Close ∷ rest)) (rules_from-complete i (Sign s.Comma ∷ Sign s.Else ∷ Number k ∷ Sign s.Close ∷ rest))
 
+-- a pattern goes on with a dot
+NoDot : Lexemes → Type 0
+NoDot rest = strip s.Dot rest ≡ None
+
+left_out-complete : (a : Lexemes) (x : Rule) → IsLeftOut a x → (rest : Lexemes) → NoDot rest → q.left_out (a ++ rest) ≡ Ok (x, rest)
+unfolding q.left_out NoDot
+left_out-complete _ _ (g.left_out a p i) rest n = ap (λ o. o >>= (λ p. Ok (rule_of p.0 0, p.1))) (pattern-complete a p i rest n)
+
+without-complete : (a : Lexemes) (xs : List Rule) → IsList comma IsLeftOut a xs → (rest : Lexemes) → q.without (a ++ (Word (codes "of") ∷ rest)) ≡ Ok (syntax.without xs, rest)
+unfolding q.without NoDot
+without-complete a xs i rest = ap (λ o. o >>= (λ rules. expect_word (codes "of") (accept (syntax.without rules.0)) rules.1))
+    (separated-exact IsLeftOut q.left_out shrinks-left_out NoDot (λ ts. refl) left_out-complete a xs i (Word (codes "of") ∷ rest) refl refl)
+
 -- what begins a state
 record BeginsState (ts : Lexemes) : Type 0 where
   no_explain : strip_word (codes "explain") ts ≡ None
   no_provenance : strip_word (codes "provenance") ts ≡ None
   no_value : strip_word (codes "value") ts ≡ None
+  no_without : strip_word (codes "without") ts ≡ None
   no_log : strip_word (codes "log") ts ≡ None
   no_versions : strip_word (codes "versions") ts ≡ None
 
 begins-state : (b : Lexemes) (x : State) → IsState b x → (rest : Lexemes) → BeginsState (b ++ rest)
-begins-state _ _ (g.as_of v) rest = record { no_explain = refl; no_provenance = refl; no_value = refl; no_log = refl; no_versions = refl }
-begins-state _ _ (g.after t k) rest = record { no_explain = refl; no_provenance = refl; no_value = refl; no_log = refl; no_versions = refl }
-begins-state _ _ (g.commit t) rest = record { no_explain = refl; no_provenance = refl; no_value = refl; no_log = refl; no_versions = refl }
+begins-state _ _ (g.as_of v) rest = record { no_explain = refl; no_provenance = refl; no_value = refl; no_without = refl; no_log = refl; no_versions = refl }
+begins-state _ _ (g.after t k) rest = record { no_explain = refl; no_provenance = refl; no_value = refl; no_without = refl; no_log = refl; no_versions = refl }
+begins-state _ _ (g.commit t) rest = record { no_explain = refl; no_provenance = refl; no_value = refl; no_without = refl; no_log = refl; no_versions = refl }
 
 value-of : (ts us rest : Lexemes) (k : SemiringName) (r : Rules) → q.semiring_name ts ≡ Ok (k, us) → q.rules us ≡ Ok (r, Word (codes "of") ∷ rest)
     → q.value (Word (codes "in") ∷ ts) ≡ Ok (syntax.value k r.rules r.other, rest)
@@ -245,10 +264,11 @@ value-split a b rest = simp append_assoc
 how-complete : (a : Lexemes) (x : How) → IsHow a x → (rest : Lexemes) → BeginsState rest → q.how (a ++ rest) ≡ Ok (x, rest)
 unfolding q.how
 how-complete _ _ g.rows rest h =
-    ap (λ o. by_option o (where_word (codes "provenance") (expect_word (codes "of") (accept syntax.provenance)) (where_word (codes "value") q.value (accept syntax.rows)) rest)
+    ap (λ o. by_option o (where_word (codes "provenance") (expect_word (codes "of") (accept syntax.provenance)) (where_word (codes "value") q.value (where_word (codes "without") q.without (accept syntax.rows))) rest)
     (where_word (codes "provenance") (expect_word (codes "of") (accept (syntax.explain true))) (accept (syntax.explain false)))) h.no_explain
-    ∙ ap (λ o. by_option o (where_word (codes "value") q.value (accept syntax.rows) rest) (expect_word (codes "of") (accept syntax.provenance))) h.no_provenance
-    ∙ ap (λ o. by_option o (Ok (syntax.rows, rest)) q.value) h.no_value
+    ∙ ap (λ o. by_option o (where_word (codes "value") q.value (where_word (codes "without") q.without (accept syntax.rows)) rest) (expect_word (codes "of") (accept syntax.provenance))) h.no_provenance
+    ∙ ap (λ o. by_option o (where_word (codes "without") q.without (accept syntax.rows) rest) q.value) h.no_value
+    ∙ ap (λ o. by_option o (Ok (syntax.rows, rest)) q.without) h.no_without
 how-complete _ _ g.provenance rest h = refl
 how-complete _ _ g.explain rest h = ap (λ o. by_option o (Ok (syntax.explain false, rest)) (expect_word (codes "of") (accept (syntax.explain true)))) h.no_provenance
 how-complete _ _ g.explain_provenance rest h = refl
@@ -256,6 +276,7 @@ how-complete _ _ (g.value a b k r i j) rest h =
     ap (λ z. q.value (Word (codes "in") ∷ z)) (value-split a b rest)
     ∙ value-of (a ++ (b ++ (Word (codes "of") ∷ rest))) (b ++ (Word (codes "of") ∷ rest)) rest k r (semiring-complete a k i (b ++ (Word (codes "of") ∷ rest)))
     (rules-complete b r j (Word (codes "of") ∷ rest) refl)
+how-complete _ _ (g.without a xs i) rest h = ap q.without (append_assoc a (Word (codes "of") ∷ []) rest) ∙ without-complete a xs i rest
 
 -- a question that asks is none of the others
 record BeginsAsk (ts : Lexemes) : Type 0 where
@@ -268,6 +289,7 @@ begins-ask _ _ g.provenance rest h = record { no_log = refl; no_versions = refl 
 begins-ask _ _ g.explain rest h = record { no_log = refl; no_versions = refl }
 begins-ask _ _ g.explain_provenance rest h = record { no_log = refl; no_versions = refl }
 begins-ask _ _ (g.value a b k r i j) rest h = record { no_log = refl; no_versions = refl }
+begins-ask _ _ (g.without a xs i) rest h = record { no_log = refl; no_versions = refl }
 
 ask-of : (ts us ws rest : Lexemes) (how : How) (state : State) (xs : Query) → q.how ts ≡ Ok (how, us) → q.state us ≡ Ok (state, ws) → query ws ≡ Ok (xs, rest)
     → q.ask ts ≡ Ok (syntax.ask how state xs, rest)

@@ -12,12 +12,12 @@ use Rattle.gp_grammar.specs.Syntax as syntax
 use Rattle.gp_grammar.specs.Syntax.{Lexemes, Bytes, Pattern, Rule, rule_of, Rules, How, Question}
 use Rattle.gp_grammar.specs.QuestionGrammar.{pattern_name}
 use Rattle.gp_grammar.specs.Parsing.{Outcome, Parser, ◌>>=◌, by_option, identifier}
-use Rattle.gp_grammar.specs.CommandParsing.{◌then◌, where_next, fail, accept, where_word, expect_word, push, query}
+use Rattle.gp_grammar.specs.CommandParsing.{◌then◌, where_next, fail, accept, where_word, expect_word, push, separated, query}
 use Rattle.gp_grammar.specs.QuestionParsing as q
 use Rattle.gp_grammar.specs.QuestionParsing.{number_if, number, pattern_of}
-use Rattle.gp_grammar.proofs.QuestionCompleteness.{after_rule, rules_from-unfolds}
+use Rattle.gp_grammar.proofs.QuestionCompleteness.{after_rule, rules_from-unfolds, shrinks-left_out}
 use Rattle.gp_grammar.proofs.Locality.{Local, local-ok, local-bind, local-err, local-expect, local-identifier, local-same}
-use Rattle.gp_grammar.proofs.LocalCombinators.{first_choice, local-zero, local-next, local-next-all, local-word-all, local-number, local-first-all, local-closed}
+use Rattle.gp_grammar.proofs.LocalCombinators.{first_choice, local-zero, local-next, local-next-all, local-word-all, local-number, local-first-all, local-separated, local-closed}
 use Rattle.gp_grammar.proofs.CommandLocality.{local-query}
 
 some-is : {A : Type 0} (a b : A) → Some a ≡ Some b → a ≡ b
@@ -78,7 +78,8 @@ module _ (t : Lexeme) (m m' : Lexemes) where
   unfolding q.semiring_name
   is_local-semiring = local-word-all t m m' (codes "count") _ _ (is_local-ok semiring.Count) (local-word-all t m m' (codes "bool") _ _ (is_local-ok semiring.Bool)
       (local-word-all t m m' (codes "cost") _ _ (is_local-ok semiring.Cost) (local-word-all t m m' (codes "level") _ _ (is_local-ok semiring.Level)
-      (local-word-all t m m' (codes "poly") (accept semiring.Poly) fail (is_local-ok semiring.Poly) is_local-fail))))
+      (local-word-all t m m' (codes "poly") _ _ (is_local-ok semiring.Poly)
+      (local-word-all t m m' (codes "witness") (accept semiring.Witness) fail (is_local-ok semiring.Witness) is_local-fail)))))
 
   is_local-row : (kind : TokenKind) (x k : ℕ) → IsLocal (q.pattern_row kind x k)
   is_local-row token.I x k = local-next-all t m m' s.Dot (λ ts. q.pattern_number ts >>= (λ n. Ok (pattern_of token.I (Some x) (Some k) (Some n.0), n.1)))
@@ -137,12 +138,22 @@ module _ (t : Lexeme) (m m' : Lexemes) where
   is_local-value = is_local-expect (codes "in") _ (is_local-bind q.semiring_name _ is_local-semiring (λ k. is_local-bind q.rules _ is_local-rules
       (λ r. is_local-expect (codes "of") (accept (syntax.value k r.rules r.other)) (is_local-ok (syntax.value k r.rules r.other)))))
 
+  is_local-left_out : IsLocal q.left_out
+  unfolding q.left_out
+  is_local-left_out = is_local-bind q.pattern _ is_local-pattern (λ p. is_local-ok (rule_of p 0))
+
+  is_local-without : IsLocal q.without
+  unfolding q.without
+  is_local-without = is_local-bind (separated q.left_out) _ (λ n. local-separated t m m' q.left_out shrinks-left_out n (is_local-left_out n))
+      (λ xs. is_local-expect (codes "of") (accept (syntax.without xs)) (is_local-ok (syntax.without xs)))
+
   is_local-how : IsLocal q.how
   unfolding q.how
   is_local-how = local-word-all t m m' (codes "explain") _ _
       (local-word-all t m m' (codes "provenance") _ _ (is_local-expect (codes "of") (accept (syntax.explain true)) (is_local-ok (syntax.explain true))) (is_local-ok (syntax.explain false)))
       (local-word-all t m m' (codes "provenance") _ _ (is_local-expect (codes "of") (accept syntax.provenance) (is_local-ok syntax.provenance))
-      (local-word-all t m m' (codes "value") q.value (accept syntax.rows) is_local-value (is_local-ok syntax.rows)))
+      (local-word-all t m m' (codes "value") q.value (where_word (codes "without") q.without (accept syntax.rows)) is_local-value
+      (local-word-all t m m' (codes "without") q.without (accept syntax.rows) is_local-without (is_local-ok syntax.rows))))
 
   is_local-ask : IsLocal q.ask
   unfolding q.ask

@@ -15,15 +15,15 @@ use Rattle.gp_grammar.specs.Capping.{capped_question}
 use Rattle.gp_grammar.specs.CommandGrammar as l
 use Rattle.gp_grammar.specs.CommandGrammar.{IsList, comma, Closed}
 use Rattle.gp_grammar.specs.QuestionGrammar as g
-use Rattle.gp_grammar.specs.QuestionGrammar.{IsState, IsSemiring, IsPattern, IsRule, IsRules, IsHow, IsOpenQuestion, pattern_name}
+use Rattle.gp_grammar.specs.QuestionGrammar.{IsState, IsSemiring, IsPattern, IsRule, IsRules, IsLeftOut, IsHow, IsOpenQuestion, pattern_name}
 use Rattle.gp_grammar.specs.Parsing.{Outcome, ◌>>=◌, by_option, identifier}
-use Rattle.gp_grammar.specs.CommandParsing.{◌then◌, where_next, fail, accept, where_word, expect_word, push, query}
+use Rattle.gp_grammar.specs.CommandParsing.{◌then◌, where_next, fail, accept, where_word, expect_word, push, separated, query}
 use Rattle.gp_grammar.specs.QuestionParsing as q
 use Rattle.gp_grammar.specs.QuestionParsing.{number_if, number, pattern_of}
 use Rattle.gp_grammar.specs.Laws.{Built}
 use Rattle.gp_grammar.proofs.CommandBuilding.{BuildsQuery}
 use Rattle.gp_grammar.proofs.Soundness.{Sentence, Sound, sound-ok, sound-err, sound-shift, sound-bind, sound-phrase, expect-sound, identifier-sound}
-use Rattle.gp_grammar.proofs.SoundCombinators.{next-sound, word-sound, expect_word-sound, closed-sound}
+use Rattle.gp_grammar.proofs.SoundCombinators.{next-sound, word-sound, expect_word-sound, separated-sound, closed-sound}
 use Rattle.gp_grammar.proofs.CommandSoundness.{query-sound}
 
 abbrev pub BuildsQuestion : Lexemes → Question → Type 0
@@ -86,14 +86,13 @@ a_semiring = record { lexemes = Word (codes "count") ∷ []; tree = semiring.Cou
 semiring-sound : (ts : Lexemes) → Sound IsSemiring ts (q.semiring_name ts)
 unfolding q.semiring_name
 semiring-sound ts =
-    word-sound (codes "count") IsSemiring (accept semiring.Count) (where_word (codes "bool") (accept semiring.Bool) (where_word (codes "cost") (accept semiring.Cost)
-    (where_word (codes "level") (accept semiring.Level) (where_word (codes "poly") (accept semiring.Poly) fail)))) ts (λ ts1. sound-ok _ ts1 semiring.Count g.count)
-    (word-sound (codes "bool") IsSemiring (accept semiring.Bool) (where_word (codes "cost") (accept semiring.Cost)
-    (where_word (codes "level") (accept semiring.Level) (where_word (codes "poly") (accept semiring.Poly) fail))) ts (λ ts1. sound-ok _ ts1 semiring.Bool g.bool)
-    (word-sound (codes "cost") IsSemiring (accept semiring.Cost) (where_word (codes "level") (accept semiring.Level) (where_word (codes "poly") (accept semiring.Poly) fail)) ts
-    (λ ts1. sound-ok _ ts1 semiring.Cost g.cost)
-    (word-sound (codes "level") IsSemiring (accept semiring.Level) (where_word (codes "poly") (accept semiring.Poly) fail) ts (λ ts1. sound-ok _ ts1 semiring.Level g.level)
-    (word-sound (codes "poly") IsSemiring (accept semiring.Poly) fail ts (λ ts1. sound-ok _ ts1 semiring.Poly g.poly) (sound-err IsSemiring ts a_semiring)))))
+    word-sound (codes "count") IsSemiring (accept semiring.Count) (where_word (codes "bool") (accept semiring.Bool) (where_word (codes "cost") (accept semiring.Cost) (where_word (codes "level") (accept semiring.Level) (where_word (codes "poly") (accept semiring.Poly) (where_word (codes "witness") (accept semiring.Witness) fail))))) ts (λ ts1. sound-ok _ ts1 semiring.Count g.count)
+    (word-sound (codes "bool") IsSemiring (accept semiring.Bool) (where_word (codes "cost") (accept semiring.Cost) (where_word (codes "level") (accept semiring.Level) (where_word (codes "poly") (accept semiring.Poly) (where_word (codes "witness") (accept semiring.Witness) fail)))) ts (λ ts1. sound-ok _ ts1 semiring.Bool g.bool)
+    (word-sound (codes "cost") IsSemiring (accept semiring.Cost) (where_word (codes "level") (accept semiring.Level) (where_word (codes "poly") (accept semiring.Poly) (where_word (codes "witness") (accept semiring.Witness) fail))) ts (λ ts1. sound-ok _ ts1 semiring.Cost g.cost)
+    (word-sound (codes "level") IsSemiring (accept semiring.Level) (where_word (codes "poly") (accept semiring.Poly) (where_word (codes "witness") (accept semiring.Witness) fail)) ts (λ ts1. sound-ok _ ts1 semiring.Level g.level)
+    (word-sound (codes "poly") IsSemiring (accept semiring.Poly) (where_word (codes "witness") (accept semiring.Witness) fail) ts (λ ts1. sound-ok _ ts1 semiring.Poly g.poly)
+    (word-sound (codes "witness") IsSemiring (accept semiring.Witness) fail ts (λ ts1. sound-ok _ ts1 semiring.Witness g.witness)
+    (sound-err IsSemiring ts a_semiring))))))
 
 -- ---- patterns and rules
 
@@ -204,6 +203,20 @@ rules-sound ts = next-sound s.Open IsRules (where_next s.Else (q.else_number [])
     (rules_from-sound ts1))
     (sound-ok IsRules ts (record { rules = []; other = None }) g.no_rules)
 
+-- ---- tokens that are left out
+
+left_out-sound : (ts : Lexemes) → Sound IsLeftOut ts (q.left_out ts)
+unfolding q.left_out
+left_out-sound ts = sound-bind IsPattern IsLeftOut ts (q.pattern ts) _ (pattern-sound ts)
+    (λ a ts1 p i. sound-ok (λ b y. IsLeftOut (a ++ b) y) ts1 (rule_of p 0) (rw append-nil (g.left_out a p i)))
+
+without-sound : (ts : Lexemes) → Sound (λ b y. IsHow (Word (codes "without") ∷ b) y) ts (q.without ts)
+unfolding q.without
+without-sound ts = sound-bind (IsList comma IsLeftOut) (λ b y. IsHow (Word (codes "without") ∷ b) y) ts (separated q.left_out ts) _
+    (separated-sound IsLeftOut q.left_out left_out-sound ts) (λ a ts1 xs i.
+    expect_word-sound (codes "of") (λ b y. IsHow (Word (codes "without") ∷ (a ++ b)) y) (accept (syntax.without xs)) ts1
+    (λ ts2. sound-ok _ ts2 (syntax.without xs) (g.without a xs i)))
+
 -- ---- questions
 
 value-sound : (ts : Lexemes) → Sound (λ b y. IsHow (Word (codes "value") ∷ b) y) ts (q.value ts)
@@ -218,14 +231,17 @@ how-sound : (ts : Lexemes) → Sound IsHow ts (q.how ts)
 unfolding q.how
 how-sound ts =
     word-sound (codes "explain") IsHow (where_word (codes "provenance") (expect_word (codes "of") (accept (syntax.explain true))) (accept (syntax.explain false)))
-    (where_word (codes "provenance") (expect_word (codes "of") (accept syntax.provenance)) (where_word (codes "value") q.value (accept syntax.rows))) ts
+    (where_word (codes "provenance") (expect_word (codes "of") (accept syntax.provenance))
+    (where_word (codes "value") q.value (where_word (codes "without") q.without (accept syntax.rows)))) ts
     (λ ts1. word-sound (codes "provenance") (λ b y. IsHow (Word (codes "explain") ∷ b) y) (expect_word (codes "of") (accept (syntax.explain true))) (accept (syntax.explain false)) ts1
     (λ ts2. expect_word-sound (codes "of") (λ b y. IsHow (Word (codes "explain") ∷ Word (codes "provenance") ∷ b) y) (accept (syntax.explain true)) ts2
     (λ ts3. sound-ok _ ts3 (syntax.explain true) g.explain_provenance))
     (sound-ok _ ts1 (syntax.explain false) g.explain))
-    (word-sound (codes "provenance") IsHow (expect_word (codes "of") (accept syntax.provenance)) (where_word (codes "value") q.value (accept syntax.rows)) ts
+    (word-sound (codes "provenance") IsHow (expect_word (codes "of") (accept syntax.provenance))
+    (where_word (codes "value") q.value (where_word (codes "without") q.without (accept syntax.rows))) ts
     (λ ts1. expect_word-sound (codes "of") (λ b y. IsHow (Word (codes "provenance") ∷ b) y) (accept syntax.provenance) ts1 (λ ts2. sound-ok _ ts2 syntax.provenance g.provenance))
-    (word-sound (codes "value") IsHow q.value (accept syntax.rows) ts value-sound (sound-ok IsHow ts syntax.rows g.rows)))
+    (word-sound (codes "value") IsHow q.value (where_word (codes "without") q.without (accept syntax.rows)) ts value-sound
+    (word-sound (codes "without") IsHow q.without (accept syntax.rows) ts without-sound (sound-ok IsHow ts syntax.rows g.rows))))
 
 asks : (a b c : Lexemes) (how : How) (state : State) (xs : Query) → IsHow a how → IsState b state → BuildsQuery c xs → BuildsQuestion (a ++ (b ++ c)) (syntax.ask how state xs)
 asks a b c how state xs i j k = record {

@@ -24,6 +24,7 @@ pub data IsSemiring : Lexemes → SemiringName → Type 0 where
   cost : IsSemiring (Word (codes "cost") ∷ []) semiring.Cost
   level : IsSemiring (Word (codes "level") ∷ []) semiring.Level
   poly : IsSemiring (Word (codes "poly") ∷ []) semiring.Poly
+  witness : IsSemiring (Word (codes "witness") ∷ []) semiring.Witness
 
 -- i, q or u
 abbrev pub token_kind_of : ℕ → Option TokenKind
@@ -62,6 +63,10 @@ pub data IsRules : Lexemes → Rules → Type 0 where
   rules_and_else : (a : Lexemes) (xs : List Rule) (n : ℕ) → IsList comma IsRule a xs
       → IsRules (Sign s.Open ∷ (a ++ (Sign s.Comma ∷ Sign s.Else ∷ Number n ∷ Sign s.Close ∷ []))) (record { rules = xs; other = Some n })
 
+-- tokens that are left out have the value 0
+pub data IsLeftOut : Lexemes → Rule → Type 0 where
+  left_out : (a : Lexemes) (pattern : Pattern) → IsPattern a pattern → IsLeftOut a (rule_of pattern 0)
+
 pub data IsHow : Lexemes → How → Type 0 where
   rows : IsHow [] y.rows
   provenance : IsHow (Word (codes "provenance") ∷ Word (codes "of") ∷ []) y.provenance
@@ -69,6 +74,8 @@ pub data IsHow : Lexemes → How → Type 0 where
   explain_provenance : IsHow (Word (codes "explain") ∷ Word (codes "provenance") ∷ Word (codes "of") ∷ []) (y.explain true)
   value : (a b : Lexemes) (semiring : SemiringName) (rules : Rules) → IsSemiring a semiring → IsRules b rules
       → IsHow (Word (codes "value") ∷ Word (codes "in") ∷ (a ++ (b ++ (Word (codes "of") ∷ [])))) (y.value semiring rules.rules rules.other)
+  without : (a : Lexemes) (rules : List Rule) → IsList comma IsLeftOut a rules
+      → IsHow (Word (codes "without") ∷ (a ++ (Word (codes "of") ∷ []))) (y.without rules)
 
 pub data IsOpenQuestion : Lexemes → Question → Type 0 where
   log : (t : ℕ) → IsOpenQuestion (Word (codes "log") ∷ Number t ∷ []) (y.log t)

@@ -11,7 +11,7 @@ use Rattle.gp_grammar.specs.Syntax as y
 use Rattle.gp_grammar.specs.Syntax.{Lexemes, Bytes, State, Pattern, Rule, rule_of, Rules, How, Question}
 use Rattle.gp_grammar.specs.QuestionGrammar.{pattern_name}
 use Rattle.gp_grammar.specs.Parsing.{Parser, ◌>>=◌, by_option, expect, identifier}
-use Rattle.gp_grammar.specs.CommandParsing.{◌then◌, where_next, fail, accept, where_word, expect_word, push, query, closed}
+use Rattle.gp_grammar.specs.CommandParsing.{◌then◌, where_next, fail, accept, where_word, expect_word, push, separated, query, closed}
 
 -- ---- numbers
 
@@ -37,7 +37,7 @@ state = where_next s.As (expect_word (codes "of") (λ ts. number ts >>= (λ v. O
 unfoldable pub semiring_name : Parser SemiringName
 semiring_name = where_word (codes "count") (accept semiring.Count) (where_word (codes "bool") (accept semiring.Bool)
     (where_word (codes "cost") (accept semiring.Cost) (where_word (codes "level") (accept semiring.Level)
-    (where_word (codes "poly") (accept semiring.Poly) fail))))
+    (where_word (codes "poly") (accept semiring.Poly) (where_word (codes "witness") (accept semiring.Witness) fail)))))
 
 abbrev pub pattern_number : Parser ℕ
 pattern_number = number_if (λ n. nat_le n MAX_PATTERN_NUMBER)
@@ -96,9 +96,16 @@ value = expect_word (codes "in") (λ ts. do
   rules ← rules semiring.1
   expect_word (codes "of") (accept (y.value semiring.0 rules.0.rules rules.0.other)) rules.1)
 
+unfoldable pub left_out : Parser Rule
+left_out ts = pattern ts >>= (λ p. Ok (rule_of p.0 0, p.1))
+
+unfoldable pub without : Parser How
+without ts = separated left_out ts >>= (λ rules. expect_word (codes "of") (accept (y.without rules.0)) rules.1)
+
 unfoldable pub how : Parser How
 how = where_word (codes "explain") (where_word (codes "provenance") (expect_word (codes "of") (accept (y.explain true))) (accept (y.explain false)))
-    (where_word (codes "provenance") (expect_word (codes "of") (accept y.provenance)) (where_word (codes "value") value (accept y.rows)))
+    (where_word (codes "provenance") (expect_word (codes "of") (accept y.provenance))
+    (where_word (codes "value") value (where_word (codes "without") without (accept y.rows))))
 
 unfoldable pub ask : Parser Question
 ask ts = do

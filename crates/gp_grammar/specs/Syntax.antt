@@ -94,12 +94,13 @@ pub record Rules : Type 0 where
   pub rules : List Rule
   pub other : Option ℕ
 
--- what a question asks for: rows, their provenance, the query that computes them (with provenance where the flag is true),
--- or their values in a semiring
+-- what a question asks for: rows, their provenance, the query that computes them (with provenance where the flag is true), their values
+-- in a semiring, or the rows that are left without the tokens of some patterns, each with a rule that gives them the value 0
 pub data How : Type 0 where
   rows provenance : How
   explain : Bool → How
   value : SemiringName → List Rule → Option ℕ → How
+  without : List Rule → How
 
 pub data Question : Type 0 where
   log : ℕ → Question

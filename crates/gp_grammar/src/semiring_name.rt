@@ -13,4 +13,6 @@ pub enum SemiringName {
     Level,
     /// `POLY`
     Poly,
+    /// `WITNESS`
+    Witness,
 }

@@ -78,6 +78,7 @@ how_view h.Rows = y.rows
 how_view h.Provenance = y.provenance
 how_view (h.Explain prov) = y.explain prov
 how_view (h.Value semiring rules other) = y.value semiring (map rule_view rules) other
+how_view (h.Without rules) = y.without (map rule_view rules)
 
 abbrev pub question_view : Question → y.Question
 question_view (q.Log t) = y.log t

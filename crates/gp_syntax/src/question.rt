@@ -63,6 +63,11 @@ pub enum How {
         /// The value of the tokens that no rule matches, if ELSE gives one.
         other: Option<u64>,
     },
+    /// `WITHOUT`: the rows that are left where some tokens are missing.
+    Without {
+        /// A rule of value 0 for each pattern of tokens that are left out. There is at least one.
+        rules: Sequence<Rule>,
+    },
 }
 
 /// A question.

@@ -2,11 +2,12 @@
 
 ghost use Rattle.std.specs.Prelude.{◌≡◌, [], IfOk, List, map};
 ghost use Rattle.std.specs.Option.{option_map};
-ghost use Rattle.gp_grammar.specs.CommandParsing.{query};
+ghost use Rattle.gp_grammar.specs.CommandParsing.{query, separated};
 ghost use Rattle.gp_grammar.specs.Parsing.{whole};
 ghost use Rattle.gp_grammar.specs.QuestionParsing as spec;
 ghost use Rattle.gp_grammar.specs.Syntax as y;
 ghost use Rattle.gp_grammar.specs.Syntax.{rule_of};
+ghost use Rattle.gp_grammar.proofs.QuestionCompleteness.{shrinks-left_out};
 ghost use Rattle.gp_syntax.specs.Parses.{Parses, ParsesAll, Extends, pushed};
 ghost use Rattle.gp_syntax.specs.QuestionParts.{pattern_view, rules_view, rules_of, ends_rules, explained, reenacted, versions};
 ghost use Rattle.gp_syntax.specs.Views.{how_view, query_view, question_view, rule_view, state_view};
@@ -15,6 +16,7 @@ use crate::command::Query;
 use crate::command_parser::query;
 use crate::error::ParseStop;
 use crate::lexeme_parser::{expect, expect_word, identifier, strip, strip_word};
+use crate::list_parser::{ParsedList, separated};
 use crate::names::pattern_name;
 use crate::parsed::{Parsed, ended};
 use crate::question::{How, Question, Rule, State};
@@ -105,8 +107,11 @@ fn semiring_name(lexemes: &[Lexeme]) -> Result<(SemiringName, &[Lexeme]), ParseS
     if let Some(rest) = strip_word(lexemes, b"level") {
         return Ok((SemiringName::Level, rest));
     }
-    match strip_word(lexemes, b"poly") {
-        Some(rest) => Ok((SemiringName::Poly, rest)),
+    if let Some(rest) = strip_word(lexemes, b"poly") {
+        return Ok((SemiringName::Poly, rest));
+    }
+    match strip_word(lexemes, b"witness") {
+        Some(rest) => Ok((SemiringName::Witness, rest)),
         None => Err(ParseStop::At(lexemes)),
     }
 }
@@ -320,6 +325,57 @@ fn value(alloc: Global, lexemes: &[Lexeme]) -> Result<(How, &[Lexeme]), ParseSto
     ))
 }
 
+/// A pattern of tokens that are left out.
+#[tactic(auto, unfolding(gp_grammar::specs::QuestionParsing::left_out))]
+fn left_out(lexemes: &[Lexeme]) -> Result<(Rule, &[Lexeme]), ParseStop<'_>>
+    ensures { Parses rule_view result (spec.left_out lexemes.now) }
+{
+    let (pattern, rest) = rule_pattern(lexemes)?;
+    Ok((rule_of(pattern, 0), rest))
+}
+
+/// A list of rules is one of patterns of tokens that are left out. The rules of a VALUE end with ELSE, which
+/// [`push_rules`] parses.
+impl ParsedList for Sequence<Rule> {
+    ghost Tree = { y.Rule };
+
+    ghost items = { λ list. map rule_view list };
+
+    ghost item = { spec.left_out };
+
+    fn parse_next<'a>(
+        &mut self,
+        _alloc: Global,
+        lexemes: &'a [Lexeme],
+    ) -> Result<&'a [Lexeme], ParseStop<'a>> {
+        let (next, rest) = left_out(lexemes)?;
+        self.push(next)?;
+        Ok(rest)
+    }
+
+    ghost shrinks = { shrinks-left_out };
+}
+
+/// Patterns of tokens that are left out, with commas between them.
+fn left_out_rules(
+    alloc: Global,
+    lexemes: &[Lexeme],
+) -> Result<(Sequence<Rule>, &[Lexeme]), ParseStop<'_>>
+    ensures { Parses (map rule_view) result (separated spec.left_out lexemes.now) }
+{
+    separated(alloc, Sequence::new(alloc), lexemes)
+}
+
+/// What is left without some tokens, behind WITHOUT.
+#[tactic(auto, unfolding(gp_grammar::specs::QuestionParsing::without))]
+fn without(alloc: Global, lexemes: &[Lexeme]) -> Result<(How, &[Lexeme]), ParseStop<'_>>
+    ensures { Parses how_view result (spec.without lexemes.now) }
+{
+    let (rules, rest) = left_out_rules(alloc, lexemes)?;
+    let rest = expect_word(rest, b"of")?;
+    Ok((How::Without { rules }, rest))
+}
+
 /// What an EXPLAIN asks for, behind its first word.
 fn explained(lexemes: &[Lexeme]) -> Result<(How, &[Lexeme]), ParseStop<'_>>
     ensures { Parses how_view result (explained lexemes.now) }
@@ -345,8 +401,11 @@ fn how(alloc: Global, lexemes: &[Lexeme]) -> Result<(How, &[Lexeme]), ParseStop<
         let rest = expect_word(rest, b"of")?;
         return Ok((How::Provenance, rest));
     }
-    match strip_word(lexemes, b"value") {
-        Some(rest) => value(alloc, rest),
+    if let Some(rest) = strip_word(lexemes, b"value") {
+        return value(alloc, rest);
+    }
+    match strip_word(lexemes, b"without") {
+        Some(rest) => without(alloc, rest),
         None => Ok((How::Rows, lexemes)),
     }
 }

@@ -55,6 +55,7 @@ fn are_asked(how: &How) -> bool
         How::Provenance => false,
         How::Explain { .. } => false,
         How::Value { .. } => false,
+        How::Without { .. } => false,
     }
 }
 

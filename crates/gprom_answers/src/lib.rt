@@ -11,7 +11,7 @@
 //!
 //! Reading order: `call.rt` (calls and transcripts), `scripts.rt` and `large.rt` (the scripts that are asked about), `explaining.rt`
 //! (explained queries), `spelling.rt` (their texts, read again), `backend.rt` and `deciding.rt` (rows over another backend),
-//! `provenance.rt` (monomials), `valuing.rt` (values in semirings).
+//! `provenance.rt` (monomials), `valuing.rt` (values in semirings), `deletion.rt` (what remains without some rows, and witnesses).
 #![tactic(auto)]
 
 mod backend;
@@ -19,6 +19,8 @@ mod backend;
 mod call;
 #[cfg(test)]
 mod deciding;
+#[cfg(test)]
+mod deletion;
 #[cfg(test)]
 mod explaining;
 #[cfg(test)]

@@ -2,7 +2,7 @@
 
 use crate::call::{Asked, answers, plays};
 use crate::large::{exploding_dump, numbers_dump};
-use crate::scripts::{ALTERED, BANK, DIFFERENT_ROWS, PAIRS};
+use crate::scripts::{ALTERED, BANK, DIFFERENT_ROWS, EQUAL_ROWS, PAIRS};
 use std::test::Fail;
 
 const ASKED: &[Asked] = &[
@@ -20,7 +20,7 @@ const ASKED: &[Asked] = &[
     ),
     // Two rows made equal.
     (
-        b"s1: CREATE TABLE r (a INT)\ns1: BEGIN\ns1: INSERT INTO r VALUES (1), (2)\ns1: COMMIT\ns1: BEGIN\ns1: UPDATE r SET a = 5\ns1: COMMIT\n",
+        EQUAL_ROWS,
         b"AS OF 2 SELECT * FROM r\n> 1 rows 2\n>   5\n>   5\nPROVENANCE OF AS OF 2 SELECT * FROM r\n> 2 rows 1\n>   5 : i1.1.1*u2.1 + i1.1.2*u2.1\n",
         0,
     ),

@@ -12,6 +12,10 @@ pub(crate) const TWO_VERSIONS: &[u8] =
 pub(crate) const PAIRS: &[u8] =
     b"s1: CREATE TABLE r (a INT)\ns1: BEGIN\ns1: INSERT INTO r VALUES (1), (2)\ns1: COMMIT\ns1: BEGIN\ns1: INSERT INTO r SELECT x.a + y.a FROM r x, r y\ns1: COMMIT\n";
 
+/// Two rows made equal.
+pub(crate) const EQUAL_ROWS: &[u8] =
+    b"s1: CREATE TABLE r (a INT)\ns1: BEGIN\ns1: INSERT INTO r VALUES (1), (2)\ns1: COMMIT\ns1: BEGIN\ns1: UPDATE r SET a = 5\ns1: COMMIT\n";
+
 /// A bank: transfers, interest, a lost DELETE and rows computed from rows.
 pub(crate) const BANK: &[u8] =
     b"s1: CREATE TABLE acct (id INT, bal INT)\ns1: CREATE TABLE owner (id INT, name TEXT)\ns1: CREATE TABLE audit (id INT, amt INT)\ns1: BEGIN\ns1: INSERT INTO acct VALUES (1, 100), (2, 50), (3, 0)\ns1: INSERT INTO owner VALUES (1, 'Ann'), (2, 'Bo'), (3, 'Cy')\ns1: COMMIT\ns2: BEGIN\ns3: BEGIN\ns2: UPDATE acct SET bal = bal - 30 WHERE id = 1\ns3: UPDATE acct SET bal = bal + 7 WHERE id = 3\ns2: UPDATE acct SET bal = bal + 30 WHERE id = 2\ns2: INSERT INTO audit SELECT id, bal FROM acct WHERE id <= 2\ns2: SELECT * FROM acct\ns2: COMMIT\ns3: SELECT * FROM acct\ns3: COMMIT\ns4: BEGIN\ns5: BEGIN\ns4: UPDATE acct SET bal = bal + 1\ns5: DELETE FROM acct WHERE bal < 10\ns4: COMMIT\ns5: COMMIT\ns5: BEGIN\ns5: INSERT INTO acct SELECT x.id + 10, x.bal + y.amt FROM acct x, audit y WHERE x.id = y.id\ns5: SELECT o.name, x.bal FROM owner o, acct x WHERE o.id = x.id\ns5: COMMIT\ns2: BEGIN\ns2: DELETE FROM owner WHERE name = 'Cy'\ns2: ROLLBACK\n";

@@ -1,4 +1,4 @@
-//! The values of rows in the five semirings.
+//! The values of rows in the semirings of numbers, of truth and of polynomials.
 
 use crate::call::{Asked, answers, are_alike, plays};
 use crate::large::{exploding_dump, numbers_dump};

@@ -1,6 +1,6 @@
 -- No answer has more rows than an answer may have.
 use Rattle.std.proofs.Common.{◌≡◌, ℕ, suc, ◌≤◌, Bool, true, false, cond, nat_lt, List, [], ◌∷◌, ◌++◌, length, map, Option, Some, None, Result, Ok, Err, refl, arith}
-use Rattle.std.specs.Prelude.{IfOk}
+use Rattle.std.specs.Prelude.{IfOk, ◌||◌}
 use Rattle.std.specs.List.{sum_by}
 use Rattle.std.specs.Option.{option_or}
 use Rattle.std.proofs.lemmas.Bool.Decides.{nat_tests}
@@ -15,6 +15,7 @@ use Rattle.gp_base.specs.Annotated.{monomials, plain}
 use Rattle.gp_base.specs.declared.table.Table.{Table}
 use Rattle.gp_base.specs.declared.token.Token.{Token}
 use Rattle.gp_grammar.specs.declared.semiring_name.SemiringName.{SemiringName}
+use Rattle.gp_grammar.specs.declared.semiring_name.SemiringName.TheVariants as named
 use Rattle.gp_grammar.specs.LineReading.{Fault, question_of}
 use Rattle.gp_grammar.specs.Syntax as y
 use Rattle.gp_algebra.specs.Answers.{Element, answer, cells_of}
@@ -36,13 +37,18 @@ use Rattle.gp_dump.proofs.RowPlaces.{sorted_length}
 use Rattle.gp_history.specs.Provenance.{occurrence}
 use Rattle.gp_monomials.specs.Listing as listing
 use Rattle.gp_monomials.specs.declared.listed.Listed.{Listed}
+use Rattle.gp_semiring.specs.Witnesses.{sets_text}
+use Rattle.gp_valuation.specs.declared.rules.Rule.{Rule}
 use Rattle.gp_valuation.specs.Rules.{first_outside}
-use Rattle.gp_values.specs.ValueAnswers.{all_elements, limited, value_answer, values_of}
+use Rattle.gp_values.specs.DistinctRows.{distinct_rows}
+use Rattle.gp_values.specs.ValueAnswers.{all_elements, history_refusal, limited, value_answer, values_of}
 use Rattle.gp_history.specs.Agreement.{agree}
 use Rattle.gp_ask.specs.declared.answered.Answered.{Answered}
-use Rattle.gp_ask.specs.Answers.{answer_to, dump_program, dump_provenance, dump_rows, dump_values, of_elements, query_answer, spans_at, versions_answer, with_monomials}
+use Rattle.gp_ask.specs.Answers.{answer_to, dump_minimal, dump_program, dump_provenance, dump_remaining, dump_rows, dump_valued, dump_values, of_elements, query_answer, spans_at, versions_answer, with_monomials}
 use Rattle.gp_ask.specs.Questions.{answered}
+use Rattle.gp_ask.specs.Remaining.{are_too_many, has_left_out, pattern_of, remaining, remaining_answer}
 use Rattle.gp_ask.specs.Values.{value_of, rules_of, semiring_of, unless_outside, valued, with_values}
+use Rattle.gp_ask.specs.Witnesses.{minimal_of}
 use Rattle.gprom_cli.specs.Summary.{line_rows, row_count, rows_in}
 
 abbrev HasFew : Answered → Type 0
@@ -61,6 +67,10 @@ module _ {A : Type 0} (items : List A) where
   behind : (refusal other : Option Refusal) → AreFew (given other items) → AreFew (given (option_or refusal other) items)
   behind (Some refusal) other few = tt
   behind None other few = few
+
+  either : (all many : Bool) → nat_lt MAX_ANSWER_ROWS (length items) ≡ many → AreFew (given (cond (all || many) (Some E27) None) items)
+  either true many is = tt
+  either false many is = counted many is
 
   abbrev limit : AreFew (given (cond (nat_lt MAX_ANSWER_ROWS (length items)) (Some E27) None) items)
   limit = counted (nat_lt MAX_ANSWER_ROWS (length items)) refl
@@ -147,6 +157,40 @@ few-versions : (name : List ℕ) (tables : List (List Span)) (place : Option ℕ
 few-versions name tables None = omega arith
 few-versions name tables (Some place) = omega arith
 
+module _ (dump : Dump) (point : y.State) (select : Select) where
+  few-semiring : (name : SemiringName) (rules : List Rule × Option ℕ) → HasFew (dump_values (semiring_of name) name rules dump point select)
+  few-semiring name rules =
+      let semiring = semiring_of name in
+      let value = value_of semiring rules in
+      let rows = value_answer limits semiring.plus_of semiring.zero_of semiring.one_of semiring.times_of value agree (tables_in dump.entries) dump.entries (spans_at dump.tables) point select in
+      few-inside name (first_outside semiring.number_of rules.0 rules.1) (with_values semiring.text_of rows)
+      (few-values semiring.text_of rows (few-valued dump.entries (spans_at dump.tables) point select semiring.plus_of semiring.zero_of semiring.one_of semiring.times_of value (tables_in dump.entries)))
+
+  few-minimal : HasFew (dump_minimal dump point select)
+  few-minimal =
+      let elements = all_elements monomials limits agree (tables_in dump.entries) dump.entries (spans_at dump.tables) point select in
+      few-values sets_text (limited MAX_ANSWER_ROWS minimal_of elements) (few-limited minimal_of elements)
+
+  few-by-rules : (name : SemiringName) (rules : List y.Rule) (other : Option ℕ) → HasFew (dump_valued name rules other dump point select)
+  few-by-rules named.Count rules other = few-semiring named.Count (rules_of rules other)
+  few-by-rules named.Bool rules other = few-semiring named.Bool (rules_of rules other)
+  few-by-rules named.Cost rules other = few-semiring named.Cost (rules_of rules other)
+  few-by-rules named.Level rules other = few-semiring named.Level (rules_of rules other)
+  few-by-rules named.Poly rules other = few-semiring named.Poly (rules_of rules other)
+  few-by-rules named.Witness [] None = few-minimal
+  few-by-rules named.Witness [] (Some n) = few-semiring named.Witness (rules_of [] (Some n))
+  few-by-rules named.Witness (rule ∷ rules) None = few-semiring named.Witness (rules_of (rule ∷ rules) None)
+  few-by-rules named.Witness (rule ∷ rules) (Some n) = few-semiring named.Witness (rules_of (rule ∷ rules) (Some n))
+
+  few-remaining : (patterns : List Rule) → HasFew (dump_remaining patterns dump point select)
+  few-remaining patterns =
+      let db = at_point monomials dump.entries point (annotated_versions monomials dump.entries (spans_at dump.tables)) in
+      let refusal = history_refusal monomials limits agree (tables_in dump.entries) dump.entries (spans_at dump.tables) point in
+      let rest = remaining (has_left_out patterns) select db in
+      few-elements (remaining_answer (has_left_out patterns) select db refusal)
+      (behind rest refusal (cond (are_too_many (has_left_out patterns) select db) (Some E27) None)
+      (either rest (nat_lt limits.answer (length (distinct_rows (cells_of (answer monomials select db))))) (nat_lt limits.answer (length rest)) refl))
+
 few-answer : (dump : Dump) (question : y.Question) → HasFew (answer_to dump question)
 few-answer dump (y.log t) = few-log (is_known t dump.entries) _ _ refl refl
 few-answer dump (y.versions name) = few-versions name dump.tables (place_of name (tables_in dump.entries))
@@ -159,13 +203,11 @@ few-answer dump (y.ask y.provenance point query) =
 few-answer dump (y.ask (y.explain prov) point query) =
     few-checked (dump_program dump prov point) (log_refusal dump.entries point) (checked_query (tables_in dump.entries) query) (λ select. omega arith)
 few-answer dump (y.ask (y.value name rules other) point query) =
-    let semiring = semiring_of name in
-    let value = value_of semiring (rules_of rules other) in
-    few-checked (dump_values semiring name (rules_of rules other) dump point) (log_refusal dump.entries point) (checked_query (tables_in dump.entries) query)
-    (λ select.
-    let rows = value_answer limits semiring.plus_of semiring.zero_of semiring.one_of semiring.times_of value agree (tables_in dump.entries) dump.entries (spans_at dump.tables) point select in
-    few-inside name (first_outside semiring.number_of (rules_of rules other).0 (rules_of rules other).1) (with_values semiring.text_of rows)
-    (few-values semiring.text_of rows (few-valued dump.entries (spans_at dump.tables) point select semiring.plus_of semiring.zero_of semiring.one_of semiring.times_of value (tables_in dump.entries))))
+    few-checked (dump_valued name rules other dump point) (log_refusal dump.entries point) (checked_query (tables_in dump.entries) query)
+    (λ select. few-by-rules dump point select name rules other)
+few-answer dump (y.ask (y.without patterns) point query) =
+    few-checked (dump_remaining (map pattern_of patterns) dump point) (log_refusal dump.entries point) (checked_query (tables_in dump.entries) query)
+    (λ select. few-remaining dump point select (map pattern_of patterns))
 
 few-read : (dump : Dump) (read : Result y.Question Fault) → HasFew (answered (answer_to dump) read)
 few-read dump (Err fault) = omega arith

@@ -104,7 +104,8 @@ pub record Promises (call : Call) : Type 0 where
       × (FilesRelate (Replaced dump (script_dump script)) call.shelf.holds call.shelf_after.holds
       ⊎ ((call.status ≡ OutOfMemory) × (call.shelf_after.holds ≡ call.shelf.holds)))
   -- `ask` answers from the dump of a script, whichever script made it, as the history of the script held it, with the provenance of each row there,
-  -- though the dump has none. `export` writes the same answers as CSV, but refuses questions that are not exported.
+  -- though the dump has none: so with its value in every semiring, without rules in witnesses exactly with its minimal token sets, and without the rows
+  -- of some tokens with exactly the rows that the query gives over the annotated history without these rows. `export` writes the same answers as CSV, but refuses questions that are not exported.
   pub held : (files : Files) (format : Format) (dump name script questions : List ℕ) → call.command ≡ Some (Ask format dump name) → call.shelf.holds ≡ Some files → NoFault call
       → length script ≤ MAX_SCRIPT_LENGTH → content dump files ≡ Some (script_dump script) → length (script_dump script) ≤ MAX_DUMP_LENGTH
       → content name files ≡ Some questions → length questions ≤ MAX_SCRIPT_LENGTH

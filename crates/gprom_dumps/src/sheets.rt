@@ -270,9 +270,9 @@ const EXPORTS: &[(&[u8], &[u8], u8, &[u8])] = &[
     // Other questions are not exported, whatever else they would be refused for, but for their text.
     (
         SCRIPT,
-        b"LOG 1\nLOG 9\nVERSIONS OF people\nVERSIONS OF\nEXPLAIN AS OF 1 SELECT * FROM people\nPROVENANCE OF REENACT 9 COMMIT SELECT * FROM people\nVALUE IN COUNT OF AS OF 1 SELECT * FROM nobody\nREENACT 9 COMMIT SELECT * FROM people\n",
+        b"LOG 1\nLOG 9\nVERSIONS OF people\nVERSIONS OF\nEXPLAIN AS OF 1 SELECT * FROM people\nPROVENANCE OF REENACT 9 COMMIT SELECT * FROM people\nVALUE IN COUNT OF AS OF 1 SELECT * FROM nobody\nREENACT 9 COMMIT SELECT * FROM people\nWITHOUT i1.1.1 OF AS OF 1 SELECT * FROM people\nVALUE IN WITNESS OF AS OF 1 SELECT * FROM people\n",
         1,
-        b"line,refusal\n1,E30 not exported\nline,refusal\n2,E30 not exported\nline,refusal\n3,E30 not exported\nline,refusal\n4,E03 syntax fault at column 12\nline,refusal\n5,E30 not exported\nline,refusal\n6,E30 not exported\nline,refusal\n7,E30 not exported\nline,refusal\n8,E20 no transaction 9\n",
+        b"line,refusal\n1,E30 not exported\nline,refusal\n2,E30 not exported\nline,refusal\n3,E30 not exported\nline,refusal\n4,E03 syntax fault at column 12\nline,refusal\n5,E30 not exported\nline,refusal\n6,E30 not exported\nline,refusal\n7,E30 not exported\nline,refusal\n8,E20 no transaction 9\nline,refusal\n9,E30 not exported\nline,refusal\n10,E30 not exported\n",
     ),
 ];
 

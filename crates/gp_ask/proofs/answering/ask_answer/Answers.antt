@@ -1,16 +1,39 @@
-use Rattle.std.proofs.Common.{List, map, subst, sym, ◌≡◌}
+use Rattle.std.proofs.Common.{List, map, subst, sym, ◌≡◌, ◌∙◌}
 use Rattle.std.specs.Prelude.{IfOk}
+use Rattle.std.proofs.lemmas.Result.{IfOk-weaker}
 use Rattle.gp_dump.specs.Views.{dump_view}
 use Rattle.gp_grammar.specs.Syntax as y
 use Rattle.gp_syntax.specs.declared.question.How.{How}
 use Rattle.gp_syntax.specs.declared.question.Rule.{Rule}
 use Rattle.gp_syntax.specs.Views.{how_view, query_view, rule_view, state_view}
-use Rattle.gp_ask.specs.Answers.{answer_to}
+use Rattle.gp_ask.specs.declared.answered.Answered.{Answered}
+use Rattle.gp_ask.specs.Answers.{answer_to, dump_query, dump_values}
+use Rattle.gp_ask.specs.Values.{rules_of, semiring_of}
+use Rattle.gp_ask.proofs.WitnessLemmas.{asked_values}
 use Rattle.gp_ask.proofs.answering.ask_answer.Goals as goal
 
 pub returns-in-Value-clause-answered : goal.returns-in-Value-clause-answered
 returns-in-Value-clause-answered c =
-    subst (λ (how : How). IfOk c.value_answer.result (λ answered. answered ≡ answer_to (dump_view c.args.dump.now) (y.ask (how_view how) (state_view c.args.state) (query_view c.args.query.now))))
+    let dump = dump_view c.args.dump.now in
+    let point = state_view c.args.state in
+    let query = query_view c.args.query.now in
+    let name = c.in-Value.semiring in
+    let other = c.in-Value.other in
+    let own = map rule_view c.as_slice.result.now in
+    subst (λ (how : How). IfOk c.value_answer.result (λ answered. answered ≡ answer_to dump (y.ask (how_view how) point query)))
     (sym c.in-Value.is)
-    (subst (λ (rules : List Rule). IfOk c.value_answer.result (λ answered. answered ≡ answer_to (dump_view c.args.dump.now) (y.ask (y.value c.in-Value.semiring (map rule_view rules) c.in-Value.other) (state_view c.args.state) (query_view c.args.query.now))))
-    c.as_slice.ensures c.value_answer.ensures)
+    (subst (λ (rules : List Rule). IfOk c.value_answer.result (λ answered. answered ≡ answer_to dump (y.ask (y.value name (map rule_view rules) other) point query)))
+    c.as_slice.ensures
+    (IfOk-weaker c.value_answer.result (λ (a : Answered). a ≡ dump_query dump (dump_values (semiring_of name) name (rules_of own other) dump point) point query)
+    (λ (a : Answered). a ≡ answer_to dump (y.ask (y.value name own other) point query))
+    (λ a is. is ∙ asked_values name own other dump point query) c.value_answer.ensures))
+
+pub returns-in-Without-clause-answered : goal.returns-in-Without-clause-answered
+returns-in-Without-clause-answered c =
+    let dump = dump_view c.args.dump.now in
+    let point = state_view c.args.state in
+    let query = query_view c.args.query.now in
+    subst (λ (how : How). IfOk c.remaining_answer.result (λ answered. answered ≡ answer_to dump (y.ask (how_view how) point query)))
+    (sym c.in-Without.is)
+    (subst (λ (rules : List Rule). IfOk c.remaining_answer.result (λ answered. answered ≡ answer_to dump (y.ask (y.without (map rule_view rules)) point query)))
+    c.as_slice-in-Without.ensures c.remaining_answer.ensures)

@@ -6,11 +6,14 @@ use Rattle.gp_grammar.specs.declared.semiring_name.SemiringName.{SemiringName}
 use Rattle.gp_grammar.specs.Syntax as y
 use Rattle.gp_algebra.specs.Reannotation.{forgotten}
 use Rattle.gp_algebra.specs.Statements.{Select}
+use Rattle.gp_history.specs.Agreement.{agree}
 use Rattle.gp_log.specs.Limits.{limits}
 use Rattle.gp_machine.specs.Event.{after}
 use Rattle.gp_machine.specs.HistorySpans.{state_spans}
 use Rattle.gp_machine.specs.Questions.{AreAlike, held_answer, rows_answer}
 use Rattle.gp_machine.specs.State.{State, start}
+use Rattle.gp_machine.proofs.AskedLemmas.{asked}
+use Rattle.gp_values.proofs.HeldLemmas.{log_refuses}
 use Rattle.gp_versions.specs.declared.span.Span.{Span}
 use Rattle.gp_dump.specs.Dumps.{dump_of}
 use Rattle.gp_ask.specs.Answers.{answer_to, held_to, spans_at}
@@ -39,7 +42,12 @@ returns c = λ lines question.
     (λ rules point select. c.rules_give_the_values_of_the_history-2.ensures rules lines spans own point select)
     (λ rules point select. c.rules_give_the_values_of_the_history-3.ensures rules lines spans own point select)
     (λ rules point select. c.rules_give_the_values_of_the_history-4.ensures rules lines spans own point select)
-    (λ rules point select. c.rules_give_the_values_of_the_history-5.ensures rules lines spans own point select) in
+    (λ rules point select. c.rules_give_the_values_of_the_history-5.ensures rules lines spans own point select)
+    (λ rules point select. c.rules_give_the_values_of_the_history-6.ensures rules lines spans own point select) in
     subst (λ (s : State (Unit {0})). answer_to (dump_of s) question ≡ held_to state question) (sym same)
     (held (c.annotations_commute.ensures.answers monomials plain forgotten (c.annotations_commute.ensures.forgetting monomials)) state kept (tables-kept monomials limits start lines refl) rows
-    (c.histories_are_annotated.ensures.answers lines spans own) values question)
+    (c.histories_are_annotated.ensures.answers lines spans own) values
+    (λ point. log_refuses limits agree state spans point
+    (c.questions_are_answered_by_the_history-2.ensures.annotated monomials limits lines spans own agree (λ rows others same. c.agreement_is_having_the_same_rows.ensures.agrees rows others same) point []))
+    (λ point select known. c.logs_and_spans_hold_the_history.ensures.answers monomials limits lines spans own point (asked state.entries point known) select)
+    question)

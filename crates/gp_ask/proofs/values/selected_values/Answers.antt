@@ -38,3 +38,9 @@ returns-in-Poly c =
     let rules : List Rule × Option ℕ = (c.args.rules.rules, c.args.rules.other) in
     subst (λ (name : SemiringName). IfOk c.values_in-in-Poly.result (λ answered. answered ≡ dump_values (semiring_of name) c.args.name rules (dump_view c.args.dump.now) (state_view c.args.state) (select_view c.args.select.now)))
     (sym c.in-Poly.is) c.values_in-in-Poly.ensures
+
+pub returns-in-Witness : goal.returns-in-Witness
+returns-in-Witness c =
+    let rules : List Rule × Option ℕ = (c.args.rules.rules, c.args.rules.other) in
+    subst (λ (name : SemiringName). IfOk c.values_in-in-Witness.result (λ answered. answered ≡ dump_values (semiring_of name) c.args.name rules (dump_view c.args.dump.now) (state_view c.args.state) (select_view c.args.select.now)))
+    (sym c.in-Witness.is) c.values_in-in-Witness.ensures

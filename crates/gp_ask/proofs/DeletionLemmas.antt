@@ -1,0 +1,70 @@
+-- What is counted over the row versions of a dump is the answer without the rows that the patterns leave out.
+use Rattle.std.proofs.Common.{◌≡◌, ℕ, Bool, List, map, Option, Some, Result, Ok, Err, subst}
+use Rattle.gp_base.specs.declared.cell.Cell.{Cell}
+use Rattle.gp_base.specs.declared.refusal.Refusal.{Refusal}
+use Rattle.gp_base.specs.declared.token.Token.{Token}
+use Rattle.gp_base.specs.Annotated.{Database, monomials}
+use Rattle.gp_base.specs.Tokens.{Monomial}
+use Rattle.gp_grammar.specs.Syntax as y
+use Rattle.gp_algebra.specs.Answers.{answer}
+use Rattle.gp_algebra.specs.Statements.{Select}
+use Rattle.gp_history.specs.Agreement.{agree}
+use Rattle.gp_history.specs.Values.{Gives}
+use Rattle.gp_log.specs.Limits.{limits}
+use Rattle.gp_log.specs.LogFacts.{tables_in}
+use Rattle.gp_log.specs.Logs.{log_view}
+use Rattle.gp_machine.specs.Annotating.{annotated_versions}
+use Rattle.gp_machine.specs.Entries.{Entry}
+use Rattle.gp_machine.specs.Points.{at_point}
+use Rattle.gp_reenact.specs.declared.error.ReenactStop.{ReenactStop}
+use Rattle.gp_reenact.specs.declared.error.ReenactStop.TheVariants as stop
+use Rattle.gp_reenact.specs.Reenacting.{spans_of}
+use Rattle.gp_semiring.specs.Elements.{greatest}
+use Rattle.gp_semiring.specs.Sums.{plus_up_to, times_up_to}
+use Rattle.gp_valuation.specs.declared.rules.Rule.{Rule}
+use Rattle.gp_values.specs.ValueAnswers.{history_refusal, value_answer}
+use Rattle.gp_versions.specs.declared.span.Span.{Span}
+use Rattle.gp_versions.specs.Spans.{Versions}
+use Rattle.gp_dump.specs.declared.dump.Dump as code
+use Rattle.gp_dump.specs.Views.{dump_view, tables_view}
+use Rattle.gp_ask.specs.declared.answered.Answered.TheVariants.{Refused}
+use Rattle.gp_ask.specs.Answers.{dump_remaining, spans_at}
+use Rattle.gp_ask.specs.Counted.{counted_answer}
+use Rattle.gp_ask.specs.Remaining.{is_left_out, pattern_of}
+use Rattle.gp_ask.specs.Values.{count}
+use Rattle.gp_ask.proofs.CountedLemmas.{EachCounts, answers_count}
+use Rattle.gp_ask.proofs.RemainingLemmas.{by_patterns, due, found_is, refused_is}
+use Rattle.gp_ask.proofs.ValueLemmas.{found_in, moved}
+
+module _ (dump : code.Dump) (versions : List Versions) (same : versions ≡ dump.versions) (patterns : List y.Rule) (kept : List Rule × Option ℕ) (by : kept ≡ (map pattern_of patterns, Some 1)) (point : y.State) (select : Select) where
+  abbrev entries : List Entry
+  entries = log_view dump.log.entries
+
+  abbrev spans : ℕ → List Span
+  spans = spans_at (tables_view dump.versions)
+
+  abbrev matches : Token → Bool
+  matches = is_left_out (map pattern_of patterns)
+
+  abbrev db : Database Monomial
+  db = at_point monomials entries point (annotated_versions monomials entries spans)
+
+  counts : EachCounts (answer monomials select db)
+  counts = answers_count (tables_in entries) entries spans point select
+
+  abbrev refusal : Option Refusal
+  refusal = history_refusal monomials limits agree (tables_in entries) entries spans point
+
+  abbrev found : Result (List (List Cell × ℕ)) Refusal
+  found = found_in count kept entries (tables_in entries) (spans_of versions) point select
+
+  over_counts : {X : Type 0} (view : X → List (List Cell × ℕ)) (result : Result X ReenactStop) → Gives view result found → Gives view result (due matches select db counts refusal)
+  over_counts view result gives =
+      subst (λ (value : Token → ℕ). Gives view result (value_answer limits (plus_up_to greatest) 0 1 (times_up_to greatest) value agree (tables_in entries) entries spans point select)) (by_patterns patterns)
+      (moved dump versions same count kept (map pattern_of patterns, Some 1) by point select view result gives)
+
+  pub rows_remain : {X : Type 0} (view : X → List (List Cell × ℕ)) (rows : X) → Gives view (Ok rows) found → counted_answer (view rows) ≡ dump_remaining (map pattern_of patterns) (dump_view dump) point select
+  rows_remain view rows gives = found_is matches select db counts view rows refusal (over_counts view (Ok rows) gives)
+
+  pub none_remain : {X : Type 0} (view : X → List (List Cell × ℕ)) (own : Refusal) → Gives view (Err (stop.Refused own)) found → Refused own ≡ dump_remaining (map pattern_of patterns) (dump_view dump) point select
+  none_remain view own gives = refused_is matches select db counts view own refusal (over_counts view (Err (stop.Refused own)) gives)

@@ -1,0 +1,101 @@
+//! Queries over past states without the rows of some tokens.
+
+ghost use Rattle.std.specs.Prelude.{◌≡◌, map, true, IfOk};
+ghost use Rattle.gp_algebra.specs.Fitting.{select_fits};
+ghost use Rattle.gp_algebra.specs.Views.{select_view};
+ghost use Rattle.gp_check.specs.Valid.{query_is_valid, tables_are_valid};
+ghost use Rattle.gp_dump.specs.Dumps.{IsDump};
+ghost use Rattle.gp_dump.specs.Views.{dump_view};
+ghost use Rattle.gp_grammar.specs.Syntax as y;
+ghost use Rattle.gp_history.specs.Values.{HasFewItems};
+ghost use Rattle.gp_kexec.specs.Rows.{pair_view};
+ghost use Rattle.gp_log.specs.LogFacts.{tables_in};
+ghost use Rattle.gp_syntax.specs.Views.{query_view, rule_view, state_view};
+ghost use Rattle.gp_ask.specs.Answerable.{has_few_items};
+ghost use Rattle.gp_ask.specs.Answers.{answer_to, dump_remaining};
+ghost use Rattle.gp_ask.specs.Counted.{counted_answer};
+ghost use Rattle.gp_ask.specs.Remaining as r;
+
+use crate::answered::Answered;
+use crate::queries::asked;
+use crate::rules::left_out;
+use gp_algebra::Select;
+use gp_base::{NoMemory, Refusal, Sequence};
+use gp_check::CheckStop;
+use gp_dump::Dump;
+use gp_history::values;
+use gp_kexec::KRow;
+use gp_reenact::ReenactStop;
+use gp_semiring::Count;
+use gp_syntax::{Query, Rule, State};
+use gp_valuation::by_rules;
+use gp_witness::{RemainStop, remaining};
+use std::alloc::Global;
+
+/// The rows, each as often as it is counted, or E27 if there are too many.
+fn counted_rows(alloc: Global, rows: Vec<KRow<Count>>) -> Result<Answered, NoMemory>
+    ensures { IfOk result (λ answered. answered ≡ counted_answer (map pair_view rows.items)) }
+{
+    match remaining(alloc, rows) {
+        Ok(rows) => Ok(Answered::Rows(Sequence::from_vec(rows))),
+        Err(RemainStop::TooMany) => Ok(Answered::Refused(Refusal::E27)),
+        Err(RemainStop::NoMemory) => Err(NoMemory),
+    }
+}
+
+/// The rows of a checked query that remain, or the refusal of its annotation, of its run or of its answer. Rows are counted, and the
+/// tokens that a pattern fits count 0: a row counts how many of its occurrences have no such token.
+fn selected_remaining(
+    alloc: Global,
+    dump: &Dump,
+    rules: &[Rule],
+    state: State,
+    select: &Select,
+) -> Result<Answered, NoMemory>
+    requires rules { IsDump (dump_view dump.now) }
+    requires fits { select_fits (tables_in (dump_view dump.now).entries) (select_view select.now)
+        ≡ true }
+    requires few { HasFewItems (select_view select.now) }
+    ensures { IfOk result (λ answered. answered
+        ≡ dump_remaining (map r.pattern_of (map rule_view rules.now)) (dump_view dump.now)
+        (state_view state) (select_view select.now)) }
+{
+    let patterns = left_out(alloc, rules)?;
+    let valuation = by_rules::<Count>(alloc, patterns)?;
+    match values(
+        alloc,
+        &dump.log,
+        dump.versions.as_slice(),
+        state,
+        select,
+        &valuation,
+    ) {
+        Ok(rows) => counted_rows(alloc, rows),
+        Err(ReenactStop::Refused(refusal)) => Ok(Answered::Refused(refusal)),
+        Err(ReenactStop::NoMemory) => Err(NoMemory),
+    }
+}
+
+/// The rows of a query over a state without the rows that have a token which a pattern fits, in row order. E20 to E23 if the log has no
+/// such state, then the check of the query, then E24 to E26 as for provenance, then E27 if there are too many distinct rows before any is
+/// left out, or too many rows that remain.
+pub fn remaining_answer(
+    alloc: Global,
+    dump: &Dump,
+    rules: &[Rule],
+    state: State,
+    query: &Query,
+) -> Result<Answered, NoMemory>
+    requires rules { IsDump (dump_view dump.now) }
+    requires valid { tables_are_valid (tables_in (dump_view dump.now).entries) ≡ true }
+    requires query { query_is_valid (query_view query.now) ≡ true }
+    requires few { has_few_items (query_view query.now) ≡ true }
+    ensures { IfOk result (λ answered. answered ≡ answer_to (dump_view dump.now) (y.ask
+        (y.without (map rule_view rules.now)) (state_view state) (query_view query.now))) }
+{
+    match asked(alloc, dump, state, query) {
+        Ok(select) => selected_remaining(alloc, dump, rules, state, &select),
+        Err(CheckStop::Refused(refusal)) => Ok(Answered::Refused(refusal)),
+        Err(CheckStop::NoMemory) => Err(NoMemory),
+    }
+}
