@@ -65,3 +65,5 @@ refusal_text (r.E26 t k) = concat (codes "E26 identity over limit in transaction
 refusal_text r.E27 = codes "E27 more than 50000 rows"
 refusal_text (r.E28 number semiring) = concat (codes "E28 " ∷ decimal number ∷ codes " is not in " ∷ semiring ∷ [])
 refusal_text r.E30 = codes "E30 not exported"
+refusal_text (r.E31 t other table id) =
+    concat (codes "E31 transaction " ∷ decimal t ∷ codes " would lose to " ∷ decimal other ∷ codes " on " ∷ table ∷ codes " " ∷ identity_text id ∷ [])

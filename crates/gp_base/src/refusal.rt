@@ -3,6 +3,7 @@
 ghost use Rattle.std.specs.Prelude.{◌≡◌, ◌++◌, ◌∷◌, [], codes, IfOk, OnOk, OnErr};
 ghost use Rattle.std.specs.Fmt.{decimal};
 ghost use Rattle.std.specs.List.{concat};
+ghost use Rattle.gp_base.specs.Identities.{identity_text};
 ghost use Rattle.gp_base.specs.Refusals.{column_text, fate_text, limit_text, refusal_text};
 
 use crate::display::id_text;
@@ -154,6 +155,18 @@ pub enum Refusal {
     },
     /// The question has no answer as CSV.
     E30,
+    /// With the change that a question asks about, the COMMIT of a transaction would be lost, for the same reason as in
+    /// E11. It is the first such transaction, by the version that it made.
+    E31 {
+        /// The transaction.
+        t: u32,
+        /// The first transaction that would commit such a write.
+        other: u32,
+        /// The table.
+        table: Name,
+        /// The identity of the row.
+        id: RowId,
+    },
 }
 
 fn limit_text(limit: Limit) -> &'static [u8]
@@ -225,15 +238,18 @@ fn fate_refusal_text(alloc: Global, t: u64, fate: Fate) -> Result<Vec<u8>, NoMem
     )
 }
 
-fn lost_refusal_text(
+/// A message about a conflict of a transaction with another one.
+fn conflict_text<'a>(
     alloc: Global,
+    code: &'a [u8],
+    verb: &'a [u8],
     t: u32,
     other: u32,
-    table: &Name,
+    table: &'a Name,
     id: &RowId,
 ) -> Result<Vec<u8>, NoMemory>
-    ensures { IfOk result (λ text. text.items
-        ≡ refusal_text (Refusal.E11 t other table.now id.now)) }
+    ensures { IfOk result (λ text. text.items ≡ concat (code.now ∷ decimal t ∷ verb.now ∷ decimal other
+        ∷ codes " on " ∷ table.now ∷ codes " " ∷ identity_text id.now ∷ [])) }
 {
     let t = t.to_string(alloc)?;
     let other = other.to_string(alloc)?;
@@ -241,9 +257,9 @@ fn lost_refusal_text(
     text_of_pieces(
         alloc,
         &[
-            b"E11 transaction ",
+            code,
             t.as_bytes(),
-            b" lost to ",
+            verb,
             other.as_bytes(),
             b" on ",
             table.as_bytes(),
@@ -307,7 +323,15 @@ fn refusal_text(alloc: Global, refusal: &Refusal) -> Result<Vec<u8>, NoMemory>
             other,
             table,
             id,
-        } => lost_refusal_text(alloc, *t, *other, table, id),
+        } => conflict_text(
+            alloc,
+            b"E11 transaction ",
+            b" lost to ",
+            *t,
+            *other,
+            table,
+            id,
+        ),
         Refusal::E12 { table } => {
             text_of_pieces(alloc, &[b"E12 more than 10000 rows in ", table.as_bytes()])
         }
@@ -331,6 +355,20 @@ fn refusal_text(alloc: Global, refusal: &Refusal) -> Result<Vec<u8>, NoMemory>
         Refusal::E27 => text_of_pieces(alloc, &[b"E27 more than 50000 rows"]),
         Refusal::E28 { number, semiring } => semiring_refusal_text(alloc, *number, semiring),
         Refusal::E30 => text_of_pieces(alloc, &[b"E30 not exported"]),
+        Refusal::E31 {
+            t,
+            other,
+            table,
+            id,
+        } => conflict_text(
+            alloc,
+            b"E31 transaction ",
+            b" would lose to ",
+            *t,
+            *other,
+            table,
+            id,
+        ),
     }
 }
 

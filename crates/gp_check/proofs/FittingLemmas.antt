@@ -17,7 +17,7 @@ use Rattle.gp_base.specs.Catalogs.{place_of, table_names}
 use Rattle.gp_base.specs.Cells.{is_user_cell}
 use Rattle.gp_grammar.specs.declared.op.Op.TheVariants as op
 use Rattle.gp_grammar.specs.Syntax as y
-use Rattle.gp_grammar.specs.Syntax.{Bytes, Term, SetTerm, Item, Items, Block, Query, Command}
+use Rattle.gp_grammar.specs.Syntax.{Bytes, Term, SetTerm, Item, Items, Block, Query, Command, is_statement}
 use Rattle.gp_expr.specs.Expressions.{is_simple, cond_is_simple, all_leaves, cond_all_leaves}
 use Rattle.gp_algebra.specs.Fitting.{is_there, width_of, joined_width, is_column, expr_fits, cond_fits, optional_cond_fits, row_fits, branch_fits, set_fits, branches_fit, is_countable, select_fits, statement_fits}
 use Rattle.gp_check.specs.declared.place.Place.{Place}
@@ -27,7 +27,7 @@ use Rattle.gp_check.specs.Scopes.{Source, Scope, ColumnName, columns_of, scope_b
 use Rattle.gp_check.specs.Faults.{or_else, unless, first_fault, table_fault, items_fault, block_columns_fault, column_fault, resolution_fault, set_name, set_fault, widths_agree, first_refusal, width_behind, scope_width, items_width, block_width, have_width, have_one_width, block_tables_fault, query_tables_fault}
 use Rattle.gp_check.specs.Meaning.{column_expr, expr_of, cond_of, where_of, columns_behind, exprs_of, number_of_table, branch_of, select_of, column_number, set_of, statement_of}
 use Rattle.gp_check.specs.Valid.{is_valid, tables_are_valid, set_is_valid, term_is_valid, condition_is_valid, items_are_valid, block_is_valid, query_is_valid, table_is_valid}
-use Rattle.gp_check.specs.Checking.{is_statement, refused_by, checked, checked_query}
+use Rattle.gp_check.specs.Checking.{refused_by, checked, checked_query}
 use Rattle.gp_check.specs.Views.{Checks}
 use Rattle.gp_check.specs.declared.error.CheckStop.{CheckStop}
 use Rattle.gp_algebra.specs.declared.statement.Select.{Select}

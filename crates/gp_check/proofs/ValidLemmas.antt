@@ -1,6 +1,7 @@
 -- Commands and questions that were read are valid: their literals are lexemes of a text, their lists are not empty by the grammar, and
 -- few by the limits.
 use Rattle.std.proofs.Common.{◌≡◌, ◌<◌, ◌≤◌, ◌-◌, ◌^◌, ℕ, suc, pos, negsuc, Bool, true, false, ltb, not, nat_lt, List, [], ◌∷◌, ◌++◌, length, Some, None, Ok, refl, sym, ap, ◌∙◌, arith}
+use Rattle.std.specs.Prelude.{◌&&◌, codes}
 use Rattle.std.specs.Char.{is_ascii_control}
 use Rattle.std.specs.List.{AllByRecursion, list_all, list_any}
 use Rattle.std.specs.Option.{option_map}
@@ -15,7 +16,7 @@ use Rattle.gp_base.specs.declared.table.Table.{Table}
 use Rattle.gp_base.specs.declared.text.TheConstants.{MAX_TEXT_LENGTH}
 use Rattle.gp_base.specs.Cells.{is_user_cell, is_user_text}
 use Rattle.gp_lexer.specs.declared.lexeme.Lexeme.{Lexeme}
-use Rattle.gp_lexer.specs.declared.lexeme.Lexeme.TheVariants.{Symbol as Sign}
+use Rattle.gp_lexer.specs.declared.lexeme.Lexeme.TheVariants.{Symbol as Sign, Word}
 use Rattle.gp_lexer.specs.declared.lexeme.Symbol.TheVariants as s
 use Rattle.gp_lexer.specs.Lexemes.{IsProper, AreProper, HasUtf8Text, HaveUtf8Texts}
 use Rattle.gp_lexer.specs.Lexing.{lexemes_of}
@@ -23,23 +24,24 @@ use Rattle.gp_lexer.proofs.ProperLemmas.{lexemes-proper}
 use Rattle.gp_lexer.proofs.Utf8Lemmas.{texts-utf8}
 use Rattle.gp_grammar.specs.declared.limits.TheConstants.{MAX_BRANCHES, MAX_VALUES}
 use Rattle.gp_grammar.specs.Syntax as y
-use Rattle.gp_grammar.specs.Syntax.{Lexemes, Bytes, Term, SetTerm, Item, Items, Block, Query, Command, ScriptLine, How, State, Question}
+use Rattle.gp_grammar.specs.Syntax.{Lexemes, Bytes, Term, SetTerm, Item, Items, Block, Query, Command, ScriptLine, How, State, LogChange, Question}
 use Rattle.gp_grammar.specs.Grammar as t
 use Rattle.gp_grammar.specs.Grammar.{Phrase, Derives, IsTerm}
 use Rattle.gp_grammar.specs.CommandGrammar as g
 use Rattle.gp_grammar.specs.CommandGrammar.{IsList, comma, union_all, IsColumn, IsLiteral, IsTuple, IsItem, IsItems, IsWhere, IsBlock, IsQuery, IsSetTerm, IsCommand, Closed, IsSessionCommand, IsScriptLine}
 use Rattle.gp_grammar.specs.QuestionGrammar as q
-use Rattle.gp_grammar.specs.QuestionGrammar.{IsOpenQuestion, IsQuestion}
-use Rattle.gp_grammar.specs.Limits.{Shape, passed_limit, query_shape, command_shape, line_shape, question_shape}
+use Rattle.gp_grammar.specs.QuestionGrammar.{IsAsk, IsChange, IsOpenQuestion, IsQuestion}
+use Rattle.gp_grammar.specs.Limits.{Shape, passed_limit, query_shape, command_shape, line_shape, change_shape, question_shape}
 use Rattle.gp_grammar.specs.LineReading.{HasLexemes, ReadsText, ReadsLine, command_of, script_line_of, question_of}
 use Rattle.gp_grammar.specs.CommandParsing.{command, script_line}
 use Rattle.gp_grammar.specs.QuestionParsing.{question}
 use Rattle.gp_grammar.specs.Capping.{capped_command, capped_line, capped_question}
+use Rattle.gp_grammar.proofs.BothLemmas.{both-within}
 use Rattle.gp_grammar.proofs.LineLaws.{texts-read, lines-read}
 use Rattle.gp_grammar.proofs.ParserLaws.{lawful-command, lawful-line, lawful-question}
 use Rattle.gp_grammar.proofs.ShapeLemmas.{first_limit, of_shape, commands-fair, lines-fair, questions-fair}
 use Rattle.gp_algebra.specs.Fitting.{is_countable}
-use Rattle.gp_check.specs.Valid.{term_is_valid, condition_is_valid, items_are_valid, block_is_valid, query_is_valid, set_is_valid, is_valid, table_is_valid, tables_are_valid}
+use Rattle.gp_check.specs.Valid.{term_is_valid, condition_is_valid, items_are_valid, block_is_valid, query_is_valid, set_is_valid, is_valid, change_is_valid, table_is_valid, tables_are_valid}
 use Rattle.gp_check.proofs.FittingLemmas.{and_true}
 
 -- ---- the lexemes of a text
@@ -206,15 +208,30 @@ command-valid _ _ (g.select a x i) h none = query-valid a x i h none
 line-valid : (a : Lexemes) (x : ScriptLine) → IsSessionCommand a x → AreOfText a → passed_limit (line_shape x) ≡ None → is_valid x.command ≡ true
 line-valid _ _ (g.in_session name session a x e i) h none = command-valid a x i h.1.1 none
 
--- the query of a question, if it has one
+-- the command of a change, and what is asked behind it
+
+change-valid : (a : Lexemes) (x : LogChange) → IsChange a x → AreOfText a → passed_limit (change_shape x) ≡ None → change_is_valid x ≡ true
+change-valid _ _ (q.drop t k) h none = refl
+change-valid _ _ (q.replace t k a x i) h none = command-valid a x i.command (inner a h.1.1.1.1) none
+change-valid _ _ (q.add t a x i) h none = command-valid a x i.command (inner a h.1.1.1) none
+
+ask-valid : (a : Lexemes) (how : How) (state : State) (query : Query) → IsAsk a how state query → AreOfText a → passed_limit (query_shape query) ≡ None → query_is_valid query ≡ true
+ask-valid _ how state query (q.asked a b c _ _ _ i j k) h none = query-valid c query k (second b c (second a (b ++ c) h)) none
+
+-- the query of a question and the command of its change, if it has them
 abbrev question_is_valid : Question → Bool
 question_is_valid (y.ask how state query) = query_is_valid query
+question_is_valid (y.what_if change how state query) = change_is_valid change && query_is_valid query
 question_is_valid _ = true
 
 question-valid : (a : Lexemes) (x : Question) → IsOpenQuestion a x → AreOfText a → passed_limit (question_shape x) ≡ None → question_is_valid x ≡ true
 question-valid _ _ (q.log n) h none = refl
 question-valid _ _ (q.versions table) h none = refl
-question-valid _ _ (q.ask a b c how state query i j k) h none = query-valid c query k (second b c (second a (b ++ c) h)) none
+question-valid _ _ (q.ask a how state query i) h none = ask-valid a how state query i h none
+question-valid _ _ (q.what_if a b change how state query i j) h none =
+    let within : (passed_limit (change_shape change) ≡ None) × (passed_limit (query_shape query) ≡ None) = both-within (change_shape change) (query_shape query) none in
+    and_true _ _ (change-valid a change i (first a (Word (codes "of") ∷ b) h.1) within.0)
+    (ask-valid b how state query j (second a (Word (codes "of") ∷ b) h.1).1 within.1)
 
 closed-valid : {A : Type 0} (Is : Lexemes → A → Type 0) (shape : A → Shape) (test : A → Bool)
     → ((a : Lexemes) (x : A) → Is a x → AreOfText a → passed_limit (shape x) ≡ None → test x ≡ true)
@@ -238,15 +255,27 @@ line-derived text x r =
 pub line-read : (text : Bytes) (x : ScriptLine) → script_line_of text ≡ Ok x → is_valid x.command ≡ true
 line-read text x e = line-derived text x ((lines-read script_line IsScriptLine capped_line line_shape lawful-line lines-fair text x).0 e)
 
-pub question-derived : (text : Bytes) (how : How) (state : State) (query : Query) → ReadsLine IsQuestion question_shape text (y.ask how state query) → query_is_valid query ≡ true
-question-derived text how state query r =
-    closed-valid IsOpenQuestion question_shape question_is_valid question-valid r.text.lexemes (y.ask how state query) r.text.derived
+derived-valid : (text : Bytes) (x : Question) → ReadsLine IsQuestion question_shape text x → question_is_valid x ≡ true
+derived-valid text x r =
+    closed-valid IsOpenQuestion question_shape question_is_valid question-valid r.text.lexemes x r.text.derived
     (lexed-of_text text r.text.lexemes r.text.columns r.text.lexical) r.text.within
 
+read-valid : (text : Bytes) (x : Question) → question_of text ≡ Ok x → question_is_valid x ≡ true
+read-valid text x e = derived-valid text x ((lines-read question IsQuestion capped_question question_shape lawful-question questions-fair text x).0 e)
+
+pub question-derived : (text : Bytes) (how : How) (state : State) (query : Query) → ReadsLine IsQuestion question_shape text (y.ask how state query) → query_is_valid query ≡ true
+question-derived text how state query r = derived-valid text (y.ask how state query) r
+
 pub question-read : (text : Bytes) (how : How) (state : State) (query : Query) → question_of text ≡ Ok (y.ask how state query) → query_is_valid query ≡ true
-question-read text how state query e =
-    question-derived text how state query
-    ((lines-read question IsQuestion capped_question question_shape lawful-question questions-fair text (y.ask how state query)).0 e)
+question-read text how state query e = read-valid text (y.ask how state query) e
+
+pub change-derived : (text : Bytes) (change : LogChange) (how : How) (state : State) (query : Query) → ReadsLine IsQuestion question_shape text (y.what_if change how state query)
+    → change_is_valid change && query_is_valid query ≡ true
+change-derived text change how state query r = derived-valid text (y.what_if change how state query) r
+
+pub change-read : (text : Bytes) (change : LogChange) (how : How) (state : State) (query : Query) → question_of text ≡ Ok (y.what_if change how state query)
+    → change_is_valid change && query_is_valid query ≡ true
+change-read text change how state query e = read-valid text (y.what_if change how state query) e
 
 -- ---- catalogues
 

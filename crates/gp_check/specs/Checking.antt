@@ -1,5 +1,5 @@
 -- Part of the statement: what the check makes of a command or a query, which is its meaning or its first refusal.
-use Rattle.std.specs.Prelude.{Bool, true, false, List, Option, Some, None, Result, Ok, Err}
+use Rattle.std.specs.Prelude.{List, Option, Some, None, Result, Ok, Err}
 use Rattle.gp_base.specs.declared.refusal.Refusal.{Refusal}
 use Rattle.gp_base.specs.declared.table.Table.{Table}
 use Rattle.gp_grammar.specs.Syntax as y
@@ -7,14 +7,6 @@ use Rattle.gp_grammar.specs.Syntax.{Query, Command}
 use Rattle.gp_algebra.specs.Statements.{Select, Statement}
 use Rattle.gp_check.specs.Faults.{first_refusal}
 use Rattle.gp_check.specs.Meaning.{select_of, statement_of}
-
--- INSERT, UPDATE, DELETE and SELECT are statements
-abbrev pub is_statement : Command → Bool
-is_statement (y.create table) = false
-is_statement (y.begin read_committed) = false
-is_statement y.Command.commit = false
-is_statement y.rollback = false
-is_statement _ = true
 
 abbrev pub refused_by : {A : Type 0} → Option Refusal → A → Result A Refusal
 refused_by None meaning = Ok meaning

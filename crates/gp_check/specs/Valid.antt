@@ -1,12 +1,13 @@
 -- Part of the statement: valid commands, queries and tables. What the check makes of a valid command over valid tables fits them, and every
--- command that was read from a text is valid: so say the laws `read_commands_are_valid`, `read_lines_are_valid`, `read_questions_are_valid`.
+-- command that was read from a text is valid: so say the laws `read_commands_are_valid`, `read_lines_are_valid`, `read_questions_are_valid`,
+-- `read_changes_are_valid`.
 use Rattle.std.specs.Prelude.{nat_lt, Bool, true, ◌&&◌, List, length, Option, Some, None}
 use Rattle.std.specs.List.{list_all}
 use Rattle.gp_base.specs.declared.cell.Cell.TheVariants as cell
 use Rattle.gp_base.specs.declared.table.Table.{Table}
 use Rattle.gp_base.specs.Cells.{is_user_cell}
 use Rattle.gp_grammar.specs.Syntax as y
-use Rattle.gp_grammar.specs.Syntax.{Term, SetTerm, Items, Block, Query, Command}
+use Rattle.gp_grammar.specs.Syntax.{Term, SetTerm, Items, Block, Query, Command, LogChange}
 use Rattle.gp_algebra.specs.Fitting.{is_countable}
 
 -- the literals of a term are cells that a user can write
@@ -57,3 +58,9 @@ is_valid (y.delete table cond) = condition_is_valid cond
 is_valid (y.select query) = query_is_valid query
 is_valid (y.create table) = table_is_valid table
 is_valid _ = true
+
+-- the command of a change, if it has one
+abbrev pub change_is_valid : LogChange → Bool
+change_is_valid (y.drop t k) = true
+change_is_valid (y.replace t k command) = is_valid command
+change_is_valid (y.add t command) = is_valid command

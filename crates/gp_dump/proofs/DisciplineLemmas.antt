@@ -5,9 +5,9 @@ use Rattle.std.proofs.lemmas.Bool.{ne_eqb, eq-eqb}
 use Rattle.std.proofs.lemmas.List.{take_all}
 use Rattle.gp_base.specs.declared.table.Table.{Table}
 use Rattle.gp_base.specs.Catalogs.{place_of}
-use Rattle.gp_check.specs.Checking.{is_statement}
 use Rattle.gp_check.specs.Faults.{table_refusal}
 use Rattle.gp_grammar.specs.Syntax as y
+use Rattle.gp_grammar.specs.Syntax.{is_statement}
 use Rattle.gp_machine.specs.Actions as a
 use Rattle.gp_machine.specs.Actions.{action_of}
 use Rattle.gp_machine.specs.Entries as m

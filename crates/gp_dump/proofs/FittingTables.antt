@@ -18,10 +18,10 @@ use Rattle.gp_base.specs.Identities.{Identity, identity, nodes}
 use Rattle.gp_grammar.specs.Canonical.{command_text}
 use Rattle.gp_grammar.specs.LineReading.{Fault, command_of}
 use Rattle.gp_grammar.specs.Syntax as y
-use Rattle.gp_grammar.specs.Syntax.{Command}
+use Rattle.gp_grammar.specs.Syntax.{Command, is_statement}
 use Rattle.gp_algebra.specs.Fitting.{branch_fits, branches_fit, cond_fits, expr_fits, is_countable, is_there, joined_width, optional_cond_fits, row_fits, select_width, set_fits, statement_fits, width_of}
 use Rattle.gp_algebra.specs.Statements.{Branch, Select, Statement, delete, insert, insert_select, read, update}
-use Rattle.gp_check.specs.Checking.{checked, is_statement}
+use Rattle.gp_check.specs.Checking.{checked}
 use Rattle.gp_check.specs.Faults.{first_refusal}
 use Rattle.gp_check.specs.Meaning.{statement_of}
 use Rattle.gp_check.specs.Valid.{is_valid, tables_are_valid}

@@ -4,7 +4,7 @@ ghost use Rattle.std.specs.Prelude.{◌≡◌, ◌<◌, ℕ, suc, true, length, 
 ghost use Rattle.gp_algebra.specs.Views.{statement_view};
 ghost use Rattle.gp_base.specs.declared.catalog.TheConstants.{MAX_TABLES};
 ghost use Rattle.gp_base.specs.Catalogs.{place_of};
-ghost use Rattle.gp_check.specs.Checking.{is_statement};
+ghost use Rattle.gp_grammar.specs.Syntax.{is_statement};
 ghost use Rattle.gp_check.specs.Valid.{table_is_valid};
 ghost use Rattle.gp_log.specs.Discipline as d;
 ghost use Rattle.gp_log.specs.Discipline.{doing};

@@ -1,8 +1,8 @@
 -- Which commands are statements.
 use Rattle.std.proofs.Common.{◌≡◌, Bool, true, refl}
 use Rattle.gp_base.specs.declared.table.Table.{Table}
-use Rattle.gp_check.specs.Checking.{is_statement}
 use Rattle.gp_grammar.specs.Syntax as y
+use Rattle.gp_grammar.specs.Syntax.{is_statement}
 use Rattle.gp_machine.specs.Actions.{Run, action_of}
 use Rattle.gp_syntax.specs.Views.{command_view}
 use Rattle.gp_syntax.specs.declared.command.Command.{Command}

@@ -7,8 +7,8 @@ use Rattle.gp_base.specs.declared.refusal.Refusal.TheVariants.{E11}
 use Rattle.gp_base.specs.declared.table.Table.{Table}
 use Rattle.gp_base.specs.Annotated.{Database, plain}
 use Rattle.gp_algebra.specs.Statements.{Statement, insert, insert_select, update, delete, read}
-use Rattle.gp_check.specs.Checking.{checked, is_statement}
-use Rattle.gp_grammar.specs.Syntax.{Command}
+use Rattle.gp_check.specs.Checking.{checked}
+use Rattle.gp_grammar.specs.Syntax.{Command, is_statement}
 use Rattle.gp_txn.specs.Transactions.{snapshot_of, view_at}
 use Rattle.gp_machine.specs.declared.reply.Reply.{Reply}
 use Rattle.gp_machine.specs.declared.reply.Reply.TheVariants as reply

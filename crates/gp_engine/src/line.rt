@@ -1,9 +1,9 @@
 //! One line of a session.
 
 ghost use Rattle.std.specs.Prelude.{◌≡◌, ◌<◌, true, false, None, Some, IfOk, IsOk, OnErr, IsSome, slice_index_or};
-ghost use Rattle.gp_check.specs.Checking.{is_statement};
 ghost use Rattle.gp_check.specs.Valid.{is_valid};
 ghost use Rattle.gp_grammar.specs.Syntax as y;
+ghost use Rattle.gp_grammar.specs.Syntax.{is_statement};
 ghost use Rattle.gp_machine.specs.Actions.{action_of};
 ghost use Rattle.gp_syntax.specs.Views.{command_view};
 ghost use Rattle.gp_engine.specs.Engine.{IsEngine, IsUnchanged};

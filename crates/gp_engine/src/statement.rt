@@ -3,13 +3,14 @@
 ghost use Rattle.std.specs.Prelude.{◌≡◌, ℕ, ◌<◌, ◌-◌, ◌^◌, suc, true, false, IfErr, IfOk, OnErr, OnOk, IsSome, Some, None, length, slice_index_or};
 ghost use Rattle.gp_algebra.specs.Fitting.{statement_fits};
 ghost use Rattle.gp_algebra.specs.Views.{statement_view};
-ghost use Rattle.gp_check.specs.Checking.{checked, is_statement};
+ghost use Rattle.gp_check.specs.Checking.{checked};
 ghost use Rattle.gp_check.specs.Valid.{is_valid};
 ghost use Rattle.gp_check.specs.Views.{Checks};
 ghost use Rattle.gp_machine.specs.Entries as m;
 ghost use Rattle.gp_machine.specs.Event.{count_refusal};
 ghost use Rattle.gp_machine.specs.Replies.{is_refusal};
 ghost use Rattle.gp_grammar.specs.Syntax as y;
+ghost use Rattle.gp_grammar.specs.Syntax.{is_statement};
 ghost use Rattle.gp_syntax.specs.Views.{command_view};
 ghost use Rattle.gp_log.specs.Limits.{limits};
 ghost use Rattle.gp_log.specs.declared.limit.TheConstants.{MAX_STEPS};

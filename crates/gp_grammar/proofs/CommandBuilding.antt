@@ -1,15 +1,15 @@
 -- What the parser builds for lists, queries and commands.
-use Rattle.std.proofs.Common.{◌≡◌, ℕ, List, [], ◌∷◌, ◌++◌, map, Option, Some, None, refl, sym, ap, ◌∙◌}
+use Rattle.std.proofs.Common.{◌≡◌, ℕ, true, List, [], ◌∷◌, ◌++◌, map, Option, Some, None, refl, sym, ap, ◌∙◌}
 use Rattle.std.specs.Prelude.{option_map}
 use Rattle.std.proofs.lemmas.List.{map-append}
 use Rattle.gp_lexer.specs.declared.lexeme.Symbol.TheVariants as s
 use Rattle.gp_lexer.specs.declared.lexeme.Lexeme.TheVariants.{Symbol as Sign, Word}
 use Rattle.gp_grammar.specs.Syntax as syntax
-use Rattle.gp_grammar.specs.Syntax.{Lexemes, Bytes, Term, SetTerm, Item, Items, Block, Query, Command, ScriptLine}
+use Rattle.gp_grammar.specs.Syntax.{Lexemes, Bytes, Term, SetTerm, Item, Items, Block, Query, Command, is_statement, ScriptLine}
 use Rattle.gp_grammar.specs.Capping.{capped, capped_set, capped_items, capped_block, capped_command, capped_line}
 use Rattle.gp_grammar.specs.Grammar.{IsTerm}
 use Rattle.gp_grammar.specs.CommandGrammar as g
-use Rattle.gp_grammar.specs.CommandGrammar.{IsList, comma, IsItem, IsItems, IsWhere, IsBlock, IsQuery, IsSetTerm, IsCommand, session_of, IsSessionCommand, Closed}
+use Rattle.gp_grammar.specs.CommandGrammar.{IsList, comma, IsItem, IsItems, IsWhere, IsBlock, IsQuery, IsSetTerm, IsCommand, IsStatement, session_of, IsSessionCommand, Closed}
 use Rattle.gp_grammar.specs.Laws.{Built}
 use Rattle.gp_grammar.proofs.Building.{BuildsTerm}
 
@@ -43,6 +43,9 @@ BuildsSetTerm = Built IsSetTerm capped_set
 abbrev pub BuildsCommand : Lexemes → Command → Type 0
 BuildsCommand = Built IsCommand capped_command
 
+abbrev pub BuildsStatement : Lexemes → Command → Type 0
+BuildsStatement = Built IsStatement capped_command
+
 abbrev pub BuildsSession : Lexemes → ScriptLine → Type 0
 BuildsSession = Built IsSessionCommand capped_line
 
@@ -74,29 +77,48 @@ pub set_term : (col : Bytes) (a : Lexemes) (x : Term) → BuildsTerm a x → Bui
 set_term col a x i = record { tree = record { col = col; term = i.tree }; is = g.set_term col a i.tree i.is; same = ap (λ z. record { col = col; term = z }) i.same }
 
 pub insert_select : (table : Bytes) (a : Lexemes) (xs : Query) → BuildsQuery a xs
-    → BuildsCommand (Sign s.Insert ∷ Sign s.Into ∷ Word table ∷ a) (syntax.insert_select table xs)
-insert_select table a xs i = record { tree = syntax.insert_select table i.tree; is = g.insert_select table a i.tree i.is; same = ap (λ z. syntax.insert_select table z) i.same }
+    → BuildsStatement (Sign s.Insert ∷ Sign s.Into ∷ Word table ∷ a) (syntax.insert_select table xs)
+insert_select table a xs i = record {
+  tree = syntax.insert_select table i.tree;
+  is = record { command = g.insert_select table a i.tree i.is; statement = refl };
+  same = ap (λ z. syntax.insert_select table z) i.same;
+}
 
 pub update : (table : Bytes) (a w : Lexemes) (sets : List SetTerm) (cond : Option Term) → IsList comma BuildsSetTerm a sets → BuildsWhere w cond
-    → BuildsCommand (Sign s.Update ∷ Word table ∷ Sign s.Set ∷ (a ++ w)) (syntax.update table sets cond)
+    → BuildsStatement (Sign s.Update ∷ Word table ∷ Sign s.Set ∷ (a ++ w)) (syntax.update table sets cond)
 update table a w sets cond i j =
     let l : Built (IsList comma IsSetTerm) (map capped_set) a sets = list-built i in
     record {
       tree = syntax.update table l.tree j.tree;
-      is = g.update table a w l.tree j.tree l.is j.is;
+      is = record { command = g.update table a w l.tree j.tree l.is j.is; statement = refl };
       same = ap (λ z. syntax.update table z cond) l.same ∙ ap (λ z. syntax.update table (map capped_set l.tree) z) j.same;
     }
 
 pub delete : (table : Bytes) (w : Lexemes) (cond : Option Term) → BuildsWhere w cond
-    → BuildsCommand (Sign s.Delete ∷ Sign s.From ∷ Word table ∷ w) (syntax.delete table cond)
-delete table w cond i = record { tree = syntax.delete table i.tree; is = g.delete table w i.tree i.is; same = ap (λ z. syntax.delete table z) i.same }
+    → BuildsStatement (Sign s.Delete ∷ Sign s.From ∷ Word table ∷ w) (syntax.delete table cond)
+delete table w cond i = record {
+  tree = syntax.delete table i.tree;
+  is = record { command = g.delete table w i.tree i.is; statement = refl };
+  same = ap (λ z. syntax.delete table z) i.same;
+}
 
-pub select : (a : Lexemes) (xs : Query) → BuildsQuery a xs → BuildsCommand a (syntax.select xs)
-select a xs i = record { tree = syntax.select i.tree; is = g.select a i.tree i.is; same = ap (λ z. syntax.select z) i.same }
+pub select : (a : Lexemes) (xs : Query) → BuildsQuery a xs → BuildsStatement a (syntax.select xs)
+select a xs i = record {
+  tree = syntax.select i.tree;
+  is = record { command = g.select a i.tree i.is; statement = refl };
+  same = ap (λ z. syntax.select z) i.same;
+}
+
+-- a statement is built for a command
+pub statement : (a : Lexemes) (x : Command) → BuildsStatement a x → BuildsCommand a x
+statement a x i = record { tree = i.tree; is = i.is.command; same = i.same }
 
 -- a command in which nothing is capped
 pub as_is : (a : Lexemes) (x : Command) → IsCommand a x → capped_command x ≡ x → BuildsCommand a x
 as_is a x i e = record { tree = x; is = i; same = sym e }
+
+pub statement_as_is : (a : Lexemes) (x : Command) → IsCommand a x → is_statement x ≡ true → capped_command x ≡ x → BuildsStatement a x
+statement_as_is a x i h e = record { tree = x; is = record { command = i; statement = h }; same = sym e }
 
 pub in_session : (name : Bytes) (session : ℕ) (a : Lexemes) (x : Command) → session_of name ≡ Some session → BuildsCommand a x
     → BuildsSession (Word name ∷ Sign s.Colon ∷ a) (record { session = session; command = x })

@@ -8,12 +8,12 @@ use Rattle.gp_lexer.specs.declared.lexeme.Symbol.{Symbol}
 use Rattle.gp_lexer.specs.declared.lexeme.Symbol.TheVariants as s
 use Rattle.gp_lexer.specs.declared.lexeme.Lexeme.TheVariants.{Symbol as Sign, Word, Number, Big, Text}
 use Rattle.gp_grammar.specs.Syntax as syntax
-use Rattle.gp_grammar.specs.Syntax.{Lexemes, Bytes, Term, SetTerm, Item, Items, Block, Query, Command, ScriptLine}
+use Rattle.gp_grammar.specs.Syntax.{Lexemes, Bytes, Term, SetTerm, Item, Items, Block, Query, Command, is_statement, ScriptLine}
 use Rattle.gp_grammar.specs.Capping.{capped, capped_set, capped_items, capped_block, capped_command, capped_line}
 use Rattle.gp_grammar.specs.Grammar as t
 use Rattle.gp_grammar.specs.Grammar.{Phrase, Derives, IsTerm}
 use Rattle.gp_grammar.specs.CommandGrammar as g
-use Rattle.gp_grammar.specs.CommandGrammar.{IsList, comma, union_all, IsColumn, IsLiteral, IsTuple, IsItem, IsItems, IsWhere, IsBlock, IsQuery, IsSetTerm, IsCommand, session_of, IsSessionCommand, Closed}
+use Rattle.gp_grammar.specs.CommandGrammar.{IsList, comma, union_all, IsColumn, IsLiteral, IsTuple, IsItem, IsItems, IsWhere, IsBlock, IsQuery, IsSetTerm, IsCommand, IsStatement, session_of, IsSessionCommand, Closed}
 use Rattle.gp_grammar.specs.Parsing.{Outcome, Parser, ◌>>=◌, by_option, strip, expect, identifier, term}
 use Rattle.gp_grammar.specs.CommandParsing as c
 use Rattle.gp_grammar.specs.CommandParsing.{◌then◌, where_next, accept, strip_word, expect_word, many, push, separated, in_brackets, named, closed}
@@ -155,7 +155,7 @@ in_brackets-of : {A : Type 0} (p : Parser A) (ts rest : Lexemes) (x : A) → p t
 unfolding expect
 in_brackets-of p ts rest x e = ap (λ o. o >>= (λ r. (s.Close then accept r.0) r.1)) e
 
-in_brackets-complete : {A : Type 0} (p : Parser A) (a rest : Lexemes) (x : A) → p (a ++ (Sign s.Close ∷ rest)) ≡ Ok (x, Sign s.Close ∷ rest)
+pub in_brackets-complete : {A : Type 0} (p : Parser A) (a rest : Lexemes) (x : A) → p (a ++ (Sign s.Close ∷ rest)) ≡ Ok (x, Sign s.Close ∷ rest)
     → in_brackets p ((Sign s.Open ∷ (a ++ (Sign s.Close ∷ []))) ++ rest) ≡ Ok (x, rest)
 in_brackets-complete p a rest x e = in_brackets-of p _ rest x (ap p (append_assoc a (Sign s.Close ∷ []) rest) ∙ e)
 
@@ -369,6 +369,30 @@ command-complete _ _ (g.update table a w sets cond i j) rest h =
 command-complete _ _ (g.delete table w cond i) rest h = delete-of table (w ++ rest) rest (option_map capped cond) (condition-complete w cond i rest h.block.loose h.block.no_where)
 command-complete _ _ (g.select a xs i) rest h = select-begins i rest ∙ ap (λ p. p >>= (λ r. Ok (syntax.select r.0, r.1))) (query-complete a xs i rest h)
 
+-- ---- statements
+
+statement-begins : {a : Lexemes} {x : Query} → IsQuery a x → (rest : Lexemes) → c.statement (a ++ rest) ≡ c.command (a ++ rest)
+statement-begins (g.one _ _ (g.block a b w items from cond i j k)) rest = refl
+statement-begins (g.more a b xs x i j) rest =
+    let P : Lexemes → Type 0 = λ z. c.statement z ≡ c.command z in
+    subst P (sym (append_assoc a (union_all ++ b) rest)) (statement-begins i ((union_all ++ b) ++ rest))
+
+-- where a statement begins, both parsers are the same
+statement-is : (a : Lexemes) (x : Command) → IsCommand a x → is_statement x ≡ true → (rest : Lexemes) → c.statement (a ++ rest) ≡ c.command (a ++ rest)
+statement-is _ _ (g.create name a cols i) h rest = cc
+statement-is _ _ g.begin h rest = cc
+statement-is _ _ g.begin_read_committed h rest = cc
+statement-is _ _ g.commit h rest = cc
+statement-is _ _ g.rollback h rest = cc
+statement-is _ _ (g.insert table a rows i) h rest = refl
+statement-is _ _ (g.insert_select table a xs i) h rest = refl
+statement-is _ _ (g.update table a w sets cond i j) h rest = refl
+statement-is _ _ (g.delete table w cond i) h rest = refl
+statement-is _ _ (g.select a xs i) h rest = statement-begins i rest
+
+pub statement-complete : (a : Lexemes) (x : Command) → IsStatement a x → (rest : Lexemes) → EndsQuery rest → c.statement (a ++ rest) ≡ Ok (capped_command x, rest)
+statement-complete a x i rest h = statement-is a x i.command i.statement rest ∙ command-complete a x i.command rest h
+
 -- ---- lines
 
 pub nothing-ends : EndsQuery []
@@ -376,6 +400,9 @@ nothing-ends = record { block = record { loose = omega arith; no_comma = refl; n
 
 pub semicolon-ends : (ts : Lexemes) → EndsQuery (Sign s.Semicolon ∷ ts)
 semicolon-ends ts = record { block = record { loose = omega arith; no_comma = refl; no_where = refl; no_alias = λ table. refl }; no_union = refl }
+
+pub close-ends : (ts : Lexemes) → EndsQuery (Sign s.Close ∷ ts)
+close-ends ts = record { block = record { loose = omega arith; no_comma = refl; no_where = refl; no_alias = λ table. refl }; no_union = refl }
 
 pub whole-command : (a : Lexemes) (x : Command) → IsCommand a x → c.command a ≡ Ok (capped_command x, [])
 whole-command a x i = ap c.command (sym (append-nil a)) ∙ command-complete a x i [] nothing-ends

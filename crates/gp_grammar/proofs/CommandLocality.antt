@@ -85,6 +85,35 @@ name-first table (Text bytes ∷ ts) = refl
 abbrev selected : Parser Command
 selected ts = c.query ts >>= (λ r. Ok (syntax.select r.0, r.1))
 
+abbrev statement_symbol : Symbol → Option (Parser Command)
+statement_symbol s.Insert = Some c.insert
+statement_symbol s.Update = Some c.update
+statement_symbol s.Delete = Some c.delete
+statement_symbol _ = None
+
+abbrev statement_choice : Lexeme → Option (Parser Command)
+statement_choice (Sign symbol) = statement_symbol symbol
+statement_choice (Word word) = None
+statement_choice (Number n) = None
+statement_choice Big = None
+statement_choice (Text bytes) = None
+
+statement_symbol-first : (symbol : Symbol) (ts : Lexemes) → c.statement_by symbol (Sign symbol ∷ ts) ts ≡ by_option (statement_symbol symbol) (selected (Sign symbol ∷ ts)) (λ p. p ts)
+unfolding c.query c.block expect
+statement_symbol-first s.Insert ts = refl
+statement_symbol-first s.Update ts = refl
+statement_symbol-first s.Delete ts = refl
+statement_symbol-first _ ts = refl
+
+statement-first : (ts : Lexemes) → c.statement ts ≡ first_choice statement_choice selected ts
+unfolding c.query c.block expect
+statement-first [] = refl
+statement-first (Sign symbol ∷ ts) = statement_symbol-first symbol ts
+statement-first (Word word ∷ ts) = refl
+statement-first (Number n ∷ ts) = refl
+statement-first (Big ∷ ts) = refl
+statement-first (Text bytes ∷ ts) = refl
+
 abbrev command_symbol : Symbol → Option (Parser Command)
 command_symbol s.Create = Some c.create
 command_symbol s.Begin = Some c.begin
@@ -249,6 +278,25 @@ module _ (t : Lexeme) (m m' : Lexemes) where
   local-delete n = local-expect t m m' n s.From _ (local-bind t m m' n identifier _ (local-identifier t m m' n) (λ table.
       local-bind t m m' n c.condition _ (local-condition n) (λ cond. local-ok t m m' n (syntax.delete table cond))))
 
+  statement_symbol-chosen : (n : ℕ) (symbol : Symbol) (p : Parser Command) → statement_symbol symbol ≡ Some p → Local t m m' n p
+  statement_symbol-chosen n s.Insert p e = is_local-is n _ p (local-insert n) e
+  statement_symbol-chosen n s.Update p e = is_local-is n _ p (local-update n) e
+  statement_symbol-chosen n s.Delete p e = is_local-is n _ p (local-delete n) e
+  statement_symbol-chosen n _ p e = cc
+
+  statement-chosen : (n : ℕ) (x : Lexeme) (p : Parser Command) → statement_choice x ≡ Some p → Local t m m' n p
+  statement-chosen n (Sign symbol) p e = statement_symbol-chosen n symbol p e
+  statement-chosen n (Word word) p e = cc
+  statement-chosen n (Number k) p e = cc
+  statement-chosen n Big p e = cc
+  statement-chosen n (Text bytes) p e = cc
+
+  local-selected : IsLocal selected
+  local-selected n = local-bind t m m' n c.query _ (local-query n) (λ xs. local-ok t m m' n (syntax.select xs))
+
+  pub local-statement : IsLocal c.statement
+  local-statement = local-first-all t m m' c.statement statement_choice selected statement-first statement-chosen local-selected
+
   local-begin : IsLocal c.begin
   unfolding c.begin
   local-begin = local-word-all t m m' (codes "read") (expect_word (codes "committed") (accept (syntax.begin true))) (accept (syntax.begin false))
@@ -273,8 +321,7 @@ module _ (t : Lexeme) (m m' : Lexemes) where
   command-chosen n (Text bytes) p e = cc
 
   pub local-command : IsLocal c.command
-  local-command = local-first-all t m m' c.command command_choice selected command-first command-chosen
-      (λ n. local-bind t m m' n c.query _ (local-query n) (λ xs. local-ok t m m' n (syntax.select xs)))
+  local-command = local-first-all t m m' c.command command_choice selected command-first command-chosen local-selected
 
   session-chosen : (n : ℕ) (x : Lexeme) (p : Parser ScriptLine) → session_choice x ≡ Some p → Local t m m' n p
   session-chosen n (Word name) p e = go (session_of name) e

@@ -16,7 +16,7 @@ use Rattle.gp_grammar.specs.CommandParsing as c
 use Rattle.gp_grammar.specs.CommandParsing.{◌then◌, accept, expect_word, separated, push, named}
 use Rattle.gp_grammar.proofs.Building.{BuildsTerm}
 use Rattle.gp_grammar.proofs.CommandBuilding as built
-use Rattle.gp_grammar.proofs.CommandBuilding.{BuildsWhere, BuildsItems, BuildsBlock, BuildsQuery, BuildsSetTerm, BuildsCommand, BuildsSession, as_is}
+use Rattle.gp_grammar.proofs.CommandBuilding.{BuildsWhere, BuildsItems, BuildsBlock, BuildsQuery, BuildsSetTerm, BuildsCommand, BuildsStatement, BuildsSession, as_is, statement_as_is}
 use Rattle.gp_grammar.proofs.Soundness.{Sentence, Sound, sound-ok, sound-err, sound-shift, sound-bind, sound-phrase, expect-sound, identifier-sound, term-sound}
 use Rattle.gp_grammar.proofs.SoundCombinators.{next-sound, word-sound, expect_word-sound, list-sound, separated-sound, in_brackets-sound, closed-sound}
 
@@ -131,32 +131,32 @@ create-sound ts = expect-sound s.Table (λ b y. BuildsCommand (Sign s.Create ∷
     (in_brackets-sound (IsList comma IsColumn) _ (separated c.column) (λ a cols i. as_is _ _ (g.create name a cols i) refl) (separated-sound IsColumn c.column column-sound) ts2)
     (λ b ts3 cols i. sound-ok _ ts3 (syntax.create (record { name = name; cols = cols })) (rw append-nil i))))
 
-insert-sound : (ts : Lexemes) → Sound (λ b y. BuildsCommand (Sign s.Insert ∷ b) y) ts (c.insert ts)
+insert-sound : (ts : Lexemes) → Sound (λ b y. BuildsStatement (Sign s.Insert ∷ b) y) ts (c.insert ts)
 unfolding c.insert
-insert-sound ts = expect-sound s.Into (λ b y. BuildsCommand (Sign s.Insert ∷ b) y) ts _ (λ ts1.
-    identifier-sound (λ b y. BuildsCommand (Sign s.Insert ∷ Sign s.Into ∷ b) y) ts1 _ (λ table ts2.
-    next-sound s.Values (λ b y. BuildsCommand (Sign s.Insert ∷ Sign s.Into ∷ Word table ∷ b) y)
+insert-sound ts = expect-sound s.Into (λ b y. BuildsStatement (Sign s.Insert ∷ b) y) ts _ (λ ts1.
+    identifier-sound (λ b y. BuildsStatement (Sign s.Insert ∷ Sign s.Into ∷ b) y) ts1 _ (λ table ts2.
+    next-sound s.Values (λ b y. BuildsStatement (Sign s.Insert ∷ Sign s.Into ∷ Word table ∷ b) y)
     (λ rest. separated c.tuple rest >>= (λ r. Ok (syntax.insert table r.0, r.1))) (λ rest. c.query rest >>= (λ r. Ok (syntax.insert_select table r.0, r.1))) ts2
-    (λ ts3. sound-bind (IsList comma IsTuple) (λ b y. BuildsCommand (Sign s.Insert ∷ Sign s.Into ∷ Word table ∷ Sign s.Values ∷ b) y) ts3 (separated c.tuple ts3) _
+    (λ ts3. sound-bind (IsList comma IsTuple) (λ b y. BuildsStatement (Sign s.Insert ∷ Sign s.Into ∷ Word table ∷ Sign s.Values ∷ b) y) ts3 (separated c.tuple ts3) _
     (separated-sound IsTuple c.tuple tuple-sound ts3)
-    (λ a ts4 rows i. sound-ok _ ts4 (syntax.insert table rows) (rw append-nil (as_is _ _ (g.insert table a rows i) refl))))
-    (sound-bind BuildsQuery (λ b y. BuildsCommand (Sign s.Insert ∷ Sign s.Into ∷ Word table ∷ b) y) ts2 (c.query ts2) _ (query-sound ts2)
+    (λ a ts4 rows i. sound-ok _ ts4 (syntax.insert table rows) (rw append-nil (statement_as_is _ _ (g.insert table a rows i) refl refl))))
+    (sound-bind BuildsQuery (λ b y. BuildsStatement (Sign s.Insert ∷ Sign s.Into ∷ Word table ∷ b) y) ts2 (c.query ts2) _ (query-sound ts2)
     (λ a ts3 xs i. sound-ok _ ts3 (syntax.insert_select table xs) (rw append-nil (built.insert_select table a xs i))))))
 
-update-sound : (ts : Lexemes) → Sound (λ b y. BuildsCommand (Sign s.Update ∷ b) y) ts (c.update ts)
+update-sound : (ts : Lexemes) → Sound (λ b y. BuildsStatement (Sign s.Update ∷ b) y) ts (c.update ts)
 unfolding c.update
-update-sound ts = identifier-sound (λ b y. BuildsCommand (Sign s.Update ∷ b) y) ts _ (λ table ts1.
-    expect-sound s.Set (λ b y. BuildsCommand (Sign s.Update ∷ Word table ∷ b) y) ts1 _ (λ ts2.
-    sound-bind (IsList comma BuildsSetTerm) (λ b y. BuildsCommand (Sign s.Update ∷ Word table ∷ Sign s.Set ∷ b) y) ts2 (separated c.set_term ts2) _
+update-sound ts = identifier-sound (λ b y. BuildsStatement (Sign s.Update ∷ b) y) ts _ (λ table ts1.
+    expect-sound s.Set (λ b y. BuildsStatement (Sign s.Update ∷ Word table ∷ b) y) ts1 _ (λ ts2.
+    sound-bind (IsList comma BuildsSetTerm) (λ b y. BuildsStatement (Sign s.Update ∷ Word table ∷ Sign s.Set ∷ b) y) ts2 (separated c.set_term ts2) _
     (separated-sound BuildsSetTerm c.set_term set_term-sound ts2) (λ a ts3 sets i.
-    sound-bind BuildsWhere (λ b y. BuildsCommand (Sign s.Update ∷ Word table ∷ Sign s.Set ∷ (a ++ b)) y) ts3 (c.condition ts3) _ (condition-sound ts3)
+    sound-bind BuildsWhere (λ b y. BuildsStatement (Sign s.Update ∷ Word table ∷ Sign s.Set ∷ (a ++ b)) y) ts3 (c.condition ts3) _ (condition-sound ts3)
     (λ w ts4 cond j. sound-ok _ ts4 (syntax.update table sets cond) (let z : w ++ [] ≡ w = append-nil w in rw z (built.update table a w sets cond i j))))))
 
-delete-sound : (ts : Lexemes) → Sound (λ b y. BuildsCommand (Sign s.Delete ∷ b) y) ts (c.delete ts)
+delete-sound : (ts : Lexemes) → Sound (λ b y. BuildsStatement (Sign s.Delete ∷ b) y) ts (c.delete ts)
 unfolding c.delete
-delete-sound ts = expect-sound s.From (λ b y. BuildsCommand (Sign s.Delete ∷ b) y) ts _ (λ ts1.
-    identifier-sound (λ b y. BuildsCommand (Sign s.Delete ∷ Sign s.From ∷ b) y) ts1 _ (λ table ts2.
-    sound-bind BuildsWhere (λ b y. BuildsCommand (Sign s.Delete ∷ Sign s.From ∷ Word table ∷ b) y) ts2 (c.condition ts2) _ (condition-sound ts2)
+delete-sound ts = expect-sound s.From (λ b y. BuildsStatement (Sign s.Delete ∷ b) y) ts _ (λ ts1.
+    identifier-sound (λ b y. BuildsStatement (Sign s.Delete ∷ Sign s.From ∷ b) y) ts1 _ (λ table ts2.
+    sound-bind BuildsWhere (λ b y. BuildsStatement (Sign s.Delete ∷ Sign s.From ∷ Word table ∷ b) y) ts2 (c.condition ts2) _ (condition-sound ts2)
     (λ w ts3 cond i. sound-ok _ ts3 (syntax.delete table cond) (rw append-nil (built.delete table w cond i)))))
 
 begin-sound : (ts : Lexemes) → Sound (λ b y. BuildsCommand (Sign s.Begin ∷ b) y) ts (c.begin ts)
@@ -166,6 +166,29 @@ begin-sound ts = word-sound (codes "read") (λ b y. BuildsCommand (Sign s.Begin 
     (λ ts2. sound-ok _ ts2 (syntax.begin true) (as_is _ _ g.begin_read_committed refl)))
     (sound-ok _ ts (syntax.begin false) (as_is _ _ g.begin refl))
 
+a_delete : Sentence BuildsStatement
+a_delete = record {
+  lexemes = Sign s.Delete ∷ Sign s.From ∷ Word (codes "r") ∷ [];
+  tree = syntax.delete (codes "r") None;
+  is = built.delete (codes "r") [] None built.no_condition;
+}
+
+statement_by-sound : (symbol : Symbol) (ts : Lexemes) → Sound BuildsStatement (Sign symbol ∷ ts) (c.statement_by symbol (Sign symbol ∷ ts) ts)
+statement_by-sound s.Insert ts = sound-shift BuildsStatement (Sign s.Insert ∷ []) ts (c.insert ts) (insert-sound ts)
+statement_by-sound s.Update ts = sound-shift BuildsStatement (Sign s.Update ∷ []) ts (c.update ts) (update-sound ts)
+statement_by-sound s.Delete ts = sound-shift BuildsStatement (Sign s.Delete ∷ []) ts (c.delete ts) (delete-sound ts)
+statement_by-sound s.Select ts = sound-bind BuildsQuery BuildsStatement (Sign s.Select ∷ ts) (c.query (Sign s.Select ∷ ts)) _ (query-sound (Sign s.Select ∷ ts))
+    (λ a ts1 xs i. sound-ok _ ts1 (syntax.select xs) (rw append-nil (built.select a xs i)))
+statement_by-sound _ ts = sound-err BuildsStatement _ a_delete
+
+pub statement-sound : (ts : Lexemes) → Sound BuildsStatement ts (c.statement ts)
+statement-sound [] = sound-err BuildsStatement _ a_delete
+statement-sound (Sign symbol ∷ ts) = statement_by-sound symbol ts
+statement-sound (Word word ∷ ts) = sound-err BuildsStatement _ a_delete
+statement-sound (Number n ∷ ts) = sound-err BuildsStatement _ a_delete
+statement-sound (Big ∷ ts) = sound-err BuildsStatement _ a_delete
+statement-sound (Text bytes ∷ ts) = sound-err BuildsStatement _ a_delete
+
 a_begin : Sentence BuildsCommand
 a_begin = record { lexemes = Sign s.Begin ∷ []; tree = syntax.begin false; is = as_is _ _ g.begin refl }
 
@@ -174,12 +197,7 @@ command_by-sound s.Create ts = sound-shift BuildsCommand (Sign s.Create ∷ []) 
 command_by-sound s.Begin ts = sound-shift BuildsCommand (Sign s.Begin ∷ []) ts (c.begin ts) (begin-sound ts)
 command_by-sound s.Commit ts = record { used = Sign s.Commit ∷ []; split = refl; is = as_is _ _ g.commit refl }
 command_by-sound s.Rollback ts = record { used = Sign s.Rollback ∷ []; split = refl; is = as_is _ _ g.rollback refl }
-command_by-sound s.Insert ts = sound-shift BuildsCommand (Sign s.Insert ∷ []) ts (c.insert ts) (insert-sound ts)
-command_by-sound s.Update ts = sound-shift BuildsCommand (Sign s.Update ∷ []) ts (c.update ts) (update-sound ts)
-command_by-sound s.Delete ts = sound-shift BuildsCommand (Sign s.Delete ∷ []) ts (c.delete ts) (delete-sound ts)
-command_by-sound s.Select ts = sound-bind BuildsQuery BuildsCommand (Sign s.Select ∷ ts) (c.query (Sign s.Select ∷ ts)) _ (query-sound (Sign s.Select ∷ ts))
-    (λ a ts1 xs i. sound-ok _ ts1 (syntax.select xs) (rw append-nil (built.select a xs i)))
-command_by-sound _ ts = sound-err BuildsCommand _ a_begin
+command_by-sound symbol ts = sound-phrase BuildsStatement BuildsCommand (Sign symbol ∷ ts) (c.statement_by symbol (Sign symbol ∷ ts) ts) (λ a y i. built.statement a y i) (statement_by-sound symbol ts)
 
 pub command-sound : (ts : Lexemes) → Sound BuildsCommand ts (c.command ts)
 command-sound [] = sound-err BuildsCommand _ a_begin

@@ -10,7 +10,7 @@ use Rattle.gp_grammar.specs.Syntax as y
 use Rattle.gp_grammar.specs.Syntax.{Lexemes}
 use Rattle.gp_grammar.specs.declared.limits.TheConstants.{MAX_OPEN}
 use Rattle.gp_grammar.specs.Depth.{is_too_deep}
-use Rattle.gp_grammar.specs.Limits.{columns, passed_limit}
+use Rattle.gp_grammar.specs.Limits.{columns, both, passed_limit}
 use Rattle.gp_grammar.specs.Parsing as p
 use Rattle.gp_grammar.specs.Parsing.{whole}
 use Rattle.gp_grammar.specs.CommandParsing as c
@@ -137,6 +137,40 @@ witness_name : r.question_of (codes "reenact 1 after 2 select * from witness wit
 unfolding is_utf8 chars lib.Utf8.encode lex.lexed lex.lexed_from lex.lexeme_at lex.word_at lex.reserved_word symbol_text lex.number_at lex.sign_at p.expect q.open_question q.ask q.how q.state c.query c.block c.items c.item c.condition c.separated c.many c.repeat
 witness_name = refl
 
+-- a change without a statement, and with another one in its place
+dropped : r.question_of (codes "WHATIF DROP 2 1 OF AS OF 5 SELECT * FROM acct") ≡ Ok (y.what_if (y.drop 2 1) y.rows (y.as_of 5)
+    ((record { items = y.star; from = (record { table = codes "acct"; name = codes "acct" }) ∷ []; cond = None }) ∷ []))
+unfolding is_utf8 chars lib.Utf8.encode lex.lexed lex.lexed_from lex.lexeme_at lex.word_at lex.reserved_word symbol_text lex.number_at lex.sign_at p.expect q.open_question q.ask q.what_if q.change q.dropped q.how q.state c.query c.block c.items c.item c.condition c.separated c.many c.repeat
+dropped = refl
+
+replaced : r.question_of (codes "whatif replace 3 1 by (delete from r) of provenance of as of 5 select * from r;") ≡ Ok (y.what_if (y.replace 3 1 (y.delete (codes "r") None)) y.provenance (y.as_of 5)
+    ((record { items = y.star; from = (record { table = codes "r"; name = codes "r" }) ∷ []; cond = None }) ∷ []))
+unfolding is_utf8 chars lib.Utf8.encode lex.lexed lex.lexed_from lex.lexeme_at lex.word_at lex.reserved_word symbol_text lex.number_at lex.sign_at p.expect q.open_question q.ask q.what_if q.change q.replaced q.how q.state c.delete c.query c.block c.items c.item c.condition c.separated c.many c.repeat
+replaced = refl
+
+-- only a statement is added, and in brackets
+added_begin : r.question_of (codes "WHATIF ADD 4 BY (BEGIN) OF AS OF 4 SELECT * FROM r") ≡ Err (r.syntax 18)
+unfolding is_utf8 chars lib.Utf8.encode lex.lexed lex.lexed_from lex.lexeme_at lex.word_at lex.reserved_word symbol_text lex.number_at lex.sign_at p.expect q.open_question q.ask q.what_if q.change q.added
+added_begin = refl
+
+added_bare : r.question_of (codes "WHATIF ADD 4 BY DELETE FROM r OF AS OF 4 SELECT * FROM r") ≡ Err (r.syntax 17)
+unfolding is_utf8 chars lib.Utf8.encode lex.lexed lex.lexed_from lex.lexeme_at lex.word_at lex.reserved_word symbol_text lex.number_at lex.sign_at p.expect q.open_question q.ask q.what_if q.change q.added
+added_bare = refl
+
+second_table : r.question_of (codes "WHATIF ADD 3 BY (UPDATE m17 AFTER SET b = b) OF AS OF 3 SELECT * FROM m17") ≡ Err (r.syntax 29)
+unfolding is_utf8 chars lib.Utf8.encode lex.lexed lex.lexed_from lex.lexeme_at lex.word_at lex.reserved_word symbol_text lex.number_at lex.sign_at p.expect q.open_question q.ask q.what_if q.change q.added c.update
+second_table = refl
+
+-- the words of changes are names elsewhere, and a change needs one of them
+change_names : r.question_of (codes "whatif drop 1 1 of as of 1 select * from whatif drop") ≡ Ok (y.what_if (y.drop 1 1) y.rows (y.as_of 1)
+    ((record { items = y.star; from = (record { table = codes "whatif"; name = codes "drop" }) ∷ []; cond = None }) ∷ []))
+unfolding is_utf8 chars lib.Utf8.encode lex.lexed lex.lexed_from lex.lexeme_at lex.word_at lex.reserved_word symbol_text lex.number_at lex.sign_at p.expect q.open_question q.ask q.what_if q.change q.dropped q.how q.state c.query c.block c.items c.item c.condition c.separated c.many c.repeat
+change_names = refl
+
+no_change : r.question_of (codes "whatif table drop 6 0 of as of 1 select * from r") ≡ Err (r.syntax 8)
+unfolding is_utf8 chars lib.Utf8.encode lex.lexed lex.lexed_from lex.lexeme_at lex.word_at lex.reserved_word symbol_text lex.number_at lex.sign_at p.expect q.open_question q.ask q.what_if q.change
+no_change = refl
+
 canonical_update : option_map command_text (result_ok (r.command_of (codes "update R set b = -b * c + 'x' where not a = b and b is null or a <> c")))
     ≡ Some (codes "UPDATE r SET b = (((-b) * c) + 'x') WHERE (((NOT (a = b)) AND (b IS NULL)) OR (a <> c))")
 unfolding is_utf8 chars lib.Utf8.encode lex.lexed lex.lexed_from lex.lexeme_at lex.word_at lex.reserved_word symbol_text lex.number_at lex.sign_at p.expect c.update c.set_term c.separated c.many c.repeat c.condition p.term p.term_within p.joined p.chain p.chain_within p.negation p.full_test p.factor p.column p.brackets p.value_test cap.binary cap.neg cap.not cap.is_null written
@@ -166,6 +200,11 @@ too_deep = refl
 
 deep_enough : is_too_deep MAX_OPEN (replicate 60 (Sign s.Open) ++ (Sign s.Close ∷ Sign s.Case ∷ [])) ≡ false
 deep_enough = refl
+
+-- limit by limit over a change and a query: too many columns in the query come before too many tuples in the change
+both_parts : passed_limit (both (record { columns = []; from = []; branches = 0; values = 101; terms = [] }) (record { columns = 17 ∷ []; from = 1 ∷ []; branches = 1; values = 0; terms = [] }))
+    ≡ Some columns
+both_parts = refl
 
 -- 17 columns are too many, and are told before five FROM items
 too_many_columns : passed_limit (record { columns = 16 ∷ 17 ∷ []; from = 5 ∷ []; branches = 9; values = 101; terms = [] }) ≡ Some columns

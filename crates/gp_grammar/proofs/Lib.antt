@@ -19,7 +19,9 @@ pub mod QuestionLocality
 pub mod PlaceLemmas
 pub mod ParserLaws
 pub mod ShapeLemmas
+pub mod BothLemmas
 pub mod LineLaws
+pub mod ChangeLaws
 pub mod CanonicalTerms
 pub mod CanonicalDepth
 pub mod CanonicalCommands

@@ -1,5 +1,5 @@
 -- What the grammar of questions derives is parsed.
-use Rattle.std.proofs.Common.{◌≡◌, ℕ, zero, suc, ◌<◌, ◌≤◌, Bool, true, false, cond, List, [], ◌∷◌, ◌++◌, map, length, Option, Some, None, Ok, Err, IfSome, refl, ap, arith, ◌∙◌, append_assoc}
+use Rattle.std.proofs.Common.{◌≡◌, ℕ, zero, suc, ◌<◌, ◌≤◌, Bool, true, false, cond, List, [], ◌∷◌, ◌++◌, map, length, Option, Some, None, Ok, Err, IfSome, refl, sym, ap, subst, arith, ◌∙◌, append_assoc}
 use Rattle.std.specs.Prelude.{codes, nat_le}
 use Rattle.std.proofs.lemmas.Bool.{le-leb}
 use Rattle.gp_lexer.specs.declared.lexeme.Symbol.TheVariants as s
@@ -9,19 +9,19 @@ use Rattle.gp_grammar.specs.declared.token_kind.TokenKind.{TokenKind}
 use Rattle.gp_grammar.specs.declared.token_kind.TokenKind.TheVariants as token
 use Rattle.gp_grammar.specs.declared.limits.TheConstants.{MAX_PATTERN_NUMBER}
 use Rattle.gp_grammar.specs.Syntax as syntax
-use Rattle.gp_grammar.specs.Syntax.{Lexemes, Bytes, State, Pattern, Rule, rule_of, Rules, How, Query, Question}
-use Rattle.gp_grammar.specs.Capping.{capped_block, capped_question}
+use Rattle.gp_grammar.specs.Syntax.{Lexemes, Bytes, Command, State, Pattern, Rule, rule_of, Rules, How, Query, LogChange, Question}
+use Rattle.gp_grammar.specs.Capping.{capped_block, capped_command, capped_change, capped_question}
 use Rattle.gp_grammar.specs.CommandGrammar as l
-use Rattle.gp_grammar.specs.CommandGrammar.{IsList, comma, IsQuery, Closed}
+use Rattle.gp_grammar.specs.CommandGrammar.{IsList, comma, IsQuery, IsStatement, Closed}
 use Rattle.gp_grammar.specs.QuestionGrammar as g
-use Rattle.gp_grammar.specs.QuestionGrammar.{IsState, IsSemiring, IsPattern, IsRule, IsRules, IsLeftOut, IsHow, IsOpenQuestion, pattern_name}
+use Rattle.gp_grammar.specs.QuestionGrammar.{IsState, IsSemiring, IsPattern, IsRule, IsRules, IsLeftOut, IsHow, IsAsk, IsChange, IsOpenQuestion, pattern_name}
 use Rattle.gp_grammar.specs.Parsing.{Outcome, Parser, ◌>>=◌, by_option, strip, expect, identifier}
-use Rattle.gp_grammar.specs.CommandParsing.{◌then◌, where_next, accept, strip_word, where_word, expect_word, push, separated, query}
+use Rattle.gp_grammar.specs.CommandParsing.{◌then◌, where_next, accept, strip_word, where_word, expect_word, push, separated, query, statement}
 use Rattle.gp_grammar.specs.QuestionParsing as q
 use Rattle.gp_grammar.specs.QuestionParsing.{number_if, number, pattern_of}
 use Rattle.gp_grammar.proofs.Agreement.{Agree, agree-refl, agree-bind, agree-weaken, strip-less}
 use Rattle.gp_grammar.proofs.Shrinking.{Below, Shrinks, Keeps, shrinks-keeps, keeps-accept, shrinks-bind, keeps-bind, keeps-next, shrinks-then}
-use Rattle.gp_grammar.proofs.CommandCompleteness.{EndsQuery, separated-exact, query-complete, closed-complete}
+use Rattle.gp_grammar.proofs.CommandCompleteness.{EndsQuery, close-ends, separated-exact, in_brackets-complete, query-complete, statement-complete, closed-complete}
 
 -- ---- the parser of rules shrinks, and its bound does not matter
 
@@ -245,11 +245,12 @@ record BeginsState (ts : Lexemes) : Type 0 where
   no_without : strip_word (codes "without") ts ≡ None
   no_log : strip_word (codes "log") ts ≡ None
   no_versions : strip_word (codes "versions") ts ≡ None
+  no_what_if : strip_word (codes "whatif") ts ≡ None
 
 begins-state : (b : Lexemes) (x : State) → IsState b x → (rest : Lexemes) → BeginsState (b ++ rest)
-begins-state _ _ (g.as_of v) rest = record { no_explain = refl; no_provenance = refl; no_value = refl; no_without = refl; no_log = refl; no_versions = refl }
-begins-state _ _ (g.after t k) rest = record { no_explain = refl; no_provenance = refl; no_value = refl; no_without = refl; no_log = refl; no_versions = refl }
-begins-state _ _ (g.commit t) rest = record { no_explain = refl; no_provenance = refl; no_value = refl; no_without = refl; no_log = refl; no_versions = refl }
+begins-state _ _ (g.as_of v) rest = record { no_explain = refl; no_provenance = refl; no_value = refl; no_without = refl; no_log = refl; no_versions = refl; no_what_if = refl }
+begins-state _ _ (g.after t k) rest = record { no_explain = refl; no_provenance = refl; no_value = refl; no_without = refl; no_log = refl; no_versions = refl; no_what_if = refl }
+begins-state _ _ (g.commit t) rest = record { no_explain = refl; no_provenance = refl; no_value = refl; no_without = refl; no_log = refl; no_versions = refl; no_what_if = refl }
 
 value-of : (ts us rest : Lexemes) (k : SemiringName) (r : Rules) → q.semiring_name ts ≡ Ok (k, us) → q.rules us ≡ Ok (r, Word (codes "of") ∷ rest)
     → q.value (Word (codes "in") ∷ ts) ≡ Ok (syntax.value k r.rules r.other, rest)
@@ -282,44 +283,91 @@ how-complete _ _ (g.without a xs i) rest h = ap q.without (append_assoc a (Word 
 record BeginsAsk (ts : Lexemes) : Type 0 where
   no_log : strip_word (codes "log") ts ≡ None
   no_versions : strip_word (codes "versions") ts ≡ None
+  no_what_if : strip_word (codes "whatif") ts ≡ None
 
-begins-ask : (a : Lexemes) (x : How) → IsHow a x → (rest : Lexemes) → BeginsState rest → BeginsAsk (a ++ rest)
-begins-ask _ _ g.rows rest h = record { no_log = h.no_log; no_versions = h.no_versions }
-begins-ask _ _ g.provenance rest h = record { no_log = refl; no_versions = refl }
-begins-ask _ _ g.explain rest h = record { no_log = refl; no_versions = refl }
-begins-ask _ _ g.explain_provenance rest h = record { no_log = refl; no_versions = refl }
-begins-ask _ _ (g.value a b k r i j) rest h = record { no_log = refl; no_versions = refl }
-begins-ask _ _ (g.without a xs i) rest h = record { no_log = refl; no_versions = refl }
-
-ask-of : (ts us ws rest : Lexemes) (how : How) (state : State) (xs : Query) → q.how ts ≡ Ok (how, us) → q.state us ≡ Ok (state, ws) → query ws ≡ Ok (xs, rest)
-    → q.ask ts ≡ Ok (syntax.ask how state xs, rest)
-unfolding q.ask
-ask-of ts us ws rest how state xs e f h =
-    ap (λ o. o >>= (λ how. q.state how.1 >>= (λ state. query state.1 >>= (λ xs. Ok (syntax.ask how.0 state.0 xs.0, xs.1))))) e
-    ∙ ap (λ o. o >>= (λ state. query state.1 >>= (λ xs. Ok (syntax.ask how state.0 xs.0, xs.1)))) f
-    ∙ ap (λ o. o >>= (λ xs. Ok (syntax.ask how state xs.0, xs.1))) h
+begins-how : (a : Lexemes) (x : How) → IsHow a x → (rest : Lexemes) → BeginsState rest → BeginsAsk (a ++ rest)
+begins-how _ _ g.rows rest h = record { no_log = h.no_log; no_versions = h.no_versions; no_what_if = h.no_what_if }
+begins-how _ _ g.provenance rest h = record { no_log = refl; no_versions = refl; no_what_if = refl }
+begins-how _ _ g.explain rest h = record { no_log = refl; no_versions = refl; no_what_if = refl }
+begins-how _ _ g.explain_provenance rest h = record { no_log = refl; no_versions = refl; no_what_if = refl }
+begins-how _ _ (g.value a b k r i j) rest h = record { no_log = refl; no_versions = refl; no_what_if = refl }
+begins-how _ _ (g.without a xs i) rest h = record { no_log = refl; no_versions = refl; no_what_if = refl }
 
 ask-split : (a b c rest : Lexemes) → (a ++ (b ++ c)) ++ rest ≡ a ++ (b ++ (c ++ rest))
 ask-split a b c rest = simp append_assoc
 
-open-of : (ts rest : Lexemes) (x : Question) → BeginsAsk ts → q.ask ts ≡ Ok (x, rest) → q.open_question ts ≡ Ok (x, rest)
+begins-ask : (a : Lexemes) (how : How) (state : State) (xs : Query) → IsAsk a how state xs → (rest : Lexemes) → BeginsAsk (a ++ rest)
+begins-ask _ _ _ _ (g.asked a b c how state xs i j k) rest =
+    let P : Lexemes → Type 0 = λ z. BeginsAsk z in
+    subst P (sym (ask-split a b c rest)) (begins-how a how i (b ++ (c ++ rest)) (begins-state b state j (c ++ rest)))
+
+module _ {A : Type 0} (question : How → State → Query → A) where
+  ask-of : (ts us ws rest : Lexemes) (how : How) (state : State) (xs : Query) → q.how ts ≡ Ok (how, us) → q.state us ≡ Ok (state, ws) → query ws ≡ Ok (xs, rest)
+      → q.ask question ts ≡ Ok (question how state xs, rest)
+  unfolding q.ask
+  ask-of ts us ws rest how state xs e f h =
+      ap (λ o. o >>= (λ how. q.state how.1 >>= (λ state. query state.1 >>= (λ xs. Ok (question how.0 state.0 xs.0, xs.1))))) e
+      ∙ ap (λ o. o >>= (λ state. query state.1 >>= (λ xs. Ok (question how state.0 xs.0, xs.1)))) f
+      ∙ ap (λ o. o >>= (λ xs. Ok (question how state xs.0, xs.1))) h
+
+  ask-complete : (a : Lexemes) (how : How) (state : State) (xs : Query) → IsAsk a how state xs → (rest : Lexemes) → EndsQuery rest
+      → q.ask question (a ++ rest) ≡ Ok (question how state (map capped_block xs), rest)
+  ask-complete _ _ _ _ (g.asked a b c how state xs i j k) rest h =
+      ap (q.ask question) (ask-split a b c rest)
+      ∙ ask-of (a ++ (b ++ (c ++ rest))) (b ++ (c ++ rest)) (c ++ rest) rest how state (map capped_block xs)
+      (how-complete a how i (b ++ (c ++ rest)) (begins-state b state j (c ++ rest))) (state-complete b state j (c ++ rest)) (query-complete c xs k rest h)
+
+-- ---- changes
+
+by_statement-complete : (a : Lexemes) (x : Command) → IsStatement a x → (rest : Lexemes)
+    → q.by_statement (Word (codes "by") ∷ ((Sign s.Open ∷ (a ++ (Sign s.Close ∷ []))) ++ rest)) ≡ Ok (capped_command x, rest)
+by_statement-complete a x i rest = in_brackets-complete statement a rest (capped_command x) (statement-complete a x i (Sign s.Close ∷ rest) (close-ends rest))
+
+replaced-of : (t k : ℕ) (ts rest : Lexemes) (x : Command) → q.by_statement ts ≡ Ok (x, rest) → q.replaced (Number t ∷ Number k ∷ ts) ≡ Ok (syntax.replace t k x, rest)
+unfolding q.replaced
+replaced-of t k ts rest x e = ap (λ o. o >>= (λ x. Ok (syntax.replace t k x.0, x.1))) e
+
+added-of : (t : ℕ) (ts rest : Lexemes) (x : Command) → q.by_statement ts ≡ Ok (x, rest) → q.added (Number t ∷ ts) ≡ Ok (syntax.add t x, rest)
+unfolding q.added
+added-of t ts rest x e = ap (λ o. o >>= (λ x. Ok (syntax.add t x.0, x.1))) e
+
+change-complete : (a : Lexemes) (x : LogChange) → IsChange a x → (rest : Lexemes) → q.change (a ++ rest) ≡ Ok (capped_change x, rest)
+unfolding q.change q.dropped
+change-complete _ _ (g.drop t k) rest = refl
+change-complete _ _ (g.replace t k a x i) rest = replaced-of t k _ rest (capped_command x) (by_statement-complete a x i rest)
+change-complete _ _ (g.add t a x i) rest = added-of t _ rest (capped_command x) (by_statement-complete a x i rest)
+
+what_if-of : (ts us rest : Lexemes) (change : LogChange) (x : Question) → q.change ts ≡ Ok (change, Word (codes "of") ∷ us) → q.ask (syntax.what_if change) us ≡ Ok (x, rest)
+    → q.what_if ts ≡ Ok (x, rest)
+unfolding q.what_if
+what_if-of ts us rest change x e f = ap (λ o. o >>= (λ change. expect_word (codes "of") (q.ask (syntax.what_if change.0)) change.1)) e ∙ f
+
+-- ---- questions
+
+abbrev versions_of : Parser Question
+versions_of = expect_word (codes "of") (λ ts. identifier ts >>= (λ table. Ok (syntax.versions table.0, table.1)))
+
+open-of : (ts rest : Lexemes) (x : Question) → BeginsAsk ts → q.ask syntax.ask ts ≡ Ok (x, rest) → q.open_question ts ≡ Ok (x, rest)
 unfolding q.open_question
 open-of ts rest x h e =
-    ap (λ o. by_option o (where_word (codes "versions") (expect_word (codes "of") (λ ts. identifier ts >>= (λ table. Ok (syntax.versions table.0, table.1)))) q.ask ts)
-    (λ ts. number ts >>= (λ t. Ok (syntax.log t.0, t.1)))) h.no_log
-    ∙ ap (λ o. by_option o (q.ask ts) (expect_word (codes "of") (λ ts. identifier ts >>= (λ table. Ok (syntax.versions table.0, table.1))))) h.no_versions
+    ap (λ o. by_option o (where_word (codes "versions") versions_of (where_word (codes "whatif") q.what_if (q.ask syntax.ask)) ts) (λ ts. number ts >>= (λ t. Ok (syntax.log t.0, t.1)))) h.no_log
+    ∙ ap (λ o. by_option o (where_word (codes "whatif") q.what_if (q.ask syntax.ask) ts) versions_of) h.no_versions
+    ∙ ap (λ o. by_option o (q.ask syntax.ask ts) q.what_if) h.no_what_if
     ∙ e
+
+what_if-split : (a b rest : Lexemes) → (a ++ (Word (codes "of") ∷ b)) ++ rest ≡ a ++ (Word (codes "of") ∷ (b ++ rest))
+what_if-split a b rest = append_assoc a (Word (codes "of") ∷ b) rest
 
 open_question-complete : (a : Lexemes) (x : Question) → IsOpenQuestion a x → (rest : Lexemes) → EndsQuery rest → q.open_question (a ++ rest) ≡ Ok (capped_question x, rest)
 unfolding q.open_question
 open_question-complete _ _ (g.log t) rest h = refl
 open_question-complete _ _ (g.versions table) rest h = refl
-open_question-complete _ _ (g.ask a b c how state xs i j k) rest h =
-    let f : BeginsState (b ++ (c ++ rest)) = begins-state b state j (c ++ rest) in
-    ap q.open_question (ask-split a b c rest)
-    ∙ open-of (a ++ (b ++ (c ++ rest))) rest (syntax.ask how state (map capped_block xs)) (begins-ask a how i (b ++ (c ++ rest)) f)
-    (ask-of (a ++ (b ++ (c ++ rest))) (b ++ (c ++ rest)) (c ++ rest) rest how state (map capped_block xs) (how-complete a how i (b ++ (c ++ rest)) f)
-    (state-complete b state j (c ++ rest)) (query-complete c xs k rest h))
+open_question-complete _ _ (g.ask a how state xs i) rest h =
+    open-of (a ++ rest) rest (syntax.ask how state (map capped_block xs)) (begins-ask a how state xs i rest) (ask-complete syntax.ask a how state xs i rest h)
+open_question-complete _ _ (g.what_if a b change how state xs i j) rest h =
+    ap q.what_if (what_if-split a b rest)
+    ∙ what_if-of (a ++ (Word (codes "of") ∷ (b ++ rest))) (b ++ rest) rest (capped_change change) (syntax.what_if (capped_change change) how state (map capped_block xs))
+    (change-complete a change i (Word (codes "of") ∷ (b ++ rest))) (ask-complete (syntax.what_if (capped_change change)) b how state xs j rest h)
 
 pub whole-question : (a : Lexemes) (x : Question) → Closed IsOpenQuestion a x → q.question a ≡ Ok (capped_question x, [])
 whole-question = closed-complete IsOpenQuestion capped_question q.open_question open_question-complete

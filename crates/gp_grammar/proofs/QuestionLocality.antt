@@ -9,16 +9,16 @@ use Rattle.gp_grammar.specs.declared.token_kind.TokenKind.{TokenKind}
 use Rattle.gp_grammar.specs.declared.token_kind.TokenKind.TheVariants as token
 use Rattle.gp_grammar.specs.declared.limits.TheConstants.{MAX_PATTERN_NUMBER}
 use Rattle.gp_grammar.specs.Syntax as syntax
-use Rattle.gp_grammar.specs.Syntax.{Lexemes, Bytes, Pattern, Rule, rule_of, Rules, How, Question}
+use Rattle.gp_grammar.specs.Syntax.{Lexemes, Bytes, Command, State, Pattern, Rule, rule_of, Rules, How, Query, LogChange, Question}
 use Rattle.gp_grammar.specs.QuestionGrammar.{pattern_name}
 use Rattle.gp_grammar.specs.Parsing.{Outcome, Parser, ◌>>=◌, by_option, identifier}
-use Rattle.gp_grammar.specs.CommandParsing.{◌then◌, where_next, fail, accept, where_word, expect_word, push, separated, query}
+use Rattle.gp_grammar.specs.CommandParsing.{◌then◌, where_next, fail, accept, where_word, expect_word, push, separated, in_brackets, query, statement}
 use Rattle.gp_grammar.specs.QuestionParsing as q
 use Rattle.gp_grammar.specs.QuestionParsing.{number_if, number, pattern_of}
 use Rattle.gp_grammar.proofs.QuestionCompleteness.{after_rule, rules_from-unfolds, shrinks-left_out}
 use Rattle.gp_grammar.proofs.Locality.{Local, local-ok, local-bind, local-err, local-expect, local-identifier, local-same}
-use Rattle.gp_grammar.proofs.LocalCombinators.{first_choice, local-zero, local-next, local-next-all, local-word-all, local-number, local-first-all, local-separated, local-closed}
-use Rattle.gp_grammar.proofs.CommandLocality.{local-query}
+use Rattle.gp_grammar.proofs.LocalCombinators.{first_choice, local-zero, local-next, local-next-all, local-word-all, local-number, local-first-all, local-separated, local-in_brackets, local-closed}
+use Rattle.gp_grammar.proofs.CommandLocality.{local-query, local-statement}
 
 some-is : {A : Type 0} (a b : A) → Some a ≡ Some b → a ≡ b
 some-is a b h = cc
@@ -155,17 +155,49 @@ module _ (t : Lexeme) (m m' : Lexemes) where
       (local-word-all t m m' (codes "value") q.value (where_word (codes "without") q.without (accept syntax.rows)) is_local-value
       (local-word-all t m m' (codes "without") q.without (accept syntax.rows) is_local-without (is_local-ok syntax.rows))))
 
-  is_local-ask : IsLocal q.ask
+  is_local-ask : {A : Type 0} (question : How → State → Query → A) → IsLocal (q.ask question)
   unfolding q.ask
-  is_local-ask = is_local-bind q.how _ is_local-how (λ how. is_local-bind q.state _ is_local-state (λ state. is_local-bind query _ (λ n. local-query t m m' n) (λ xs. is_local-ok (syntax.ask how state xs))))
+  is_local-ask question = is_local-bind q.how _ is_local-how (λ how. is_local-bind q.state _ is_local-state (λ state.
+      is_local-bind query _ (λ n. local-query t m m' n) (λ xs. is_local-ok (question how state xs))))
+
+  is_local-by_statement : IsLocal q.by_statement
+  is_local-by_statement = is_local-expect (codes "by") (in_brackets statement) (λ n. local-in_brackets t m m' statement n (local-statement t m m' n))
+
+  is_local-dropped : IsLocal q.dropped
+  unfolding q.dropped
+  is_local-dropped = is_local-bind number _ is_local-number (λ x. is_local-bind number _ is_local-number (λ k. is_local-ok (syntax.drop x k)))
+
+  is_local-replaced : IsLocal q.replaced
+  unfolding q.replaced
+  is_local-replaced = is_local-bind number _ is_local-number (λ x. is_local-bind number _ is_local-number (λ k.
+      is_local-bind q.by_statement _ is_local-by_statement (λ command. is_local-ok (syntax.replace x k command))))
+
+  is_local-added : IsLocal q.added
+  unfolding q.added
+  is_local-added = is_local-bind number _ is_local-number (λ x. is_local-bind q.by_statement _ is_local-by_statement (λ command. is_local-ok (syntax.add x command)))
+
+  is_local-change : IsLocal q.change
+  unfolding q.change
+  is_local-change = local-word-all t m m' (codes "drop") q.dropped (where_word (codes "replace") q.replaced (expect_word (codes "add") q.added)) is_local-dropped
+      (local-word-all t m m' (codes "replace") q.replaced (expect_word (codes "add") q.added) is_local-replaced (is_local-expect (codes "add") q.added is_local-added))
+
+  is_local-what_if : IsLocal q.what_if
+  unfolding q.what_if
+  is_local-what_if = is_local-bind q.change _ is_local-change
+      (λ change. is_local-expect (codes "of") (q.ask (syntax.what_if change)) (is_local-ask (syntax.what_if change)))
+
+  is_local-versions : IsLocal (expect_word (codes "of") (λ ts. identifier ts >>= (λ table. Ok (syntax.versions table.0, table.1))))
+  is_local-versions = is_local-expect (codes "of") _ (is_local-bind identifier _ (λ n. local-identifier t m m' n) (λ table. is_local-ok (syntax.versions table)))
 
   is_local-open_question : IsLocal q.open_question
   unfolding q.open_question
   is_local-open_question = local-word-all t m m' (codes "log") (λ ts. number ts >>= (λ t. Ok (syntax.log t.0, t.1)))
-      (where_word (codes "versions") (expect_word (codes "of") (λ ts. identifier ts >>= (λ table. Ok (syntax.versions table.0, table.1)))) q.ask)
+      (where_word (codes "versions") (expect_word (codes "of") (λ ts. identifier ts >>= (λ table. Ok (syntax.versions table.0, table.1))))
+      (where_word (codes "whatif") q.what_if (q.ask syntax.ask)))
       (is_local-bind number _ is_local-number (λ x. is_local-ok (syntax.log x)))
-      (local-word-all t m m' (codes "versions") (expect_word (codes "of") (λ ts. identifier ts >>= (λ table. Ok (syntax.versions table.0, table.1)))) q.ask
-      (is_local-expect (codes "of") _ (is_local-bind identifier _ (λ n. local-identifier t m m' n) (λ table. is_local-ok (syntax.versions table)))) is_local-ask)
+      (local-word-all t m m' (codes "versions") (expect_word (codes "of") (λ ts. identifier ts >>= (λ table. Ok (syntax.versions table.0, table.1))))
+      (where_word (codes "whatif") q.what_if (q.ask syntax.ask)) is_local-versions
+      (local-word-all t m m' (codes "whatif") q.what_if (q.ask syntax.ask) is_local-what_if (is_local-ask syntax.ask)))
 
   pub local-question : IsLocal q.question
   local-question n = local-closed t m m' q.open_question n (is_local-open_question n)

@@ -1,5 +1,5 @@
 -- The parser of questions is sound, and what it leaves before a fault begins a question.
-use Rattle.std.proofs.Common.{◌≡◌, ℕ, zero, suc, ◌≤◌, Bool, true, false, cond, List, [], ◌∷◌, ◌++◌, length, Option, Some, None, Ok, Err, refl, sym, ap, subst, append_assoc}
+use Rattle.std.proofs.Common.{◌≡◌, ℕ, zero, suc, ◌≤◌, Bool, true, false, cond, List, [], ◌∷◌, ◌++◌, length, Option, Some, None, Ok, Err, refl, sym, ap, subst, ◌∙◌, append_assoc}
 use Rattle.std.specs.Prelude.{codes, nat_le}
 use Rattle.std.proofs.lemmas.List.{append-nil}
 use Rattle.std.proofs.lemmas.Bool.{leb-true}
@@ -10,21 +10,21 @@ use Rattle.gp_grammar.specs.declared.token_kind.TokenKind.{TokenKind}
 use Rattle.gp_grammar.specs.declared.token_kind.TokenKind.TheVariants as token
 use Rattle.gp_grammar.specs.declared.limits.TheConstants.{MAX_PATTERN_NUMBER}
 use Rattle.gp_grammar.specs.Syntax as syntax
-use Rattle.gp_grammar.specs.Syntax.{Lexemes, Bytes, State, Pattern, Rule, rule_of, Rules, How, Query, Question}
-use Rattle.gp_grammar.specs.Capping.{capped_question}
+use Rattle.gp_grammar.specs.Syntax.{Lexemes, Bytes, Command, State, Pattern, Rule, rule_of, Rules, How, Query, LogChange, Question}
+use Rattle.gp_grammar.specs.Capping.{capped_change, capped_question}
 use Rattle.gp_grammar.specs.CommandGrammar as l
 use Rattle.gp_grammar.specs.CommandGrammar.{IsList, comma, Closed}
 use Rattle.gp_grammar.specs.QuestionGrammar as g
-use Rattle.gp_grammar.specs.QuestionGrammar.{IsState, IsSemiring, IsPattern, IsRule, IsRules, IsLeftOut, IsHow, IsOpenQuestion, pattern_name}
-use Rattle.gp_grammar.specs.Parsing.{Outcome, ◌>>=◌, by_option, identifier}
-use Rattle.gp_grammar.specs.CommandParsing.{◌then◌, where_next, fail, accept, where_word, expect_word, push, separated, query}
+use Rattle.gp_grammar.specs.QuestionGrammar.{IsState, IsSemiring, IsPattern, IsRule, IsRules, IsLeftOut, IsHow, IsAsk, IsChange, IsOpenQuestion, pattern_name}
+use Rattle.gp_grammar.specs.Parsing.{Outcome, Parser, ◌>>=◌, by_option, identifier}
+use Rattle.gp_grammar.specs.CommandParsing.{◌then◌, where_next, fail, accept, where_word, expect_word, push, separated, in_brackets, query, statement}
 use Rattle.gp_grammar.specs.QuestionParsing as q
 use Rattle.gp_grammar.specs.QuestionParsing.{number_if, number, pattern_of}
 use Rattle.gp_grammar.specs.Laws.{Built}
-use Rattle.gp_grammar.proofs.CommandBuilding.{BuildsQuery}
+use Rattle.gp_grammar.proofs.CommandBuilding.{BuildsQuery, BuildsStatement}
 use Rattle.gp_grammar.proofs.Soundness.{Sentence, Sound, sound-ok, sound-err, sound-shift, sound-bind, sound-phrase, expect-sound, identifier-sound}
-use Rattle.gp_grammar.proofs.SoundCombinators.{next-sound, word-sound, expect_word-sound, separated-sound, closed-sound}
-use Rattle.gp_grammar.proofs.CommandSoundness.{query-sound}
+use Rattle.gp_grammar.proofs.SoundCombinators.{next-sound, word-sound, expect_word-sound, separated-sound, in_brackets-sound, closed-sound}
+use Rattle.gp_grammar.proofs.CommandSoundness.{query-sound, statement-sound}
 
 abbrev pub BuildsQuestion : Lexemes → Question → Type 0
 BuildsQuestion = Built IsOpenQuestion capped_question
@@ -243,31 +243,101 @@ how-sound ts =
     (word-sound (codes "value") IsHow q.value (where_word (codes "without") q.without (accept syntax.rows)) ts value-sound
     (word-sound (codes "without") IsHow q.without (accept syntax.rows) ts without-sound (sound-ok IsHow ts syntax.rows g.rows))))
 
+-- what is built with how, state and query, where the parser gives them to `question`
+ask-sound : {A : Type 0} (question : How → State → Query → A) (Q : Lexemes → A → Type 0)
+    → ((a b c : Lexemes) (how : How) (state : State) (xs : Query) → IsHow a how → IsState b state → BuildsQuery c xs → Q (a ++ (b ++ c)) (question how state xs))
+    → (ts : Lexemes) → Sound Q ts (q.ask question ts)
+unfolding q.ask
+ask-sound question Q build ts = sound-bind IsHow Q ts (q.how ts) _ (how-sound ts) (λ a ts1 how i.
+    sound-bind IsState (λ b y. Q (a ++ b) y) ts1 (q.state ts1) _ (state-sound ts1) (λ b ts2 state j.
+    sound-bind BuildsQuery (λ c y. Q (a ++ (b ++ c)) y) ts2 (query ts2) _ (query-sound ts2)
+    (λ c ts3 xs k. sound-ok _ ts3 (question how state xs) (let z : c ++ [] ≡ c = append-nil c in rw z (build a b c how state xs i j k)))))
+
 asks : (a b c : Lexemes) (how : How) (state : State) (xs : Query) → IsHow a how → IsState b state → BuildsQuery c xs → BuildsQuestion (a ++ (b ++ c)) (syntax.ask how state xs)
 asks a b c how state xs i j k = record {
   tree = syntax.ask how state k.tree;
-  is = g.ask a b c how state k.tree i j k.is;
+  is = g.ask (a ++ (b ++ c)) how state k.tree (g.asked a b c how state k.tree i j k.is);
   same = ap (λ z. syntax.ask how state z) k.same;
 }
 
-ask-sound : (ts : Lexemes) → Sound BuildsQuestion ts (q.ask ts)
-unfolding q.ask
-ask-sound ts = sound-bind IsHow BuildsQuestion ts (q.how ts) _ (how-sound ts) (λ a ts1 how i.
-    sound-bind IsState (λ b y. BuildsQuestion (a ++ b) y) ts1 (q.state ts1) _ (state-sound ts1) (λ b ts2 state j.
-    sound-bind BuildsQuery (λ c y. BuildsQuestion (a ++ (b ++ c)) y) ts2 (query ts2) _ (query-sound ts2)
-    (λ c ts3 xs k. sound-ok _ ts3 (syntax.ask how state xs) (let z : c ++ [] ≡ c = append-nil c in rw z (asks a b c how state xs i j k)))))
+-- ---- changes
+
+abbrev BuildsChange : Lexemes → LogChange → Type 0
+BuildsChange = Built IsChange capped_change
+
+dropped-sound : (ts : Lexemes) → Sound (λ b y. BuildsChange (Word (codes "drop") ∷ b) y) ts (q.dropped ts)
+unfolding q.dropped
+dropped-sound ts = number-sound (λ b y. BuildsChange (Word (codes "drop") ∷ b) y) ts _ (λ t ts1.
+    number-sound (λ b y. BuildsChange (Word (codes "drop") ∷ Number t ∷ b) y) ts1 _
+    (λ k ts2. sound-ok _ ts2 (syntax.drop t k) (record { tree = syntax.drop t k; is = g.drop t k; same = refl })))
+
+-- BY and a statement in brackets
+data BuildsBy : Lexemes → Command → Type 0 where
+  by : (a : Lexemes) (x : Command) → BuildsStatement a x → BuildsBy (Word (codes "by") ∷ Sign s.Open ∷ (a ++ (Sign s.Close ∷ []))) x
+
+by_statement-sound : (ts : Lexemes) → Sound BuildsBy ts (q.by_statement ts)
+by_statement-sound ts = expect_word-sound (codes "by") BuildsBy (in_brackets statement) ts
+    (λ ts1. in_brackets-sound BuildsStatement (λ b y. BuildsBy (Word (codes "by") ∷ b) y) statement (λ a x i. by a x i) statement-sound ts1)
+
+replaced : (t k : ℕ) (a : Lexemes) (x : Command) → BuildsBy a x → BuildsChange (Word (codes "replace") ∷ Number t ∷ Number k ∷ a) (syntax.replace t k x)
+replaced t k _ _ (by a x i) = record {
+  tree = syntax.replace t k i.tree;
+  is = g.replace t k a i.tree i.is;
+  same = ap (λ z. syntax.replace t k z) i.same;
+}
+
+added : (t : ℕ) (a : Lexemes) (x : Command) → BuildsBy a x → BuildsChange (Word (codes "add") ∷ Number t ∷ a) (syntax.add t x)
+added t _ _ (by a x i) = record { tree = syntax.add t i.tree; is = g.add t a i.tree i.is; same = ap (λ z. syntax.add t z) i.same }
+
+replaced-sound : (ts : Lexemes) → Sound (λ b y. BuildsChange (Word (codes "replace") ∷ b) y) ts (q.replaced ts)
+unfolding q.replaced
+replaced-sound ts = number-sound (λ b y. BuildsChange (Word (codes "replace") ∷ b) y) ts _ (λ t ts1.
+    number-sound (λ b y. BuildsChange (Word (codes "replace") ∷ Number t ∷ b) y) ts1 _ (λ k ts2.
+    sound-bind BuildsBy (λ b y. BuildsChange (Word (codes "replace") ∷ Number t ∷ Number k ∷ b) y) ts2 (q.by_statement ts2) _ (by_statement-sound ts2)
+    (λ a ts3 x i. sound-ok _ ts3 (syntax.replace t k x) (let z : a ++ [] ≡ a = append-nil a in rw z (replaced t k a x i)))))
+
+added-sound : (ts : Lexemes) → Sound (λ b y. BuildsChange (Word (codes "add") ∷ b) y) ts (q.added ts)
+unfolding q.added
+added-sound ts = number-sound (λ b y. BuildsChange (Word (codes "add") ∷ b) y) ts _ (λ t ts1.
+    sound-bind BuildsBy (λ b y. BuildsChange (Word (codes "add") ∷ Number t ∷ b) y) ts1 (q.by_statement ts1) _ (by_statement-sound ts1)
+    (λ a ts2 x i. sound-ok _ ts2 (syntax.add t x) (let z : a ++ [] ≡ a = append-nil a in rw z (added t a x i))))
+
+change-sound : (ts : Lexemes) → Sound BuildsChange ts (q.change ts)
+unfolding q.change
+change-sound ts = word-sound (codes "drop") BuildsChange q.dropped (where_word (codes "replace") q.replaced (expect_word (codes "add") q.added)) ts dropped-sound
+    (word-sound (codes "replace") BuildsChange q.replaced (expect_word (codes "add") q.added) ts replaced-sound
+    (expect_word-sound (codes "add") BuildsChange q.added ts added-sound))
+
+changes : (a : Lexemes) (change : LogChange) → BuildsChange a change → (b c d : Lexemes) (how : How) (state : State) (xs : Query) → IsHow b how → IsState c state → BuildsQuery d xs
+    → BuildsQuestion (Word (codes "whatif") ∷ (a ++ (Word (codes "of") ∷ (b ++ (c ++ d))))) (syntax.what_if change how state xs)
+changes a change i b c d how state xs j k l = record {
+  tree = syntax.what_if i.tree how state l.tree;
+  is = g.what_if a (b ++ (c ++ d)) i.tree how state l.tree i.is (g.asked b c d how state l.tree j k l.is);
+  same = ap (λ z. syntax.what_if z how state xs) i.same ∙ ap (λ z. syntax.what_if (capped_change i.tree) how state z) l.same;
+}
+
+what_if-sound : (ts : Lexemes) → Sound (λ b y. BuildsQuestion (Word (codes "whatif") ∷ b) y) ts (q.what_if ts)
+unfolding q.what_if
+what_if-sound ts = sound-bind BuildsChange (λ b y. BuildsQuestion (Word (codes "whatif") ∷ b) y) ts (q.change ts) _ (change-sound ts) (λ a ts1 change i.
+    expect_word-sound (codes "of") (λ b y. BuildsQuestion (Word (codes "whatif") ∷ (a ++ b)) y) (q.ask (syntax.what_if change)) ts1 (λ ts2.
+    ask-sound (syntax.what_if change) (λ b y. BuildsQuestion (Word (codes "whatif") ∷ (a ++ (Word (codes "of") ∷ b))) y) (changes a change i) ts2))
+
+-- ---- whole questions
+
+abbrev versions_of : Parser Question
+versions_of = expect_word (codes "of") (λ ts. identifier ts >>= (λ table. Ok (syntax.versions table.0, table.1)))
 
 open_question-sound : (ts : Lexemes) → Sound BuildsQuestion ts (q.open_question ts)
 unfolding q.open_question
 open_question-sound ts =
     word-sound (codes "log") BuildsQuestion (λ ts. number ts >>= (λ t. Ok (syntax.log t.0, t.1)))
-    (where_word (codes "versions") (expect_word (codes "of") (λ ts. identifier ts >>= (λ table. Ok (syntax.versions table.0, table.1)))) q.ask) ts
+    (where_word (codes "versions") versions_of (where_word (codes "whatif") q.what_if (q.ask syntax.ask))) ts
     (λ ts1. number-sound (λ b y. BuildsQuestion (Word (codes "log") ∷ b) y) ts1 _ (λ t ts2. sound-ok _ ts2 (syntax.log t) (record { tree = syntax.log t; is = g.log t; same = refl })))
-    (word-sound (codes "versions") BuildsQuestion (expect_word (codes "of") (λ ts. identifier ts >>= (λ table. Ok (syntax.versions table.0, table.1)))) q.ask ts
+    (word-sound (codes "versions") BuildsQuestion versions_of (where_word (codes "whatif") q.what_if (q.ask syntax.ask)) ts
     (λ ts1. expect_word-sound (codes "of") (λ b y. BuildsQuestion (Word (codes "versions") ∷ b) y) _ ts1 (λ ts2.
     identifier-sound (λ b y. BuildsQuestion (Word (codes "versions") ∷ Word (codes "of") ∷ b) y) ts2 _
     (λ table ts3. sound-ok _ ts3 (syntax.versions table) (record { tree = syntax.versions table; is = g.versions table; same = refl }))))
-    (ask-sound ts))
+    (word-sound (codes "whatif") BuildsQuestion q.what_if (q.ask syntax.ask) ts what_if-sound (ask-sound syntax.ask BuildsQuestion asks ts)))
 
 pub question-sound : (ts : Lexemes) → Sound (Closed BuildsQuestion) ts (q.question ts)
 question-sound = closed-sound BuildsQuestion q.open_question open_question-sound

@@ -1,14 +1,14 @@
 -- Capping keeps the first limit that is passed, and a command within the limits.
 use Rattle.std.proofs.Common.{◌≡◌, ℕ, ◌<◌, ◌≤◌, Bool, true, false, cond, ltb, List, [], ◌∷◌, ◌++◌, length, map, Option, Some, None, refl, sym, ap, ◌∙◌, arith}
-use Rattle.std.specs.Prelude.{option_map, ◌||◌}
+use Rattle.std.specs.Prelude.{max, option_map, ◌||◌}
 use Rattle.std.proofs.lemmas.List.{map-append, length-map}
 use Rattle.std.proofs.lemmas.Bool.{ltb-false, ltb-true}
 use Rattle.gp_grammar.specs.declared.limits.TheConstants.{MAX_COLUMNS, MAX_FROM, MAX_BRANCHES, MAX_VALUES, MAX_NODES, MAX_LEVELS}
 use Rattle.gp_grammar.specs.Syntax as syntax
-use Rattle.gp_grammar.specs.Syntax.{Term, SetTerm, Item, Items, Block, Query, Command, ScriptLine, Question}
+use Rattle.gp_grammar.specs.Syntax.{Term, SetTerm, Item, Items, Block, Query, Command, ScriptLine, LogChange, Question}
 use Rattle.gp_grammar.specs.Limits as l
-use Rattle.gp_grammar.specs.Limits.{Limit, Shape, nodes, levels, some_above, passed_limit, terms_of_condition, listed, terms_of_query, query_shape, shape_of_terms, term_shape, command_shape, line_shape, question_shape}
-use Rattle.gp_grammar.specs.Capping.{is_large, capped, capped_set, capped_items, capped_block, capped_command, capped_line, capped_question}
+use Rattle.gp_grammar.specs.Limits.{Limit, Shape, nodes, levels, some_above, passed_limit, terms_of_condition, listed, terms_of_query, query_shape, shape_of_terms, term_shape, command_shape, line_shape, change_shape, both, question_shape}
+use Rattle.gp_grammar.specs.Capping.{is_large, capped, capped_set, capped_items, capped_block, capped_command, capped_line, capped_change, capped_question}
 use Rattle.gp_grammar.specs.Grammar.{IsTerm}
 use Rattle.gp_grammar.specs.CommandGrammar.{IsCommand, IsScriptLine}
 use Rattle.gp_grammar.specs.QuestionGrammar.{IsQuestion}
@@ -24,7 +24,7 @@ AreExact : List Term → Type 0
 AreExact [] = Unit {0}
 AreExact (x ∷ xs) = (capped x ≡ x) × AreExact xs
 
-pub some_large : List Term → Bool
+unfoldable pub some_large : List Term → Bool
 some_large xs = some_above MAX_NODES (map nodes xs)
 
 ltb-from : (n m : ℕ) → n < m → ltb n m ≡ true
@@ -238,15 +238,41 @@ pub term-exact : (x : Term) → passed_limit (term_shape x) ≡ None → capped 
 unfolding AreExact
 term-exact x h = (within-exact (shape_of_terms (x ∷ [])) h).0
 
+change-shape : (x : LogChange) → change_shape (capped_change x) ≡ capped_shape (change_shape x)
+change-shape (syntax.drop t k) = refl
+change-shape (syntax.replace t k c) = command-shape c
+change-shape (syntax.add t c) = command-shape c
+
+exact-change : (x : LogChange) → AreExact (change_shape x).terms → capped_change x ≡ x
+exact-change (syntax.drop t k) h = refl
+exact-change (syntax.replace t k c) h = ap (λ z. syntax.replace t k z) (exact-command c h)
+exact-change (syntax.add t c) h = ap (λ z. syntax.add t z) (exact-command c h)
+
+both-shape : (a b : Shape) → both (capped_shape a) (capped_shape b) ≡ capped_shape (both a b)
+both-shape a b =
+    ap (λ z. record { columns = a.columns ++ b.columns; from = a.from ++ b.from; branches = max a.branches b.branches; values = max a.values b.values; terms = z })
+    (sym (map-append capped a.terms b.terms))
+
+what_if-shape : (x : LogChange) (q : Query) → both (change_shape (capped_change x)) (query_shape (map capped_block q)) ≡ capped_shape (both (change_shape x) (query_shape q))
+what_if-shape x q =
+    ap (λ z. both z (query_shape (map capped_block q))) (change-shape x)
+    ∙ ap (λ z. both (capped_shape (change_shape x)) z) (query-shape q)
+    ∙ both-shape (change_shape x) (query_shape q)
+
 pub question-limit : (x : Question) → passed_limit (question_shape (capped_question x)) ≡ passed_limit (question_shape x)
 question-limit (syntax.log t) = refl
 question-limit (syntax.versions table) = refl
 question-limit (syntax.ask how state q) = ap passed_limit (query-shape q) ∙ capped-limit (query_shape q)
+question-limit (syntax.what_if change how state q) = ap passed_limit (what_if-shape change q) ∙ capped-limit (both (change_shape change) (query_shape q))
 
 pub question-exact : (x : Question) → passed_limit (question_shape x) ≡ None → capped_question x ≡ x
 question-exact (syntax.log t) h = refl
 question-exact (syntax.versions table) h = refl
 question-exact (syntax.ask how state q) h = ap (λ z. syntax.ask how state z) (exact-query q (within-exact (query_shape q) h))
+question-exact (syntax.what_if change how state q) h =
+    let w : AreExact (change_shape change).terms × AreExact (terms_of_query q) =
+    exact-split (change_shape change).terms (terms_of_query q) (within-exact (both (change_shape change) (query_shape q)) h) in
+    ap (λ z. syntax.what_if z how state (map capped_block q)) (exact-change change w.0) ∙ ap (λ z. syntax.what_if change how state z) (exact-query q w.1)
 
 pub terms-fair : CapsFairly term IsTerm capped term_shape
 terms-fair = record { limit = term-limit; exact = term-exact }

@@ -5,7 +5,7 @@ use Rattle.std.specs.Prelude.{Bool, map, option_map, nat_lt, if◌then◌else◌
 use Rattle.gp_grammar.specs.declared.limits.TheConstants.{MAX_NODES}
 use Rattle.gp_grammar.specs.declared.op.Op.{Op}
 use Rattle.gp_grammar.specs.Syntax as y
-use Rattle.gp_grammar.specs.Syntax.{Term, SetTerm, Items, Block, Query, Command, ScriptLine, Question}
+use Rattle.gp_grammar.specs.Syntax.{Term, SetTerm, Items, Block, Query, Command, ScriptLine, LogChange, Question}
 use Rattle.gp_grammar.specs.Limits.{nodes}
 
 abbrev pub is_large : Term → Bool
@@ -67,7 +67,13 @@ capped_command (y.select query) = y.select (map capped_block query)
 abbrev pub capped_line : ScriptLine → ScriptLine
 capped_line line = record { session = line.session; command = capped_command line.command }
 
+abbrev pub capped_change : LogChange → LogChange
+capped_change (y.drop t k) = y.drop t k
+capped_change (y.replace t k command) = y.replace t k (capped_command command)
+capped_change (y.add t command) = y.add t (capped_command command)
+
 abbrev pub capped_question : Question → Question
 capped_question (y.log t) = y.log t
 capped_question (y.versions table) = y.versions table
 capped_question (y.ask how state query) = y.ask how state (map capped_block query)
+capped_question (y.what_if change how state query) = y.what_if (capped_change change) how state (map capped_block query)

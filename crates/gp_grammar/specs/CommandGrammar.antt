@@ -10,7 +10,7 @@ use Rattle.gp_lexer.specs.declared.lexeme.Symbol.TheVariants as s
 use Rattle.gp_lexer.specs.declared.lexeme.Lexeme.TheVariants.{Symbol as Sign, Word, Number, Big, Text}
 use Rattle.gp_grammar.specs.declared.limits.TheConstants.{MAX_SESSION}
 use Rattle.gp_grammar.specs.Syntax as y
-use Rattle.gp_grammar.specs.Syntax.{Lexemes, Bytes, Term, SetTerm, Item, Items, Block, Query, Command, ScriptLine}
+use Rattle.gp_grammar.specs.Syntax.{Lexemes, Bytes, Term, SetTerm, Item, Items, Block, Query, Command, is_statement, ScriptLine}
 use Rattle.gp_grammar.specs.Grammar.{IsTerm}
 
 -- one or more phrases, with the separator between each two
@@ -84,6 +84,11 @@ pub data IsCommand : Lexemes → Command → Type 0 where
   delete : (table : Bytes) (w : Lexemes) (cond : Option Term) → IsWhere w cond
       → IsCommand (Sign s.Delete ∷ Sign s.From ∷ Word table ∷ w) (y.delete table cond)
   select : (a : Lexemes) (query : Query) → IsQuery a query → IsCommand a (y.select query)
+
+-- a command that is a statement
+pub record IsStatement (lexemes : Lexemes) (x : Command) : Type 0 where
+  pub command : IsCommand lexemes x
+  pub statement : is_statement x ≡ true
 
 -- a phrase after which one semicolon may follow
 pub data Closed {A : Type 0} (Is : Lexemes → A → Type 0) : Lexemes → A → Type 0 where

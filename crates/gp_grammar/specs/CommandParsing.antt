@@ -173,16 +173,27 @@ delete = s.From then (λ ts. identifier ts >>= (λ table. condition table.1 >>= 
 unfoldable pub begin : Parser Command
 begin = where_word (codes "read") (expect_word (codes "committed") (accept (y.begin true))) (accept (y.begin false))
 
+abbrev pub statement_by : Symbol → Lexemes → Parser Command
+statement_by s.Insert whole ts = insert ts
+statement_by s.Update whole ts = update ts
+statement_by s.Delete whole ts = delete ts
+statement_by s.Select whole ts = query whole >>= (λ r. Ok (y.select r.0, r.1))
+statement_by _ whole ts = Err whole
+
+abbrev pub statement : Parser Command
+statement [] = Err []
+statement (Sign symbol ∷ ts) = statement_by symbol (Sign symbol ∷ ts) ts
+statement (Word word ∷ ts) = Err (Word word ∷ ts)
+statement (Number n ∷ ts) = Err (Number n ∷ ts)
+statement (Big ∷ ts) = Err (Big ∷ ts)
+statement (Text bytes ∷ ts) = Err (Text bytes ∷ ts)
+
 abbrev pub command_by : Symbol → Lexemes → Parser Command
 command_by s.Create whole ts = create ts
 command_by s.Begin whole ts = begin ts
 command_by s.Commit whole ts = Ok (y.Command.commit, ts)
 command_by s.Rollback whole ts = Ok (y.rollback, ts)
-command_by s.Insert whole ts = insert ts
-command_by s.Update whole ts = update ts
-command_by s.Delete whole ts = delete ts
-command_by s.Select whole ts = query whole >>= (λ r. Ok (y.select r.0, r.1))
-command_by _ whole ts = Err whole
+command_by symbol whole ts = statement_by symbol whole ts
 
 abbrev pub command : Parser Command
 command [] = Err []

@@ -1,10 +1,11 @@
 -- Part of the statement: what the laws say of a parser, a grammar and the definitions of reading.
-use Rattle.std.specs.Prelude.{◌≡◌, ◌↔◌, None, Ok, Err, false, ◌==◌}
+use Rattle.std.specs.Prelude.{◌≡◌, ◌↔◌, Bool, None, Ok, Err, true, false, ◌==◌}
 use Rattle.std.specs.List.{list_any}
 use Rattle.std.specs.Str.{IsUtf8}
 use Rattle.gp_lexer.specs.Lexemes.{AreProper}
 use Rattle.gp_grammar.specs.declared.limits.TheConstants.{MAX_OPEN}
-use Rattle.gp_grammar.specs.Syntax.{Lexemes, Bytes, Command}
+use Rattle.gp_grammar.specs.Syntax as y
+use Rattle.gp_grammar.specs.Syntax.{Lexemes, Bytes, Command, is_statement, How, State, Query, LogChange}
 use Rattle.gp_grammar.specs.CommandGrammar.{IsCommand}
 use Rattle.gp_grammar.specs.Places.{Stops}
 use Rattle.gp_grammar.specs.Depth.{is_too_deep}
@@ -12,7 +13,7 @@ use Rattle.gp_grammar.specs.Limits.{Shape, passed_limit, command_shape}
 use Rattle.gp_grammar.specs.Canonical.{command_lexemes, command_text}
 use Rattle.gp_grammar.specs.Parsing.{Parser, whole}
 use Rattle.gp_grammar.specs.CommandParsing.{command}
-use Rattle.gp_grammar.specs.LineReading.{Fault, ReadsText, RefusesText, ReadsLine, RefusesLine, read_text, read_line, command_of}
+use Rattle.gp_grammar.specs.LineReading.{Fault, ReadsText, RefusesText, ReadsLine, RefusesLine, read_text, read_line, command_of, question_of}
 
 -- the parser builds this: a tree that the grammar derives, capped
 pub record Built {A : Type 0} (Is : Lexemes → A → Type 0) (cap : A → A) (lexemes : Lexemes) (built : A) : Type 0 where
@@ -49,6 +50,18 @@ module _ {A : Type 0} (parser : Parser A) (Is : Lexemes → A → Type 0) (cap :
 
   abbrev pub RefusesLinesExactly : Type 0
   RefusesLinesExactly = (bytes : Bytes) (fault : Fault) → (read_line parser shape bytes ≡ Err fault) ↔ RefusesLine Is shape bytes fault
+
+-- ---- changes
+
+abbrev pub has_statement : LogChange → Bool
+has_statement (y.drop t k) = true
+has_statement (y.replace t k command) = is_statement command
+has_statement (y.add t command) = is_statement command
+
+-- the command of a change that was read is a statement
+abbrev pub ChangesAreStatements : Type 0
+ChangesAreStatements = (bytes : Bytes) (change : LogChange) (how : How) (state : State) (query : Query) → question_of bytes ≡ Ok (y.what_if change how state query)
+    → has_statement change ≡ true
 
 -- ---- canonical lexemes
 

@@ -1,9 +1,9 @@
--- Part of the statement: the limits on the shape of a command or a query, which are tested after the syntax, limit by limit over the whole.
+-- Part of the statement: the limits on the shape of a line, which are tested after the syntax, limit by limit over the whole.
 use Rattle.std.specs.Prelude.{ℕ, suc, ◌+◌, max, Bool, List, [], ◌∷◌, ◌++◌, length, map, Option, Some, None, nat_lt, if◌then◌else◌}
 use Rattle.std.specs.List.{flat_map, list_any}
 use Rattle.gp_grammar.specs.declared.limits.TheConstants.{MAX_COLUMNS, MAX_FROM, MAX_BRANCHES, MAX_VALUES, MAX_NODES, MAX_LEVELS}
 use Rattle.gp_grammar.specs.Syntax as y
-use Rattle.gp_grammar.specs.Syntax.{Term, SetTerm, Item, Items, Block, Query, Command, ScriptLine, Question}
+use Rattle.gp_grammar.specs.Syntax.{Term, SetTerm, Item, Items, Block, Query, Command, ScriptLine, LogChange, Question}
 
 -- the literals, columns, operators and CASEs of a term; brackets are none
 abbrev pub nodes : Term → ℕ
@@ -84,10 +84,26 @@ command_shape (y.select query) = query_shape query
 abbrev pub line_shape : ScriptLine → Shape
 line_shape line = command_shape line.command
 
+abbrev pub change_shape : LogChange → Shape
+change_shape (y.drop t k) = shape_of_terms []
+change_shape (y.replace t k command) = command_shape command
+change_shape (y.add t command) = command_shape command
+
+-- two parts as one whole; each query and each VALUES is of its own length
+abbrev pub both : Shape → Shape → Shape
+both a b = record {
+  columns = a.columns ++ b.columns;
+  from = a.from ++ b.from;
+  branches = max a.branches b.branches;
+  values = max a.values b.values;
+  terms = a.terms ++ b.terms;
+}
+
 abbrev pub question_shape : Question → Shape
 question_shape (y.log t) = shape_of_terms []
 question_shape (y.versions table) = shape_of_terms []
 question_shape (y.ask how state query) = query_shape query
+question_shape (y.what_if change how state query) = both (change_shape change) (query_shape query)
 
 abbrev pub some_above : ℕ → List ℕ → Bool
 some_above most = list_any (λ n. nat_lt most n)

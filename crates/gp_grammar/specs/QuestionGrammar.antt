@@ -10,8 +10,8 @@ use Rattle.gp_grammar.specs.declared.token_kind.TokenKind.{TokenKind}
 use Rattle.gp_grammar.specs.declared.token_kind.TokenKind.TheVariants as token
 use Rattle.gp_grammar.specs.declared.limits.TheConstants.{MAX_PATTERN_NUMBER}
 use Rattle.gp_grammar.specs.Syntax as y
-use Rattle.gp_grammar.specs.Syntax.{Lexemes, Bytes, State, Pattern, Rule, rule_of, Rules, How, Query, Question}
-use Rattle.gp_grammar.specs.CommandGrammar.{IsList, comma, IsQuery, Closed, is_number_without_zero}
+use Rattle.gp_grammar.specs.Syntax.{Lexemes, Bytes, Command, State, Pattern, Rule, rule_of, Rules, How, Query, LogChange, Question}
+use Rattle.gp_grammar.specs.CommandGrammar.{IsList, comma, IsQuery, IsStatement, Closed, is_number_without_zero}
 
 pub data IsState : Lexemes → State → Type 0 where
   as_of : (v : ℕ) → IsState (Sign s.As ∷ Word (codes "of") ∷ Number v ∷ []) (y.as_of v)
@@ -77,11 +77,23 @@ pub data IsHow : Lexemes → How → Type 0 where
   without : (a : Lexemes) (rules : List Rule) → IsList comma IsLeftOut a rules
       → IsHow (Word (codes "without") ∷ (a ++ (Word (codes "of") ∷ []))) (y.without rules)
 
+pub data IsAsk : Lexemes → How → State → Query → Type 0 where
+  asked : (a b q : Lexemes) (how : How) (state : State) (query : Query) → IsHow a how → IsState b state → IsQuery q query
+      → IsAsk (a ++ (b ++ q)) how state query
+
+pub data IsChange : Lexemes → LogChange → Type 0 where
+  drop : (t k : ℕ) → IsChange (Word (codes "drop") ∷ Number t ∷ Number k ∷ []) (y.drop t k)
+  replace : (t k : ℕ) (a : Lexemes) (x : Command) → IsStatement a x
+      → IsChange (Word (codes "replace") ∷ Number t ∷ Number k ∷ Word (codes "by") ∷ Sign s.Open ∷ (a ++ (Sign s.Close ∷ []))) (y.replace t k x)
+  add : (t : ℕ) (a : Lexemes) (x : Command) → IsStatement a x
+      → IsChange (Word (codes "add") ∷ Number t ∷ Word (codes "by") ∷ Sign s.Open ∷ (a ++ (Sign s.Close ∷ []))) (y.add t x)
+
 pub data IsOpenQuestion : Lexemes → Question → Type 0 where
   log : (t : ℕ) → IsOpenQuestion (Word (codes "log") ∷ Number t ∷ []) (y.log t)
   versions : (table : Bytes) → IsOpenQuestion (Word (codes "versions") ∷ Word (codes "of") ∷ Word table ∷ []) (y.versions table)
-  ask : (a b q : Lexemes) (how : How) (state : State) (query : Query) → IsHow a how → IsState b state → IsQuery q query
-      → IsOpenQuestion (a ++ (b ++ q)) (y.ask how state query)
+  ask : (a : Lexemes) (how : How) (state : State) (query : Query) → IsAsk a how state query → IsOpenQuestion a (y.ask how state query)
+  what_if : (a b : Lexemes) (change : LogChange) (how : How) (state : State) (query : Query) → IsChange a change → IsAsk b how state query
+      → IsOpenQuestion (Word (codes "whatif") ∷ (a ++ (Word (codes "of") ∷ b))) (y.what_if change how state query)
 
 -- the lexemes are a question
 abbrev pub IsQuestion : Lexemes → Question → Type 0

@@ -8,10 +8,10 @@ use Rattle.gp_grammar.specs.declared.token_kind.TokenKind.{TokenKind}
 use Rattle.gp_grammar.specs.declared.token_kind.TokenKind.TheVariants as token
 use Rattle.gp_grammar.specs.declared.limits.TheConstants.{MAX_PATTERN_NUMBER}
 use Rattle.gp_grammar.specs.Syntax as y
-use Rattle.gp_grammar.specs.Syntax.{Lexemes, Bytes, State, Pattern, Rule, rule_of, Rules, How, Question}
+use Rattle.gp_grammar.specs.Syntax.{Lexemes, Bytes, Command, State, Pattern, Rule, rule_of, Rules, How, Query, LogChange, Question}
 use Rattle.gp_grammar.specs.QuestionGrammar.{pattern_name}
 use Rattle.gp_grammar.specs.Parsing.{Parser, ◌>>=◌, by_option, expect, identifier}
-use Rattle.gp_grammar.specs.CommandParsing.{◌then◌, where_next, fail, accept, where_word, expect_word, push, separated, query, closed}
+use Rattle.gp_grammar.specs.CommandParsing.{◌then◌, where_next, fail, accept, where_word, expect_word, push, separated, in_brackets, query, statement, closed}
 
 -- ---- numbers
 
@@ -107,16 +107,46 @@ how = where_word (codes "explain") (where_word (codes "provenance") (expect_word
     (where_word (codes "provenance") (expect_word (codes "of") (accept y.provenance))
     (where_word (codes "value") value (where_word (codes "without") without (accept y.rows))))
 
-unfoldable pub ask : Parser Question
-ask ts = do
+-- what is asked, of which state, by which query
+unfoldable pub ask : {A : Type 0} → (How → State → Query → A) → Parser A
+ask question ts = do
   how ← how ts
   state ← state how.1
   query ← query state.1
-  Ok (y.ask how.0 state.0 query.0, query.1)
+  Ok (question how.0 state.0 query.0, query.1)
+
+abbrev pub by_statement : Parser Command
+by_statement = expect_word (codes "by") (in_brackets statement)
+
+unfoldable pub dropped : Parser LogChange
+dropped ts = do
+  t ← number ts
+  k ← number t.1
+  Ok (y.drop t.0 k.0, k.1)
+
+unfoldable pub replaced : Parser LogChange
+replaced ts = do
+  t ← number ts
+  k ← number t.1
+  statement ← by_statement k.1
+  Ok (y.replace t.0 k.0 statement.0, statement.1)
+
+unfoldable pub added : Parser LogChange
+added ts = do
+  t ← number ts
+  statement ← by_statement t.1
+  Ok (y.add t.0 statement.0, statement.1)
+
+unfoldable pub change : Parser LogChange
+change = where_word (codes "drop") dropped (where_word (codes "replace") replaced (expect_word (codes "add") added))
+
+unfoldable pub what_if : Parser Question
+what_if ts = change ts >>= (λ change. expect_word (codes "of") (ask (y.what_if change.0)) change.1)
 
 unfoldable pub open_question : Parser Question
 open_question = where_word (codes "log") (λ ts. number ts >>= (λ t. Ok (y.log t.0, t.1)))
-    (where_word (codes "versions") (expect_word (codes "of") (λ ts. identifier ts >>= (λ table. Ok (y.versions table.0, table.1)))) ask)
+    (where_word (codes "versions") (expect_word (codes "of") (λ ts. identifier ts >>= (λ table. Ok (y.versions table.0, table.1))))
+    (where_word (codes "whatif") what_if (ask y.ask)))
 
 abbrev pub question : Parser Question
 question = closed open_question

@@ -1,5 +1,5 @@
 -- Part of the statement: the abstract syntax of terms, commands and questions. The types of the parser's code are these with boxes.
-use Rattle.std.specs.Prelude.{ℕ, ℤ, Bool, List, Option}
+use Rattle.std.specs.Prelude.{ℕ, ℤ, Bool, true, false, List, Option}
 use Rattle.gp_base.specs.declared.cell.Cell.{Cell}
 use Rattle.gp_base.specs.declared.table.Table.{Table}
 use Rattle.gp_lexer.specs.declared.lexeme.Lexeme.{Lexeme}
@@ -61,6 +61,14 @@ pub data Command : Type 0 where
   delete : Bytes → Option Term → Command
   select : Query → Command
 
+-- INSERT, UPDATE, DELETE and SELECT are statements
+abbrev pub is_statement : Command → Bool
+is_statement (create table) = false
+is_statement (begin read_committed) = false
+is_statement Command.commit = false
+is_statement rollback = false
+is_statement _ = true
+
 pub record ScriptLine : Type 0 where
   pub session : ℕ
   pub command : Command
@@ -102,7 +110,15 @@ pub data How : Type 0 where
   value : SemiringName → List Rule → Option ℕ → How
   without : List Rule → How
 
+-- a change of a transaction: without its statement k, with another command in its place, or with one more at its end
+pub data LogChange : Type 0 where
+  drop : ℕ → ℕ → LogChange
+  replace : ℕ → ℕ → Command → LogChange
+  add : ℕ → Command → LogChange
+
+-- the last one asks of the states that there would be with a change
 pub data Question : Type 0 where
   log : ℕ → Question
   versions : Bytes → Question
   ask : How → State → Query → Question
+  what_if : LogChange → How → State → Query → Question

@@ -11,6 +11,7 @@ ghost use Rattle.gp_grammar.specs.QuestionParsing.{question};
 ghost use Rattle.gp_grammar.specs.Laws.{ParsesExactly, StopsExactly, IsUnambiguous, CapsFairly};
 ghost use Rattle.gp_grammar.specs.Laws.{ReadsTextsExactly, RefusesTextsExactly, ReadsLinesExactly, RefusesLinesExactly};
 ghost use Rattle.gp_grammar.specs.Laws.{CanonicalIsDerived, CanonicalIsParsed, CanonicalIsShallow, CanonicalIsProper};
+ghost use Rattle.gp_grammar.specs.Laws.{ChangesAreStatements};
 ghost use Rattle.gp_grammar.specs.Laws.{CanonicalTextIsRead, CanonicalTextIsUtf8, CanonicalTextIsOneLine};
 
 /// The parser of terms takes the lines that the grammar derives, stops on the others at the place of the fault, and
@@ -59,10 +60,11 @@ pub fn script_lines_are_read()
     ensures refuses { RefusesLinesExactly script_line IsScriptLine capped_line line_shape }
 {}
 
-/// The same for questions.
+/// The same for questions. The command of a change is a statement.
 pub fn questions_are_read()
     ensures reads { ReadsLinesExactly question IsQuestion capped_question question_shape }
     ensures refuses { RefusesLinesExactly question IsQuestion capped_question question_shape }
+    ensures statement { ChangesAreStatements }
 {}
 
 /// The canonical lexemes of a command that the grammar derives are derived as this command and, within the limits,

@@ -1,5 +1,5 @@
 -- Tests on the terms of lists.
-use Rattle.std.proofs.Common.{◌≡◌, ℕ, ◌-◌, ◌^◌, ◌<◌, Bool, true, false, ◌||◌, List, [], ◌∷◌, length, map, min, Some, None, refl, ap, ◌∙◌, arith, nat_lt}
+use Rattle.std.proofs.Common.{◌≡◌, ℕ, ◌-◌, ◌^◌, ◌<◌, Bool, true, false, cond, ◌||◌, List, Option, [], ◌∷◌, length, map, min, Some, None, refl, sym, ap, ◌∙◌, arith, nat_lt}
 use Rattle.std.proofs.lemmas.Bool.Decides.{nat_tests}
 use Rattle.std.proofs.lemmas.List.{length-map}
 use Rattle.std.proofs.lemmas.List.Folds.{list_any-append}
@@ -9,7 +9,10 @@ use Rattle.gp_base.specs.declared.limit.Limit.TheVariants as limit
 use Rattle.gp_grammar.specs.declared.limits.TheConstants.{MAX_BRANCHES, MAX_COLUMNS, MAX_FROM, MAX_NODES, MAX_LEVELS}
 use Rattle.gp_grammar.specs.Syntax as y
 use Rattle.gp_grammar.specs.Syntax.{Term}
-use Rattle.gp_grammar.specs.Limits.{nodes, levels, listed, some_above, passed_limit, query_shape, terms_of_query}
+use Rattle.gp_grammar.specs.Limits as g
+use Rattle.gp_grammar.specs.Limits.{Shape, nodes, levels, listed, some_above, passed_limit, both, query_shape, terms_of_query}
+use Rattle.gp_grammar.proofs.BothLemmas as parts
+use Rattle.gp_grammar.proofs.BothLemmas.{both-limit}
 use Rattle.gp_syntax.specs.declared.term.Term as r
 use Rattle.gp_syntax.specs.declared.command.Block.{Block}
 use Rattle.gp_syntax.specs.declared.command.SetTerm.{SetTerm}
@@ -17,7 +20,7 @@ use Rattle.gp_syntax.specs.declared.limits.Measure.{Measure}
 use Rattle.gp_syntax.specs.Refusals.{limit_of}
 use Rattle.gp_syntax.specs.Views.{block_view, item_view, items_view, set_view, term_view}
 use Rattle.gp_syntax.specs.declared.limits.Measure.TheVariants.{Nodes, Levels}
-use Rattle.gp_syntax.specs.Measures.{is_above, are_above, set_term_of, terms_limit, term_limit, terms_of_block, terms_of_sets}
+use Rattle.gp_syntax.specs.Measures.{is_above, are_above, earlier, rank, set_term_of, terms_limit, term_limit, terms_of_block, terms_of_sets}
 
 pub list_any-map : {X Y : Type 0} (p : Y → Bool) (f : X → Y) (xs : List X) → list_any p (map f xs) ≡ list_any (λ x. p (f x)) xs
 list_any-map p f [] = refl
@@ -94,3 +97,28 @@ columns-above most blocks = list_any-map (λ n. nat_lt most n) (λ (b : y.Block)
 pub tables-above : (most : ℕ) (blocks : List Block) → some_above most (query_shape (map block_view blocks)).from ≡ list_any (λ block. nat_lt most (length block.from)) blocks
 tables-above most [] = refl
 tables-above most (b ∷ bs) = rw (length-map b.from item_view) (ap (λ z. nat_lt most (length b.from) || z) (tables-above most bs))
+
+-- ---- the first limit of two
+
+rank-of : (l : g.Limit) → rank (limit_of l) ≡ parts.rank l
+rank-of g.columns = refl
+rank-of g.from = refl
+rank-of g.branches = refl
+rank-of g.values = refl
+rank-of g.node_count = refl
+rank-of g.depth = refl
+
+earlier-of : (x y : Option g.Limit) → option_map limit_of (parts.earlier x y) ≡ earlier (option_map limit_of x) (option_map limit_of y)
+earlier-of None y = refl
+earlier-of (Some x) None = refl
+earlier-of (Some x) (Some y) =
+    by (nat_lt (parts.rank y) (parts.rank x))
+    ∙ ap (λ n. cond (nat_lt n (parts.rank x)) (Some (limit_of y)) (Some (limit_of x))) (sym (rank-of y))
+    ∙ ap (λ n. cond (nat_lt (rank (limit_of y)) n) (Some (limit_of y)) (Some (limit_of x))) (sym (rank-of x))
+  where
+    by : (c : Bool) → option_map limit_of (cond c (Some y) (Some x)) ≡ cond c (Some (limit_of y)) (Some (limit_of x))
+    by true = refl
+    by false = refl
+
+pub whole-limit : (x y : Shape) → option_map limit_of (passed_limit (both x y)) ≡ earlier (option_map limit_of (passed_limit x)) (option_map limit_of (passed_limit y))
+whole-limit x y = ap (option_map limit_of) (both-limit x y) ∙ earlier-of (passed_limit x) (passed_limit y)

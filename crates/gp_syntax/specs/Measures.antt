@@ -1,5 +1,5 @@
--- Machinery: the limits on terms, measure by measure.
-use Rattle.std.specs.Prelude.{Bool, List, ◌++◌, map, Option, Some, None, nat_lt, if◌then◌else◌}
+-- Machinery: the limits on terms, measure by measure, and the first of two limits.
+use Rattle.std.specs.Prelude.{ℕ, Bool, List, ◌++◌, map, Option, Some, None, nat_lt, if◌then◌else◌}
 use Rattle.std.specs.List.{list_any}
 use Rattle.std.specs.Option.{option_map}
 use Rattle.gp_base.specs.declared.limit.Limit.{Limit}
@@ -34,3 +34,17 @@ term_limit above_nodes above_levels = if above_nodes then Some limit.Nodes else 
 -- the first limit that the terms pass
 abbrev pub terms_limit : List y.Term → Option Limit
 terms_limit terms = option_map limit_of (passed_limit (shape_of_terms terms))
+
+-- the place of a limit in the order of the tests of a text
+abbrev pub rank : Limit → ℕ
+rank limit.Columns = 0
+rank limit.From = 1
+rank limit.Branches = 2
+rank limit.Values = 3
+rank limit.Nodes = 4
+rank _ = 5
+
+abbrev pub earlier : Option Limit → Option Limit → Option Limit
+earlier None second = second
+earlier (Some a) None = Some a
+earlier (Some a) (Some b) = if nat_lt (rank b) (rank a) then Some b else Some a

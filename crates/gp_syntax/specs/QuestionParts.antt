@@ -4,10 +4,11 @@ use Rattle.gp_lexer.specs.declared.lexeme.Symbol.TheVariants as s
 use Rattle.gp_grammar.specs.Syntax as y
 use Rattle.gp_grammar.specs.Parsing.{Parser, ◌>>=◌, identifier}
 use Rattle.gp_grammar.specs.CommandParsing.{◌then◌, where_next, accept, expect_word, where_word}
-use Rattle.gp_grammar.specs.QuestionParsing.{number}
+use Rattle.gp_grammar.specs.QuestionParsing.{ask, number}
 use Rattle.gp_syntax.specs.declared.question_parser.Rules.{Rules}
 use Rattle.gp_syntax.specs.declared.question_parser.Pattern.{Pattern}
-use Rattle.gp_syntax.specs.Views.{rule_view}
+use Rattle.gp_syntax.specs.declared.question_parser.Asked.{Asked}
+use Rattle.gp_syntax.specs.Views.{how_view, query_view, rule_view, state_view}
 
 abbrev pub rules_view : Rules → y.Rules
 rules_view rules = record { rules = map rule_view rules.rules; other = rules.other }
@@ -30,6 +31,14 @@ ends_rules found = s.Close then accept (record { rules = found; other = None })
 -- behind EXPLAIN
 abbrev pub explained : Parser y.How
 explained = where_word (codes "provenance") (expect_word (codes "of") (accept (y.explain true))) (accept (y.explain false))
+
+-- what is asked, as the arguments of a question
+abbrev pub asked_in : (y.How → y.State → y.Query → y.Question) → Asked → y.Question
+asked_in question asked = question (how_view asked.how) (state_view asked.state) (query_view asked.query)
+
+-- behind a change
+abbrev pub of_ask : (y.How → y.State → y.Query → y.Question) → Parser y.Question
+of_ask question = expect_word (codes "of") (ask question)
 
 -- behind VERSIONS
 abbrev pub versions : Parser y.Question

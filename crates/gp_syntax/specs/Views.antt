@@ -17,6 +17,8 @@ use Rattle.gp_syntax.specs.declared.question.State.TheVariants as s
 use Rattle.gp_syntax.specs.declared.question.Rule.{Rule}
 use Rattle.gp_syntax.specs.declared.question.How.{How}
 use Rattle.gp_syntax.specs.declared.question.How.TheVariants as h
+use Rattle.gp_syntax.specs.declared.question.LogChange.{LogChange}
+use Rattle.gp_syntax.specs.declared.question.LogChange.TheVariants as l
 use Rattle.gp_syntax.specs.declared.question.Question.{Question}
 use Rattle.gp_syntax.specs.declared.question.Question.TheVariants as q
 
@@ -80,7 +82,13 @@ how_view (h.Explain prov) = y.explain prov
 how_view (h.Value semiring rules other) = y.value semiring (map rule_view rules) other
 how_view (h.Without rules) = y.without (map rule_view rules)
 
+abbrev pub change_view : LogChange → y.LogChange
+change_view (l.Drop t k) = y.drop t k
+change_view (l.Replace t k command) = y.replace t k (command_view command)
+change_view (l.Add t command) = y.add t (command_view command)
+
 abbrev pub question_view : Question → y.Question
 question_view (q.Log t) = y.log t
 question_view (q.Versions table) = y.versions table
 question_view (q.Ask how state query) = y.ask (how_view how) (state_view state) (query_view query)
+question_view (q.WhatIf change how state query) = y.what_if (change_view change) (how_view how) (state_view state) (query_view query)

@@ -19,7 +19,7 @@ use crate::error::ParseStop;
 use crate::lexeme_parser::{expect, expect_word, identifier, strip, strip_word};
 use crate::list_parser::{ParsedList, in_brackets, parse_others, separated};
 use crate::names::session_of;
-use crate::parsed::{Parsed, ended, with_name};
+use crate::parsed::{Parsed, before, ended, with_name};
 use crate::term::Term;
 use crate::term_parser::built_term;
 use gp_base::{Cell, Column, Kind, Name, NoMemory, Row, Sequence, Table};
@@ -534,10 +534,50 @@ fn begin(lexemes: &[Lexeme]) -> Result<(Command, &[Lexeme]), ParseStop<'_>>
 
 /// A query as a command.
 fn select(alloc: Global, lexemes: &[Lexeme]) -> Result<(Command, &[Lexeme]), ParseStop<'_>>
-    ensures { Parses command_view result (spec.command_by Symbol.Select lexemes.now lexemes.now) }
+    ensures { Parses command_view result (spec.statement_by Symbol.Select lexemes.now lexemes.now) }
 {
     let (query, rest) = query(alloc, lexemes)?;
     Ok((Command::Select { query }, rest))
+}
+
+/// A statement, by its first word.
+fn statement_by<'a>(
+    alloc: Global,
+    symbol: Symbol,
+    whole: &'a [Lexeme],
+    lexemes: &'a [Lexeme],
+) -> Result<(Command, &'a [Lexeme]), ParseStop<'a>>
+    ensures { Parses command_view result (spec.statement_by symbol whole.now lexemes.now) }
+{
+    match symbol {
+        Symbol::Insert => insert(alloc, lexemes),
+        Symbol::Update => update(alloc, lexemes),
+        Symbol::Delete => delete(alloc, lexemes),
+        Symbol::Select => select(alloc, whole),
+        _ => Err(ParseStop::At(whole)),
+    }
+}
+
+/// A statement.
+fn statement(alloc: Global, lexemes: &[Lexeme]) -> Result<(Command, &[Lexeme]), ParseStop<'_>>
+    ensures { Parses command_view result (spec.statement lexemes.now) }
+{
+    match lexemes {
+        [Lexeme::Symbol(symbol), rest @ ..] => statement_by(alloc, *symbol, lexemes, rest),
+        _ => Err(ParseStop::At(lexemes)),
+    }
+}
+
+/// A statement in brackets.
+pub(crate) fn bracketed_statement(
+    alloc: Global,
+    lexemes: &[Lexeme],
+) -> Result<(Command, &[Lexeme]), ParseStop<'_>>
+    ensures { Parses command_view result (spec.in_brackets spec.statement lexemes.now) }
+{
+    let rest = expect(lexemes, Symbol::Open)?;
+    let (command, rest) = statement(alloc, rest)?;
+    before(command, rest, Symbol::Close)
 }
 
 /// A command, by its first word.
@@ -554,11 +594,7 @@ fn command_by<'a>(
         Symbol::Begin => begin(lexemes),
         Symbol::Commit => Ok((Command::Commit, lexemes)),
         Symbol::Rollback => Ok((Command::Rollback, lexemes)),
-        Symbol::Insert => insert(alloc, lexemes),
-        Symbol::Update => update(alloc, lexemes),
-        Symbol::Delete => delete(alloc, lexemes),
-        Symbol::Select => select(alloc, whole),
-        _ => Err(ParseStop::At(whole)),
+        _ => statement_by(alloc, symbol, whole, lexemes),
     }
 }
 

@@ -14,6 +14,7 @@
 
 mod built;
 mod canonical;
+mod change_parser;
 mod command;
 mod command_parser;
 mod error;
@@ -34,6 +35,6 @@ pub use command::{Block, Command, Item, Items, Query, ScriptLine, SetTerm};
 pub use error::ReadStop;
 pub use gp_grammar::{MAX_LINE_LENGTH, Op, SemiringName, TokenKind};
 pub use line::{Line, LineIter, lines};
-pub use question::{How, Question, Rule, State};
+pub use question::{How, LogChange, Question, Rule, State};
 pub use read::{read_command, read_line, read_question};
 pub use term::Term;

@@ -4,13 +4,13 @@ ghost use Rattle.std.specs.Prelude.{◌≡◌, ◌-◌, ◌^◌, ◌++◌, lengt
 ghost use Rattle.std.specs.List.{list_any};
 ghost use Rattle.std.specs.Option.{option_map};
 ghost use Rattle.gp_grammar.specs.Depth as spec;
-ghost use Rattle.gp_grammar.specs.Limits.{nodes, levels, listed, terms_of_condition, terms_of_query, query_shape, command_shape, question_shape, passed_limit, some_above};
+ghost use Rattle.gp_grammar.specs.Limits.{nodes, levels, listed, terms_of_condition, terms_of_query, query_shape, command_shape, change_shape, both, question_shape, passed_limit, some_above};
 ghost use Rattle.gp_syntax.specs.Refusals.{limit_of};
-ghost use Rattle.gp_syntax.specs.Measures.{is_above, are_above, set_term_of, term_limit, terms_limit, terms_of_block, terms_of_sets};
-ghost use Rattle.gp_syntax.specs.Views.{term_view, set_view, items_view, block_view, query_view, condition_view, command_view, question_view};
+ghost use Rattle.gp_syntax.specs.Measures.{is_above, are_above, earlier, rank, set_term_of, term_limit, terms_limit, terms_of_block, terms_of_sets};
+ghost use Rattle.gp_syntax.specs.Views.{term_view, set_view, items_view, block_view, query_view, condition_view, command_view, change_view, question_view};
 
 use crate::command::{Block, Command, Items, Query, SetTerm};
-use crate::question::Question;
+use crate::question::{LogChange, Question};
 use crate::term::Term;
 use gp_base::Limit;
 use gp_grammar::{
@@ -329,6 +329,54 @@ pub(crate) fn command_limit(command: &Command) -> Option<Limit>
     }
 }
 
+/// The first limit that the command of a change passes.
+fn change_limit(change: &LogChange) -> Option<Limit>
+    ensures { result ≡ option_map limit_of (passed_limit (change_shape (change_view change.now))) }
+{
+    match change {
+        LogChange::Drop { .. } => None,
+        LogChange::Replace { command, .. } => command_limit(command),
+        LogChange::Add { command, .. } => command_limit(command),
+    }
+}
+
+/// The place of a limit in the order of the tests.
+fn rank(limit: Limit) -> usize
+    ensures { result ≡ rank limit }
+{
+    match limit {
+        Limit::Columns => 0,
+        Limit::From => 1,
+        Limit::Branches => 2,
+        Limit::Values => 3,
+        Limit::Nodes => 4,
+        _ => 5,
+    }
+}
+
+/// The limit of two that is tested first.
+fn earlier(first: Option<Limit>, second: Option<Limit>) -> Option<Limit>
+    ensures { result ≡ earlier first second }
+{
+    match first {
+        None => second,
+        Some(a) => match second {
+            None => Some(a),
+            Some(b) => { if rank(b) < rank(a) { Some(b) } else { Some(a) } }
+        },
+    }
+}
+
+/// The first limit that a change and the query behind it pass: each limit is tested over both.
+fn what_if_limit(change: &LogChange, query: &Query) -> Option<Limit>
+    ensures { result ≡ option_map limit_of (passed_limit
+        (both (change_shape (change_view change.now)) (query_shape (query_view query.now)))) }
+{
+    let first = change_limit(change);
+    let second = query_limit(query);
+    earlier(first, second)
+}
+
 /// The first limit that the question passes.
 pub(crate) fn question_limit(question: &Question) -> Option<Limit>
     ensures { result ≡ option_map limit_of (passed_limit (question_shape (question_view question.now))) }
@@ -337,5 +385,6 @@ pub(crate) fn question_limit(question: &Question) -> Option<Limit>
         Question::Log { .. } => None,
         Question::Versions { .. } => None,
         Question::Ask { query, .. } => query_limit(query),
+        Question::WhatIf { change, query, .. } => what_if_limit(change, query),
     }
 }

@@ -1,6 +1,6 @@
 //! Questions about a history.
 
-use crate::command::Query;
+use crate::command::{Command, Query};
 use gp_base::{Name, Sequence};
 use gp_grammar::{SemiringName, TokenKind};
 
@@ -70,6 +70,34 @@ pub enum How {
     },
 }
 
+/// A change of one transaction in the log. A command in it is an INSERT, an UPDATE, a DELETE or a SELECT.
+#[derive(Drop)]
+pub enum LogChange {
+    /// `DROP`: without one of its statements.
+    Drop {
+        /// The transaction.
+        t: u64,
+        /// The statement, from 1.
+        k: u64,
+    },
+    /// `REPLACE`: with another command in the place of one of its statements.
+    Replace {
+        /// The transaction.
+        t: u64,
+        /// The statement, from 1.
+        k: u64,
+        /// The command.
+        command: Command,
+    },
+    /// `ADD`: with one more statement, after its last one.
+    Add {
+        /// The transaction.
+        t: u64,
+        /// The command of the statement.
+        command: Command,
+    },
+}
+
 /// A question.
 #[derive(Drop)]
 pub enum Question {
@@ -85,6 +113,17 @@ pub enum Question {
     },
     /// A query over a state.
     Ask {
+        /// What it asks for.
+        how: How,
+        /// The state.
+        state: State,
+        /// The query.
+        query: Query,
+    },
+    /// `WHATIF`: a query over a state that there would be with a change.
+    WhatIf {
+        /// The change.
+        change: LogChange,
         /// What it asks for.
         how: How,
         /// The state.

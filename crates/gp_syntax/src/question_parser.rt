@@ -9,9 +9,10 @@ ghost use Rattle.gp_grammar.specs.Syntax as y;
 ghost use Rattle.gp_grammar.specs.Syntax.{rule_of};
 ghost use Rattle.gp_grammar.proofs.QuestionCompleteness.{shrinks-left_out};
 ghost use Rattle.gp_syntax.specs.Parses.{Parses, ParsesAll, Extends, pushed};
-ghost use Rattle.gp_syntax.specs.QuestionParts.{pattern_view, rules_view, rules_of, ends_rules, explained, reenacted, versions};
+ghost use Rattle.gp_syntax.specs.QuestionParts.{asked_in, pattern_view, rules_view, rules_of, ends_rules, explained, of_ask, reenacted, versions};
 ghost use Rattle.gp_syntax.specs.Views.{how_view, query_view, question_view, rule_view, state_view};
 
+use crate::change_parser::change;
 use crate::command::Query;
 use crate::command_parser::query;
 use crate::error::ParseStop;
@@ -34,6 +35,17 @@ pub(crate) struct Rules {
     pub other: Option<u64>,
 }
 
+/// What a question asks, of which state and by which query.
+#[derive(Drop)]
+pub(crate) struct Asked {
+    /// What it asks for.
+    pub how: How,
+    /// The state.
+    pub state: State,
+    /// The query.
+    pub query: Query,
+}
+
 /// A pattern of provenance tokens.
 #[derive(Clone, Copy)]
 pub(crate) struct Pattern {
@@ -48,7 +60,7 @@ pub(crate) struct Pattern {
 }
 
 /// A number.
-fn number(lexemes: &[Lexeme]) -> Result<(u64, &[Lexeme]), ParseStop<'_>>
+pub(crate) fn number(lexemes: &[Lexeme]) -> Result<(u64, &[Lexeme]), ParseStop<'_>>
     ensures { Parses (λ number. number) result (spec.number lexemes.now) }
 {
     match lexemes {
@@ -435,15 +447,59 @@ fn with_query<T: Drop>(
     Ok(((value, query), rest))
 }
 
-/// A question that asks a query.
+/// What is asked, of which state and by which query.
 #[tactic(auto, unfolding(gp_grammar::specs::QuestionParsing::ask))]
-fn ask(alloc: Global, lexemes: &[Lexeme]) -> Result<(Question, &[Lexeme]), ParseStop<'_>>
-    ensures { Parses question_view result (spec.ask lexemes.now) }
+fn ask_parts(alloc: Global, lexemes: &[Lexeme]) -> Result<(Asked, &[Lexeme]), ParseStop<'_>>
+    ensures { (question : y.How → y.State → y.Query → y.Question)
+        → Parses (asked_in question) result (spec.ask question lexemes.now) }
 {
     let (how, rest) = how(alloc, lexemes)?;
     let ((how, state), rest) = with_state(how, rest)?;
-    let ((how, query), rest) = with_query(alloc, how, rest)?;
+    let (((how, state), query), rest) = with_query(alloc, (how, state), rest)?;
+    Ok((Asked { how, state, query }, rest))
+}
+
+/// A question that asks a query.
+fn ask(alloc: Global, lexemes: &[Lexeme]) -> Result<(Question, &[Lexeme]), ParseStop<'_>>
+    ensures { Parses question_view result (spec.ask y.Question.ask lexemes.now) }
+{
+    let (asked, rest) = ask_parts(alloc, lexemes)?;
+    let Asked { how, state, query } = asked;
     Ok((Question::Ask { how, state, query }, rest))
+}
+
+/// The value, and what is asked behind OF.
+fn with_asked<T: Drop>(
+    alloc: Global,
+    value: T,
+    lexemes: &[Lexeme],
+) -> Result<((T, Asked), &[Lexeme]), ParseStop<'_>>
+    ensures value { IfOk result (λ r. r.0.0 ≡ value) }
+    ensures asked { (question : y.How → y.State → y.Query → y.Question)
+        → Parses (λ r. asked_in question r.1) result (of_ask question lexemes.now) }
+{
+    let rest = expect_word(lexemes, b"of")?;
+    let (asked, rest) = ask_parts(alloc, rest)?;
+    Ok(((value, asked), rest))
+}
+
+/// A WHATIF, behind its first word.
+#[tactic(auto, unfolding(gp_grammar::specs::QuestionParsing::what_if))]
+fn what_if(alloc: Global, lexemes: &[Lexeme]) -> Result<(Question, &[Lexeme]), ParseStop<'_>>
+    ensures { Parses question_view result (spec.what_if lexemes.now) }
+{
+    let (change, rest) = change(alloc, lexemes)?;
+    let ((change, asked), rest) = with_asked(alloc, change, rest)?;
+    let Asked { how, state, query } = asked;
+    Ok((
+        Question::WhatIf {
+            change,
+            how,
+            state,
+            query,
+        },
+        rest,
+    ))
 }
 
 /// A VERSIONS, behind its first word.
@@ -465,8 +521,11 @@ fn open_question(alloc: Global, lexemes: &[Lexeme]) -> Result<(Question, &[Lexem
         let (t, rest) = number(rest)?;
         return Ok((Question::Log { t }, rest));
     }
-    match strip_word(lexemes, b"versions") {
-        Some(rest) => versions(rest),
+    if let Some(rest) = strip_word(lexemes, b"versions") {
+        return versions(rest);
+    }
+    match strip_word(lexemes, b"whatif") {
+        Some(rest) => what_if(alloc, rest),
         None => ask(alloc, lexemes),
     }
 }

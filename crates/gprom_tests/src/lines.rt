@@ -252,11 +252,134 @@ const QUESTIONS: &[(&[u8], &str)] = &[
         b"VALUE IN COST (i0 = 1) OF AS OF 2 SELECT * FROM r",
         "E03 syntax fault at column 16",
     ),
+    (b"VALUE IN WITNESS OF AS OF 1 SELECT x.a FROM r x, r y", ""),
+    (b"WITHOUT i1.1.2 OF AS OF 2 SELECT * FROM r", ""),
+    (
+        b"without u13.3, i9.2.1 of reenact 16 commit select * from in;",
+        "",
+    ),
+    (
+        b"WITHOUT q1.7,u1.1.1,i1 OF AS OF 1 SELECT * FROM r",
+        "E03 syntax fault at column 18",
+    ),
+    (
+        b"without q,i,i.1 of as of 6 select * from r",
+        "E03 syntax fault at column 14",
+    ),
+    (
+        b"WITHOUT OF AS OF 1 SELECT * FROM r",
+        "E03 syntax fault at column 9",
+    ),
 ];
 
 #[test]
 fn questions_are_read(rt: HostRuntime) {
     for (line, refusal) in QUESTIONS {
+        assert!(rt; refuses(rt.alloc(), line, refusal), "{line:?}");
+    }
+}
+
+/// Questions about a change of the log, and some that are refused.
+const CHANGES: &[(&[u8], &str)] = &[
+    (b"WHATIF DROP 2 1 OF AS OF 5 SELECT * FROM acct", ""),
+    (
+        b"WHATIF REPLACE 3 1 BY (UPDATE acct SET bal = 0 WHERE id = 2) OF AS OF 3 SELECT * FROM acct;",
+        "",
+    ),
+    (
+        b"whatif add 4 by(delete from acct where id=3)of explain provenance of reenact 4 after 1 select*from acct",
+        "",
+    ),
+    (
+        b"whatif drop 1 9223372036854775807 of without q1, i1.2 of as of 2 select * from r",
+        "",
+    ),
+    (
+        b"WHATIF ADD 1 BY (INSERT INTO by SELECT drop.add FROM replace drop) OF VALUE IN WITNESS (i = 1) OF REENACT 1 COMMIT SELECT add FROM whatif",
+        "",
+    ),
+    (b"WHATIF", "E03 syntax fault at column 7"),
+    (
+        b"DROP 1 1 OF AS OF 1 SELECT * FROM r",
+        "E03 syntax fault at column 1",
+    ),
+    (
+        b"whatif table drop 6 0 of explain reenact 14 after 1 select 4 from r",
+        "E03 syntax fault at column 8",
+    ),
+    (
+        b"WHATIF DROP 1 OF AS OF 1 SELECT * FROM r",
+        "E03 syntax fault at column 15",
+    ),
+    (
+        b"WHATIF DROP 1 1 AS OF 1 SELECT * FROM r",
+        "E03 syntax fault at column 17",
+    ),
+    (
+        b"WHATIF REPLACE 1 BY (DELETE FROM r) OF AS OF 1 SELECT * FROM r",
+        "E03 syntax fault at column 18",
+    ),
+    (
+        b"WHATIF ADD 1 2 BY (DELETE FROM r) OF AS OF 1 SELECT * FROM r",
+        "E03 syntax fault at column 14",
+    ),
+    (
+        b"WHATIF ADD 1 BY DELETE FROM r OF AS OF 1 SELECT * FROM r",
+        "E03 syntax fault at column 17",
+    ),
+    (
+        b"WHATIF ADD 1 BY (COMMIT) OF AS OF 1 SELECT * FROM r",
+        "E03 syntax fault at column 18",
+    ),
+    (
+        b"WHATIF ADD 1 BY (DELETE FROM r;) OF AS OF 1 SELECT * FROM r",
+        "E03 syntax fault at column 31",
+    ),
+    (
+        b"WHATIF ADD 1 BY (DELETE FROM r) OF LOG 1",
+        "E03 syntax fault at column 36",
+    ),
+    (
+        b"WHATIF DROP 1 1 OF WHATIF DROP 1 1 OF AS OF 1 SELECT * FROM r",
+        "E03 syntax fault at column 20",
+    ),
+    (
+        b"WHATIF REPLACE 1 3 BY ( INSERT INTO r ( x . a + 1 ) FROM r x ) OF AS OF 1 SELECT * FROM r",
+        "E03 syntax fault at column 39",
+    ),
+    (
+        b"WHATIF REPLACE 2 01 BY(UPDATE r SET a=a-3)OF VALUE IN COUNT(u2=1,i01=9223372036854775807,i2.1=0)OF REENACT 2 COMMIT SELECT*FROM r",
+        "E03 syntax fault at column 66",
+    ),
+    (
+        b"whatif replace 3 1 by (update m10 set bal = (bal * 5) where ((name >= 2) and ((10 <> m10.name) is true))) of without u1.1.1, u5.0, q of as of 3 select * from m10;",
+        "E03 syntax fault at column 122",
+    ),
+    (
+        b"whatif  add\t1\tby\t(insert into r\tvalues \t (  'a' \t ) )\tof \t as of \t 3 select* \t from r where\t1 =1 x",
+        "E03 syntax fault at column 98",
+    ),
+    (
+        b"whatif drop 2\t2 of provena^ce  of reenact 2 after  1 select \t * from  r",
+        "E02 lexical fault at column 27",
+    ),
+    (
+        b"whatif drop 2 2 of explain reenact 4 after 2 select a, a, a, a, a, a, a, a, a, a, a, a, a, a, a, a, a from m7",
+        "E14 limit columns",
+    ),
+    (
+        b"WHATIF ADD 1 BY (SELECT a FROM r, r b, r c, r d, r e) OF AS OF 1 SELECT 1, 2, 3, 4, 5, 6, 7, 8, 9, 10, 11, 12, 13, 14, 15, 16, 17 FROM r",
+        "E14 limit columns",
+    ),
+    (
+        b"WHATIF ADD 1 BY (SELECT a FROM r, r b, r c, r d, r e) OF AS OF 1 SELECT 1 FROM r",
+        "E14 limit from",
+    ),
+];
+
+#[test]
+fn changes_are_read(rt: HostRuntime) {
+    for (line, refusal) in CHANGES {
         assert!(rt; refuses(rt.alloc(), line, refusal), "{line:?}");
     }
 }
