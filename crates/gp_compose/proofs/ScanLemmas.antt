@@ -10,12 +10,11 @@ use Rattle.gp_algebra.specs.AnnotatedQueries as q
 use Rattle.gp_algebra.specs.AnnotatedQueries.{Query, QueryStep}
 use Rattle.gp_algebra.specs.Scans.{annotated_program_scans, annotated_query_scans, annotated_steps_scans}
 use Rattle.gp_machine.specs.Entries.{Entry, Log, log_of, statement_count, statement_version, version_of}
-use Rattle.gp_machine.specs.Limits.{Limits}
 use Rattle.gp_machine.specs.Points.{IsAsked, to_commit, to_statement, to_version, version_before}
 use Rattle.gp_machine.specs.Questions.{log_refusal, needed_version}
 use Rattle.gp_machine.proofs.AskedLemmas.{asked}
-use Rattle.gp_log.specs.Discipline.{IsLog}
-use Rattle.gp_log.proofs.ReadingLemmas.{read_before, rising}
+use Rattle.gp_log.specs.Sessions.{KeepsSessions}
+use Rattle.gp_log.proofs.KeptSessions.{read_before, rising}
 use Rattle.gp_rewrite.specs.Rewriting.{branch_of, made_of, made_onto, product_of, product_onto, query_of, rewritten, selected_by, target, union_onto}
 use Rattle.gp_rewrite.proofs.Each.{each_append}
 use Rattle.gp_compose.specs.Composed.{composed, current, current_before, last_write, moved, onto, program_at, published, step_of, steps_of, writes}
@@ -150,30 +149,29 @@ module _ (n : ℕ) (columns : ℕ → ℕ) (log : Log) (t : ℕ) where
 
 -- ---- the programs of states
 
-module _ (limits : Limits) where
-  needed_scans : (columns : ℕ → ℕ) (entries : List Entry) → IsLog limits entries → (point : y.State) → IsAsked entries point → (select : Select) (scan : ScanAt) →
-      Contains (annotated_program_scans (program_at columns entries point select)) scan → scan.version ≤ needed_version entries point
-  needed_scans columns entries is (y.as_of version) (to_version l) select scan among =
-      each_contained (IsUpTo version) (annotated_query_scans (query_of (λ table. q.scan table version) select)) (query_up_to version (λ table. q.scan table version) (λ table. (omega arith, tt)) select) scan among
-  needed_scans columns entries is (y.after t k) (to_statement {version = version} made count) select scan among =
-      let log = log_of entries in
-      let needed : ℕ = statement_version t k entries in
-      let within : ReadUpTo log t k needed = λ j l. rising limits entries is t j k l count in
-      each_contained (IsUpTo needed) (annotated_program_scans (program_at columns entries (y.after t k) select))
-      (program_up_to needed columns log t k (query_of (current log t k) select) within
-      (query_up_to needed (current log t k) (λ table. current_up_to needed columns log t k table within) select)) scan among
-  needed_scans columns entries is (y.State.commit t) (to_commit {version = version} made) select scan among =
-      let log = log_of entries in
-      let before : ℕ = version_before (version_of t entries) in
-      let within : ReadUpTo log t (statement_count t entries) before = λ j l. up_to j version made (read_before limits entries is t version j made l) in
-      each_contained (IsUpTo before) (annotated_program_scans (program_at columns entries (y.State.commit t) select))
-      (program_up_to before columns log t (statement_count t entries) (query_of (published log t before) select) within
-      (query_up_to before (published log t before) (λ table. published_up_to before columns log t before table within (omega arith)) select)) scan among
-    where
-      up_to : (j v : ℕ) → version_of t entries ≡ Some v → statement_version t j entries < v → statement_version t j entries ≤ version_before (version_of t entries)
-      up_to j zero made l = absurd (omega arith)
-      up_to j (suc w) made l = subst (λ o. statement_version t j entries ≤ version_before o) (sym made) (omega arith)
+needed_scans : (columns : ℕ → ℕ) (entries : List Entry) → KeepsSessions entries → (point : y.State) → IsAsked entries point → (select : Select) (scan : ScanAt) →
+    Contains (annotated_program_scans (program_at columns entries point select)) scan → scan.version ≤ needed_version entries point
+needed_scans columns entries is (y.as_of version) (to_version l) select scan among =
+    each_contained (IsUpTo version) (annotated_query_scans (query_of (λ table. q.scan table version) select)) (query_up_to version (λ table. q.scan table version) (λ table. (omega arith, tt)) select) scan among
+needed_scans columns entries is (y.after t k) (to_statement {version = version} made count) select scan among =
+    let log = log_of entries in
+    let needed : ℕ = statement_version t k entries in
+    let within : ReadUpTo log t k needed = λ j l. rising entries is t j k l count in
+    each_contained (IsUpTo needed) (annotated_program_scans (program_at columns entries (y.after t k) select))
+    (program_up_to needed columns log t k (query_of (current log t k) select) within
+    (query_up_to needed (current log t k) (λ table. current_up_to needed columns log t k table within) select)) scan among
+needed_scans columns entries is (y.State.commit t) (to_commit {version = version} made) select scan among =
+    let log = log_of entries in
+    let before : ℕ = version_before (version_of t entries) in
+    let within : ReadUpTo log t (statement_count t entries) before = λ j l. up_to j version made (read_before entries is t version j made l) in
+    each_contained (IsUpTo before) (annotated_program_scans (program_at columns entries (y.State.commit t) select))
+    (program_up_to before columns log t (statement_count t entries) (query_of (published log t before) select) within
+    (query_up_to before (published log t before) (λ table. published_up_to before columns log t before table within (omega arith)) select)) scan among
+  where
+    up_to : (j v : ℕ) → version_of t entries ≡ Some v → statement_version t j entries < v → statement_version t j entries ≤ version_before (version_of t entries)
+    up_to j zero made l = absurd (omega arith)
+    up_to j (suc w) made l = subst (λ o. statement_version t j entries ≤ version_before o) (sym made) (omega arith)
 
-  pub scans_are_needed : (columns : ℕ → ℕ) (entries : List Entry) → IsLog limits entries → (point : y.State) → log_refusal entries point ≡ None → (select : Select) (scan : ScanAt) →
-      Contains (annotated_program_scans (program_at columns entries point select)) scan → scan.version ≤ needed_version entries point
-  scans_are_needed columns entries is point known select scan among = needed_scans columns entries is point (asked entries point known) select scan among
+pub scans_are_needed : (columns : ℕ → ℕ) (entries : List Entry) → KeepsSessions entries → (point : y.State) → log_refusal entries point ≡ None → (select : Select) (scan : ScanAt) →
+    Contains (annotated_program_scans (program_at columns entries point select)) scan → scan.version ≤ needed_version entries point
+scans_are_needed columns entries is point known select scan among = needed_scans columns entries is point (asked entries point known) select scan among

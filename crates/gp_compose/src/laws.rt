@@ -15,12 +15,11 @@ ghost use Rattle.gp_algebra.specs.QueryForms.{IsTableProgram, IsWellBuilt};
 ghost use Rattle.gp_algebra.specs.Scans.{annotated_program_scans};
 ghost use Rattle.gp_algebra.specs.Statements.{Select, Statement};
 ghost use Rattle.gp_machine.specs.Entries.{Entry, log_of, statement_at};
-ghost use Rattle.gp_machine.specs.Limits.{Limits};
 ghost use Rattle.gp_machine.specs.Points.{at_point};
 ghost use Rattle.gp_machine.specs.Questions.{log_refusal, needed_version};
 ghost use Rattle.gp_machine.specs.Runs.{at_commit, run};
-ghost use Rattle.gp_log.specs.Discipline.{IsLog};
 ghost use Rattle.gp_log.specs.LogFitting.{statements_fit};
+ghost use Rattle.gp_log.specs.Sessions.{KeepsSessions};
 ghost use Rattle.gp_rewrite.specs.Meaning.{AreAsWide, IsMonoid, of_element, unmarked};
 ghost use Rattle.gp_rewrite.specs.Rewriting.{target};
 ghost use Rattle.gp_compose.specs.Composed.{composed, program_at, published_table};
@@ -83,10 +82,11 @@ pub fn composed_programs_are_well_built()
         (published_table (width_of catalogue) (log_of entries) t before table) }
 {}
 
-/// The program of a state that a log does not refuse scans no version above the last one that the state needs: that of an AS OF,
-/// that which the statement read, or that before the commit. So the annotations of later versions are not needed either.
+/// In a log that keeps its sessions, the program of a state that the log does not refuse scans no version above the last one
+/// that the state needs: that of an AS OF, that which the statement read, or that before the commit. So the annotations of
+/// later versions are not needed either.
 pub fn composed_programs_scan_what_is_needed()
-    ensures { (limits : Limits) (entries : List Entry) → IsLog limits entries
+    ensures { (entries : List Entry) → KeepsSessions entries
         → (columns : ℕ → ℕ) (point : y.State) → log_refusal entries point ≡ None
         → (select : Select) (scan : ScanAt)
         → Contains (annotated_program_scans (program_at columns entries point select)) scan

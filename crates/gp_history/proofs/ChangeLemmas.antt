@@ -9,7 +9,6 @@ use Rattle.gp_base.specs.Identities.{Identity}
 use Rattle.gp_compose.specs.Composed.{published_table}
 use Rattle.gp_exec.specs.declared.error.ExecStop.{ExecStop}
 use Rattle.gp_exec.specs.declared.error.ExecStop.TheVariants as exec
-use Rattle.gp_log.specs.Limits.{limits}
 use Rattle.gp_log.specs.LogFacts.{tables_in}
 use Rattle.gp_machine.specs.Entries.{Entry, Log, log_of, versions_in}
 use Rattle.gp_machine.specs.Points.{version_before}
@@ -33,10 +32,10 @@ module _ (entries : List Entry) (versions : List Versions) (sound : IsSound entr
   t = maker (log_of entries) before
 
   pub some : zero < t
-  some = maker_positive limits entries sound.log before within
+  some = maker_positive entries sound.sessions before within
 
   pub program_same : maker_program entries before table ≡ published_table columns (log_of entries) t before table
-  program_same = ap (λ (o : Option ℕ). published_table columns (log_of entries) t (version_before o) table) (maker_version limits entries sound.log before within)
+  program_same = ap (λ (o : Option ℕ). published_table columns (log_of entries) t (version_before o) table) (maker_version entries sound.sessions before within)
 
 module _ {M : Type 0} (kind : Annotations M) (image : IsImage kind) (entries : List Entry) (versions : List Versions) (sound : IsSound entries versions) (before : ℕ) (within : before < versions_in entries) (table : ℕ) where
   abbrev spans : ℕ → List Span

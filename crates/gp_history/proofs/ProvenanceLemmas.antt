@@ -217,5 +217,5 @@ needed_suffice entries versions sound select point known most scan among =
     let columns = width_of (tables_in entries) in
     let program = program_at columns entries point select in
     let there = subst (λ (scans : List ScanAt). Contains scans scan) (program_kept columns true program) among in
-    let few : scan.version ≤ needed_version entries point = scans_are_needed limits columns entries sound.log point known select scan there in
+    let few : scan.version ≤ needed_version entries point = scans_are_needed columns entries sound.sessions point known select scan there in
     sym (ap (map (encoded_row true)) (rows_stay monomials (log_of entries) (spans_of versions) (needed_version entries point) (versions_in entries) scan.version scan.table few most))

@@ -210,7 +210,7 @@ module _ {K : Type 0} (kind : Annotations K) (image : IsImage kind) (plus : K â†
       same : AgreesOn (annotated_program_scans asked) few all
       same scan among =
           sym (rows_stay kind (log_of entries) (spans_of versions) (needed_version entries point) (versions_in entries) scan.version scan.table
-          (scans_are_needed limits (width_of (tables_in entries)) entries sound.log point known select scan among) (needed_within entries point known))
+          (scans_are_needed (width_of (tables_in entries)) entries sound.sessions point known select scan among) (needed_within entries point known))
 
       stop_moved : program_stop kind MAX_TABLE_ROWS MAX_NODES few asked â‰¡ program_stop kind MAX_TABLE_ROWS MAX_NODES all asked
       stop_moved = program_stop_agrees kind few all MAX_TABLE_ROWS MAX_NODES asked same

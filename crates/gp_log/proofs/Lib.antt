@@ -1,9 +1,9 @@
 pub mod CountLemmas
 pub mod EntryLemmas
 pub mod IndexLemmas
+pub mod KeptSessions
 pub mod LineCommands
+pub mod LoggedSessions
 pub mod NumberingLemmas
-pub mod ReadingLemmas
-pub mod SessionLemmas
 pub mod SteadyLemmas
 pub mod VersionLemmas

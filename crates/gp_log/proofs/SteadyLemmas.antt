@@ -8,7 +8,9 @@ use Rattle.gp_base.specs.declared.table.Table.{Table}
 use Rattle.gp_grammar.specs.Syntax.{Command}
 use Rattle.gp_machine.specs.Entries.{Began, Committed, Created, End, Ended, Entry, Ran, begin_version, is_read_committed, statement_count, statement_version, versions_in}
 use Rattle.gp_log.specs.Indexing.{AreSteady}
-use Rattle.gp_log.proofs.SessionLemmas.{equal_from}
+
+pub equal_from : (a b : ℕ) → (a == b) ≡ true → a ≡ b
+equal_from a b e = grind (arith, nat_tests)
 
 pub unequal_from : (a b : ℕ) → (a == b) ≡ false → a ≢ b
 unequal_from a b e f = grind (arith, nat_tests)

@@ -2,32 +2,29 @@
 use Rattle.std.proofs.Common.{◌≡◌, ℕ, zero, suc, ◌<◌, ◌≤◌, true, false, cond, List, [], ◌∷◌, ◌++◌, refl, sym, ap, ◌∙◌, subst, arith, map, Option, Some, None}
 use Rattle.std.specs.Prelude.{◌==◌}
 use Rattle.std.specs.List.{filter}
-use Rattle.std.specs.Option.{option_or}
 use Rattle.gp_grammar.specs.Syntax as y
 use Rattle.gp_algebra.proofs.Bags.{SameBag, through, same_from}
-use Rattle.gp_algebra.proofs.StepBags.{SameTables, answer_same, is_over_rows_same, is_over_nodes_same}
+use Rattle.gp_algebra.proofs.StepBags.{SameTables, answer_same}
 use Rattle.gp_algebra.proofs.Lists.{flat_map-map, flat_map_agree}
 use Rattle.gp_algebra.specs.Answers.{Element, answer, answer_from, choices, joined, passes_where, values}
 use Rattle.gp_algebra.specs.Effects.{made}
-use Rattle.gp_algebra.specs.Statements.{Select, Statement}
+use Rattle.gp_algebra.specs.Statements.{Select}
 use Rattle.gp_base.specs.Annotated.{Annotations, Database}
 use Rattle.gp_machine.proofs.LogLemmas.{eq_not}
 use Rattle.gp_machine.proofs.Made.{eq_from, eq_itself}
-use Rattle.gp_machine.proofs.CommitLemmas.{all_sound, computed_is, run_is_seen}
-use Rattle.gp_machine.proofs.ReachedLemmas.{all_reached}
+use Rattle.gp_machine.proofs.CommitLemmas.{computed_is}
 use Rattle.gp_machine.proofs.RunBags.{cleared_same}
-use Rattle.gp_machine.proofs.Simulation.{commits_held, runs_held, starts_held, versions_held}
+use Rattle.gp_machine.proofs.Simulation.{commits_held, runs_held, stops_held, versions_held}
+use Rattle.gp_machine.proofs.UnstoppedLemmas.{front_unstopped}
 use Rattle.gp_machine.specs.Annotating.{annotated, annotated_versions, computed}
 use Rattle.gp_machine.specs.Committed.{cleared, unmarked}
-use Rattle.gp_machine.specs.Entries.{Began, Committed, Created, Ended, Entry, Ran, committer_of, log_of, statement_at, statement_count, version_of, versions_in}
-use Rattle.gp_machine.specs.Event.{Line, after}
+use Rattle.gp_machine.specs.Entries.{Began, Committed, Created, Ended, Entry, Ran, committer_of, log_of, statement_count, version_of, versions_in}
 use Rattle.gp_machine.specs.HistorySpans.{state_spans}
 use Rattle.gp_machine.specs.Limits.{Limits}
-use Rattle.gp_machine.specs.Points.{IsAsked, at_point, at_version, held_at, run_stop, statement_stop, to_commit, to_statement, to_version, version_before}
-use Rattle.gp_machine.specs.Reached.{IsReached}
-use Rattle.gp_machine.specs.Reading.{seen_by, start_by}
-use Rattle.gp_machine.specs.Runs.{at_commit, run, run_before}
-use Rattle.gp_machine.specs.State.{State, start}
+use Rattle.gp_machine.specs.Points.{IsAsked, at_point, at_version, held_at, run_stop, to_commit, to_statement, to_version, version_before}
+use Rattle.gp_machine.specs.Runs.{at_commit, run}
+use Rattle.gp_machine.specs.State.{State}
+use Rattle.gp_machine.specs.Unstopped.{IsUnstopped}
 use Rattle.gp_versions.specs.declared.span.Span.{Span}
 
 -- ---- the version that a transaction made
@@ -85,67 +82,47 @@ module _ {M : Type 0} (kind : Annotations M) where
   answer_cleared number (branch ∷ select) a =
       λ i. map (λ (element : Element M). record element { cells = values branch.items element.cells }) (filter (λ (element : Element M). passes_where branch.cond element.cells) (choices_cleared number branch.from a i)) ++ answer_cleared (suc number) select a i
 
-module _ {M : Type 0} (kind : Annotations M) (limits : Limits) (lines : List Line) (spans : ℕ → List Span) where
-  abbrev state : State M
-  state = after kind limits start lines
+module _ {M : Type 0} (kind : Annotations M) (limits : Limits) (state : State M) (unstopped : IsUnstopped kind limits state) (spans : ℕ → List Span) (are : (table : ℕ) → SameBag (spans table) (state_spans state table)) where
+  -- the transaction of a question, as the one that made a version
+  pub after_held : (t k v : ℕ) → version_of t state.entries ≡ Some v → k ≤ statement_count t state.entries → SameTables (run kind (log_of state.entries) t k (annotated_versions kind state.entries spans)) (state.views t k)
+  after_held t k v e l =
+      let i = version_is t v state.entries e in
+      subst (λ t. k ≤ statement_count t state.entries → SameTables (run kind (log_of state.entries) t k (annotated_versions kind state.entries spans)) (state.views t k)) i.made
+      (λ has table. through
+      (runs_held kind (log_of state.entries) state.committed state.written unstopped.history spans are (versions_in state.entries) i.earlier k (let w = i.within in omega arith) (omega arith) i.within has table)
+      (same_from _ _ (ap (λ (database : Database M). database table) (sym (unstopped.views i.earlier k i.within has))))) l
 
-  module _ (are : (table : ℕ) → SameBag (spans table) (state_spans state table)) where
-    -- the transaction of a question, as the one that made a version
-    pub after_held : (t k v : ℕ) → version_of t state.entries ≡ Some v → k ≤ statement_count t state.entries → SameTables (run kind (log_of state.entries) t k (annotated_versions kind state.entries spans)) (state.views t k)
-    after_held t k v e l =
-        let reached : IsReached kind limits state = all_reached kind limits lines in
-        let i = version_is t v state.entries e in
-        let m = reached.makers i.earlier i.within in
-        let t= : committer_of (suc i.earlier) state.entries ≡ t = i.made in
-        λ table. through
-        (subst (λ t. SameBag (run kind (log_of state.entries) t k (annotated_versions kind state.entries spans) table) (run kind (log_of state.entries) t k state.committed table)) t=
-        (runs_held kind (log_of state.entries) state.committed state.written reached.history spans are (versions_in state.entries) i.earlier k (let w = i.within in omega arith) (omega arith) i.within (subst (λ t. k ≤ statement_count t state.entries) (sym t=) l) table))
-        (same_from _ _ (ap (λ (database : Database M). database table) (subst (λ t. k ≤ statement_count t state.entries → run kind (log_of state.entries) t k state.committed ≡ (seen_by kind (log_of state.entries) t k state.committed).view) t=
-        (run_is_seen kind (log_of state.entries) state.committed state.written reached.history i.earlier i.within (all_sound kind (log_of state.entries) state.committed state.written reached.history i.earlier (let w = i.within in omega arith)) k) l
-        ∙ sym (reached.views t k (omega arith) (omega arith) l))))
+  pub commit_held : (t v : ℕ) → version_of t state.entries ≡ Some v → (table : ℕ) →
+      SameBag (cleared (at_commit kind (log_of state.entries) t (version_before (version_of t state.entries)) (annotated_versions kind state.entries spans)) table) (at_version (version_of t state.entries) state.committed table)
+  commit_held t v e table =
+      let i = version_is t v state.entries e in
+      let known : version_of t state.entries ≡ Some (suc i.earlier) = e ∙ ap Some i.is in
+      let held : SameBag (cleared (at_commit kind (log_of state.entries) t i.earlier (annotated_versions kind state.entries spans)) table) (state.committed (suc i.earlier) table) =
+      subst (λ t. SameBag (cleared (at_commit kind (log_of state.entries) t i.earlier (annotated_versions kind state.entries spans)) table) (state.committed (suc i.earlier) table)) i.made
+      (through
+      (cleared_same _ _ (commits_held kind (log_of state.entries) state.committed state.written unstopped.history spans are (versions_in state.entries) i.earlier (let w = i.within in omega arith) (omega arith) i.within) table)
+      (same_from _ _ (computed_is kind (log_of state.entries) state.committed state.written unstopped.history i.earlier i.within table))) in
+      subst (λ o. SameBag (cleared (at_commit kind (log_of state.entries) t (version_before o) (annotated_versions kind state.entries spans)) table) (at_version o state.committed table)) (sym known) held
 
-    pub commit_held : (t v : ℕ) → version_of t state.entries ≡ Some v → (table : ℕ) →
-        SameBag (cleared (at_commit kind (log_of state.entries) t (version_before (version_of t state.entries)) (annotated_versions kind state.entries spans)) table) (at_version (version_of t state.entries) state.committed table)
-    commit_held t v e table =
-        let i = version_is t v state.entries e in
-        let known : version_of t state.entries ≡ Some (suc i.earlier) = e ∙ ap Some i.is in
-        let held : SameBag (cleared (at_commit kind (log_of state.entries) t i.earlier (annotated_versions kind state.entries spans)) table) (state.committed (suc i.earlier) table) =
-        subst (λ t. SameBag (cleared (at_commit kind (log_of state.entries) t i.earlier (annotated_versions kind state.entries spans)) table) (state.committed (suc i.earlier) table)) i.made
-        (through
-        (cleared_same _ _ (commits_held kind (log_of state.entries) state.committed state.written (all_reached kind limits lines).history spans are (versions_in state.entries) i.earlier (let w = i.within in omega arith) (omega arith) i.within) table)
-        (same_from _ _ (computed_is kind (log_of state.entries) state.committed state.written (all_reached kind limits lines).history i.earlier i.within table))) in
-        subst (λ o. SameBag (cleared (at_commit kind (log_of state.entries) t (version_before o) (annotated_versions kind state.entries spans)) table) (at_version o state.committed table)) (sym known) held
+  -- the answer at each state that may be asked about is the one that the history held, with identities and annotations
+  pub simulated : (point : y.State) → IsAsked state.entries point → (query : Select) → SameBag (answer kind query (at_point kind state.entries point (annotated_versions kind state.entries spans))) (answer kind query (held_at state point))
+  simulated (y.as_of v) (to_version l) query = answer_same kind query _ _ (versions_held kind (log_of state.entries) state.committed state.written unstopped.history spans are v l)
+  simulated (y.after t k) (to_statement {version = v} e l) query = answer_same kind query _ _ (after_held t k v e l)
+  simulated (y.State.commit t) (to_commit {version = v} e) query = through (same_from _ _ (sym (answer_cleared kind 1 query _))) (answer_same kind query _ _ (commit_held t v e))
 
-    -- the answer at each state that may be asked about is the one that the history held, with identities and annotations
-    pub simulated : (point : y.State) → IsAsked state.entries point → (query : Select) → SameBag (answer kind query (at_point kind state.entries point (annotated_versions kind state.entries spans))) (answer kind query (held_at state point))
-    simulated (y.as_of v) (to_version l) query = answer_same kind query _ _ (versions_held kind (log_of state.entries) state.committed state.written (all_reached kind limits lines).history spans are v l)
-    simulated (y.after t k) (to_statement {version = v} e l) query = answer_same kind query _ _ (after_held t k v e l)
-    simulated (y.State.commit t) (to_commit {version = v} e) query = through (same_from _ _ (sym (answer_cleared kind 1 query _))) (answer_same kind query _ _ (commit_held t v e))
+  -- ---- no stop comes
 
-    -- ---- no stop comes
+  -- In the run of a transaction that made a version, over the versions that are annotated up to w, no limit is passed.
+  pub never_stops : (u k w : ℕ) → u ≤ w → w ≤ versions_in state.entries → u < versions_in state.entries → k ≤ statement_count (committer_of (suc u) state.entries) state.entries →
+      run_stop kind limits (log_of state.entries) (committer_of (suc u) state.entries) k (annotated kind spans (computed kind (log_of state.entries) spans w)) ≡ None
+  never_stops u k w l m within has =
+      let t : ℕ = committer_of (suc u) state.entries in
+      stops_held kind (log_of state.entries) state.committed state.written unstopped.history spans are limits w u k l m within has
+      ∙ front_unstopped kind limits (log_of state.entries) t k (statement_count t state.entries) state.committed has (unstopped.runs u within)
 
-    never_at : (t k w u : ℕ) → committer_of (suc u) state.entries ≡ t → u ≤ w → w ≤ versions_in state.entries → u < versions_in state.entries → k < statement_count t state.entries → (statement : Option Statement) → statement_at t (suc k) state.entries ≡ statement →
-        statement_stop kind limits t (suc k) statement (run_before kind (log_of state.entries) t k (annotated kind spans (computed kind (log_of state.entries) spans w))) ≡ None
-    never_at t k w u made l m within c None e = refl
-    never_at t k w u made l m within c (Some statement) e =
-        let reached : IsReached kind limits state = all_reached kind limits lines in
-        let a = reached.makers u within in
-        let held : SameTables (run_before kind (log_of state.entries) t k (annotated kind spans (computed kind (log_of state.entries) spans w))) (start_by kind (log_of state.entries) t k state.committed) =
-        subst (λ t. k < statement_count t state.entries → SameTables (run_before kind (log_of state.entries) t k (annotated kind spans (computed kind (log_of state.entries) spans w))) (start_by kind (log_of state.entries) t k state.committed)) made
-        (starts_held kind (log_of state.entries) state.committed state.written reached.history spans are w u k l m within) c in
-        let fits = reached.within t k statement (omega arith) (omega arith) c e in
-        rw (is_over_rows_same kind limits.rows t (suc k) statement _ _ held, is_over_nodes_same kind limits.nodes t (suc k) statement _ _ held, fits.rows, fits.nodes)
-
-    -- In the run of a transaction that made a version, over the versions that are annotated up to w, no limit is passed.
-    pub never_stops : (t k w u : ℕ) → committer_of (suc u) state.entries ≡ t → u ≤ w → w ≤ versions_in state.entries → u < versions_in state.entries → k ≤ statement_count t state.entries →
-        run_stop kind limits (log_of state.entries) t k (annotated kind spans (computed kind (log_of state.entries) spans w)) ≡ None
-    never_stops t zero w u made l m within c = refl
-    never_stops t (suc k) w u made l m within c =
-        ap (λ s. option_or s (statement_stop kind limits t (suc k) (statement_at t (suc k) state.entries) (run_before kind (log_of state.entries) t k (annotated kind spans (computed kind (log_of state.entries) spans w))))) (never_stops t k w u made l m within (omega arith))
-        ∙ never_at t k w u made l m within c (statement_at t (suc k) state.entries) refl
-
-    -- over all annotated versions
-    pub committed_stops : (t k version : ℕ) → version_of t state.entries ≡ Some version → k ≤ statement_count t state.entries → run_stop kind limits (log_of state.entries) t k (annotated_versions kind state.entries spans) ≡ None
-    committed_stops t k version e l =
-        let i = version_is t version state.entries e in
-        never_stops t k (versions_in state.entries) i.earlier i.made (let w = i.within in omega arith) (omega arith) i.within l
+  -- over all annotated versions
+  pub committed_stops : (t k version : ℕ) → version_of t state.entries ≡ Some version → k ≤ statement_count t state.entries → run_stop kind limits (log_of state.entries) t k (annotated_versions kind state.entries spans) ≡ None
+  committed_stops t k version e l =
+      let i = version_is t version state.entries e in
+      subst (λ t. k ≤ statement_count t state.entries → run_stop kind limits (log_of state.entries) t k (annotated_versions kind state.entries spans) ≡ None) i.made
+      (λ has. never_stops i.earlier k (versions_in state.entries) (let w = i.within in omega arith) (omega arith) i.within has) l

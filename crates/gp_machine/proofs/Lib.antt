@@ -22,6 +22,8 @@ pub mod ReachedLemmas
 mod RecordedLemmas
 mod ReplaceLemmas
 pub mod ReplayLemmas
+mod ReplayReannotation
+pub mod ReplayedLemmas
 mod RepresentLemmas
 mod RunBags
 pub mod RunLemmas
@@ -34,5 +36,6 @@ mod SpanOrder
 mod SpanRows
 mod StepViews
 mod UnchangedLemmas
+pub mod UnstoppedLemmas
 mod ViewLemmas
 mod Worked

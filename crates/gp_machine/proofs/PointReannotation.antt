@@ -67,7 +67,7 @@ module _ {M N : Type 0} (kind : Annotations M) (other : Annotations N) (h : M �
       stepped_reannotated t (suc k) (log.statement t (suc k)) (run_before kind log t k a) (run_before other log t k b)
       (refreshed_reannotated (log.version t k) (log.version t (suc k)) (run kind log t k a) (run other log t k b) (run_reannotated log t k))
 
-  before_reannotated : (log : Log) (t k : ℕ) → Reannotates h (run_before kind log t k a) (run_before other log t k b)
+  pub before_reannotated : (log : Log) (t k : ℕ) → Reannotates h (run_before kind log t k a) (run_before other log t k b)
   before_reannotated log t k =
       refreshed_reannotated (log.version t k) (log.version t (suc k)) (run kind log t k a) (run other log t k b) (run_reannotated log t k)
 

@@ -14,81 +14,77 @@ use Rattle.gp_base.specs.declared.refusal.Refusal.TheVariants.{E24, E27}
 use Rattle.gp_machine.proofs.AskedLemmas.{asked}
 use Rattle.gp_machine.proofs.HeldPoints.{committed_stops, never_stops, simulated, version_is}
 use Rattle.gp_machine.proofs.LogLemmas.{versions_le}
-use Rattle.gp_machine.proofs.ReachedLemmas.{all_reached}
 use Rattle.gp_machine.proofs.Simulation.{consistent}
 use Rattle.gp_machine.specs.Annotating.{annotated_versions, computed, identified}
 use Rattle.gp_machine.specs.Entries.{committer_of, log_of, statement_count, versions_in}
-use Rattle.gp_machine.specs.Event.{Line, after, name_at}
+use Rattle.gp_machine.specs.Event.{name_at}
 use Rattle.gp_machine.specs.HistorySpans.{as_of, state_spans}
 use Rattle.gp_machine.specs.Limits.{Limits}
 use Rattle.gp_machine.specs.Points.{IsAsked, at_point, held_at, to_commit, to_statement, to_version, version_before}
 use Rattle.gp_machine.specs.Questions.{AreAlike, annotated_answer, annotation_stop, answer_refusal, difference, given, held_answer, log_refusal, needed_version, own_stop, rows_answer, stop_refusal}
-use Rattle.gp_machine.specs.State.{State, start}
+use Rattle.gp_machine.specs.State.{State}
+use Rattle.gp_machine.specs.Unstopped.{IsUnstopped}
 use Rattle.gp_versions.specs.declared.span.Span.{Span}
 
 pub finish : {M : Type 0} (kind : Annotations M) (limits : Limits) (xs ys : List (Element M)) → SameBag xs ys
     → AreAlike (given (cond (nat_lt limits.answer (length ys)) (Some E27) None) xs) (given (cond (nat_lt limits.answer (length ys)) (Some E27) None) ys)
 finish kind limits xs ys same = elim (nat_lt limits.answer (length ys)) as (λ b. AreAlike (given (cond b (Some E27) None) xs) (given (cond b (Some E27) None) ys)) [ true ↦ refl | false ↦ permuted xs ys same ]
 
-module _ {M : Type 0} (kind : Annotations M) (limits : Limits) (lines : List Line) (spans : ℕ → List Span) where
-  abbrev state : State M
-  state = after kind limits start lines
+module _ {M : Type 0} (kind : Annotations M) (limits : Limits) (state : State M) (unstopped : IsUnstopped kind limits state) (spans : ℕ → List Span) (are : (table : ℕ) → SameBag (spans table) (state_spans state table)) where
+  pub never_own : (point : y.State) → IsAsked state.entries point → own_stop kind limits state.entries point (annotated_versions kind state.entries spans) ≡ None
+  never_own (y.as_of version) (to_version l) = refl
+  never_own (y.after t k) (to_statement {version = version} e l) = ap (option_map stop_refusal) (committed_stops kind limits state unstopped spans are t k version e l)
+  never_own (y.State.commit t) (to_commit {version = version} e) = ap (option_map stop_refusal) (committed_stops kind limits state unstopped spans are t (statement_count t state.entries) version e (omega arith))
 
-  module _ (are : (table : ℕ) → SameBag (spans table) (state_spans state table)) where
-    never_own : (point : y.State) → IsAsked state.entries point → own_stop kind limits state.entries point (annotated_versions kind state.entries spans) ≡ None
-    never_own (y.as_of version) (to_version l) = refl
-    never_own (y.after t k) (to_statement {version = version} e l) = ap (option_map stop_refusal) (committed_stops kind limits lines spans are t k version e l)
-    never_own (y.State.commit t) (to_commit {version = version} e) = ap (option_map stop_refusal) (committed_stops kind limits lines spans are t (statement_count t state.entries) version e (omega arith))
+  needed : (point : y.State) → IsAsked state.entries point → needed_version state.entries point ≤ versions_in state.entries
+  needed (y.as_of version) (to_version l) = l
+  needed (y.after t k) (to_statement {version = version} e l) = versions_le t k state.entries
+  needed (y.State.commit t) (to_commit {version = version} e) =
+      let i = version_is t version state.entries e in
+      let w = i.within in
+      subst (λ o. version_before o ≤ versions_in state.entries) (sym (e ∙ ap Some i.is)) (omega arith)
 
-    needed : (point : y.State) → IsAsked state.entries point → needed_version state.entries point ≤ versions_in state.entries
-    needed (y.as_of version) (to_version l) = l
-    needed (y.after t k) (to_statement {version = version} e l) = versions_le t k state.entries
-    needed (y.State.commit t) (to_commit {version = version} e) =
-        let i = version_is t version state.entries e in
-        let w = i.within in
-        subst (λ o. version_before o ≤ versions_in state.entries) (sym (e ∙ ap Some i.is)) (omega arith)
+  module _ (agree : List (Annotated M) → List (Annotated M) → Bool) (agree_same : (rows others : List (Annotated M)) → IsPermutation (identified rows) (identified others) → agree rows others ≡ true) where
+    never_differs : (tables u : ℕ) → u ≤ versions_in state.entries → difference kind limits agree state.catalogue u tables (computed kind (log_of state.entries) spans u u) (as_of kind spans u) ≡ None
+    never_differs zero u l = refl
+    never_differs (suc table) u l =
+        λ i. option_or (never_differs table u l i)
+        (cond (agree_same (computed kind (log_of state.entries) spans u u table) (as_of kind spans u table)
+        (permuted _ _ (consistent kind (log_of state.entries) state.committed state.written unstopped.history spans are u table l)) i)
+        None (Some (E24 u (name_at table state.catalogue))))
 
-    module _ (agree : List (Annotated M) → List (Annotated M) → Bool) (agree_same : (rows others : List (Annotated M)) → IsPermutation (identified rows) (identified others) → agree rows others ≡ true) where
-      never_differs : (tables u : ℕ) → u ≤ versions_in state.entries → difference kind limits agree state.catalogue u tables (computed kind (log_of state.entries) spans u u) (as_of kind spans u) ≡ None
-      never_differs zero u l = refl
-      never_differs (suc table) u l =
-          λ i. option_or (never_differs table u l i)
-          (cond (agree_same (computed kind (log_of state.entries) spans u u table) (as_of kind spans u table)
-          (permuted _ _ (consistent kind (log_of state.entries) state.committed state.written (all_reached kind limits lines).history spans are u table l)) i)
-          None (Some (E24 u (name_at table state.catalogue))))
+    pub never_annotation : (u : ℕ) → u ≤ versions_in state.entries → annotation_stop kind limits agree state.catalogue (log_of state.entries) spans u ≡ None
+    never_annotation zero l = refl
+    never_annotation (suc u) l =
+        λ i. option_or (never_annotation u (omega arith) i)
+        (option_or (option_map stop_refusal (never_stops kind limits state unstopped spans are u (statement_count (committer_of (suc u) state.entries) state.entries) u (omega arith) (omega arith) l (omega arith) i))
+        (never_differs (length state.catalogue) (suc u) l i))
 
-      never_annotation : (u : ℕ) → u ≤ versions_in state.entries → annotation_stop kind limits agree state.catalogue (log_of state.entries) spans u ≡ None
-      never_annotation zero l = refl
-      never_annotation (suc u) l =
-          λ i. option_or (never_annotation u (omega arith) i)
-          (option_or (option_map stop_refusal (never_stops kind limits lines spans are (committer_of (suc u) state.entries) (statement_count (committer_of (suc u) state.entries) state.entries) u u refl (omega arith) (omega arith) l (omega arith) i))
-          (never_differs (length state.catalogue) (suc u) l i))
-
-      pub annotated_alike : (point : y.State) (query : Select) → AreAlike (annotated_answer kind limits agree state.catalogue state.entries spans point query) (held_answer kind limits state point query)
-      annotated_alike point query = go (log_refusal state.entries point) refl
-        where
-          go : (refusal : Option Refusal) → log_refusal state.entries point ≡ refusal →
-              AreAlike (given (option_or refusal (option_or (annotation_stop kind limits agree state.catalogue (log_of state.entries) spans (needed_version state.entries point)) (option_or (own_stop kind limits state.entries point (annotated_versions kind state.entries spans)) (answer_refusal kind limits (answer kind query (at_point kind state.entries point (annotated_versions kind state.entries spans))))))) (answer kind query (at_point kind state.entries point (annotated_versions kind state.entries spans))))
-              (given (option_or refusal (answer_refusal kind limits (answer kind query (held_at state point)))) (answer kind query (held_at state point)))
-          go (Some refusal) e = refl
-          go None e =
-              let a = asked state.entries point e in
-              let same = simulated kind limits lines spans are point a query in
-              rw (never_annotation (needed_version state.entries point) (needed point a), never_own point a, as_long same)
-              (finish kind limits (answer kind query (at_point kind state.entries point (annotated_versions kind state.entries spans))) (answer kind query (held_at state point)) same)
+    pub annotated_alike : (point : y.State) (query : Select) → AreAlike (annotated_answer kind limits agree state.catalogue state.entries spans point query) (held_answer kind limits state point query)
+    annotated_alike point query = go (log_refusal state.entries point) refl
+      where
+        go : (refusal : Option Refusal) → log_refusal state.entries point ≡ refusal →
+            AreAlike (given (option_or refusal (option_or (annotation_stop kind limits agree state.catalogue (log_of state.entries) spans (needed_version state.entries point)) (option_or (own_stop kind limits state.entries point (annotated_versions kind state.entries spans)) (answer_refusal kind limits (answer kind query (at_point kind state.entries point (annotated_versions kind state.entries spans))))))) (answer kind query (at_point kind state.entries point (annotated_versions kind state.entries spans))))
+            (given (option_or refusal (answer_refusal kind limits (answer kind query (held_at state point)))) (answer kind query (held_at state point)))
+        go (Some refusal) e = refl
+        go None e =
+            let a = asked state.entries point e in
+            let same = simulated kind limits state unstopped spans are point a query in
+            rw (never_annotation (needed_version state.entries point) (needed point a), never_own point a, as_long same)
+            (finish kind limits (answer kind query (at_point kind state.entries point (annotated_versions kind state.entries spans))) (answer kind query (held_at state point)) same)
 
 -- without annotations the rows of the spans are enough
-pub rows_alike : (limits : Limits) (lines : List Line) (spans : ℕ → List Span) → ((table : ℕ) → SameBag (spans table) (state_spans (after plain limits start lines) table)) → (point : y.State) (query : Select)
-    → AreAlike (rows_answer limits (after plain limits start lines).entries spans point query) (held_answer plain limits (after plain limits start lines) point query)
-rows_alike limits lines spans are point query = go (log_refusal (after plain limits start lines).entries point) refl
+pub rows_alike : (limits : Limits) (state : State (Unit {0})) → IsUnstopped plain limits state → (spans : ℕ → List Span) → ((table : ℕ) → SameBag (spans table) (state_spans state table)) → (point : y.State) (query : Select)
+    → AreAlike (rows_answer limits state.entries spans point query) (held_answer plain limits state point query)
+rows_alike limits state unstopped spans are point query = go (log_refusal state.entries point) refl
   where
-    go : (refusal : Option Refusal) → log_refusal (after plain limits start lines).entries point ≡ refusal →
-        AreAlike (given (option_or refusal (option_or (own_stop plain limits (after plain limits start lines).entries point (as_of plain spans)) (answer_refusal plain limits (answer plain query (at_point plain (after plain limits start lines).entries point (as_of plain spans)))))) (answer plain query (at_point plain (after plain limits start lines).entries point (as_of plain spans))))
-        (given (option_or refusal (answer_refusal plain limits (answer plain query (held_at (after plain limits start lines) point)))) (answer plain query (held_at (after plain limits start lines) point)))
+    go : (refusal : Option Refusal) → log_refusal state.entries point ≡ refusal →
+        AreAlike (given (option_or refusal (option_or (own_stop plain limits state.entries point (as_of plain spans)) (answer_refusal plain limits (answer plain query (at_point plain state.entries point (as_of plain spans)))))) (answer plain query (at_point plain state.entries point (as_of plain spans))))
+        (given (option_or refusal (answer_refusal plain limits (answer plain query (held_at state point)))) (answer plain query (held_at state point)))
     go (Some refusal) e = refl
     go None e =
-        let a = asked (after plain limits start lines).entries point e in
-        let same = simulated plain limits lines spans are point a query in
-        let stop : own_stop plain limits (after plain limits start lines).entries point (as_of plain spans) ≡ None = never_own plain limits lines spans are point a in
-        let long : length (answer plain query (at_point plain (after plain limits start lines).entries point (as_of plain spans))) ≡ length (answer plain query (held_at (after plain limits start lines) point)) = as_long same in
-        rw (stop, long) (finish plain limits (answer plain query (at_point plain (after plain limits start lines).entries point (as_of plain spans))) (answer plain query (held_at (after plain limits start lines) point)) same)
+        let a = asked state.entries point e in
+        let same = simulated plain limits state unstopped spans are point a query in
+        let stop : own_stop plain limits state.entries point (as_of plain spans) ≡ None = never_own plain limits state unstopped spans are point a in
+        let long : length (answer plain query (at_point plain state.entries point (as_of plain spans))) ≡ length (answer plain query (held_at state point)) = as_long same in
+        rw (stop, long) (finish plain limits (answer plain query (at_point plain state.entries point (as_of plain spans))) (answer plain query (held_at state point)) same)

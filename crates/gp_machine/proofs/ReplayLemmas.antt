@@ -7,7 +7,6 @@ use Rattle.std.proofs.lemmas.Bool.{false≢true, cases_lt}
 use Rattle.std.proofs.lemmas.Bool.Decides.{nat_tests}
 use Rattle.std.proofs.lemmas.List.{length-append, length-map}
 use Rattle.gp_algebra.specs.Effects.{Written}
-use Rattle.gp_algebra.specs.Statements.{Statement}
 use Rattle.gp_base.specs.Annotated.{Annotated, Annotations, Database, Environment}
 use Rattle.gp_base.specs.Identities.{Identity, transaction_of}
 use Rattle.gp_machine.proofs.ActiveLemmas.{IsOver}
@@ -19,9 +18,10 @@ use Rattle.gp_machine.proofs.LeastLemmas.{least_conflict_is}
 use Rattle.gp_machine.proofs.LimitLemmas.{counts_are_within}
 use Rattle.gp_machine.proofs.LogLemmas.{CommitBy, SameFor, SameSeen, at_other, at_value, commit_agree, commit_from, history_from, seen_agree}
 use Rattle.gp_machine.proofs.ReachedLemmas.{all_reached, not_lost}
-use Rattle.gp_machine.proofs.RunLemmas.{before_agree, before_is, run_agree, run_is, written_agree, written_is}
+use Rattle.gp_machine.proofs.RunLemmas.{before_agree, before_is, run_agree, run_is, stop_agree, written_agree, written_is}
 use Rattle.gp_machine.proofs.SpanGrowth.{spans_grow}
 use Rattle.gp_machine.proofs.SpanRows.{written_rows}
+use Rattle.gp_machine.proofs.UnstoppedLemmas.{neither, reached_unstopped}
 use Rattle.gp_machine.specs.Bases.{pairs}
 use Rattle.gp_machine.specs.Committed.{cleared, is_written, merged, next_version, unmarked}
 use Rattle.gp_machine.specs.Conflicts.{Conflict, least_conflict}
@@ -30,7 +30,7 @@ use Rattle.gp_machine.specs.Event.{Line, after, published_rows}
 use Rattle.gp_machine.specs.Histories.{IsFirst, IsHistory}
 use Rattle.gp_machine.specs.HistorySpans.{next_written, span_after, span_count, span_from, spans_from, spans_of, spans_upto, state_spans}
 use Rattle.gp_machine.specs.Limits.{ChecksTargets, Limits}
-use Rattle.gp_machine.specs.Points.{RunStop, run_stop, statement_stop}
+use Rattle.gp_machine.specs.Points.{RunStop, run_stop}
 use Rattle.gp_machine.specs.Reached.{IsReached}
 use Rattle.gp_machine.specs.Reading.{Seen, seen_by, start_by}
 use Rattle.gp_machine.specs.Replaying.{CommitsInOrder, Replay, first_stop, replay_stop, replayed, replayed_spans, rerun, upto_version, version_stop}
@@ -53,10 +53,6 @@ unstopped version (Some stop) lost full e = absurd (some_none _ e)
 unstopped version None (Some conflict) full e = absurd (some_none _ e)
 unstopped version None None true e = absurd (some_none _ e)
 unstopped version None None false e = record { runs = refl; wins = refl; room = refl }
-
-neither : {X : Type 0} (a b : Option X) → option_or a b ≡ None → (a ≡ None) × (b ≡ None)
-neither None b e = (refl, e)
-neither (Some x) b e = absurd (some_none _ e)
 
 pub same_log : (log : Log) (t n : ℕ) → SameFor log log t n
 same_log log t n = record { version = λ k l. refl; statement = λ k l. refl }
@@ -287,11 +283,6 @@ module _ {M : Type 0} (kind : Annotations M) (limits : Limits) (checks : ChecksT
           ∙ written_is kind log state.committed state.written reached.history maker steps fits_it inside rising steps (omega arith)) i;
     }
 
-    before_own : (k : ℕ) → k < steps → run_before kind log maker k (own u).committed ≡ start_by kind log maker k state.committed
-    before_own k l =
-        before_agree kind log log maker steps state.committed (own u).committed (same_log log maker steps) agree k l
-        ∙ before_is kind log state.committed state.written reached.history maker steps fits_it inside rising k l
-
     wrote_own : pairs mine.written ≡ state.written (suc u)
     wrote_own = ap (λ (x : Seen M). pairs x.written) mine_is ∙ sym (reached.history.wrote u within)
 
@@ -312,18 +303,10 @@ module _ {M : Type 0} (kind : Annotations M) (limits : Limits) (checks : ChecksT
     }
 
     -- its run does not stop
-    statement_none : (k : ℕ) → k < steps → (statement : Option Statement) → log.statement maker (suc k) ≡ statement → statement_stop kind limits maker (suc k) statement (run_before kind log maker k (own u).committed) ≡ None
-    statement_none k l None e = refl
-    statement_none k l (Some statement) e =
-        let m = reached.makers u within in
-        let fits = reached.within maker k statement m.0 m.1 l e in
-        ap (statement_stop kind limits maker (suc k) (Some statement)) (before_own k l) ∙ rw (fits.rows, fits.nodes) refl
-
-    run_none : (k : ℕ) → k ≤ steps → run_stop kind limits log maker k (own u).committed ≡ None
-    run_none zero l = refl
-    run_none (suc k) l =
-        ap (λ s. option_or s (statement_stop kind limits maker (suc k) (log.statement maker (suc k)) (run_before kind log maker k (own u).committed))) (run_none k (omega arith))
-        ∙ statement_none k l (log.statement maker (suc k)) refl
+    run_none : run_stop kind limits log maker steps (own u).committed ≡ None
+    run_none =
+        stop_agree kind log log maker steps state.committed (own u).committed (same_log log maker steps) agree limits steps (omega arith)
+        ∙ (reached_unstopped kind limits state reached).runs u within
 
     -- its commit is not lost
     won : least_conflict (own u).written u mine.written ≡ None
@@ -416,7 +399,7 @@ module _ {M : Type 0} (kind : Annotations M) (limits : Limits) (checks : ChecksT
   version_none : (u : ℕ) → u < log.versions → version_stop kind log limits tables u ≡ None
   version_none u within =
       let is = is_own u (omega arith) in
-      λ i. first_stop (suc u) (run_none u within is (log.statement_count (log.committer (suc u))) (omega arith) i) (won u within is i) (has_room u within i)
+      λ i. first_stop (suc u) (run_none u within is i) (won u within is i) (has_room u within i)
 
   pub own_unstopped : (u : ℕ) → u ≤ log.versions → replay_stop kind log limits tables u ≡ None
   own_unstopped zero within = refl

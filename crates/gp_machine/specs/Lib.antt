@@ -16,6 +16,7 @@ pub mod Questions
 pub mod Reached
 pub mod Reading
 pub mod Recorded
+pub mod Replayed
 pub mod Replaying
 pub mod Replies
 pub mod Replacing
@@ -23,4 +24,5 @@ pub mod Represents
 pub mod Runs
 pub mod State
 pub mod StateReannotation
+pub mod Unstopped
 pub mod Views

@@ -4,6 +4,7 @@
 ghost use Rattle.std.specs.Prelude.{Bool, ◌≡◌, ◌≢◌, ℕ, zero, suc, ◌-◌, ◌<◌, ◌≤◌, true, false, List, [], ◌∷◌, ◌++◌, filter, length, map, Option, Some, None};
 ghost use Rattle.std.specs.List.{AllByRecursion};
 ghost use Rattle.std.specs.List.Sorted.{IsPermutation};
+ghost use Rattle.gp_base.specs.declared.table.Table.{Table};
 ghost use Rattle.gp_base.specs.Annotated.{Annotated, Annotations, Database, Environment, plain};
 ghost use Rattle.gp_base.specs.Identities.{Identity, transaction_of};
 ghost use Rattle.gp_grammar.specs.Syntax as y;
@@ -33,11 +34,13 @@ ghost use Rattle.gp_machine.specs.Replacing.{AddsNoneOf, Replaces, rows_with};
 ghost use Rattle.gp_machine.specs.Questions.{AreAlike, annotated_answer, held_answer, rows_answer};
 ghost use Rattle.gp_machine.specs.Reached.{CountsAreWithin, IsReached};
 ghost use Rattle.gp_machine.specs.Recorded.{is_recorded};
+ghost use Rattle.gp_machine.specs.Replayed.{replayed_state};
 ghost use Rattle.gp_machine.specs.Replaying.{CommitsInOrder, replay_stop, replayed, replayed_spans, upto_version};
 ghost use Rattle.gp_machine.specs.Represents.{Kept, Overlay, Represents, kept_start};
 ghost use Rattle.gp_machine.specs.Runs.{at_commit};
 ghost use Rattle.gp_machine.specs.State.{Active, State, start};
 ghost use Rattle.gp_machine.specs.StateReannotation.{AreEqualButForAnnotations, AreReannotated, IsReannotated, outcome_reannotated, state_reannotated};
+ghost use Rattle.gp_machine.specs.Unstopped.{IsUnstopped};
 ghost use Rattle.gp_machine.specs.Views.{HaveDifferentIdentities, IsView, IsViewOf, unwritten};
 
 /// Every state that lines lead to is that of a history: its versions are what its commits published, a transaction commits once,
@@ -366,4 +369,58 @@ pub fn histories_are_made_again<M>()
         → CommitsInOrder log → u ≤ log.versions → replay_stop kind log limits tables u ≡ None
         → IsHistory kind (upto_version u log)
         (replayed kind log tables u).committed (replayed kind log tables u).written }
+{}
+
+/// No transaction that made a version passes a limit: neither in a state that lines lead to (`reached`), nor in the one that the
+/// commits of a log lead to, made again, if the log keeps its sessions and none of them stops (`replayed`).
+pub fn histories_do_not_stop<M>()
+    ensures reached { (kind : Annotations M) (limits : Limits) (lines : List Line)
+        → IsUnstopped kind limits (after kind limits start lines) }
+    ensures replayed { (kind : Annotations M) (limits : Limits) (catalogue : List Table)
+        (entries : List Entry) → CommitsInOrder (log_of entries)
+        → replay_stop kind (log_of entries) limits (length catalogue) (versions_in entries) ≡ None
+        → IsUnstopped kind limits (replayed_state kind catalogue entries) }
+{}
+
+/// The log and the spans of a history in which no transaction stops, in whatever order, hold the history, and every question is
+/// answered from them as the history would answer it: with the same elements in any order (`elements`), or with the same
+/// refusal (`annotated`, `rows`). So it is for each state that lines lead to, and for commits made again
+/// ([`histories_do_not_stop`]).
+pub fn unstopped_histories_answer_their_questions<M>()
+    ensures elements { (kind : Annotations M) (limits : Limits) (state : State M)
+        → IsUnstopped kind limits state → (spans : ℕ → List Span)
+        → ((table : ℕ) → IsPermutation (spans table) (state_spans state table))
+        → (point : y.State) → IsAsked state.entries point → (query : Select) → IsPermutation
+        (answer kind query (at_point kind state.entries point
+        (annotated_versions kind state.entries spans)))
+        (answer kind query (held_at state point)) }
+    ensures annotated { (kind : Annotations M) (limits : Limits) (state : State M)
+        → IsUnstopped kind limits state → (spans : ℕ → List Span)
+        → ((table : ℕ) → IsPermutation (spans table) (state_spans state table))
+        → (agree : List (Annotated M) → List (Annotated M) → Bool)
+        → ((rows others : List (Annotated M))
+        → IsPermutation (identified rows) (identified others) → agree rows others ≡ true)
+        → (point : y.State) (query : Select) → AreAlike
+        (annotated_answer kind limits agree state.catalogue state.entries spans point query)
+        (held_answer kind limits state point query) }
+    ensures rows { (limits : Limits) (state : State (Unit {0})) → IsUnstopped plain limits state
+        → (spans : ℕ → List Span)
+        → ((table : ℕ) → IsPermutation (spans table) (state_spans state table))
+        → (point : y.State) (query : Select) → AreAlike
+        (rows_answer limits state.entries spans point query)
+        (held_answer plain limits state point query) }
+{}
+
+/// Annotations decide nothing where commits are made again: a homomorphism of annotations changes neither the first stop (`stops`)
+/// nor the spans (`spans`), and takes a history in which no transaction stops to another one (`unstopped`).
+pub fn annotations_change_no_replay<M, N>()
+    ensures stops { (kind : Annotations M) (other : Annotations N) (h : M → N)
+        → IsHomomorphism kind other h → (limits : Limits) (log : Log) (tables u : ℕ)
+        → replay_stop other log limits tables u ≡ replay_stop kind log limits tables u }
+    ensures spans { (kind : Annotations M) (other : Annotations N) (h : M → N)
+        → IsHomomorphism kind other h → (log : Log) (tables u place : ℕ)
+        → replayed_spans other log tables u place ≡ replayed_spans kind log tables u place }
+    ensures unstopped { (kind : Annotations M) (other : Annotations N) (h : M → N)
+        → IsHomomorphism kind other h → (limits : Limits) (state : State M)
+        → IsUnstopped kind limits state → IsUnstopped other limits (state_reannotated h state) }
 {}

@@ -19,7 +19,8 @@ ghost use Rattle.gp_machine.specs.Entries.{Entry, Log, committer_of, log_of, ver
 ghost use Rattle.gp_machine.specs.Event.{Line, after};
 ghost use Rattle.gp_machine.specs.HistorySpans.{state_spans};
 ghost use Rattle.gp_machine.specs.Limits.{Limits};
-ghost use Rattle.gp_machine.specs.State.{start};
+ghost use Rattle.gp_machine.specs.State.{State, start};
+ghost use Rattle.gp_machine.specs.Unstopped.{IsUnstopped};
 ghost use Rattle.gp_valuation.specs.Values.{monomial_value, values_as_annotations};
 ghost use Rattle.gp_kexec.specs.InSemiring.{words};
 ghost use Rattle.gp_values.specs.DistinctRows.{AreAscending, distinct_rows, occurs_in};
@@ -34,7 +35,7 @@ ghost use Rattle.gp_values.specs.ValueAnswers.{
 };
 
 use gp_base::Monomial as BaseMonomial;
-use gp_machine::{logs_and_spans_hold_the_history, questions_are_answered_by_the_history};
+use gp_machine::{histories_do_not_stop, unstopped_histories_answer_their_questions};
 use gp_semiring::Semiring;
 
 /// The distinct rows of a list rise strictly in row order, and are the rows that occur in the list.
@@ -104,7 +105,8 @@ pub fn values_are_sums_over_the_history<K: Semiring>()
 {}
 
 /// The log and the spans of a history, in whatever order, give the values of what the history held: the same distinct rows with
-/// the same values, or the same refusal, whatever test of equal tables is used, if it passes tables with the same rows.
+/// the same values, or the same refusal, whatever test of equal tables is used, if it passes tables with the same rows. So it is
+/// for each state that lines lead to (`answers`), and for every history in which no transaction stops (`unstopped`).
 pub fn values_are_those_of_the_history<K: Semiring>()
     ensures answers { (value : Token → K) → ((token : Token) → K.is_element (value token))
         → (limits : Limits) (lines : List Line) (spans : ℕ → List Span) → ((table : ℕ)
@@ -118,7 +120,18 @@ pub fn values_are_those_of_the_history<K: Semiring>()
         spans point query
         ≡ held_value_answer limits K.plus_of K.zero_of K.one_of K.times_of value
         (after monomials limits start lines) point query }
+    ensures unstopped { (value : Token → K) → ((token : Token) → K.is_element (value token))
+        → (limits : Limits) (state : State Monomial) → IsUnstopped monomials limits state
+        → (spans : ℕ → List Span)
+        → ((table : ℕ) → IsPermutation (spans table) (state_spans state table))
+        → (agree : List (Annotated Monomial) → List (Annotated Monomial) → Bool)
+        → ((rows others : List (Annotated Monomial))
+        → IsPermutation (identified rows) (identified others) → agree rows others ≡ true)
+        → (point : y.State) (query : Select)
+        → value_answer limits K.plus_of K.zero_of K.one_of K.times_of value agree state.catalogue
+        state.entries spans point query
+        ≡ held_value_answer limits K.plus_of K.zero_of K.one_of K.times_of value state point query }
 {
-    questions_are_answered_by_the_history::<BaseMonomial>();
-    logs_and_spans_hold_the_history::<BaseMonomial>()
+    histories_do_not_stop::<BaseMonomial>();
+    unstopped_histories_answer_their_questions::<BaseMonomial>()
 }

@@ -2,7 +2,6 @@ use Rattle.std.proofs.Common.{Err, Global, List, None, Vec, ap, arith, map, subs
 use Rattle.gp_algebra.specs.Fitting.{width_of}
 use Rattle.gp_compose.specs.Composed.{published_table}
 use Rattle.gp_kexec.specs.declared.held.Held.{Held}
-use Rattle.gp_log.specs.Limits.{limits}
 use Rattle.gp_log.specs.LogFacts.{tables_in}
 use Rattle.gp_log.specs.Logs.{log_view}
 use Rattle.gp_machine.specs.Entries.{log_of, version_of}
@@ -21,7 +20,7 @@ use Rattle.gp_history.proofs.changes.table_change.Goals as goal
 pub published_program-requires-clause-known : goal.published_program-requires-clause-known
 published_program-requires-clause-known g c =
     let entries = log_view c.args.log.now.entries in
-    subst (λ (t : ℕ). transaction_refusal t entries ≡ None) (sym c.requires.maker) (maker_known limits entries c.requires.sound.log c.args.before c.requires.within)
+    subst (λ (t : ℕ). transaction_refusal t entries ≡ None) (sym c.requires.maker) (maker_known entries c.requires.sound.sessions c.args.before c.requires.within)
 
 pub rows-requires-clause-program : goal.rows-requires-clause-program
 rows-requires-clause-program g c =

@@ -3,6 +3,7 @@ use Rattle.gp_log.specs.Limits.{limits}
 use Rattle.gp_machine.proofs.HeldPoints.{after_held, commit_held}
 use Rattle.gp_machine.proofs.ReachedLemmas.{all_reached}
 use Rattle.gp_machine.proofs.Simulation.{versions_held}
+use Rattle.gp_machine.proofs.UnstoppedLemmas.{all_unstopped}
 use Rattle.gp_machine.specs.Entries.{log_of}
 use Rattle.gp_machine.specs.Event.{after}
 use Rattle.gp_machine.specs.State.{start}
@@ -15,8 +16,8 @@ returns-clause-versions g c kind lines spans are u within table =
 
 pub returns-clause-runs : goal.returns-clause-runs
 returns-clause-runs g c kind lines spans are t k u made within table =
-    permuted _ _ (after_held kind limits lines spans (λ n. unpermuted _ _ (are n)) t k u made within table)
+    permuted _ _ (after_held kind limits (after kind limits start lines) (all_unstopped kind limits lines) spans (λ n. unpermuted _ _ (are n)) t k u made within table)
 
 pub returns-clause-commits : goal.returns-clause-commits
 returns-clause-commits g c kind lines spans are t u made table =
-    permuted _ _ (commit_held kind limits lines spans (λ n. unpermuted _ _ (are n)) t u made table)
+    permuted _ _ (commit_held kind limits (after kind limits start lines) (all_unstopped kind limits lines) spans (λ n. unpermuted _ _ (are n)) t u made table)

@@ -5,10 +5,12 @@ use Rattle.std.proofs.Common.{[]}
 use Rattle.gp_values.proofs.HeldLemmas.{values_held}
 use Rattle.gp_values.proofs.laws.values_are_those_of_the_history.Goals as goal
 
-pub returns : goal.returns
-returns g c = record {
-  answers = λ value value_in limits lines spans are agree agrees point query.
-      values_held limits agree (after monomials limits start lines) spans point g.met.K.Semiring.laws value value_in query
-      (c.questions_are_answered_by_the_history.ensures.annotated monomials limits lines spans are agree agrees point [])
-      (λ known. c.logs_and_spans_hold_the_history.ensures.answers monomials limits lines spans are point known query);
-}
+pub returns-clause-unstopped : goal.returns-clause-unstopped
+returns-clause-unstopped g c value value_in limits state unstopped spans are agree agrees point query =
+    values_held limits agree state spans point g.met.K.Semiring.laws value value_in query
+    (c.unstopped_histories_answer_their_questions.ensures.annotated monomials limits state unstopped spans are agree agrees point [])
+    (λ known. c.unstopped_histories_answer_their_questions.ensures.elements monomials limits state unstopped spans are point known query)
+
+pub returns-clause-answers : goal.returns-clause-answers
+returns-clause-answers g c value value_in limits lines spans are agree agrees point query =
+    returns-clause-unstopped g c value value_in limits (after monomials limits start lines) (c.histories_do_not_stop.ensures.reached monomials limits lines) spans are agree agrees point query
