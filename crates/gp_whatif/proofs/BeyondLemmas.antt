@@ -1,36 +1,38 @@
--- A transaction reads no rows of tables that are not there.
-use Rattle.std.proofs.Common.{◌≡◌, ℕ, zero, suc, ◌<◌, ◌≤◌, true, false, cond, List, [], ◌++◌, Option, Some, None, refl, ap, ◌∙◌, arith, length}
-use Rattle.std.specs.Prelude.{◌&&◌, ◌==◌, nat_lt, not}
-use Rattle.std.specs.List.{filter, list_all}
-use Rattle.std.proofs.lemmas.Bool.{and_parts, ltb-true}
+-- A transaction reads no rows of tables that are not there, and commits made again make none.
+use Rattle.std.proofs.Common.{◌≡◌, ℕ, zero, suc, ◌<◌, ◌≤◌, true, false, cond, List, [], ◌++◌, Option, Some, None, refl, ap, ◌∙◌, arith, length, map}
+use Rattle.std.specs.Prelude.{◌==◌, not}
+use Rattle.std.specs.List.{filter}
 use Rattle.std.proofs.lemmas.Bool.Decides.{nat_tests}
 use Rattle.gp_base.specs.declared.table.Table.{Table}
 use Rattle.gp_base.specs.Annotated.{Annotated, Database, Environment, plain}
-use Rattle.gp_algebra.specs.Effects.{step, with_rows}
-use Rattle.gp_algebra.specs.Fitting.{branches_fit, cond_fits, is_countable, is_there, row_fits, set_fits, statement_fits, width_of}
+use Rattle.gp_algebra.specs.Effects.{Written, step, with_rows}
 use Rattle.gp_algebra.specs.Statements.{Statement, insert, insert_select, update, delete, read}
 use Rattle.gp_machine.specs.Bases.{pairs}
-use Rattle.gp_machine.specs.Committed.{is_written, merged}
-use Rattle.gp_machine.specs.Entries.{Entry, Log, log_of}
+use Rattle.gp_machine.specs.Committed.{is_written, merged, next_version, unmarked}
+use Rattle.gp_machine.specs.Entries.{Entry, Log, committer_of, log_of, statement_at, statement_count, statement_version}
+use Rattle.gp_machine.specs.HistorySpans.{span_from, spans_upto}
+use Rattle.gp_machine.specs.Limits.{HasTarget}
+use Rattle.gp_machine.specs.Publishing.{publish, was_written}
 use Rattle.gp_machine.specs.Reading.{Seen, seen_by, start_by, started}
-use Rattle.gp_machine.specs.Replaying.{upto_version}
-use Rattle.gp_machine.specs.Runs.{stepped}
+use Rattle.gp_machine.specs.Replaying.{replayed, replayed_spans, rerun, upto_version}
+use Rattle.gp_machine.specs.Runs.{refreshed, run, run_before, stepped}
 use Rattle.gp_log.specs.LogFitting.{statements_fit}
-use Rattle.gp_whatif.proofs.FittingLogs.{statement_at_fits}
+use Rattle.gp_whatif.specs.Replays.{WritesTables}
+use Rattle.gp_whatif.proofs.FittingLogs.{fits_target, statement_at_fits, statement_at_target}
 
-other_table : (place table tables : ℕ) → tables ≤ place → nat_lt table tables ≡ true → (place == table) ≡ false
-other_table place table tables high there = let low : table < tables = ltb-true table tables there in grind (arith, nat_tests)
+other_table : (place table tables : ℕ) → tables ≤ place → table < tables → (place == table) ≡ false
+other_table place table tables high there = grind (arith, nat_tests)
 
 module _ (tables : List Table) (place : ℕ) (high : length tables ≤ place) where
-  kept : (table : ℕ) (rows : List (Annotated (Unit {0}))) (db : Database (Unit {0})) → is_there tables table ≡ true → with_rows table rows db place ≡ db place
+  kept : (table : ℕ) (rows : List (Annotated (Unit {0}))) (db : Database (Unit {0})) → table < length tables → with_rows table rows db place ≡ db place
   kept table rows db there = ap (λ b. cond b rows (db place)) (other_table place table (length tables) high there)
 
-  step_beyond : (t k : ℕ) (statement : Statement) (db : Database (Unit {0})) → statement_fits tables statement ≡ true → step plain t k statement db place ≡ db place
-  step_beyond t k (insert table rows) db fits = kept table _ db (and_parts (is_there tables table) (is_countable rows && list_all (row_fits (width_of tables table)) rows) fits).0
-  step_beyond t k (insert_select table select) db fits = kept table _ db (and_parts (is_there tables table) (branches_fit tables (width_of tables table) select) fits).0
-  step_beyond t k (update table sets c) db fits = kept table _ db (and_parts (is_there tables table) (list_all (set_fits (width_of tables table)) sets && cond_fits (width_of tables table) c) fits).0
-  step_beyond t k (delete table c) db fits = kept table _ db (and_parts (is_there tables table) (cond_fits (width_of tables table) c) fits).0
-  step_beyond t k (read select) db fits = refl
+  step_beyond : (t k : ℕ) (statement : Statement) (db : Database (Unit {0})) → HasTarget (length tables) statement → step plain t k statement db place ≡ db place
+  step_beyond t k (insert table rows) db there = kept table _ db there
+  step_beyond t k (insert_select table select) db there = kept table _ db there
+  step_beyond t k (update table sets c) db there = kept table _ db there
+  step_beyond t k (delete table c) db there = kept table _ db there
+  step_beyond t k (read select) db there = refl
 
   started_beyond : (old new : ℕ) (now : Database (Unit {0})) (seen : Seen (Unit {0})) → now place ≡ [] → seen.view place ≡ [] → started old new now seen place ≡ []
   started_beyond old new now seen none before =
@@ -46,10 +48,61 @@ module _ (tables : List Table) (place : ℕ) (high : length tables ≤ place) wh
 
     stepped_beyond : (k : ℕ) (statement : Option Statement) → log.statement t k ≡ statement → (db : Database (Unit {0})) → stepped plain t k statement db place ≡ db place
     stepped_beyond k None is db = refl
-    stepped_beyond k (Some statement) is db = step_beyond t k statement db (statement_at_fits tables entries fits t k statement is)
+    stepped_beyond k (Some statement) is db = step_beyond t k statement db (fits_target tables statement (statement_at_fits tables entries fits t k statement is))
 
     pub seen_beyond : (k : ℕ) → k ≤ n → (seen_by plain log t k env).view place ≡ []
     seen_beyond zero l = none zero (omega arith)
     seen_beyond (suc k) l =
         stepped_beyond (suc k) (log.statement t (suc k)) refl (start_by plain log t k env)
         ∙ started_beyond (log.version t k) (log.version t (suc k)) (env (log.version t (suc k))) (seen_by plain log t k env) (none (suc k) l) (seen_beyond k (omega arith))
+
+  -- ---- commits made again
+
+  module _ (entries : List Entry) (writes : WritesTables (length tables) entries) where
+    ran_beyond : (t k : ℕ) (statement : Option Statement) → statement_at t k entries ≡ statement → (db : Database (Unit {0})) → stepped plain t k statement db place ≡ db place
+    ran_beyond t k None is db = refl
+    ran_beyond t k (Some statement) is db = step_beyond t k statement db (statement_at_target (length tables) entries writes t k statement is)
+
+    published_beyond : (base mine later : Database (Unit {0})) → mine place ≡ [] → later place ≡ [] → publish base mine later place ≡ []
+    published_beyond base mine later own others = λ i.
+        filter (λ (row : Annotated (Unit {0})). not (was_written (base place) (own i) row.identity)) (others i) ++ filter (λ (row : Annotated (Unit {0})). row.mark) (own i)
+
+    refreshed_beyond : (versions : Environment (Unit {0})) → ((version : ℕ) → versions version place ≡ []) → (old new : ℕ) (db : Database (Unit {0})) → db place ≡ []
+        → refreshed old new versions db place ≡ []
+    refreshed_beyond versions none old new db before =
+        elim (new == old) as (λ b. (cond b db (publish (versions old) db (versions new))) place ≡ []) [
+          | true ↦ before
+          | false ↦ published_beyond (versions old) db (versions new) before (none new)
+        ]
+
+    run_beyond : (t k : ℕ) (versions : Environment (Unit {0})) → ((version : ℕ) → versions version place ≡ []) → run plain (log_of entries) t k versions place ≡ []
+    run_beyond t zero versions none = none (statement_version t zero entries)
+    run_beyond t (suc k) versions none =
+        ran_beyond t (suc k) (statement_at t (suc k) entries) refl (run_before plain (log_of entries) t k versions)
+        ∙ refreshed_beyond versions none (statement_version t k entries) (statement_version t (suc k) entries) (run plain (log_of entries) t k versions) (run_beyond t k versions none)
+
+    next_beyond : (newest view : Database (Unit {0})) (written : List Written) → newest place ≡ [] → view place ≡ [] → next_version newest view written place ≡ []
+    next_beyond newest view written old own = λ i.
+        map unmarked (filter (λ (row : Annotated (Unit {0})). not (is_written place row.identity written)) (old i) ++ filter (λ (row : Annotated (Unit {0})). is_written place row.identity written) (own i))
+
+    made_beyond : (count u version : ℕ) → (replayed plain (log_of entries) count u).committed version place ≡ []
+    made_beyond count zero version = refl
+    made_beyond count (suc u) version =
+        let t : ℕ = committer_of (suc u) entries in
+        let before : Environment (Unit {0}) = (replayed plain (log_of entries) count u).committed in
+        let seen : Seen (Unit {0}) = rerun plain (log_of entries) t before in
+        elim (version == suc u) as (λ b. (cond b (next_version (before u) seen.view (pairs seen.written)) (before version)) place ≡ []) [
+          | true ↦ next_beyond (before u) seen.view (pairs seen.written) (made_beyond count u u) (run_beyond t (statement_count t entries) before (made_beyond count u))
+          | false ↦ made_beyond count u version
+        ]
+
+    upto_beyond : (n : ℕ) (committed : Environment (Unit {0})) (written : ℕ → List Written) → ((version : ℕ) → committed version place ≡ []) → (m : ℕ) → spans_upto n committed written place m ≡ []
+    upto_beyond n committed written none zero = refl
+    upto_beyond n committed written none (suc m) = λ i.
+        upto_beyond n committed written none m i
+        ++ map (span_from n committed written place (suc m)) (filter (λ (row : Annotated (Unit {0})). is_written place row.identity (written (suc m))) (none (suc m) i))
+
+    -- a table that is not there has no row versions
+    pub replayed_beyond : (count u : ℕ) → replayed_spans plain (log_of entries) count u place ≡ []
+    replayed_beyond count u =
+        upto_beyond u (replayed plain (log_of entries) count u).committed (replayed plain (log_of entries) count u).written (made_beyond count u) u

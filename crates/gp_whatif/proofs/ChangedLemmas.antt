@@ -13,7 +13,7 @@ use Rattle.gp_log.specs.Discipline.{line_of, session_of, transaction_in}
 use Rattle.gp_log.specs.LogFitting.{statements_fit}
 use Rattle.gp_log.specs.LogFacts.{tables_in}
 use Rattle.gp_whatif.specs.Changed.{doubled, dropped_statement, is_at, is_step_of, nothing_at, with_added, with_other}
-use Rattle.gp_whatif.specs.Sessions.{KeepsSessions}
+use Rattle.gp_log.specs.Sessions.{KeepsSessions}
 
 eq_from : (a b : ℕ) → (a == b) ≡ true → a ≡ b
 eq_from a b e = grind (arith, nat_tests)

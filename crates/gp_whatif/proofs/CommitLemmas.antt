@@ -46,7 +46,7 @@ use Rattle.gp_whatif.specs.declared.error.ReplayStop.{ReplayStop}
 use Rattle.gp_whatif.specs.declared.error.ReplayStop.TheVariants as code
 use Rattle.gp_whatif.proofs.BeyondLemmas.{seen_beyond}
 use Rattle.gp_whatif.proofs.RunLemmas.{active_at, apart, held, history, over_at, over_nodes, over_rows, overlay_of, represents, spans_of, stop_stays, whole}
-use Rattle.gp_whatif.proofs.SessionLemmas.{commits_in_order}
+use Rattle.gp_log.proofs.KeptSessions.{commits_in_order}
 
 no_spans : (versions : List Versions) (place : ℕ) → length versions ≤ place → (table_at place versions).spans ≡ []
 no_spans versions place high = ap (λ (table : Versions). table.spans) (get_or-eq_default versions no_table high)

@@ -38,7 +38,7 @@ use Rattle.gp_log.specs.Limits.{limits}
 use Rattle.gp_log.specs.LogFacts.{tables_in}
 use Rattle.gp_whatif.specs.Remade.{HasRun, Ran, made_upto, seen_upto}
 use Rattle.gp_whatif.specs.Replays.{IsMade, IsReplayable}
-use Rattle.gp_whatif.proofs.SessionLemmas.{commits_in_order}
+use Rattle.gp_log.proofs.KeptSessions.{commits_in_order}
 
 -- ---- the writes of a transaction, as the history machine sees them
 

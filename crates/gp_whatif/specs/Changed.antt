@@ -1,5 +1,6 @@
 -- Part of the statement: a log with one statement of a transaction that committed dropped, replaced or added.
-use Rattle.std.specs.Prelude.{◌≡◌, ℕ, suc, ◌+◌, ◌==◌, ◌&&◌, nat_le, Bool, true, false, List, [], ◌∷◌, map, Option, Some, None, Result, Ok, Err, if◌then◌else◌}
+use Rattle.std.specs.Prelude.{◌≡◌, ℕ, suc, ◌+◌, ◌^◌, ◌<◌, ◌==◌, ◌&&◌, nat_le, Bool, true, false, List, [], ◌∷◌, map, Option, Some, None, Result, Ok, Err, if◌then◌else◌}
+use Rattle.std.specs.List.{AllByRecursion}
 use Rattle.std.specs.Option.{option_or}
 use Rattle.gp_base.specs.declared.cell.Cell.TheVariants as cell
 use Rattle.gp_base.specs.declared.limit.Limit.TheVariants as limit
@@ -8,20 +9,15 @@ use Rattle.gp_base.specs.declared.refusal.Refusal.TheVariants.{E14}
 use Rattle.gp_base.specs.declared.table.Table.{Table}
 use Rattle.gp_expr.specs.Expressions.{constant}
 use Rattle.gp_grammar.specs.Syntax as y
-use Rattle.gp_grammar.specs.Syntax.{Command}
+use Rattle.gp_grammar.specs.Syntax.{Command, LogChange}
 use Rattle.gp_algebra.specs.Fitting.{statement_fits}
 use Rattle.gp_algebra.specs.Statements.{Statement, insert, insert_select, update, delete, read}
+use Rattle.gp_check.specs.Checking.{checked}
 use Rattle.gp_machine.specs.Entries.{Entry, Created, Began, Ran, Committed, Ended, statement_count}
 use Rattle.gp_machine.specs.Limits.{Limits}
 use Rattle.gp_machine.specs.Questions.{statement_refusal, transaction_refusal}
-use Rattle.gp_log.specs.Discipline.{line_of, session_of}
+use Rattle.gp_log.specs.Discipline.{last_line, line_of, session_of}
 use Rattle.gp_log.specs.LogFacts.{tables_in}
-
--- the transaction and the number of a statement that is dropped or replaced; the transaction that a statement is added to
-pub data Change : Type 0 where
-  drop : ℕ → ℕ → Change
-  replace : ℕ → ℕ → Command → Change
-  add : ℕ → Command → Change
 
 -- ---- a statement that is dropped
 
@@ -111,21 +107,41 @@ module _ (limits : Limits) (entries : List Entry) where
   steps_refusal t = if nat_le limits.steps (statement_count t entries) then Some (E14 limit.Steps) else None
 
   -- the changed log, or the first refusal
-  abbrev pub changed : Change → Result (List Entry) Refusal
-  changed (drop t k) =
+  abbrev pub changed : LogChange → Result (List Entry) Refusal
+  changed (y.drop t k) =
       rewritten (option_or (transaction_refusal t entries) (statement_refusal t k entries)) (Ok (nothing_at 0))
       (λ statement. with_other t k dropped_command dropped_statement (map doubled entries))
-  changed (replace t k command) =
+  changed (y.replace t k command) =
       rewritten (option_or (transaction_refusal t entries) (statement_refusal t k entries)) (limits.checked (tables_before t k entries) command)
       (λ statement. with_other t k (λ own. command) (λ own. statement) (map doubled entries))
-  changed (add t command) =
+  changed (y.add t command) =
       rewritten (option_or (transaction_refusal t entries) (steps_refusal t)) (limits.checked (tables_at_end t entries) command)
       (λ statement. with_added t command statement (map doubled entries))
 
-  -- a statement of the change that passes the check on the tables before it fits all tables
-  abbrev pub ChecksFit : Change → Type 0
-  ChecksFit (drop t k) = Unit {0}
-  ChecksFit (replace t k command) =
+  -- a statement of the change that passes the check on the tables before it fits all tables of the log
+  abbrev pub ChecksFit : LogChange → Type 0
+  ChecksFit (y.drop t k) = Unit {0}
+  ChecksFit (y.replace t k command) =
       (statement : Statement) → limits.checked (tables_before t k entries) command ≡ Ok statement → statement_fits (tables_in entries) statement ≡ true
-  ChecksFit (add t command) =
+  ChecksFit (y.add t command) =
       (statement : Statement) → limits.checked (tables_at_end t entries) command ≡ Ok statement → statement_fits (tables_in entries) statement ≡ true
+
+-- every statement of a log is what the check makes of its command over the tables before it
+abbrev pub AreChecked : List Entry → Type 0
+AreChecked [] = Unit {0}
+AreChecked (Created line session table ∷ older) = AreChecked older
+AreChecked (Began line session t level ∷ older) = AreChecked older
+AreChecked (Ran line session command t statement ∷ older) = (checked (tables_in older) command ≡ Ok statement) × AreChecked older
+AreChecked (Committed line session t ∷ older) = AreChecked older
+AreChecked (Ended line session end t ∷ older) = AreChecked older
+
+-- ---- lines
+
+-- twice each line is a number of 32 bits, and so is the next one
+abbrev pub CanDouble : List Entry → Type 0
+CanDouble = AllByRecursion (λ (entry : Entry). line_of entry < 2 ^ 31)
+
+-- the line of each entry is above that of the one before it
+abbrev pub LinesRise : List Entry → Type 0
+LinesRise [] = Unit {0}
+LinesRise (entry ∷ older) = (last_line older < line_of entry) × LinesRise older

@@ -1,16 +1,17 @@
 -- Part of the statement: what a replay of a log answers.
-use Rattle.std.specs.Prelude.{◌≡◌, ℕ, true, List, length, Option, Some, None}
+use Rattle.std.specs.Prelude.{◌≡◌, ℕ, true, List, [], ◌∷◌, length, Option, Some, None}
 use Rattle.gp_base.specs.Annotated.{plain}
 use Rattle.gp_versions.specs.Spans.{Versions}
 use Rattle.gp_txn.specs.Transactions.{table_at}
-use Rattle.gp_machine.specs.Entries.{Entry, log_of}
+use Rattle.gp_machine.specs.Entries.{Entry, Created, Began, Ran, Committed, Ended, log_of}
+use Rattle.gp_machine.specs.Limits.{HasTarget}
 use Rattle.gp_machine.specs.Points.{OverRows, OverNodes}
 use Rattle.gp_machine.specs.Replaying as m
 use Rattle.gp_machine.specs.Replaying.{replay_stop, replayed_spans}
 use Rattle.gp_log.specs.Limits.{limits}
 use Rattle.gp_log.specs.LogFacts.{tables_in}
 use Rattle.gp_log.specs.LogFitting.{statements_fit}
-use Rattle.gp_whatif.specs.Sessions.{KeepsSessions}
+use Rattle.gp_log.specs.Sessions.{KeepsSessions}
 use Rattle.gp_whatif.specs.declared.error.ReplayStop.{ReplayStop}
 use Rattle.gp_whatif.specs.declared.error.ReplayStop.TheVariants.{Lost, Rows, Ancestry, Full, NoMemory}
 
@@ -18,6 +19,20 @@ use Rattle.gp_whatif.specs.declared.error.ReplayStop.TheVariants.{Lost, Rows, An
 pub record IsReplayable (entries : List Entry) : Type 0 where
   pub sessions : KeepsSessions entries
   pub fits : statements_fit (tables_in entries) entries ≡ true
+
+-- each statement that writes, writes one of the first tables, this many
+abbrev pub WritesTables : ℕ → List Entry → Type 0
+WritesTables tables [] = Unit {0}
+WritesTables tables (Created line session table ∷ older) = WritesTables tables older
+WritesTables tables (Began line session t level ∷ older) = WritesTables tables older
+WritesTables tables (Ran line session command t statement ∷ older) = HasTarget tables statement × WritesTables tables older
+WritesTables tables (Committed line session t ∷ older) = WritesTables tables older
+WritesTables tables (Ended line session end t ∷ older) = WritesTables tables older
+
+-- A log whose commits, made again, are a history, whatever its check passed: it keeps its sessions, and its statements write its tables.
+pub record IsCoherent (entries : List Entry) : Type 0 where
+  pub sessions : KeepsSessions entries
+  pub tables : WritesTables (length (tables_in entries)) entries
 
 -- the first stop of the commits of a log, up to this version
 abbrev pub stop_upto : List Entry → ℕ → Option m.ReplayStop

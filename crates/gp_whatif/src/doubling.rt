@@ -9,6 +9,7 @@ ghost use Rattle.gp_syntax.specs.Views.{command_view};
 ghost use Rattle.gp_machine.specs.Entries as m;
 ghost use Rattle.gp_log.specs.Logs.{entry_view, what_view};
 ghost use Rattle.gp_whatif.specs.Changed.{doubled};
+ghost use Rattle.gp_whatif.specs.Changing.{Numbers, SameStep, step_of};
 
 use crate::copying::copy_command;
 use gp_algebra::{Branch, Select, SetExpr, Stmt, copy_exprs};
@@ -107,9 +108,10 @@ pub fn copy_stmt(alloc: Global, stmt: &Stmt) -> Result<Stmt, NoMemory>
 }
 
 /// A copy of a statement of the log.
-fn copy_run(alloc: Global, k: u32, command: &Command, stmt: &Stmt) -> Result<What, NoMemory>
-    ensures { IfOk result (λ copy. (line session t : ℕ) → what_view line session t copy
+pub fn copy_run(alloc: Global, k: u32, command: &Command, stmt: &Stmt) -> Result<What, NoMemory>
+    ensures view { IfOk result (λ copy. (line session t : ℕ) → what_view line session t copy
         ≡ m.Ran line session (command_view command.now) t (statement_view stmt.now)) }
+    ensures step { IfOk result (λ copy. step_of copy ≡ Numbers k) }
 {
     let command = copy_command(alloc, command)?;
     let stmt = copy_stmt(alloc, stmt)?;
@@ -118,8 +120,9 @@ fn copy_run(alloc: Global, k: u32, command: &Command, stmt: &Stmt) -> Result<Wha
 
 /// A copy of what an entry did.
 fn copy_what(alloc: Global, what: &What) -> Result<What, NoMemory>
-    ensures { IfOk result (λ copy. (line session t : ℕ) → what_view line session t copy
+    ensures view { IfOk result (λ copy. (line session t : ℕ) → what_view line session t copy
         ≡ what_view line session t what.now) }
+    ensures step { IfOk result (λ copy. step_of copy ≡ step_of what.now) }
 {
     match what {
         What::Create(table) => Ok(What::Create(table.clone()?)),
@@ -136,7 +139,8 @@ fn copy_what(alloc: Global, what: &What) -> Result<What, NoMemory>
 /// A copy of an entry, with its line number doubled. Running out of memory is the only error.
 pub fn doubled(alloc: Global, entry: &Entry) -> Result<Entry, NoMemory>
     requires { entry.now.line < 2 ^ 31 }
-    ensures { IfOk result (λ copy. entry_view copy ≡ doubled (entry_view entry.now)) }
+    ensures view { IfOk result (λ copy. entry_view copy ≡ doubled (entry_view entry.now)) }
+    ensures same { IfOk result (λ copy. SameStep copy entry.now) }
 {
     Ok(Entry {
         line: entry.line + entry.line,

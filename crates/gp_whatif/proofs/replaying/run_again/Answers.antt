@@ -3,7 +3,7 @@ use Rattle.gp_txn.specs.Transactions.{IsUnwritten, writes_at}
 use Rattle.gp_machine.specs.Entries.{begin_version, committer_of}
 use Rattle.gp_log.specs.Logs.{log_view}
 use Rattle.gp_whatif.proofs.RunLemmas.{started}
-use Rattle.gp_whatif.proofs.SessionLemmas.{orderly}
+use Rattle.gp_log.proofs.KeptSessions.{orderly}
 use Rattle.gp_whatif.proofs.replaying.run_again.Goals as goal
 
 pub begin-requires-clause-first : goal.begin-requires-clause-first

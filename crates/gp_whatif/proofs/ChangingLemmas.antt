@@ -1,0 +1,423 @@
+-- A changed log, made from the oldest entry on.
+use Rattle.std.proofs.Common.{◌≡◌, ◌≢◌, ℕ, zero, suc, ◌+◌, ◌<◌, ◌≤◌, ◌^◌, Bool, true, false, cond, List, [], ◌∷◌, ◌++◌, get_or, length, map, reverse, take, drop, Some, None, refl, sym, ap, ◌∙◌, subst, arith}
+use Rattle.std.specs.Prelude.{◌&&◌, ◌==◌, slice_get, nat_lt}
+use Rattle.std.specs.Str.{bytes_eq}
+use Rattle.std.proofs.lemmas.Bool.{and_parts, false≢true, ne_eqb}
+use Rattle.std.proofs.lemmas.Bool.Decides.{nat_tests}
+use Rattle.std.proofs.lemmas.List.{append-nil, get_or_append_left, get_or_at, length-append, map-append, reverse-append, take-append-drop, take_all, take_more}
+use Rattle.std.proofs.lemmas.List.Sums.{position_or_len_is}
+use Rattle.std.proofs.lemmas.Option.{get_or_from_slice_get, slice_get_within}
+use Rattle.std.proofs.lemmas.Slice.Eq.{bytes_eq-Decides}
+use Rattle.gp_base.specs.Catalogs.{HaveDifferentNames, place_of, table_names}
+use Rattle.gp_base.specs.declared.catalog.TheConstants.{MAX_TABLES}
+use Rattle.gp_base.specs.declared.table.Table.{Table}
+use Rattle.gp_algebra.specs.Statements.{Statement}
+use Rattle.gp_algebra.specs.Views.{statement_view}
+use Rattle.gp_grammar.specs.Syntax.{Command}
+use Rattle.gp_syntax.specs.Views.{command_view}
+use Rattle.gp_machine.specs.Entries as m
+use Rattle.gp_machine.specs.Entries.{statement_count}
+use Rattle.gp_log.proofs.EntryLemmas.{log-pushed}
+use Rattle.gp_log.specs.Kinds.{CreatesNew, HasNextNumber, IsAddable, IsNumbered, created_by}
+use Rattle.gp_log.specs.LogFacts.{tables_in}
+use Rattle.gp_log.specs.Logs.{entry_view, log_view, what_view}
+use Rattle.gp_log.specs.declared.entry.Entry.{Entry}
+use Rattle.gp_log.specs.declared.entry.What.{What}
+use Rattle.gp_log.specs.declared.entry.What.TheVariants as w
+use Rattle.gp_log.specs.Discipline.{line_of}
+use Rattle.gp_whatif.specs.Changed.{CanDouble, doubled, is_at, tables_before, with_other}
+use Rattle.gp_whatif.specs.Changing.{Goes, Makes, Numbers, SameStep, Step, edited, is_numbered, is_own, step_of}
+use Rattle.gp_whatif.proofs.ChangedLemmas.{doubled_same, other_same}
+
+-- ---- a log up to a place
+
+pub log-more : (entries : List Entry) (place : ℕ) (entry : Entry) → slice_get entries place ≡ Some entry → log_view (take (place + 1) entries) ≡ entry_view entry ∷ log_view (take place entries)
+log-more entries place entry is =
+    ap log_view (take_more entries place entry (slice_get_within entries place entry is)
+    ∙ ap (λ (e : Entry). take place entries ++ e ∷ []) (get_or_from_slice_get entries place entry entry is))
+    ∙ log-pushed (take place entries) entry
+
+log-append : (older newer : List Entry) → log_view (older ++ newer) ≡ log_view newer ++ log_view older
+log-append older newer = ap (map entry_view) (reverse-append older newer) ∙ map-append entry_view (reverse newer) (reverse older)
+
+pub log-cut : (entries : List Entry) (place : ℕ) (entry : Entry) → slice_get entries place ≡ Some entry
+    → log_view entries ≡ log_view (drop (place + 1) entries) ++ (entry_view entry ∷ log_view (take place entries))
+log-cut entries place entry is =
+    sym (ap log_view (take-append-drop (place + 1) entries))
+    ∙ (log-append (take (place + 1) entries) (drop (place + 1) entries) ∙ ap (λ (es : List m.Entry). log_view (drop (place + 1) entries) ++ es) (log-more entries place entry is))
+
+-- the line of an entry can be doubled
+line-is : (line session t : ℕ) (what : What) → line_of (what_view line session t what) ≡ line
+line-is line session t (w.Create table) = refl
+line-is line session t (w.Begin level) = refl
+line-is line session t (w.Statement k command stmt) = refl
+line-is line session t w.Commit = refl
+line-is line session t w.Lost = refl
+line-is line session t w.Rollback = refl
+
+doubles-behind : (newer older : List m.Entry) → CanDouble (newer ++ older) → CanDouble older
+doubles-behind [] older all = all
+doubles-behind (entry ∷ newer) older all = doubles-behind newer older all.1
+
+pub line-at : (entries : List Entry) (place : ℕ) (entry : Entry) → CanDouble (log_view entries) → slice_get entries place ≡ Some entry → entry.line < 2 ^ 31
+line-at entries place entry all is =
+    subst (λ n. n < 2 ^ 31) (line-is entry.line entry.session entry.t entry.what)
+    (doubles-behind (log_view (drop (place + 1) entries)) (entry_view entry ∷ log_view (take place entries)) (subst CanDouble (log-cut entries place entry is) all)).0
+
+pub log-all : (entries : List Entry) (place : ℕ) → length entries ≤ place → log_view (take place entries) ≡ log_view entries
+log-all entries place l = ap log_view (take_all place entries l)
+
+-- ---- counts
+
+pub eq_from : (a b : ℕ) → (a == b) ≡ true → a ≡ b
+eq_from a b e = grind (arith, nat_tests)
+
+pub count_doubled : (t : ℕ) (entries : List m.Entry) → statement_count t (map doubled entries) ≡ statement_count t entries
+count_doubled t [] = refl
+count_doubled t (m.Created line session table ∷ older) = count_doubled t older
+count_doubled t (m.Began line session u level ∷ older) = count_doubled t older
+count_doubled t (m.Ran line session command u statement ∷ older) = ap (λ n. cond (u == t) (suc n) n) (count_doubled t older)
+count_doubled t (m.Committed line session u ∷ older) = count_doubled t older
+count_doubled t (m.Ended line session end u ∷ older) = count_doubled t older
+
+module _ (t k : ℕ) (command : Command → Command) (statement : Statement → Statement) where
+  abbrev others : List m.Entry → List m.Entry
+  others entries = with_other t k command statement entries
+
+  pub count_other : (v : ℕ) (entries : List m.Entry) → statement_count v (others entries) ≡ statement_count v entries
+  count_other v [] = refl
+  count_other v (m.Created line session table ∷ older) = count_other v older
+  count_other v (m.Began line session u level ∷ older) = count_other v older
+  count_other v (m.Ran line session own u now ∷ older) =
+      (elim (is_at t k u older) as (λ b. statement_count v (others older) ≡ statement_count v older
+      → statement_count v (cond b (m.Ran line session (command own) u (statement now) ∷ older) (m.Ran line session own u now ∷ others older)) ≡ cond (u == v) (suc (statement_count v older)) (statement_count v older)) [
+        | true ↦ λ same. refl
+        | false ↦ λ same. ap (λ n. cond (u == v) (suc n) n) same
+      ]) (count_other v older)
+  count_other v (m.Committed line session u ∷ older) = count_other v older
+  count_other v (m.Ended line session end u ∷ older) = count_other v older
+
+  -- statement k is not there yet
+  other_none : (entries : List m.Entry) → statement_count t entries < k → others entries ≡ entries
+  other_none [] l = refl
+  other_none (m.Created line session table ∷ older) l = ap (λ es. m.Created line session table ∷ es) (other_none older l)
+  other_none (m.Began line session u level ∷ older) l = ap (λ es. m.Began line session u level ∷ es) (other_none older l)
+  other_none (m.Ran line session own u now ∷ older) l =
+      ap (λ b. cond b (m.Ran line session (command own) u (statement now) ∷ older) (m.Ran line session own u now ∷ others older)) (not_at (u == t) l)
+      ∙ ap (λ es. m.Ran line session own u now ∷ es) (other_none older (less (u == t) l))
+    where
+      not_at : (b : Bool) → cond b (suc (statement_count t older)) (statement_count t older) < k → (b && (suc (statement_count t older) == k)) ≡ false
+      not_at true l = ne_eqb (suc (statement_count t older)) k (λ same. omega arith)
+      not_at false l = refl
+
+      less : (b : Bool) → cond b (suc (statement_count t older)) (statement_count t older) < k → statement_count t older < k
+      less true l = omega arith
+      less false l = l
+  other_none (m.Committed line session u ∷ older) l = ap (λ es. m.Committed line session u ∷ es) (other_none older l)
+  other_none (m.Ended line session end u ∷ older) l = ap (λ es. m.Ended line session end u ∷ es) (other_none older l)
+
+  -- one statement more
+  other_ran : (line session v number : ℕ) (own : Command) (now : Statement) (older : List m.Entry) → number ≡ suc (statement_count v older)
+      → others (m.Ran line session own v now ∷ map doubled older) ≡ edited ((v == t) && (number == k)) command statement (m.Ran line session own v now) ∷ others (map doubled older)
+  other_ran line session v number own now older numbered = go (v == t) refl
+    where
+      go : (b : Bool) → (v == t) ≡ b
+          → cond (b && (suc (statement_count t (map doubled older)) == k)) (m.Ran line session (command own) v (statement now) ∷ map doubled older) (m.Ran line session own v now ∷ others (map doubled older))
+          ≡ edited (b && (number == k)) command statement (m.Ran line session own v now) ∷ others (map doubled older)
+      go false e = refl
+      go true e =
+          ap (λ n. cond (n == k) (m.Ran line session (command own) v (statement now) ∷ map doubled older) (m.Ran line session own v now ∷ others (map doubled older))) same
+          ∙ last (number == k) refl
+        where
+          same : suc (statement_count t (map doubled older)) ≡ number
+          same = ap suc (count_doubled t older ∙ ap (λ u. statement_count u older) (sym (eq_from v t e))) ∙ sym numbered
+
+          last : (b : Bool) → (number == k) ≡ b
+              → cond b (m.Ran line session (command own) v (statement now) ∷ map doubled older) (m.Ran line session own v now ∷ others (map doubled older)) ≡ edited b command statement (m.Ran line session own v now) ∷ others (map doubled older)
+          last true f = ap (λ es. m.Ran line session (command own) v (statement now) ∷ es) (sym (other_none (map doubled older) (let is = eq_from number k f in omega (arith, same, is))))
+          last false f = refl
+
+  -- one entry more
+  other_what : (line session v : ℕ) (what : What) (older : List m.Entry) → IsNumbered older (record { line = line; session = session; t = v; what = what })
+      → others (doubled (what_view line session v what) ∷ map doubled older)
+      ≡ edited ((v == t) && is_numbered k what) command statement (doubled (what_view line session v what)) ∷ others (map doubled older)
+  other_what line session v (w.Create table) older number = ap (λ e. e ∷ others (map doubled older)) (sym (kept ((v == t) && false) _ refl))
+    where
+      kept : (b : Bool) (x : m.Entry) → x ≡ m.Created (line + line) session table → edited b command statement (m.Created (line + line) session table) ≡ m.Created (line + line) session table
+      kept true x e = refl
+      kept false x e = refl
+  other_what line session v (w.Begin level) older number = ap (λ e. e ∷ others (map doubled older)) (sym (kept ((v == t) && false)))
+    where
+      kept : (b : Bool) → edited b command statement (m.Began (line + line) session v level) ≡ m.Began (line + line) session v level
+      kept true = refl
+      kept false = refl
+  other_what line session v (w.Statement number own stmt) older numbered =
+      other_ran (line + line) session v number (command_view own) (statement_view stmt) older numbered
+  other_what line session v w.Commit older number = ap (λ e. e ∷ others (map doubled older)) (sym (kept ((v == t) && false)))
+    where
+      kept : (b : Bool) → edited b command statement (m.Committed (line + line) session v) ≡ m.Committed (line + line) session v
+      kept true = refl
+      kept false = refl
+  other_what line session v w.Lost older number = ap (λ e. e ∷ others (map doubled older)) (sym (kept ((v == t) && false)))
+    where
+      kept : (b : Bool) → edited b command statement (m.Ended (line + line) session m.Lost v) ≡ m.Ended (line + line) session m.Lost v
+      kept true = refl
+      kept false = refl
+  other_what line session v w.Rollback older number = ap (λ e. e ∷ others (map doubled older)) (sym (kept ((v == t) && false)))
+    where
+      kept : (b : Bool) → edited b command statement (m.Ended (line + line) session m.RolledBack v) ≡ m.Ended (line + line) session m.RolledBack v
+      kept true = refl
+      kept false = refl
+
+-- ---- new tables
+
+same-names : (xs : List Table) (table : Table) (ys : List Table) → table_names (xs ++ table ∷ ys) ≡ table_names xs ++ table.name ∷ table_names ys
+same-names [] table ys = refl
+same-names (x ∷ xs) table ys = ap (λ names. x.name ∷ names) (same-names xs table ys)
+
+-- the tables up to a place, and the ones behind them
+tables_front : (newer older : List m.Entry) → (more : List Table) × (tables_in (newer ++ older) ≡ tables_in older ++ more)
+tables_front [] older = ([], sym (append-nil (tables_in older)))
+tables_front (m.Created line session table ∷ newer) older =
+    let rest = tables_front newer older in
+    (rest.0 ++ table ∷ [], ap (λ ts. ts ++ table ∷ []) rest.1 ∙ assoc (tables_in older) rest.0 (table ∷ []))
+  where
+    assoc : (xs ys zs : List Table) → (xs ++ ys) ++ zs ≡ xs ++ (ys ++ zs)
+    assoc [] ys zs = refl
+    assoc (x ∷ xs) ys zs = ap (λ rest. x ∷ rest) (assoc xs ys zs)
+tables_front (m.Began line session u level ∷ newer) older = tables_front newer older
+tables_front (m.Ran line session command u statement ∷ newer) older = tables_front newer older
+tables_front (m.Committed line session u ∷ newer) older = tables_front newer older
+tables_front (m.Ended line session end u ∷ newer) older = tables_front newer older
+
+-- a table has another name than those before it
+other_name : (xs : List Table) (table : Table) (ys : List Table) → HaveDifferentNames (xs ++ table ∷ ys) → place_of table.name xs ≡ None
+other_name xs table ys different =
+    ap (λ n. cond (nat_lt n (length (table_names xs))) (Some n) None) (position_or_len_is (bytes_eq table.name) (table_names xs) (length (table_names xs)) [] (omega arith) unlike (λ l. absurd (omega arith)))
+    ∙ ap (λ b. cond b (Some (length (table_names xs))) None) (not_less (length (table_names xs)))
+  where
+    not_less : (n : ℕ) → nat_lt n n ≡ false
+    not_less n = grind (arith, nat_tests)
+
+    unlike-name : (k : ℕ) → k < length (table_names xs) → get_or (table_names xs) k [] ≢ table.name
+    unlike-name k l =
+        let all = different k (length (table_names xs)) [] l
+        (subst (λ (names : List (List ℕ)). length (table_names xs) < length names) (sym (same-names xs table ys)) (let total = length-append (table_names xs) (table.name ∷ table_names ys) in omega arith)) in
+        λ same. all (
+        ap (λ names. get_or names k []) (same-names xs table ys) ∙ get_or_append_left (table_names xs) (table.name ∷ table_names ys) [] k l ∙ same
+        ∙ sym (ap (λ names. get_or names (length (table_names xs)) []) (same-names xs table ys) ∙ get_or_at (table_names xs) table.name (table_names ys) [] (length (table_names xs)) refl))
+
+    unlike : (k : ℕ) → k < length (table_names xs) → bytes_eq table.name (get_or (table_names xs) k []) ≡ false
+    unlike k l = go (bytes_eq table.name (get_or (table_names xs) k [])) refl
+      where
+        go : (b : Bool) → bytes_eq table.name (get_or (table_names xs) k []) ≡ b → b ≡ false
+        go true e = absurd (unlike-name k l (sym ((bytes_eq-Decides table.name (get_or (table_names xs) k [])).0 e)))
+        go false e = refl
+
+-- the tables of a log are new where they are created
+pub creates_new : (entries : List Entry) (place : ℕ) (entry : Entry) → HaveDifferentNames (tables_in (log_view entries)) → length (tables_in (log_view entries)) ≤ MAX_TABLES
+    → slice_get entries place ≡ Some entry → CreatesNew (tables_in (log_view (take place entries))) entry.what
+creates_new entries place entry different few is = go entry.what refl
+  where
+    made : (table : Table) → entry.what ≡ w.Create table → (more : List Table) × (tables_in (log_view entries) ≡ (tables_in (log_view (take place entries)) ++ table ∷ []) ++ more)
+    made table e =
+        let rest = tables_front (log_view (drop (place + 1) entries)) (entry_view entry ∷ log_view (take place entries)) in
+        (rest.0, ap tables_in (log-cut entries place entry is) ∙ rest.1 ∙ ap (λ (x : What). tables_in (what_view entry.line entry.session entry.t x ∷ log_view (take place entries)) ++ rest.0) e)
+
+    assoc : (xs : List Table) (table : Table) (ys : List Table) → (xs ++ table ∷ []) ++ ys ≡ xs ++ table ∷ ys
+    assoc [] table ys = refl
+    assoc (x ∷ xs) table ys = ap (λ rest. x ∷ rest) (assoc xs table ys)
+
+    go : (x : What) → entry.what ≡ x → CreatesNew (tables_in (log_view (take place entries))) x
+    go (w.Create table) e =
+        let all = made table e in
+        let whole = all.1 ∙ assoc (tables_in (log_view (take place entries))) table all.0 in
+        let count = ap length whole ∙ length-append (tables_in (log_view (take place entries))) (table ∷ all.0) in
+        (omega (arith, few, count), other_name (tables_in (log_view (take place entries))) table all.0 (subst HaveDifferentNames whole different))
+    go (w.Begin level) e = tt
+    go (w.Statement k command stmt) e = tt
+    go w.Commit e = tt
+    go w.Lost e = tt
+    go w.Rollback e = tt
+
+-- ---- an entry that can be next, in a log with the same tables and counts
+
+abbrev Asks : List m.Entry → ℕ → Step → Type 0
+Asks older t (Makes table) = CreatesNew (tables_in older) (w.Create table)
+Asks older t (Numbers k) = k ≡ suc (statement_count t older)
+Asks older t Goes = Unit {0}
+
+abbrev Allows : List m.Entry → ℕ → What → Type 0
+Allows older t what = CreatesNew (tables_in older) what × HasNextNumber older t what
+
+asks : (older : List m.Entry) (t : ℕ) (what : What) → Allows older t what → Asks older t (step_of what)
+asks older t (w.Create table) a = a.0
+asks older t (w.Begin level) a = tt
+asks older t (w.Statement k command stmt) a = a.1
+asks older t w.Commit a = tt
+asks older t w.Lost a = tt
+asks older t w.Rollback a = tt
+
+allows : (older : List m.Entry) (t : ℕ) (what : What) → Asks older t (step_of what) → Allows older t what
+allows older t (w.Create table) a = (a, tt)
+allows older t (w.Begin level) a = (tt, tt)
+allows older t (w.Statement k command stmt) a = (tt, a)
+allows older t w.Commit a = (tt, tt)
+allows older t w.Lost a = (tt, tt)
+allows older t w.Rollback a = (tt, tt)
+
+pub addable : (old new : List m.Entry) (entry copy : Entry) → tables_in new ≡ tables_in old → ((k : ℕ) → step_of entry.what ≡ Numbers k → statement_count entry.t new ≡ statement_count entry.t old) → SameStep copy entry → IsAddable old entry
+    → IsAddable new copy
+addable old new entry copy tables count same can =
+    allows new copy.t copy.what (subst (λ (x : ℕ × Step). Asks new x.0 x.1) (λ i. (sym same.t i, sym same.step i)) (moved (step_of entry.what) count (asks old entry.t entry.what can)))
+  where
+    moved : (step : Step) → ((k : ℕ) → step ≡ Numbers k → statement_count entry.t new ≡ statement_count entry.t old) → Asks old entry.t step → Asks new entry.t step
+    moved (Makes table) count a = subst (λ (ts : List Table). CreatesNew ts (w.Create table)) (sym tables) a
+    moved (Numbers k) count a = a ∙ ap suc (sym (count k refl))
+    moved Goes count a = tt
+
+-- a statement can be next where it has the next number
+pub numbers_next : (older : List m.Entry) (entry : Entry) (k : ℕ) → step_of entry.what ≡ Numbers k → k ≡ suc (statement_count entry.t older) → IsAddable older entry
+numbers_next older entry k step next = allows older entry.t entry.what (subst (Asks older entry.t) (sym step) next)
+
+-- ---- the changed log up to a place
+
+-- with statement k of transaction t by another
+pub record Others (t k : ℕ) (command : Command → Command) (statement : Statement → Statement) (entries : List Entry) (place : ℕ) (new : List Entry) : Type 0 where
+  pub count : length new ≡ place
+  pub view : log_view new ≡ with_other t k command statement (map doubled (log_view (take place entries)))
+
+module _ (t k : ℕ) (command : Command → Command) (statement : Statement → Statement) (entries : List Entry) where
+  pub others_none : Others t k command statement entries zero []
+  others_none = record { count = refl; view = refl }
+
+  pub others_addable : (place : ℕ) (new : List Entry) (entry copy : Entry) → HaveDifferentNames (tables_in (log_view entries)) → length (tables_in (log_view entries)) ≤ MAX_TABLES → slice_get entries place ≡ Some entry
+      → IsNumbered (log_view (take place entries)) entry → SameStep copy entry → Others t k command statement entries place new → IsAddable (log_view new) copy
+  others_addable place new entry copy different few is number same holds =
+      let before : List m.Entry = log_view (take place entries) in
+      subst (λ es. IsAddable es copy) (sym holds.view)
+      (addable before (with_other t k command statement (map doubled before)) entry copy
+      ((other_same t k command statement (map doubled before)).tables ∙ (doubled_same before).tables)
+      (λ n step. count_other t k command statement entry.t (map doubled before) ∙ count_doubled entry.t before) same (creates_new entries place entry different few is, number))
+
+  pub others_next : (place : ℕ) (new : List Entry) (entry copy : Entry) → slice_get entries place ≡ Some entry → IsNumbered (log_view (take place entries)) entry
+      → entry_view copy ≡ edited (is_own t k entry) command statement (doubled (entry_view entry)) → Others t k command statement entries place new → Others t k command statement entries (place + 1) (new ++ copy ∷ [])
+  others_next place new entry copy is number view holds = record {
+    count = length-append new (copy ∷ []) ∙ (let count = holds.count in omega arith);
+    view =
+        log-pushed new copy ∙ (λ i. view i ∷ holds.view i)
+        ∙ sym (ap (λ es. with_other t k command statement (map doubled es)) (log-more entries place entry is)
+        ∙ other_what t k command statement entry.line entry.session entry.t entry.what (log_view (take place entries)) number);
+  }
+
+  pub others_all : (place : ℕ) (new : List Entry) → length entries ≤ place → Others t k command statement entries place new → log_view new ≡ with_other t k command statement (map doubled (log_view entries))
+  others_all place new l holds = holds.view ∙ ap (λ es. with_other t k command statement (map doubled es)) (log-all entries place l)
+
+-- ---- the place of a statement
+
+-- how many statements of a transaction there are with one entry more
+count-next : (t : ℕ) (line session v : ℕ) (what : What) (older : List m.Entry) (k : ℕ) → IsNumbered older (record { line = line; session = session; t = v; what = what }) → ((v == t) && is_numbered k what) ≡ false
+    → statement_count t older < k → statement_count t (what_view line session v what ∷ older) < k
+count-next t line session v (w.Create table) older k number other l = l
+count-next t line session v (w.Begin level) older k number other l = l
+count-next t line session v (w.Statement n command stmt) older k number other l = go (v == t) refl other
+  where
+    go : (b : Bool) → (v == t) ≡ b → (b && (n == k)) ≡ false → cond b (suc (statement_count t older)) (statement_count t older) < k
+    go true e other =
+        let same : suc (statement_count t older) ≡ n = ap (λ u. suc (statement_count u older)) (sym (eq_from v t e)) ∙ sym number in
+        let differ : n ≢ k = unequal n k other in omega (arith, same, apart n k differ (omega arith))
+      where
+        unequal : (a b : ℕ) → (a == b) ≡ false → a ≢ b
+        unequal a b e f = grind (arith, nat_tests)
+
+        apart : (a b : ℕ) → a ≢ b → a ≤ b → a < b
+        apart a b n l = grind arith
+    go false e other = l
+count-next t line session v w.Commit older k number other l = l
+count-next t line session v w.Lost older k number other l = l
+count-next t line session v w.Rollback older k number other l = l
+
+pub fewer_next : (t k : ℕ) (entries : List Entry) (place : ℕ) (entry : Entry) → slice_get entries place ≡ Some entry → IsNumbered (log_view (take place entries)) entry → is_own t k entry ≡ false
+    → statement_count t (log_view (take place entries)) < k → statement_count t (log_view (take (place + 1) entries)) < k
+fewer_next t k entries place entry is number other l =
+    subst (λ es. statement_count t es < k) (sym (log-more entries place entry is)) (count-next t entry.line entry.session entry.t entry.what (log_view (take place entries)) k number other l)
+
+count-least : (t : ℕ) (newer older : List m.Entry) → statement_count t older ≤ statement_count t (newer ++ older)
+count-least t [] older = omega arith
+count-least t (m.Created line session table ∷ newer) older = count-least t newer older
+count-least t (m.Began line session u level ∷ newer) older = count-least t newer older
+count-least t (m.Ran line session command u statement ∷ newer) older =
+    omega (arith, count-least t newer older, (elim (u == t) as (λ b. statement_count t (newer ++ older) ≤ cond b (suc (statement_count t (newer ++ older))) (statement_count t (newer ++ older))) [ true ↦ omega arith | false ↦ omega arith ]))
+count-least t (m.Committed line session u ∷ newer) older = count-least t newer older
+count-least t (m.Ended line session end u ∷ newer) older = count-least t newer older
+
+-- the tables before a statement, behind newer entries
+before-behind : (t k : ℕ) (newer older : List m.Entry) → k ≤ statement_count t older → tables_before t k (newer ++ older) ≡ tables_before t k older
+before-behind t k [] older most = refl
+before-behind t k (m.Created line session table ∷ newer) older most = before-behind t k newer older most
+before-behind t k (m.Began line session u level ∷ newer) older most = before-behind t k newer older most
+before-behind t k (m.Ran line session command u statement ∷ newer) older most =
+    ap (λ b. cond b (tables_in (newer ++ older)) (tables_before t k (newer ++ older))) (not_at (u == t)) ∙ before-behind t k newer older most
+  where
+    not_at : (b : Bool) → (b && (suc (statement_count t (newer ++ older)) == k)) ≡ false
+    not_at true = ne_eqb (suc (statement_count t (newer ++ older))) k (λ same. let least = count-least t newer older in omega arith)
+    not_at false = refl
+before-behind t k (m.Committed line session u ∷ newer) older most = before-behind t k newer older most
+before-behind t k (m.Ended line session end u ∷ newer) older most = before-behind t k newer older most
+
+before-here : (t k : ℕ) (line session v : ℕ) (what : What) (older : List m.Entry) → IsNumbered older (record { line = line; session = session; t = v; what = what }) → ((v == t) && is_numbered k what) ≡ true
+    → (tables_before t k (what_view line session v what ∷ older) ≡ tables_in older) × (k ≤ statement_count t (what_view line session v what ∷ older))
+before-here t k line session v (w.Statement n command stmt) older number own =
+    let both = and_parts (v == t) (n == k) own in
+    let same : suc (statement_count t older) ≡ k = ap (λ u. suc (statement_count u older)) (sym (eq_from v t both.0)) ∙ sym number ∙ eq_from n k both.1 in (
+      ap (λ b. cond (b && (suc (statement_count t older) == k)) (tables_in older) (tables_before t k older)) both.0 ∙ ap (λ j. cond (j == k) (tables_in older) (tables_before t k older)) same
+          ∙ ap (λ b. cond b (tables_in older) (tables_before t k older)) (equal k),
+      subst (λ b. k ≤ cond b (suc (statement_count t older)) (statement_count t older)) (sym both.0) (omega (arith, same)),
+    )
+  where
+    equal : (j : ℕ) → (j == j) ≡ true
+    equal j = grind (arith, nat_tests)
+before-here t k line session v (w.Create table) older number own = absurd (none (v == t) own)
+  where
+    none : (b : Bool) → (b && false) ≡ true → ⊥
+    none true e = false≢true e
+    none false e = false≢true e
+before-here t k line session v (w.Begin level) older number own = absurd (none (v == t) own)
+  where
+    none : (b : Bool) → (b && false) ≡ true → ⊥
+    none true e = false≢true e
+    none false e = false≢true e
+before-here t k line session v w.Commit older number own = absurd (none (v == t) own)
+  where
+    none : (b : Bool) → (b && false) ≡ true → ⊥
+    none true e = false≢true e
+    none false e = false≢true e
+before-here t k line session v w.Lost older number own = absurd (none (v == t) own)
+  where
+    none : (b : Bool) → (b && false) ≡ true → ⊥
+    none true e = false≢true e
+    none false e = false≢true e
+before-here t k line session v w.Rollback older number own = absurd (none (v == t) own)
+  where
+    none : (b : Bool) → (b && false) ≡ true → ⊥
+    none true e = false≢true e
+    none false e = false≢true e
+
+pub tables_here : (t k : ℕ) (entries : List Entry) (place : ℕ) (entry : Entry) → slice_get entries place ≡ Some entry → IsNumbered (log_view (take place entries)) entry → is_own t k entry ≡ true
+    → tables_before t k (log_view entries) ≡ tables_in (log_view (take place entries))
+tables_here t k entries place entry is number own =
+    let here = before-here t k entry.line entry.session entry.t entry.what (log_view (take place entries)) number own in
+    ap (tables_before t k) (log-cut entries place entry is) ∙ before-behind t k (log_view (drop (place + 1) entries)) (entry_view entry ∷ log_view (take place entries)) here.1 ∙ here.0
+
+-- ---- the tables up to a place
+
+pub tables_next : (entries : List Entry) (place : ℕ) (entry : Entry) → slice_get entries place ≡ Some entry → tables_in (log_view (take (place + 1) entries)) ≡ tables_in (log_view (take place entries)) ++ created_by entry.what
+tables_next entries place entry is = ap tables_in (log-more entries place entry is) ∙ go entry.line entry.session entry.t entry.what (log_view (take place entries))
+  where
+    go : (line session v : ℕ) (what : What) (older : List m.Entry) → tables_in (what_view line session v what ∷ older) ≡ tables_in older ++ created_by what
+    go line session v (w.Create table) older = refl
+    go line session v (w.Begin level) older = sym (append-nil (tables_in older))
+    go line session v (w.Statement k command stmt) older = sym (append-nil (tables_in older))
+    go line session v w.Commit older = sym (append-nil (tables_in older))
+    go line session v w.Lost older = sym (append-nil (tables_in older))
+    go line session v w.Rollback older = sym (append-nil (tables_in older))

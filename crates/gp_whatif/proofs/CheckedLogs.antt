@@ -1,0 +1,225 @@
+-- The statements of a log, and of a changed one, are what the check makes of their commands.
+use Rattle.std.proofs.Common.{◌≡◌, ℕ, suc, Bool, true, false, cond, List, [], ◌∷◌, length, map, Option, Some, None, refl, sym, ap, ◌∙◌, subst}
+use Rattle.std.specs.Prelude.{◌==◌, ◌&&◌, nat_le, Result, Ok, Err}
+use Rattle.std.specs.Option.{option_or}
+use Rattle.gp_base.specs.declared.refusal.Refusal.{Refusal}
+use Rattle.gp_base.specs.declared.table.Table.{Table}
+use Rattle.gp_grammar.specs.Syntax as y
+use Rattle.gp_grammar.specs.Syntax.{Bytes, Command, LogChange}
+use Rattle.gp_algebra.specs.Statements as s
+use Rattle.gp_algebra.specs.Statements.{Statement}
+use Rattle.gp_check.specs.Checking.{checked, refused_by}
+use Rattle.gp_check.specs.Faults.{block_columns_fault, block_types, block_where_is_typed, first_refusal, or_else, query_tables_fault, table_fault, tables_fault}
+use Rattle.gp_check.specs.Meaning.{branch_of, number_of_table, select_of, set_of, where_of}
+use Rattle.gp_check.specs.Scopes.{target_scope}
+use Rattle.gp_machine.specs.Actions.{Action, Begin, Commit, Create, Rollback, Run, action_of}
+use Rattle.gp_machine.specs.Entries.{Entry, Created, Began, Ran, Committed, Ended, statement_count, statements_in, transactions_in}
+use Rattle.gp_machine.specs.Event.{count_refusal}
+use Rattle.gp_machine.specs.Questions.{statement_refusal, transaction_refusal}
+use Rattle.gp_log.specs.Discipline.{Disorder, Flaw, IsLog, creating, doing, line_of, running, session_of, transaction_in}
+use Rattle.gp_log.specs.Limits.{limits}
+use Rattle.gp_log.specs.LogFacts.{tables_in}
+use Rattle.gp_whatif.specs.Changed.{AreChecked, changed, doubled, dropped_command, dropped_statement, is_at, is_step_of, nothing_at, nothing_from, rewritten, steps_refusal, tables_at_end, tables_before, with_added, with_other}
+use Rattle.gp_whatif.proofs.ChangedLemmas.{added_same, doubled_same, other_same}
+use Rattle.gp_whatif.proofs.ChangingLemmas.{count_doubled}
+use Rattle.gp_whatif.proofs.FittingMore.{checked_is}
+
+-- ---- a statement that is dropped
+
+abbrev IsSame : Result Statement Refusal → Result Statement Refusal → Type 0
+IsSame one other = one ≡ other
+
+nothing_checked : (tables : List Table) (name : Bytes) → table_fault tables name ≡ None → IsSame (checked tables (nothing_from name)) (Ok (nothing_at (number_of_table tables name)))
+unfolding block_columns_fault block_types block_where_is_typed branch_of
+nothing_checked tables name none =
+    ap (λ (fault : Option Refusal). refused_by (or_else (or_else (or_else fault None) None) None) (nothing_at (number_of_table tables name))) none
+
+first_none : (one other : Option Refusal) → or_else one other ≡ None → one ≡ None
+first_none None other e = refl
+first_none (Some refusal) other e = absurd cc
+
+stays : (tables : List Table) (command : Command) (select : s.Select) (statement : Statement) → s.read select ≡ statement → IsSame (checked tables command) (Ok statement) → IsSame (checked tables command) (Ok (dropped_statement statement))
+stays tables command select statement is e = subst (λ made. IsSame (checked tables command) (Ok made)) (sym is ∙ ap dropped_statement is) e
+
+dropped_checked : (tables : List Table) (command : Command) (statement : Statement) → IsSame (checked tables command) (Ok statement) → IsSame (checked tables (dropped_command command)) (Ok (dropped_statement statement))
+dropped_checked tables (y.insert table rows) statement e =
+    let is = checked_is (first_refusal tables (y.insert table rows)) (s.insert (number_of_table tables table) rows) statement e in
+    subst (λ made. IsSame (checked tables (nothing_from table)) (Ok (dropped_statement made))) is.1 (nothing_checked tables table (first_none (table_fault tables table) _ is.0))
+dropped_checked tables (y.insert_select table query) statement e =
+    let is = checked_is (first_refusal tables (y.insert_select table query)) (s.insert_select (number_of_table tables table) (select_of tables query)) statement e in
+    subst (λ made. IsSame (checked tables (nothing_from table)) (Ok (dropped_statement made))) is.1
+    (nothing_checked tables table (first_none (table_fault tables table) (query_tables_fault tables query) (first_none (tables_fault tables (y.insert_select table query)) _ is.0)))
+dropped_checked tables (y.update table sets c) statement e =
+    let is = checked_is (first_refusal tables (y.update table sets c)) (s.update (number_of_table tables table) (map (set_of (target_scope tables table)) sets) (where_of (target_scope tables table) c)) statement e in
+    subst (λ made. IsSame (checked tables (nothing_from table)) (Ok (dropped_statement made))) is.1 (nothing_checked tables table (first_none (table_fault tables table) _ is.0))
+dropped_checked tables (y.Command.delete table c) statement e =
+    let is = checked_is (first_refusal tables (y.Command.delete table c)) (s.delete (number_of_table tables table) (where_of (target_scope tables table) c)) statement e in
+    subst (λ made. IsSame (checked tables (nothing_from table)) (Ok (dropped_statement made))) is.1 (nothing_checked tables table (first_none (table_fault tables table) _ is.0))
+dropped_checked tables (y.select query) statement e =
+    stays tables (y.select query) (select_of tables query) statement (checked_is (first_refusal tables (y.select query)) (s.read (select_of tables query)) statement e).1 e
+dropped_checked tables (y.create table) statement e = stays tables (y.create table) [] statement (checked_is None (s.read []) statement e).1 e
+dropped_checked tables (y.begin level) statement e = stays tables (y.begin level) [] statement (checked_is None (s.read []) statement e).1 e
+dropped_checked tables y.Command.commit statement e = stays tables y.Command.commit [] statement (checked_is None (s.read []) statement e).1 e
+dropped_checked tables y.rollback statement e = stays tables y.rollback [] statement (checked_is None (s.read []) statement e).1 e
+
+-- ---- whole logs
+
+-- a statement in front, over the same tables
+front : (entry : Entry) (old new : List Entry) → tables_in new ≡ tables_in old → (AreChecked old → AreChecked new) → AreChecked (entry ∷ old) → AreChecked (entry ∷ new)
+front (Created line session table) old new same rest are = rest are
+front (Began line session t level) old new same rest are = rest are
+front (Ran line session command t statement) old new same rest are = (ap (λ tables. checked tables command) same ∙ are.0, rest are.1)
+front (Committed line session t) old new same rest are = rest are
+front (Ended line session end t) old new same rest are = rest are
+
+doubled_checked : (entries : List Entry) → AreChecked entries → AreChecked (map doubled entries)
+doubled_checked [] are = tt
+doubled_checked (Created line session table ∷ older) are = doubled_checked older are
+doubled_checked (Began line session t level ∷ older) are = doubled_checked older are
+doubled_checked (Ran line session command t statement ∷ older) are = (ap (λ tables. checked tables command) (doubled_same older).tables ∙ are.0, doubled_checked older are.1)
+doubled_checked (Committed line session t ∷ older) are = doubled_checked older are
+doubled_checked (Ended line session end t ∷ older) are = doubled_checked older are
+
+module _ (t k : ℕ) where
+  before_doubled : (entries : List Entry) → tables_before t k (map doubled entries) ≡ tables_before t k entries
+  before_doubled [] = refl
+  before_doubled (Created line session table ∷ older) = before_doubled older
+  before_doubled (Began line session u level ∷ older) = before_doubled older
+  before_doubled (Ran line session command u statement ∷ older) =
+      (λ i. cond ((u == t) && (suc (count_doubled t older i) == k)) ((doubled_same older).tables i) (before_doubled older i))
+  before_doubled (Committed line session u ∷ older) = before_doubled older
+  before_doubled (Ended line session end u ∷ older) = before_doubled older
+
+  -- what is put in the place of statement k is what the check makes of its command there
+  module _ (command : Command → Command) (statement : Statement → Statement) where
+    other_checked : (entries : List Entry) → ((own : Command) (now : Statement) → IsSame (checked (tables_before t k entries) own) (Ok now) → IsSame (checked (tables_before t k entries) (command own)) (Ok (statement now)))
+        → AreChecked entries → AreChecked (with_other t k command statement entries)
+    other_checked [] put are = tt
+    other_checked (Created line session table ∷ older) put are = other_checked older put are
+    other_checked (Began line session u level ∷ older) put are = other_checked older put are
+    other_checked (Ran line session own u now ∷ older) put are = by (is_at t k u older) put (other_checked older)
+      where
+        by : (b : Bool) → ((own : Command) (now : Statement) → IsSame (checked (cond b (tables_in older) (tables_before t k older)) own) (Ok now) → IsSame (checked (cond b (tables_in older) (tables_before t k older)) (command own)) (Ok (statement now)))
+            → (((own : Command) (now : Statement) → IsSame (checked (tables_before t k older) own) (Ok now) → IsSame (checked (tables_before t k older) (command own)) (Ok (statement now))) → AreChecked older → AreChecked (with_other t k command statement older))
+            → AreChecked (cond b (Ran line session (command own) u (statement now) ∷ older) (Ran line session own u now ∷ with_other t k command statement older))
+        by true put rest = (put own now are.0, are.1)
+        by false put rest = (ap (λ tables. checked tables own) (other_same t k command statement older).tables ∙ are.0, rest put are.1)
+    other_checked (Committed line session u ∷ older) put are = other_checked older put are
+    other_checked (Ended line session end u ∷ older) put are = other_checked older put are
+
+module _ (t : ℕ) where
+  end_doubled : (entries : List Entry) → tables_at_end t (map doubled entries) ≡ tables_at_end t entries
+  end_doubled [] = refl
+  end_doubled (Created line session table ∷ older) = end_doubled older
+  end_doubled (Began line session u level ∷ older) = (λ i. cond (u == t) ((doubled_same older).tables i) (end_doubled older i))
+  end_doubled (Ran line session command u statement ∷ older) = (λ i. cond (u == t) ((doubled_same older).tables i) (end_doubled older i))
+  end_doubled (Committed line session u ∷ older) = end_doubled older
+  end_doubled (Ended line session end u ∷ older) = end_doubled older
+
+  -- a step creates no table
+  step_tables : (entry : Entry) (older : List Entry) → is_step_of t entry ≡ true → tables_in (entry ∷ older) ≡ tables_in older
+  step_tables (Began line session u level) older is = refl
+  step_tables (Ran line session command u statement) older is = refl
+  step_tables (Created line session table) older is = absurd cc
+  step_tables (Committed line session u) older is = absurd cc
+  step_tables (Ended line session end u) older is = absurd cc
+
+  added_checked : (command : Command) (statement : Statement) (entries : List Entry) → IsSame (checked (tables_at_end t entries) command) (Ok statement) → AreChecked entries → AreChecked (with_added t command statement entries)
+  added_checked command statement [] passes are = tt
+  added_checked command statement (entry ∷ older) passes are = by (is_step_of t entry) refl (added_checked command statement older) passes
+    where
+      by : (b : Bool) → is_step_of t entry ≡ b → (IsSame (checked (tables_at_end t older) command) (Ok statement) → AreChecked older → AreChecked (with_added t command statement older)) → IsSame (checked (cond b (tables_in older) (tables_at_end t older)) command) (Ok statement)
+          → AreChecked (cond b (Ran (suc (line_of entry)) (session_of entry) command t statement ∷ entry ∷ older) (entry ∷ with_added t command statement older))
+      by true is rest passes = (ap (λ tables. checked tables command) (step_tables entry older is) ∙ passes, are)
+      by false is rest passes = front entry older (with_added t command statement older) (added_same t command statement older).tables (rest passes) are
+
+-- ---- a log that keeps the rules of its entries
+
+abbrev IsNow : Result Entry Flaw → Result Entry Flaw → Type 0
+IsNow one other = one ≡ other
+
+module _ (older : List Entry) (line session t : ℕ) (command : Command) (statement : Statement) where
+  abbrev here : Entry
+  here = Ran line session command t statement
+
+  abbrev refused : Flaw → Result Entry Flaw
+  refused flaw = Err flaw
+
+  abbrev accepted : Entry → Result Entry Flaw
+  accepted entry = Ok entry
+
+  same-command : (u : ℕ) (other : Command) (found : Statement) → accepted (Ran line session other u found) ≡ accepted here → (other ≡ command) × (found ≡ statement)
+  same-command u other found e = (cc, cc)
+
+  created : (table : Table) (o : Option Refusal) → creating limits older line session table o ≡ accepted here → ⊥
+  created table (Some refusal) e = cc
+  created table None e = cc
+
+  creates : (b : Bool) (table : Table) (o : Option Refusal) → cond b (refused Disorder) (creating limits older line session table o) ≡ accepted here → ⊥
+  creates true table o e = cc
+  creates false table o e = created table o e
+
+  begins : (b : Bool) (u : ℕ) (level : Bool) → cond b (refused Disorder) (accepted (Began line session u level)) ≡ accepted here → ⊥
+  begins true u level e = cc
+  begins false u level e = cc
+
+  runs : (u : ℕ) (other : Command) (o : Option Refusal) (r : Result Statement Refusal) → running limits older line session u other o r ≡ accepted here → (other ≡ command) × IsSame r (Ok statement)
+  runs u other (Some refusal) r e = absurd cc
+  runs u other None (Err refusal) e = absurd cc
+  runs u other None (Ok found) e = let same = same-command u other found e in (same.0, ap (λ (made : Statement). result made) same.1)
+    where
+      result : Statement → Result Statement Refusal
+      result made = Ok made
+
+  does : (o : Option ℕ) (a : Action) → IsNow (doing limits older line session o a) (Ok here) → IsSame (checked (tables_in older) command) (Ok statement)
+  does None (Create table) e = absurd (creates (nat_le limits.tables (length (tables_in older))) table (limits.created (tables_in older) table) e)
+  does None (Begin level) e = absurd (begins (nat_le limits.transactions (transactions_in older)) (suc (transactions_in older)) level e)
+  does None Commit e = absurd cc
+  does None Rollback e = absurd cc
+  does None (Run other) e = absurd cc
+  does (Some u) (Create table) e = absurd cc
+  does (Some u) (Begin level) e = absurd cc
+  does (Some u) Commit e = absurd cc
+  does (Some u) Rollback e = absurd cc
+  does (Some u) (Run other) e =
+      let is = runs u other (count_refusal limits (statement_count u older) (statements_in older)) (limits.checked (tables_in older) other) e in
+      subst (λ (x : Command). IsSame (checked (tables_in older) x) (Ok statement)) is.0 is.1
+
+pub logs_checked : (entries : List Entry) → IsLog limits entries → AreChecked entries
+logs_checked [] log = tt
+logs_checked (Created line session table ∷ older) log = logs_checked older log.1
+logs_checked (Began line session t level ∷ older) log = logs_checked older log.1
+logs_checked (Ran line session command t statement ∷ older) log = (does older line session t command statement (transaction_in session older) (action_of command) log.0.follows, logs_checked older log.1)
+logs_checked (Committed line session t ∷ older) log = logs_checked older log.1
+logs_checked (Ended line session end t ∷ older) log = logs_checked older log.1
+
+-- ---- the changed log
+
+abbrev AreSame : Result (List Entry) Refusal → Result (List Entry) Refusal → Type 0
+AreSame one other = one ≡ other
+
+same-ok : (a b : List Entry) → AreSame (Ok a) (Ok b) → a ≡ b
+same-ok a b e = cc
+
+module _ (entries new : List Entry) (are : AreChecked entries) where
+  put : (refusal : Option Refusal) (passes : Result Statement Refusal) (make : Statement → List Entry) → AreSame (rewritten limits entries refusal passes make) (Ok new)
+      → ((statement : Statement) → IsSame passes (Ok statement) → AreChecked (make statement)) → AreChecked new
+  put (Some refusal) passes make e each = absurd cc
+  put None (Err refusal) make e each = absurd cc
+  put None (Ok statement) make e each = subst AreChecked (same-ok (make statement) new e) (each statement refl)
+
+  twice : AreChecked (map doubled entries)
+  twice = doubled_checked entries are
+
+  pub change_checked : (change : LogChange) → AreSame (changed limits entries change) (Ok new) → AreChecked new
+  change_checked (y.drop t k) e =
+      put (option_or (transaction_refusal t entries) (statement_refusal t k entries)) (Ok (nothing_at 0)) (λ statement. with_other t k dropped_command dropped_statement (map doubled entries)) e
+      (λ statement passes. other_checked t k dropped_command dropped_statement (map doubled entries) (λ own now is. dropped_checked (tables_before t k (map doubled entries)) own now is) twice)
+  change_checked (y.replace t k command) e =
+      put (option_or (transaction_refusal t entries) (statement_refusal t k entries)) (checked (tables_before t k entries) command)
+      (λ statement. with_other t k (λ own. command) (λ own. statement) (map doubled entries)) e
+      (λ statement passes. other_checked t k (λ own. command) (λ own. statement) (map doubled entries)
+      (λ own now is. ap (λ tables. checked tables command) (before_doubled t k entries) ∙ passes) twice)
+  change_checked (y.add t command) e =
+      put (option_or (transaction_refusal t entries) (steps_refusal limits entries t)) (checked (tables_at_end t entries) command) (λ statement. with_added t command statement (map doubled entries)) e
+      (λ statement passes. added_checked t command statement (map doubled entries) (ap (λ tables. checked tables command) (end_doubled t entries) ∙ passes) twice)

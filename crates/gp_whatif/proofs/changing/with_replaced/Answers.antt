@@ -1,0 +1,22 @@
+use Rattle.std.proofs.Common.{◌+◌, length, ap, subst, sym, arith}
+use Rattle.gp_base.specs.Catalogs.{HaveDifferentNames}
+use Rattle.gp_algebra.specs.Views.{statement_view}
+use Rattle.gp_syntax.specs.Views.{command_view}
+use Rattle.gp_whatif.proofs.ChangingLemmas.{Others, line-at, others_addable, others_next}
+use Rattle.gp_whatif.proofs.changing.with_replaced.Goals as goal
+
+pub copy_replaced-requires : goal.copy_replaced-requires
+copy_replaced-requires c = line-at c.args.log.now.entries c.loop-place.place c.entry.result.now c.requires.lines c.entry.ensures.entry
+
+pub append-requires-clause-new : goal.append-requires-clause-new
+append-requires-clause-new c =
+    let count = ap length c.catalog.ensures in
+    others_addable c.args.t c.args.k (λ own. command_view c.args.command.now) (λ own. statement_view c.args.stmt.now) c.args.log.now.entries c.loop-place.place c.loop-place.new.entries c.entry.result.now c.in_ok-entry.entry
+    (subst HaveDifferentNames c.catalog.ensures c.len-count.ensures.different) (omega (arith, count, c.len-count.ensures.len, c.len-count.ensures.within))
+    c.entry.ensures.entry c.entry.ensures.number c.in_ok-entry.ensures.same c.loop-place.invariant
+
+pub loop-place-preserved : goal.loop-place-preserved
+loop-place-preserved c =
+    subst (Others c.args.t c.args.k (λ own. command_view c.args.command.now) (λ own. statement_view c.args.stmt.now) c.args.log.now.entries (c.loop-place.place + 1)) (sym c.in_ok-append.ensures.ok)
+    (others_next c.args.t c.args.k (λ own. command_view c.args.command.now) (λ own. statement_view c.args.stmt.now) c.args.log.now.entries c.loop-place.place c.loop-place.new.entries c.entry.result.now c.in_ok-entry.entry
+    c.entry.ensures.entry c.entry.ensures.number c.in_ok-entry.ensures.view c.loop-place.invariant)
