@@ -31,7 +31,7 @@ use Rattle.gp_reenact.proofs.ReplayLemmas.{Replays, found_is, planned_replays, s
 use Rattle.gp_dump.specs.Views.{tables_view}
 use Rattle.gp_ask.specs.declared.answered.Answered.{Answered}
 use Rattle.gp_ask.specs.declared.answered.Answered.TheVariants.{Refused, Rows}
-use Rattle.gp_ask.specs.Answers.{of_elements, query_answer, spans_at}
+use Rattle.gp_ask.specs.Asking.{of_elements, query_answer, spans_at}
 use Rattle.gp_ask.specs.Backends.{AnswersQuery, IsAnswered, Shows}
 use Rattle.gp_ask.proofs.ReenactedLemmas.{dump-spans, in-order, refused}
 

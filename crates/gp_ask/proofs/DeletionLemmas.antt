@@ -28,7 +28,7 @@ use Rattle.gp_versions.specs.Spans.{Versions}
 use Rattle.gp_dump.specs.declared.dump.Dump as code
 use Rattle.gp_dump.specs.Views.{dump_view, tables_view}
 use Rattle.gp_ask.specs.declared.answered.Answered.TheVariants.{Refused}
-use Rattle.gp_ask.specs.Answers.{dump_remaining, spans_at}
+use Rattle.gp_ask.specs.Asking.{dump_remaining, spans_at}
 use Rattle.gp_ask.specs.Counted.{counted_answer}
 use Rattle.gp_ask.specs.Remaining.{is_left_out, pattern_of}
 use Rattle.gp_ask.specs.Values.{count}

@@ -15,7 +15,7 @@ use Rattle.gp_check.specs.Faults.{first_refusal}
 use Rattle.gp_check.specs.Meaning.{branch_of, number_of_table, select_of}
 use Rattle.gp_history.specs.Values.{HasFewItems}
 use Rattle.gp_ask.specs.Answerable.{has_few_items}
-use Rattle.gp_ask.specs.Answers.{asked}
+use Rattle.gp_ask.specs.Asking.{asked}
 
 is-false : (b : Bool) → not b ≡ true → b ≡ false
 is-false true is = absurd cc

@@ -37,7 +37,9 @@ use Rattle.gp_history.specs.Agreement.{agree}
 use Rattle.gp_history.specs.Provenance.{occurrence}
 use Rattle.gp_ask.specs.declared.answered.Answered.{Answered}
 use Rattle.gp_ask.specs.declared.answered.Answered.TheVariants.{Listed, Refused, Rows}
-use Rattle.gp_ask.specs.Answers.{answer_to, dump_minimal, dump_provenance, dump_query, dump_remaining, dump_rows, dump_valued, dump_values, held_minimal, held_provenance, held_remaining, held_rows, held_to, held_valued, held_values, of_elements, query_answer, spans_at, with_monomials}
+use Rattle.gp_ask.specs.Answers.{answer_to, held_to}
+use Rattle.gp_ask.specs.Asking.{dump_minimal, dump_provenance, dump_query, dump_remaining, dump_rows, dump_valued, dump_values, held_minimal, held_provenance, held_remaining, held_rows, held_valued, held_values, of_elements, query_answer, spans_at, with_monomials}
+use Rattle.gp_ask.specs.Hypothetical.{what_if_answer, what_if_held}
 use Rattle.gp_ask.specs.Remaining.{has_left_out, is_left_out, pattern_of, remaining_answer}
 use Rattle.gp_ask.specs.Values.{evaluated, rules_of, semiring_of, with_values}
 use Rattle.gp_ask.specs.Witnesses.{minimal_of}
@@ -105,101 +107,108 @@ module _ (forgets : Forgets) (state : State Monomial) where
       ap (answer plain select) (held-forgotten state point) ∙ forgets select (held_at state point) in
       ap (λ (others : List (Element (Unit {0}))). answered refusal elements others (length others)) forgot ∙ same-rows refusal elements
 
-  -- ---- the dump
+  -- ---- questions about the states of a history, over its log and its row versions
 
-  module _ (spans-kept : (table : ℕ) → state_spans (forgetting state) table ≡ state_spans state table) where
-    spans-same : (count : ℕ) → spans_in_order (forgetting state) count ≡ spans_in_order state count
-    spans-same zero = refl
-    spans-same (suc count) =
-        ap (λ (before : List (List Span)). before ++ state_spans (forgetting state) count ∷ []) (spans-same count)
-        ∙ ap (λ (own : List Span). spans_in_order state count ++ own ∷ []) (spans-kept count)
+  module _ (kept : tables_in state.entries ≡ state.catalogue) (tables : List (List Span)) where
+    abbrev dump : Dump
+    dump = record { entries = state.entries; tables = tables }
 
-    dump-same : dump_of (forgetting state) ≡ dump_of state
-    dump-same = ap (dump_with state.entries) (spans-same (length state.catalogue))
+    abbrev spans : ℕ → List Span
+    spans = spans_at tables
 
-    -- ---- questions
+    module _ (rows-alike : (point : y.State) (select : Select) → AreAlike (rows_answer limits state.entries spans point select) (held_answer plain limits (forgetting state) point select))
+        (provenance-alike : (point : y.State) (select : Select)
+        → AreAlike (annotated_answer monomials limits agree state.catalogue state.entries spans point select) (held_answer monomials limits state point select))
+        (values-alike : (name : SemiringName) → AreHeld state spans name)
+        (refusals : (point : y.State) → history_refusal monomials limits agree state.catalogue state.entries spans point ≡ log_refusal state.entries point)
+        (elements-moved : (point : y.State) (select : Select) → log_refusal state.entries point ≡ None
+        → IsPermutation (answer monomials select (at_point monomials state.entries point (annotated_versions monomials state.entries spans))) (answer monomials select (held_at state point))) where
+      rows-held : (point : y.State) (select : Select) → dump_rows dump point select ≡ held_rows state point select
+      rows-held point select =
+          alike (rows_answer limits state.entries spans point select) (held_answer plain limits (forgetting state) point select) (rows-alike point select)
+          ∙ held-rows-same point select
 
-    module _ (tables : tables_in state.entries ≡ state.catalogue) where
-      abbrev spans : ℕ → List Span
-      spans = spans_at (dump_of (forgetting state)).tables
+      provenance-held : (point : y.State) (select : Select) → dump_provenance dump point select ≡ held_provenance state point select
+      provenance-held point select =
+          ap (λ (catalogue : List Table). with_monomials (annotated_answer monomials limits agree catalogue state.entries spans point select)) kept
+          ∙ alike-monomials (annotated_answer monomials limits agree state.catalogue state.entries spans point select) (held_answer monomials limits state point select) (provenance-alike point select)
 
-      module _ (rows-alike : (point : y.State) (select : Select) → AreAlike (rows_answer limits state.entries spans point select) (held_answer plain limits (forgetting state) point select))
-          (provenance-alike : (point : y.State) (select : Select)
-          → AreAlike (annotated_answer monomials limits agree state.catalogue state.entries spans point select) (held_answer monomials limits state point select))
-          (values-alike : (name : SemiringName) → AreHeld state spans name)
-          (refusals : (point : y.State) → history_refusal monomials limits agree state.catalogue state.entries spans point ≡ log_refusal state.entries point)
-          (elements-moved : (point : y.State) (select : Select) → log_refusal state.entries point ≡ None
-          → IsPermutation (answer monomials select (at_point monomials state.entries point (annotated_versions monomials state.entries spans))) (answer monomials select (held_at state point))) where
-        rows-held : (point : y.State) (select : Select) → dump_rows (dump_of (forgetting state)) point select ≡ held_rows state point select
-        rows-held point select =
-            alike (rows_answer limits state.entries spans point select) (held_answer plain limits (forgetting state) point select) (rows-alike point select)
-            ∙ held-rows-same point select
+      values-held : (name : SemiringName) (rules : List Rule × Option ℕ) (point : y.State) (select : Select)
+          → dump_values (semiring_of name) name rules dump point select ≡ held_values (semiring_of name) name rules state point select
+      values-held name rules point select =
+          ap (λ (catalogue : List Table). evaluated (semiring_of name) rules name (found_in (semiring_of name) rules state.entries catalogue spans point select)) kept
+          ∙ ap (evaluated (semiring_of name) rules name) (values-alike name rules point select)
 
-        provenance-held : (point : y.State) (select : Select) → dump_provenance (dump_of (forgetting state)) point select ≡ held_provenance state point select
-        provenance-held point select =
-            ap (λ (catalogue : List Table). with_monomials (annotated_answer monomials limits agree catalogue state.entries spans point select)) tables
-            ∙ alike-monomials (annotated_answer monomials limits agree state.catalogue state.entries spans point select) (held_answer monomials limits state point select) (provenance-alike point select)
+      -- the elements over the row versions of the dump
+      abbrev found-elements : y.State → Select → List (Element Monomial)
+      found-elements point select = answer monomials select (at_point monomials state.entries point (annotated_versions monomials state.entries spans))
 
-        values-held : (name : SemiringName) (rules : List Rule × Option ℕ) (point : y.State) (select : Select)
-            → dump_values (semiring_of name) name rules (dump_of (forgetting state)) point select ≡ held_values (semiring_of name) name rules state point select
-        values-held name rules point select =
-            ap (λ (catalogue : List Table). evaluated (semiring_of name) rules name (found_in (semiring_of name) rules state.entries catalogue spans point select)) tables
-            ∙ ap (evaluated (semiring_of name) rules name) (values-alike name rules point select)
+      -- the refusals of the dump are those of the log
+      refusals-held : (point : y.State) → history_refusal monomials limits agree (tables_in state.entries) state.entries spans point ≡ log_refusal state.entries point
+      refusals-held point = ap (λ (catalogue : List Table). history_refusal monomials limits agree catalogue state.entries spans point) kept ∙ refusals point
 
-        -- the elements over the row versions of the dump
-        abbrev found-elements : y.State → Select → List (Element Monomial)
-        found-elements point select = answer monomials select (at_point monomials state.entries point (annotated_versions monomials state.entries spans))
+      minimal-held : (point : y.State) (select : Select) → dump_minimal dump point select ≡ held_minimal state point select
+      minimal-held point select =
+          ap (λ (refusal : Option Refusal). with_values sets_text (limited limits.answer minimal_of (given refusal (found-elements point select)))) (refusals-held point)
+          ∙ ap (with_values sets_text)
+          (minimal_moved (log_refusal state.entries point) (found-elements point select) (answer monomials select (held_at state point)) (answers_count state.catalogue state.entries spans point select)
+          (elements-moved point select))
 
-        -- the refusals of the dump are those of the log
-        refusals-held : (point : y.State) → history_refusal monomials limits agree (tables_in state.entries) state.entries spans point ≡ log_refusal state.entries point
-        refusals-held point = ap (λ (catalogue : List Table). history_refusal monomials limits agree catalogue state.entries spans point) tables ∙ refusals point
+      valued-held : (name : SemiringName) (rules : List y.Rule) (other : Option ℕ) (point : y.State) (select : Select)
+          → dump_valued name rules other dump point select ≡ held_valued name rules other state point select
+      valued-held named.Count rules other point select = values-held named.Count (rules_of rules other) point select
+      valued-held named.Bool rules other point select = values-held named.Bool (rules_of rules other) point select
+      valued-held named.Cost rules other point select = values-held named.Cost (rules_of rules other) point select
+      valued-held named.Level rules other point select = values-held named.Level (rules_of rules other) point select
+      valued-held named.Poly rules other point select = values-held named.Poly (rules_of rules other) point select
+      valued-held named.Witness [] None point select = minimal-held point select
+      valued-held named.Witness [] (Some n) point select = values-held named.Witness (rules_of [] (Some n)) point select
+      valued-held named.Witness (rule ∷ rules) None point select = values-held named.Witness (rules_of (rule ∷ rules) None) point select
+      valued-held named.Witness (rule ∷ rules) (Some n) point select = values-held named.Witness (rules_of (rule ∷ rules) (Some n)) point select
 
-        minimal-held : (point : y.State) (select : Select) → dump_minimal (dump_of (forgetting state)) point select ≡ held_minimal state point select
-        minimal-held point select =
-            ap (λ (refusal : Option Refusal). with_values sets_text (limited limits.answer minimal_of (given refusal (found-elements point select)))) (refusals-held point)
-            ∙ ap (with_values sets_text)
-            (minimal_moved (log_refusal state.entries point) (found-elements point select) (answer monomials select (held_at state point)) (answers_count state.catalogue state.entries spans point select)
-            (elements-moved point select))
+      remaining-held : (patterns : List Rule) (point : y.State) (select : Select) → dump_remaining patterns dump point select ≡ held_remaining patterns state point select
+      remaining-held patterns point select =
+          ap (λ (refusal : Option Refusal). of_elements (remaining_answer (has_left_out patterns) select db refusal)) (refusals-held point) ∙ by (log_refusal state.entries point) refl
+        where
+          db : Database Monomial
+          db = at_point monomials state.entries point (annotated_versions monomials state.entries spans)
 
-        valued-held : (name : SemiringName) (rules : List y.Rule) (other : Option ℕ) (point : y.State) (select : Select)
-            → dump_valued name rules other (dump_of (forgetting state)) point select ≡ held_valued name rules other state point select
-        valued-held named.Count rules other point select = values-held named.Count (rules_of rules other) point select
-        valued-held named.Bool rules other point select = values-held named.Bool (rules_of rules other) point select
-        valued-held named.Cost rules other point select = values-held named.Cost (rules_of rules other) point select
-        valued-held named.Level rules other point select = values-held named.Level (rules_of rules other) point select
-        valued-held named.Poly rules other point select = values-held named.Poly (rules_of rules other) point select
-        valued-held named.Witness [] None point select = minimal-held point select
-        valued-held named.Witness [] (Some n) point select = values-held named.Witness (rules_of [] (Some n)) point select
-        valued-held named.Witness (rule ∷ rules) None point select = values-held named.Witness (rules_of (rule ∷ rules) None) point select
-        valued-held named.Witness (rule ∷ rules) (Some n) point select = values-held named.Witness (rules_of (rule ∷ rules) (Some n)) point select
+          by : (refusal : Option Refusal) → log_refusal state.entries point ≡ refusal
+              → of_elements (remaining_answer (has_left_out patterns) select db refusal) ≡ of_elements (remaining_answer (has_left_out patterns) select (held_at state point) refusal)
+          by (Some refusal) known = refl
+          by None known = remaining_moved (is_left_out patterns) select db (held_at state point) (elements-moved point select known) None
 
-        remaining-held : (patterns : List Rule) (point : y.State) (select : Select) → dump_remaining patterns (dump_of (forgetting state)) point select ≡ held_remaining patterns state point select
-        remaining-held patterns point select =
-            ap (λ (refusal : Option Refusal). of_elements (remaining_answer (has_left_out patterns) select db refusal)) (refusals-held point) ∙ by (log_refusal state.entries point) refl
-          where
-            db : Database Monomial
-            db = at_point monomials state.entries point (annotated_versions monomials state.entries spans)
+      query-held : (found held : Select → Answered) → ((select : Select) → found select ≡ held select) → (point : y.State) (query : y.Query)
+          → dump_query dump found point query ≡ query_answer held (log_refusal state.entries point) (checked_query state.catalogue query)
+      query-held found held same point query =
+          ap (λ (catalogue : List Table). query_answer found (log_refusal state.entries point) (checked_query catalogue query)) kept
+          ∙ query-same found held same (log_refusal state.entries point) (checked_query state.catalogue query)
 
-            by : (refusal : Option Refusal) → log_refusal state.entries point ≡ refusal
-                → of_elements (remaining_answer (has_left_out patterns) select db refusal) ≡ of_elements (remaining_answer (has_left_out patterns) select (held_at state point) refusal)
-            by (Some refusal) known = refl
-            by None known = remaining_moved (is_left_out patterns) select db (held_at state point) (elements-moved point select known) None
+      pub asked : (how : y.How) (point : y.State) (query : y.Query) → answer_to dump (y.ask how point query) ≡ held_to state (y.ask how point query)
+      asked y.rows point query = query-held (dump_rows dump point) (held_rows state point) (rows-held point) point query
+      asked y.provenance point query = query-held (dump_provenance dump point) (held_provenance state point) (provenance-held point) point query
+      asked (y.explain prov) point query = refl
+      asked (y.value name rules other) point query = query-held (dump_valued name rules other dump point) (held_valued name rules other state point) (valued-held name rules other point) point query
+      asked (y.without patterns) point query =
+          query-held (dump_remaining (map pattern_of patterns) dump point) (held_remaining (map pattern_of patterns) state point) (remaining-held (map pattern_of patterns) point) point query
 
-        query-held : (found held : Select → Answered) → ((select : Select) → found select ≡ held select) → (point : y.State) (query : y.Query)
-            → dump_query (dump_of (forgetting state)) found point query ≡ query_answer held (log_refusal state.entries point) (checked_query state.catalogue query)
-        query-held found held same point query =
-            ap (λ (catalogue : List Table). query_answer found (log_refusal state.entries point) (checked_query catalogue query)) tables
-            ∙ query-same found held same (log_refusal state.entries point) (checked_query state.catalogue query)
+-- ---- the dump of a history
 
-        pub held : (question : y.Question) → answer_to (dump_of (forgetting state)) question ≡ held_to state question
-        held (y.log t) = refl
-        held (y.versions name) = ap (λ (dump : Dump). answer_to dump (y.versions name)) dump-same
-        held (y.ask y.rows point query) = query-held (dump_rows (dump_of (forgetting state)) point) (held_rows state point) (rows-held point) point query
-        held (y.ask y.provenance point query) =
-            query-held (dump_provenance (dump_of (forgetting state)) point) (held_provenance state point) (provenance-held point) point query
-        held (y.ask (y.explain prov) point query) = ap (λ (dump : Dump). answer_to dump (y.ask (y.explain prov) point query)) dump-same
-        held (y.ask (y.value name rules other) point query) =
-            query-held (dump_valued name rules other (dump_of (forgetting state)) point) (held_valued name rules other state point) (valued-held name rules other point) point query
-        held (y.ask (y.without patterns) point query) =
-            query-held (dump_remaining (map pattern_of patterns) (dump_of (forgetting state)) point) (held_remaining (map pattern_of patterns) state point)
-            (remaining-held (map pattern_of patterns) point) point query
+module _ (state : State Monomial) (spans-kept : (table : ℕ) → state_spans (forgetting state) table ≡ state_spans state table) where
+  spans-same : (count : ℕ) → spans_in_order (forgetting state) count ≡ spans_in_order state count
+  spans-same zero = refl
+  spans-same (suc count) =
+      ap (λ (before : List (List Span)). before ++ state_spans (forgetting state) count ∷ []) (spans-same count)
+      ∙ ap (λ (own : List Span). spans_in_order state count ++ own ∷ []) (spans-kept count)
+
+  dump-same : dump_of (forgetting state) ≡ dump_of state
+  dump-same = ap (dump_with state.entries) (spans-same (length state.catalogue))
+
+  -- LOG and VERSIONS print the dump, and what would be with a change is told by the log
+  pub held : ((how : y.How) (point : y.State) (query : y.Query) → answer_to (dump_of (forgetting state)) (y.ask how point query) ≡ held_to state (y.ask how point query))
+      → ((change : y.LogChange) (how : y.How) (point : y.State) (query : y.Query) → what_if_answer state.entries change how point query ≡ what_if_held state.entries change how point query)
+      → (question : y.Question) → answer_to (dump_of (forgetting state)) question ≡ held_to state question
+  held asks changes (y.log t) = refl
+  held asks changes (y.versions name) = ap (λ (dump : Dump). answer_to dump (y.versions name)) dump-same
+  held asks changes (y.ask how point query) = asks how point query
+  held asks changes (y.what_if change how point query) = changes change how point query

@@ -2,8 +2,10 @@ mod BackendLemmas
 mod CountedLemmas
 mod DeletionLemmas
 mod FewLemmas
+mod FittingReplays
 mod FormatLemmas
 mod HeldLemmas
+mod HypotheticalLemmas
 mod LogLemmas
 mod MovedLemmas
 mod ProvenanceLemmas
@@ -12,7 +14,9 @@ mod ReadLemmas
 mod ReenactedLemmas
 mod RemainingLemmas
 mod SpanLemmas
+mod StopLemmas
 mod TableLemmas
 mod TargetLemmas
 mod ValueLemmas
+mod WhatIfLemmas
 mod WitnessLemmas

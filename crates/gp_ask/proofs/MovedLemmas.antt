@@ -29,7 +29,7 @@ use Rattle.gp_values.proofs.DistinctLemmas.{rows_of, rows_summed}
 use Rattle.gp_witness.specs.Deletion.{has_token}
 use Rattle.gp_witness.proofs.DeletionLemmas.{answer_reduced, monomials_find}
 use Rattle.gp_ask.specs.declared.answered.Answered.TheVariants.{Rows}
-use Rattle.gp_ask.specs.Answers.{of_elements}
+use Rattle.gp_ask.specs.Asking.{of_elements}
 use Rattle.gp_ask.specs.Remaining.{are_too_many, remaining, remaining_answer}
 use Rattle.gp_ask.proofs.ReenactedLemmas.{same-order}
 

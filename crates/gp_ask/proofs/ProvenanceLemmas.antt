@@ -1,4 +1,4 @@
--- The rows that provenance finds, listed, are the answer; and a well-formed dump has a log and row versions that go together.
+-- The rows that provenance finds, listed, are the answer; and a well-formed dump can be asked: it has a log and row versions that go together.
 use Rattle.std.proofs.Common.{◌≡◌, ℕ, suc, List, [], ◌∷◌, length, map, Result, Ok, Err, sym, refl, ap, ◌∙◌, subst}
 use Rattle.std.specs.List.Sorted.{IsPermutation}
 use Rattle.std.proofs.lemmas.List.{length-map}
@@ -14,14 +14,16 @@ use Rattle.gp_log.specs.Limits.{limits}
 use Rattle.gp_log.specs.LogFacts.{tables_in}
 use Rattle.gp_log.specs.LogFitting.{SpansFit}
 use Rattle.gp_log.specs.Logs.{log_view}
+use Rattle.gp_log.proofs.LoggedSessions.{sessions_kept}
 use Rattle.gp_machine.specs.Entries.{Entry, versions_in}
 use Rattle.gp_machine.specs.Questions.{annotated_answer}
 use Rattle.gp_versions.specs.declared.span.Span.{Span}
 use Rattle.gp_versions.specs.Spans.{Versions}
 use Rattle.gp_reenact.specs.declared.error.ReenactStop.TheVariants as stop
 use Rattle.gp_reenact.specs.Reenacting.{spans_of}
+use Rattle.gp_whatif.specs.Replays.{IsReplayable}
 use Rattle.gp_dump.specs.declared.dump.Dump as code
-use Rattle.gp_dump.specs.Dumps.{AreOfTables, IsDump}
+use Rattle.gp_dump.specs.Dumps.{AreOfTables, Dump, IsDump}
 use Rattle.gp_dump.specs.Views.{dump_view, tables_view}
 use Rattle.gp_dump.proofs.FittingTables.{spans_of_dumps, statements_of_dumps}
 use Rattle.gp_history.specs.Agreement.{agree}
@@ -29,7 +31,8 @@ use Rattle.gp_history.specs.Provenance.{Proves, occurrence}
 use Rattle.gp_history.specs.Sound.{IsSound}
 use Rattle.gp_monomials.specs.Listing.{grouped, listed}
 use Rattle.gp_ask.specs.declared.answered.Answered.TheVariants.{Listed, Refused}
-use Rattle.gp_ask.specs.Answers.{dump_provenance, spans_at, with_monomials}
+use Rattle.gp_ask.specs.Answerable.{IsAnswerable}
+use Rattle.gp_ask.specs.Asking.{dump_provenance, spans_at, with_monomials}
 use Rattle.gp_ask.proofs.ReenactedLemmas.{dump-spans, same-order}
 
 -- occurrences in any order are listed alike
@@ -52,15 +55,26 @@ as-many [] versions (own ∷ others) are = absurd are
 as-many (table ∷ tables) versions [] are = absurd are
 as-many (table ∷ tables) versions (own ∷ others) are = ap suc (as-many tables versions others are.1)
 
-pub sound : (dump : code.Dump) → IsDump (dump_view dump) → IsSound (log_view dump.log.entries) dump.versions
-sound dump rules =
-    let tables = tables_in (log_view dump.log.entries) in
-    record {
-      log = rules.log;
-      tables = sym (length-map dump.versions (λ (table : Versions). table.spans)) ∙ as-many tables (versions_in (log_view dump.log.entries)) (tables_view dump.versions) rules.spans;
-      statements = statements_of_dumps (dump_view dump) rules;
-      spans = subst (λ (spans : ℕ → List Span). SpansFit tables spans) (sym (dump-spans dump.versions)) (spans_of_dumps (dump_view dump) rules);
-    }
+-- a well-formed dump can be asked
+pub answerable : (dump : Dump) → IsDump dump → IsAnswerable dump
+answerable dump rules = record {
+  sessions = sessions_kept limits dump.entries rules.log;
+  statements = statements_of_dumps dump rules;
+  tables = as-many (tables_in dump.entries) (versions_in dump.entries) dump.tables rules.spans;
+  spans = spans_of_dumps dump rules;
+}
+
+-- and its log can be replayed
+pub replayable : (dump : Dump) → IsDump dump → IsReplayable dump.entries
+replayable dump rules = record { sessions = sessions_kept limits dump.entries rules.log; fits = statements_of_dumps dump rules }
+
+pub sound : (dump : code.Dump) → IsAnswerable (dump_view dump) → IsSound (log_view dump.log.entries) dump.versions
+sound dump rules = record {
+  sessions = rules.sessions;
+  tables = sym (length-map dump.versions (λ (table : Versions). table.spans)) ∙ rules.tables;
+  statements = rules.statements;
+  spans = subst (λ (spans : ℕ → List Span). SpansFit (tables_in (log_view dump.log.entries)) spans) (sym (dump-spans dump.versions)) rules.spans;
+}
 
 -- ---- what provenance answers, over the row versions of a dump
 
@@ -74,7 +88,7 @@ module _ (dump : code.Dump) (versions : List Versions) (same : versions ≡ dump
   pub spans-are : spans_of versions ≡ spans_at (tables_view dump.versions)
   spans-are = ap spans_of same ∙ dump-spans dump.versions
 
-  pub sound-versions : IsDump (dump_view dump) → IsSound entries versions
+  pub sound-versions : IsAnswerable (dump_view dump) → IsSound entries versions
   sound-versions rules = subst (λ (own : List Versions). IsSound entries own) (sym same) (sound dump rules)
 
   pub is-listed : {X : Type 0} (view : X → List (List Cell)) (found : X) → Proves view (Ok found) (due (spans_of versions)) → Listed (listed (view found)) ≡ dump_provenance (dump_view dump) point select

@@ -14,7 +14,7 @@ use Rattle.gp_reenact.specs.declared.error.ReenactStop.TheVariants as stop
 use Rattle.gp_reenact.specs.Reenacting.{Reenacts, spans_of}
 use Rattle.gp_dump.specs.Views.{tables_view}
 use Rattle.gp_ask.specs.declared.answered.Answered.TheVariants.{Refused, Rows}
-use Rattle.gp_ask.specs.Answers.{of_elements, spans_at}
+use Rattle.gp_ask.specs.Asking.{of_elements, spans_at}
 
 -- the row versions of the tables of a dump
 pub dump-spans : (versions : List Versions) → spans_of versions ≡ spans_at (tables_view versions)

@@ -32,7 +32,7 @@ use Rattle.gp_witness.specs.Remaining.{number_of, repeated}
 use Rattle.gp_witness.proofs.CountLemmas.{answer_kept, counted_up_to, listed_again, monomial_counted, token_counted}
 use Rattle.gp_ask.specs.declared.answered.Answered.{Answered}
 use Rattle.gp_ask.specs.declared.answered.Answered.TheVariants.{Refused, Rows}
-use Rattle.gp_ask.specs.Answers.{of_elements}
+use Rattle.gp_ask.specs.Asking.{of_elements}
 use Rattle.gp_ask.specs.Counted.{counted_answer}
 use Rattle.gp_ask.specs.Remaining.{is_left_out, pattern_of, remaining, remaining_answer}
 use Rattle.gp_ask.proofs.CountedLemmas.{EachCounts}

@@ -14,7 +14,7 @@ use Rattle.gp_versions.specs.Spans.{span_cmp}
 use Rattle.gp_machine.specs.HistorySpans.{state_spans}
 use Rattle.gp_machine.specs.State.{State}
 use Rattle.gp_dump.specs.Dumps.{dump_of, spans_in_order}
-use Rattle.gp_ask.specs.Answers.{spans_at}
+use Rattle.gp_ask.specs.Asking.{spans_at}
 
 -- ---- sorting
 

@@ -29,7 +29,7 @@ use Rattle.gp_valuation.specs.Rules.{number_by}
 use Rattle.gp_valuation.specs.Values.{token_value, value_by}
 use Rattle.gp_values.specs.ValueAnswers.{held_value_answer, value_answer}
 use Rattle.gp_ask.specs.declared.answered.Answered.TheVariants.{Refused, Values}
-use Rattle.gp_ask.specs.Answers.{spans_at}
+use Rattle.gp_ask.specs.Asking.{spans_at}
 use Rattle.gp_ask.specs.Values.{Semiring, semiring_of, value_of, valued, with_values}
 use Rattle.gp_ask.proofs.ProvenanceLemmas.{spans-are}
 

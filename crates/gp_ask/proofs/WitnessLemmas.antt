@@ -28,7 +28,8 @@ use Rattle.gp_values.proofs.ValueLemmas.{values_moved}
 use Rattle.gp_witness.specs.Minimal.{HasCounts, itself}
 use Rattle.gp_witness.proofs.WitnessValueLemmas.{witness_value}
 use Rattle.gp_dump.specs.Dumps.{Dump}
-use Rattle.gp_ask.specs.Answers.{answer_to, dump_minimal, dump_query, dump_valued, dump_values, spans_at}
+use Rattle.gp_ask.specs.Answers.{answer_to}
+use Rattle.gp_ask.specs.Asking.{dump_minimal, dump_query, dump_valued, dump_values, spans_at}
 use Rattle.gp_ask.specs.Values.{rules_of, semiring_of, witness, with_values}
 use Rattle.gp_ask.specs.Witnesses.{minimal_of}
 use Rattle.gp_ask.proofs.CountedLemmas.{EachCounts, answers_count}

@@ -1,16 +1,33 @@
--- Part of the statement: which questions are answered. Every question that was read is such: so says the law `read_questions_are_valid`.
-use Rattle.std.specs.Prelude.{Bool, true, not, ◌&&◌}
+-- Part of the statement: which questions are answered, and from which dumps. Every question that was read is such: so says the law
+-- `read_questions_are_valid`.
+use Rattle.std.specs.Prelude.{◌≡◌, Bool, true, not, ◌&&◌, length}
 use Rattle.gp_grammar.specs.declared.limits.TheConstants.{MAX_FROM}
+use Rattle.gp_grammar.specs.Laws.{has_statement}
 use Rattle.gp_grammar.specs.Limits.{query_shape, some_above}
 use Rattle.gp_grammar.specs.Syntax as y
-use Rattle.gp_check.specs.Valid.{query_is_valid}
+use Rattle.gp_check.specs.Valid.{change_is_valid, query_is_valid}
+use Rattle.gp_log.specs.LogFacts.{tables_in}
+use Rattle.gp_log.specs.LogFitting.{SpansFit, statements_fit}
+use Rattle.gp_log.specs.Sessions.{KeepsSessions}
+use Rattle.gp_dump.specs.Dumps.{Dump}
+use Rattle.gp_ask.specs.Asking.{spans_at}
 
 -- no FROM has more items than a line may have
 abbrev pub has_few_items : y.Query → Bool
 has_few_items query = not (some_above MAX_FROM (query_shape query).from)
 
--- its query is valid, if it has one, and keeps the limit of FROM
+-- its query is valid, if it has one, and keeps the limit of FROM; and the command of its change is a valid statement
 abbrev pub question_is_valid : y.Question → Bool
 question_is_valid (y.log t) = true
 question_is_valid (y.versions name) = true
 question_is_valid (y.ask how state query) = query_is_valid query && has_few_items query
+question_is_valid (y.what_if change how state query) = has_statement change && (change_is_valid change && (query_is_valid query && has_few_items query))
+
+-- A dump from which questions about states are answered: its log keeps its sessions, and what it holds fits its tables. Every well-formed dump is such, and
+-- so is the one of commits made again.
+pub record IsAnswerable (dump : Dump) : Type 0 where
+  pub sessions : KeepsSessions dump.entries
+  pub statements : statements_fit (tables_in dump.entries) dump.entries ≡ true
+  -- one list of row versions for each table
+  pub tables : length dump.tables ≡ length (tables_in dump.entries)
+  pub spans : SpansFit (tables_in dump.entries) (spans_at dump.tables)

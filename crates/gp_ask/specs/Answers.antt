@@ -1,43 +1,22 @@
--- Part of the statement: the answer to a question, from a dump alone, and the answer that the history of a script held. A question is refused by the
--- first that applies: its version, transaction or statement is not in the log, the check of its query, a number of its rules that is not in the
--- semiring, for provenance, values and what remains without some rows a version that the log does not give, a limit that the statements of a transaction
--- pass, the number of its rows.
-use Rattle.std.specs.Prelude.{ℕ, Bool, false, List, [], map, filter, reverse, Option, Some, None, Result, Ok, Err, if◌then◌else◌, ◌==◌, slice_index_or}
-use Rattle.gp_base.specs.declared.refusal.Refusal.{Refusal}
+-- Part of the statement: the answer to a question, from a dump alone, and the answer that the history of a script held. A question about what would be with
+-- a change has in both the answer of a history that would have been: from a dump, over the dump of that history.
+use Rattle.std.specs.Prelude.{ℕ, Bool, false, List, map, filter, reverse, Option, Some, None, if◌then◌else◌, ◌==◌}
 use Rattle.gp_base.specs.declared.refusal.Refusal.TheVariants.{E04, E20}
-use Rattle.gp_base.specs.Annotated.{monomials}
 use Rattle.gp_base.specs.Catalogs.{place_of}
-use Rattle.gp_base.specs.Order.{row_cmp, sorted_by}
 use Rattle.gp_base.specs.Tokens.{Monomial}
-use Rattle.gp_grammar.specs.declared.semiring_name.SemiringName.{SemiringName}
-use Rattle.gp_grammar.specs.declared.semiring_name.SemiringName.TheVariants as named
 use Rattle.gp_grammar.specs.Syntax as y
 use Rattle.gp_versions.specs.declared.span.Span.{Span}
-use Rattle.gp_algebra.specs.Answers.{Element, answer, cells_of}
-use Rattle.gp_algebra.specs.Statements.{Select}
-use Rattle.gp_check.specs.Checking.{checked_query}
-use Rattle.gp_machine.specs.Annotating.{annotated_versions}
 use Rattle.gp_machine.specs.Entries.{Entry}
-use Rattle.gp_machine.specs.Points.{at_point, held_at}
-use Rattle.gp_machine.specs.Questions.{annotated_answer, given, held_answer, is_known, log_refusal, rows_answer}
+use Rattle.gp_machine.specs.Questions.{is_known}
 use Rattle.gp_machine.specs.State.{State}
 use Rattle.gp_log.specs.Discipline.{transaction_of}
-use Rattle.gp_log.specs.Limits.{limits}
 use Rattle.gp_log.specs.LogFacts.{tables_in}
 use Rattle.gp_dump.specs.Dumps.{Dump, dump_of}
 use Rattle.gp_dumpline.specs.Texts.{entry_text, span_text}
-use Rattle.gp_valuation.specs.declared.rules.Rule.{Rule}
-use Rattle.gp_semiring.specs.Witnesses.{sets_text}
-use Rattle.gp_values.specs.ValueAnswers.{all_elements, held_value_answer, history_refusal, limited, value_answer}
-use Rattle.gp_history.specs.Agreement.{agree}
-use Rattle.gp_history.specs.Provenance.{occurrence}
-use Rattle.gp_monomials.specs.Listing.{listed}
 use Rattle.gp_ask.specs.declared.answered.Answered.{Answered}
-use Rattle.gp_ask.specs.declared.answered.Answered.TheVariants.{Rows, Listed, Log, Versions, Program, Refused}
-use Rattle.gp_ask.specs.Programs.{program_lines}
-use Rattle.gp_ask.specs.Remaining.{has_left_out, pattern_of, remaining_answer}
-use Rattle.gp_ask.specs.Values.{Semiring, evaluated, rules_of, semiring_of, value_of, with_values}
-use Rattle.gp_ask.specs.Witnesses.{minimal_of}
+use Rattle.gp_ask.specs.declared.answered.Answered.TheVariants.{Log, Versions, Refused}
+use Rattle.gp_ask.specs.Asking.{ask_to, held_ask, spans_at}
+use Rattle.gp_ask.specs.Hypothetical.{what_if_answer, what_if_held}
 
 -- ---- the log of a transaction
 
@@ -54,119 +33,28 @@ log_answer t entries = if is_known t entries then Log (map entry_text (entries_o
 
 -- ---- the row versions of a table
 
-abbrev pub spans_at : List (List Span) → ℕ → List Span
-spans_at tables place = slice_index_or tables place []
-
 abbrev pub versions_answer : List ℕ → List (List Span) → Option ℕ → Answered
 versions_answer name tables None = Refused (E04 name)
 versions_answer name tables (Some place) = Versions (map span_text (spans_at tables place))
 
--- ---- queries
-
--- the rows, in row order, each as often as it occurs
-abbrev pub of_elements : {M : Type 0} → Result (List (Element M)) Refusal → Answered
-of_elements (Ok elements) = Rows (sorted_by row_cmp (cells_of elements))
-of_elements (Err refusal) = Refused refusal
-
--- each distinct row in row order, with the monomials of all its occurrences in order
-abbrev pub with_monomials : Result (List (Element Monomial)) Refusal → Answered
-with_monomials (Ok elements) = Listed (listed (map occurrence elements))
-with_monomials (Err refusal) = Refused refusal
-
--- a query that was checked, given what answers it
-abbrev pub checked_answer : (Select → Answered) → Result Select Refusal → Answered
-checked_answer answer (Err refusal) = Refused refusal
-checked_answer answer (Ok select) = answer select
-
--- the check of a query comes after the refusal of its version or transaction
-abbrev pub asked : Option Refusal → Result Select Refusal → Result Select Refusal
-asked (Some refusal) checked = Err refusal
-asked None checked = checked
-
-abbrev pub query_answer : (Select → Answered) → Option Refusal → Result Select Refusal → Answered
-query_answer answer refusal checked = checked_answer answer (asked refusal checked)
-
 -- ---- the answer to a question
-
--- rows are those of the dump's own versions; their provenance is that of the versions as the log's transactions annotate them
-abbrev pub dump_rows : Dump → y.State → Select → Answered
-dump_rows dump point select = of_elements (rows_answer limits dump.entries (spans_at dump.tables) point select)
-
-abbrev pub dump_provenance : Dump → y.State → Select → Answered
-dump_provenance dump point select =
-    with_monomials (annotated_answer monomials limits agree (tables_in dump.entries) dump.entries (spans_at dump.tables) point select)
-
--- the values of the rows, by the monomials of that provenance; distinct rows are counted
-abbrev pub dump_values : Semiring → SemiringName → List Rule × Option ℕ → Dump → y.State → Select → Answered
-dump_values semiring name rules dump point select =
-    evaluated semiring rules name
-    (value_answer limits semiring.plus_of semiring.zero_of semiring.one_of semiring.times_of (value_of semiring rules) agree (tables_in dump.entries) dump.entries (spans_at dump.tables) point select)
-
--- the minimal witnesses of the rows, by the same monomials
-abbrev pub dump_minimal : Dump → y.State → Select → Answered
-dump_minimal dump point select =
-    with_values sets_text (limited limits.answer minimal_of (all_elements monomials limits agree (tables_in dump.entries) dump.entries (spans_at dump.tables) point select))
-
--- values by rules; those in witnesses without rules are the minimal witnesses
-abbrev pub dump_valued : SemiringName → List y.Rule → Option ℕ → Dump → y.State → Select → Answered
-dump_valued named.Witness [] None dump point select = dump_minimal dump point select
-dump_valued name rules other dump point select = dump_values (semiring_of name) name (rules_of rules other) dump point select
-
--- the rows over the annotated database without those that the patterns leave out
-abbrev pub dump_remaining : List Rule → Dump → y.State → Select → Answered
-dump_remaining patterns dump point select =
-    of_elements
-    (remaining_answer (has_left_out patterns) select (at_point monomials dump.entries point (annotated_versions monomials dump.entries (spans_at dump.tables)))
-    (history_refusal monomials limits agree (tables_in dump.entries) dump.entries (spans_at dump.tables) point))
-
--- an explained query is its program, whatever the rows are
-abbrev pub dump_program : Dump → Bool → y.State → Select → Answered
-dump_program dump prov point select = Program (program_lines dump.entries prov point select)
-
--- a query over a state, given what answers it once it is checked
-abbrev pub dump_query : Dump → (Select → Answered) → y.State → y.Query → Answered
-dump_query dump answer point query = query_answer answer (log_refusal dump.entries point) (checked_query (tables_in dump.entries) query)
 
 abbrev pub answer_to : Dump → y.Question → Answered
 answer_to dump (y.log t) = log_answer t dump.entries
 answer_to dump (y.versions name) = versions_answer name dump.tables (place_of name (tables_in dump.entries))
-answer_to dump (y.ask y.rows point query) = dump_query dump (dump_rows dump point) point query
-answer_to dump (y.ask y.provenance point query) = dump_query dump (dump_provenance dump point) point query
-answer_to dump (y.ask (y.explain prov) point query) = dump_query dump (dump_program dump prov point) point query
-answer_to dump (y.ask (y.value name rules other) point query) = dump_query dump (dump_valued name rules other dump point) point query
-answer_to dump (y.ask (y.without patterns) point query) = dump_query dump (dump_remaining (map pattern_of patterns) dump point) point query
+answer_to dump (y.ask how point query) = ask_to dump how point query
+answer_to dump (y.what_if change how point query) = what_if_answer dump.entries change how point query
 
 -- ---- the answer that a history held
 
--- the rows that a commit published, or that a transaction saw after one of its statements, their provenance, their values, and the rows that the query
--- gives over the same database without some of its rows
-abbrev pub held_rows : State Monomial → y.State → Select → Answered
-held_rows state point select = of_elements (held_answer monomials limits state point select)
-
-abbrev pub held_provenance : State Monomial → y.State → Select → Answered
-held_provenance state point select = with_monomials (held_answer monomials limits state point select)
-
-abbrev pub held_values : Semiring → SemiringName → List Rule × Option ℕ → State Monomial → y.State → Select → Answered
-held_values semiring name rules state point select =
-    evaluated semiring rules name (held_value_answer limits semiring.plus_of semiring.zero_of semiring.one_of semiring.times_of (value_of semiring rules) state point select)
-
-abbrev pub held_minimal : State Monomial → y.State → Select → Answered
-held_minimal state point select = with_values sets_text (limited limits.answer minimal_of (given (log_refusal state.entries point) (answer monomials select (held_at state point))))
-
-abbrev pub held_valued : SemiringName → List y.Rule → Option ℕ → State Monomial → y.State → Select → Answered
-held_valued named.Witness [] None state point select = held_minimal state point select
-held_valued name rules other state point select = held_values (semiring_of name) name (rules_of rules other) state point select
-
-abbrev pub held_remaining : List Rule → State Monomial → y.State → Select → Answered
-held_remaining patterns state point select = of_elements (remaining_answer (has_left_out patterns) select (held_at state point) (log_refusal state.entries point))
-
-abbrev pub held_query : State Monomial → (Select → Answered) → y.State → y.Query → Answered
-held_query state answer point query = query_answer answer (log_refusal state.entries point) (checked_query state.catalogue query)
-
--- the log and the row versions are those of the history's dump, and programs are made of the log alone
+-- the log and the row versions are those of the history's dump; what would be with a change is what another history would have held
 abbrev pub held_to : State Monomial → y.Question → Answered
-held_to state (y.ask y.rows point query) = held_query state (held_rows state point) point query
-held_to state (y.ask y.provenance point query) = held_query state (held_provenance state point) point query
-held_to state (y.ask (y.value name rules other) point query) = held_query state (held_valued name rules other state point) point query
-held_to state (y.ask (y.without patterns) point query) = held_query state (held_remaining (map pattern_of patterns) state point) point query
-held_to state question = answer_to (dump_of state) question
+held_to state (y.log t) = answer_to (dump_of state) (y.log t)
+held_to state (y.versions name) = answer_to (dump_of state) (y.versions name)
+held_to state (y.ask how point query) = held_ask state how point query
+held_to state (y.what_if change how point query) = what_if_held state.entries change how point query
+
+-- from a dump, whether a history made it or not: what would be with a change is what the history held that the commits of the changed log, made again, lead to
+abbrev pub remade_to : Dump → y.Question → Answered
+remade_to dump (y.what_if change how point query) = what_if_held dump.entries change how point query
+remade_to dump question = answer_to dump question

@@ -22,7 +22,7 @@ use Rattle.gp_reenact.specs.Reenacting.{merged_at, transaction_at}
 use Rattle.gp_dump.specs.Dumps.{Dump}
 use Rattle.gp_ask.specs.declared.answered.Answered.{Answered}
 use Rattle.gp_ask.specs.declared.answered.Answered.TheVariants.{Rows, Refused}
-use Rattle.gp_ask.specs.Answers.{spans_at}
+use Rattle.gp_ask.specs.Asking.{spans_at}
 
 -- the rows of a dump's past versions, each with its identity and the mark NO
 abbrev pub past_of : Dump → PlainEnvironment

@@ -1,14 +1,17 @@
 pub mod Answerable
 pub mod Answers
+pub mod Asking
 pub mod Backends
 pub mod Counted
 pub mod Explained
 pub mod Formats
+pub mod Hypothetical
 pub mod Lines
 pub mod Operations
 pub mod Programs
 pub mod Questions
 pub mod Remaining
+pub mod Replays
 pub mod Texts
 pub mod Values
 pub mod Witnesses

@@ -7,63 +7,23 @@ ghost use Rattle.gp_check.specs.Valid.{query_is_valid, tables_are_valid};
 ghost use Rattle.gp_log.specs.LogFacts.{tables_in};
 ghost use Rattle.gp_dump.specs.Dumps.{IsDump};
 ghost use Rattle.gp_dump.specs.Views.{dump_view};
-ghost use Rattle.gp_ask.specs.Answerable.{has_few_items, question_is_valid};
+ghost use Rattle.gp_ask.specs.Answerable.{IsAnswerable, has_few_items, question_is_valid};
 ghost use Rattle.gp_ask.specs.Answers.{answer_to};
 ghost use Rattle.gp_ask.specs.Backends.{AnswersBy};
 ghost use Rattle.gp_ask.specs.Explained.{ExplainsQuestion};
 ghost use Rattle.gp_ask.specs.Formats.{asks_rows};
 
 use crate::answered::Answered;
-use crate::deletion::remaining_answer;
+use crate::asking::ask_answer;
+use crate::hypothetical::what_if_answer;
 use crate::logs::log_answer;
-use crate::programs::program_answer;
-use crate::provenance::provenance_answer;
-use crate::queries::{query_answer, query_answer_by};
+use crate::queries::query_answer_by;
 use crate::row_versions::versions_answer;
-use crate::values::value_answer;
 use gp_base::NoMemory;
 use gp_dump::Dump;
 use gp_exec::Backend;
 use gp_syntax::{How, Query, Question, State};
 use std::alloc::Global;
-
-/// Answers a query over a state.
-fn ask_answer(
-    alloc: Global,
-    dump: &Dump,
-    how: &How,
-    state: State,
-    query: &Query,
-) -> Result<Answered, NoMemory>
-    requires rules { IsDump (dump_view dump.now) }
-    requires valid { tables_are_valid (tables_in (dump_view dump.now).entries) ≡ true }
-    requires query { query_is_valid (query_view query.now) ≡ true }
-    requires few { has_few_items (query_view query.now) ≡ true }
-    ensures answered { IfOk result (λ answered. answered ≡ answer_to (dump_view dump.now)
-        (y.ask (how_view how.now) (state_view state) (query_view query.now))) }
-    ensures explained { IfOk result (λ answered. ExplainsQuestion (dump_view dump.now).entries
-        (y.ask (how_view how.now) (state_view state) (query_view query.now))) }
-{
-    match how {
-        How::Rows => query_answer(alloc, dump, state, query),
-        How::Provenance => provenance_answer(alloc, dump, state, query),
-        How::Explain { prov } => program_answer(alloc, dump, *prov, state, query),
-        How::Value {
-            semiring,
-            rules,
-            other,
-        } => value_answer(
-            alloc,
-            dump,
-            *semiring,
-            rules.as_slice(),
-            *other,
-            state,
-            query,
-        ),
-        How::Without { rules } => { remaining_answer(alloc, dump, rules.as_slice(), state, query) }
-    }
-}
 
 /// Answers a question that was read ([`read_questions_are_valid`](crate::read_questions_are_valid)) from a dump that was read: it
 /// keeps the rules of dumps, and its tables have columns.
@@ -77,7 +37,13 @@ fn ask_answer(
 /// an identity of too many nodes (E26), and both if the answer has more than [`MAX_ANSWER_ROWS`](gp_exec::MAX_ANSWER_ROWS) rows (E27),
 /// each as often as it occurs, or once for VALUE IN, in this order. For WITHOUT these are the distinct rows before any is left out, or
 /// the rows that remain. EXPLAIN runs nothing, so none of these limits stops it. E24, E25 and E26 never
-/// come for the dump of a history. Running out of memory is the only error.
+/// come for the dump of a history.
+///
+/// WHATIF asks the same of the history that the commits of the changed log, made again, lead to. It is refused first for the change: if
+/// there is no such transaction (E20), it did not commit (E21) or has no such statement (E22), if it cannot have one more (E14), or by the
+/// check of the new statement. Then the question is refused on the changed log as above, up to E28, then, unless it is EXPLAIN, by the
+/// first commit that cannot be made again (E25, E26, E31 if it would be lost, E14 if there would be too many row versions), and then for
+/// E27. Running out of memory is the only error.
 pub fn answer(alloc: Global, dump: &Dump, question: &Question) -> Result<Answered, NoMemory>
     requires rules { IsDump (dump_view dump.now) }
     requires valid { tables_are_valid (tables_in (dump_view dump.now).entries) ≡ true }
@@ -91,6 +57,12 @@ pub fn answer(alloc: Global, dump: &Dump, question: &Question) -> Result<Answere
         Question::Log { t } => log_answer(alloc, &dump.log, *t),
         Question::Versions { table } => versions_answer(alloc, dump, table),
         Question::Ask { how, state, query } => ask_answer(alloc, dump, how, *state, query),
+        Question::WhatIf {
+            change,
+            how,
+            state,
+            query,
+        } => what_if_answer(alloc, dump, change, how, *state, query),
     }
 }
 
@@ -103,7 +75,7 @@ fn ask_answer_by<B: Backend>(
     query: &Query,
     backend: &B,
 ) -> Result<Answered, NoMemory>
-    requires rules { IsDump (dump_view dump.now) }
+    requires rules { IsAnswerable (dump_view dump.now) }
     requires valid { tables_are_valid (tables_in (dump_view dump.now).entries) ≡ true }
     requires query { query_is_valid (query_view query.now) ≡ true }
     requires rows { asks_rows (y.ask (how_view how.now) (state_view state) (query_view query.now))

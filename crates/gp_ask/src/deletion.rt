@@ -4,15 +4,15 @@ ghost use Rattle.std.specs.Prelude.{◌≡◌, map, true, IfOk};
 ghost use Rattle.gp_algebra.specs.Fitting.{select_fits};
 ghost use Rattle.gp_algebra.specs.Views.{select_view};
 ghost use Rattle.gp_check.specs.Valid.{query_is_valid, tables_are_valid};
-ghost use Rattle.gp_dump.specs.Dumps.{IsDump};
 ghost use Rattle.gp_dump.specs.Views.{dump_view};
 ghost use Rattle.gp_grammar.specs.Syntax as y;
 ghost use Rattle.gp_history.specs.Values.{HasFewItems};
 ghost use Rattle.gp_kexec.specs.Rows.{pair_view};
 ghost use Rattle.gp_log.specs.LogFacts.{tables_in};
 ghost use Rattle.gp_syntax.specs.Views.{query_view, rule_view, state_view};
-ghost use Rattle.gp_ask.specs.Answerable.{has_few_items};
-ghost use Rattle.gp_ask.specs.Answers.{answer_to, dump_remaining};
+ghost use Rattle.gp_ask.specs.Answerable.{IsAnswerable, has_few_items};
+ghost use Rattle.gp_ask.specs.Answers.{answer_to};
+ghost use Rattle.gp_ask.specs.Asking.{dump_remaining};
 ghost use Rattle.gp_ask.specs.Counted.{counted_answer};
 ghost use Rattle.gp_ask.specs.Remaining as r;
 
@@ -52,7 +52,7 @@ fn selected_remaining(
     state: State,
     select: &Select,
 ) -> Result<Answered, NoMemory>
-    requires rules { IsDump (dump_view dump.now) }
+    requires rules { IsAnswerable (dump_view dump.now) }
     requires fits { select_fits (tables_in (dump_view dump.now).entries) (select_view select.now)
         ≡ true }
     requires few { HasFewItems (select_view select.now) }
@@ -86,14 +86,14 @@ pub fn remaining_answer(
     state: State,
     query: &Query,
 ) -> Result<Answered, NoMemory>
-    requires rules { IsDump (dump_view dump.now) }
+    requires rules { IsAnswerable (dump_view dump.now) }
     requires valid { tables_are_valid (tables_in (dump_view dump.now).entries) ≡ true }
     requires query { query_is_valid (query_view query.now) ≡ true }
     requires few { has_few_items (query_view query.now) ≡ true }
     ensures { IfOk result (λ answered. answered ≡ answer_to (dump_view dump.now) (y.ask
         (y.without (map rule_view rules.now)) (state_view state) (query_view query.now))) }
 {
-    match asked(alloc, dump, state, query) {
+    match asked(alloc, &dump.log, state, query) {
         Ok(select) => selected_remaining(alloc, dump, rules, state, &select),
         Err(CheckStop::Refused(refusal)) => Ok(Answered::Refused(refusal)),
         Err(CheckStop::NoMemory) => Err(NoMemory),

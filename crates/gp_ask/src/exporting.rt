@@ -47,6 +47,7 @@ fn asks_rows(question: &Question) -> bool
         Question::Log { .. } => false,
         Question::Versions { .. } => false,
         Question::Ask { how, .. } => are_rows(how),
+        Question::WhatIf { .. } => false,
     }
 }
 

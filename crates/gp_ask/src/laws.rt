@@ -1,80 +1,161 @@
 //! Laws of answers. Each function does nothing: its postcondition is the law, and some cite laws of the crates below.
 
-ghost use Rattle.std.specs.Prelude.{◌≡◌, ℕ, true, List, Ok, Option};
+ghost use Rattle.std.specs.Prelude.{◌≡◌, ℕ, true, List, length, None, Ok, Option};
 ghost use Rattle.std.specs.List.Sorted.{IsPermutation};
 ghost use Rattle.gp_base.specs.Annotated.{monomials, plain};
+ghost use Rattle.gp_base.specs.Tokens.{Monomial};
 ghost use Rattle.gp_algebra.specs.Statements.{Select};
 ghost use Rattle.gp_grammar.specs.LineReading.{question_of};
 ghost use Rattle.gp_grammar.specs.Syntax as y;
 ghost use Rattle.gp_history.specs.Agreement.{agree};
 ghost use Rattle.gp_log.specs.Limits.{limits};
+ghost use Rattle.gp_log.specs.LogFacts.{tables_in};
+ghost use Rattle.gp_machine.specs.Entries.{Entry, log_of, versions_in};
 ghost use Rattle.gp_machine.specs.Event.{Line, after};
 ghost use Rattle.gp_machine.specs.HistorySpans.{state_spans};
-ghost use Rattle.gp_machine.specs.State.{start};
-ghost use Rattle.gp_dump.specs.Dumps.{dump_of};
+ghost use Rattle.gp_machine.specs.Replayed.{replayed_state};
+ghost use Rattle.gp_machine.specs.Replaying.{CommitsInOrder, replay_stop, replayed_spans};
+ghost use Rattle.gp_machine.specs.State.{State, start};
+ghost use Rattle.gp_machine.specs.Unstopped.{IsUnstopped};
+ghost use Rattle.gp_dump.specs.Dumps.{Dump, IsDump, dump_of};
 ghost use Rattle.gp_valuation.specs.declared.rules.Rule.{Rule};
 ghost use Rattle.gp_valuation.specs.Values.{token_value};
 ghost use Rattle.gp_values.specs.ValueAnswers.{held_value_answer, value_answer};
 ghost use Rattle.gp_versions.specs.declared.span.Span.{Span};
+ghost use Rattle.gp_whatif.specs.Replays.{IsCoherent, IsReplayable, stop_upto};
 ghost use Rattle.gp_ask.specs.Answerable.{question_is_valid};
-ghost use Rattle.gp_ask.specs.Answers.{answer_to, held_to};
+ghost use Rattle.gp_ask.specs.Answers.{answer_to, held_to, remade_to};
+ghost use Rattle.gp_ask.specs.Asking.{spans_at};
+ghost use Rattle.gp_ask.specs.Hypothetical.{replayed_dump, what_if_answer, what_if_held};
+ghost use Rattle.gp_ask.specs.Replays.{dump_in};
 
 use gp_algebra::annotations_commute;
-use gp_base::Monomial;
-use gp_history::{agreement_is_having_the_same_rows, histories_are_annotated};
+use gp_base::Monomial as BaseMonomial;
+use gp_history::agreement_is_having_the_same_rows;
 use gp_machine::{
-    annotations_change_no_reply, commits_publish_the_spans, logs_and_spans_hold_the_history,
-    questions_are_answered_by_the_history,
+    annotations_change_no_replay, annotations_change_no_reply, commits_publish_the_spans,
+    histories_do_not_stop, unstopped_histories_answer_their_questions,
 };
 use gp_semiring::{Bool, Cost, Count, Level, Poly, PosBool, Semiring};
 use gp_values::values_are_those_of_the_history;
+use gp_whatif::{
+    changed_logs_are_coherent, logs_keep_their_sessions, replays_have_the_tables_of_their_logs,
+};
 
-/// Every question that was read is valid: its query is one that the check can answer, and none of its FROM passes the limit of items.
+/// Every question that was read is valid: its query is one that the check can answer, none of its FROM passes the limit of items, and
+/// the command of its change is a statement that the check can answer.
 pub fn read_questions_are_valid()
     ensures { (text : List ℕ) (question : y.Question)
         → question_of text ≡ Ok question → question_is_valid question ≡ true }
 {}
 
-/// The log and the row versions of a history, in any order, give each row the value by the rules that it had in the history.
+/// The log and the row versions of a history in which no transaction stops, in any order, give each row the value by the rules that
+/// it had in the history.
 fn rules_give_the_values_of_the_history<K: Semiring>()
-    ensures { (rules : List Rule × Option ℕ) (lines : List Line) (spans : ℕ → List Span)
-        → ((table : ℕ)
-        → IsPermutation (spans table) (state_spans (after monomials limits start lines) table))
+    ensures { (rules : List Rule × Option ℕ) (state : State Monomial)
+        → IsUnstopped monomials limits state → (spans : ℕ → List Span)
+        → ((table : ℕ) → IsPermutation (spans table) (state_spans state table))
         → (point : y.State) (query : Select)
         → value_answer limits K.plus_of K.zero_of K.one_of K.times_of
-        (token_value K.one_of K.number_of K.itself_of rules) agree
-        (after monomials limits start lines).catalogue (after monomials limits start lines).entries
+        (token_value K.one_of K.number_of K.itself_of rules) agree state.catalogue state.entries
         spans point query
         ≡ held_value_answer limits K.plus_of K.zero_of K.one_of K.times_of
-        (token_value K.one_of K.number_of K.itself_of rules)
-        (after monomials limits start lines) point query }
+        (token_value K.one_of K.number_of K.itself_of rules) state point query }
 {
     values_are_those_of_the_history::<K>();
-    agreement_is_having_the_same_rows::<Monomial>()
+    agreement_is_having_the_same_rows::<BaseMonomial>()
 }
 
-/// The dump of a history answers every question as the history held it, and refuses it where the history did: the rows of a past
-/// version are those that its commit published, whatever was written since, the statements of a transaction, run again over the
-/// versions that it read, give the rows that it saw, and the commits, run again one after another, give each row the provenance
-/// that it had there, though the dump has none, and so its value in every semiring, its minimal witnesses, and whether it remains
-/// without the rows of some tokens. They never pass a limit, and never differ from the dump.
-pub fn histories_answer_as_their_dumps()
-    ensures { (lines : List Line) (question : y.Question)
-        → answer_to (dump_of (after plain limits start lines)) question
-        ≡ held_to (after monomials limits start lines) question }
+/// A dump of the log and the row versions of a history in which no transaction stops, in any order, answers every question about its
+/// states as the history held it, and refuses it where the history did: the rows of a past version are those that its commit
+/// published, whatever was written since, the statements of a transaction, run again over the versions that it read, give the rows
+/// that it saw, and the commits, run again one after another, give each row the provenance that it had there, though the dump has
+/// none, and so its value in every semiring, its minimal witnesses, and whether it remains without the rows of some tokens. They never
+/// pass a limit, and never differ from the dump.
+pub fn unstopped_histories_answer_as_their_dumps()
+    ensures { (state : State Monomial) → IsUnstopped monomials limits state
+        → tables_in state.entries ≡ state.catalogue → (tables : List (List Span))
+        → ((place : ℕ) → IsPermutation (spans_at tables place) (state_spans state place))
+        → (how : y.How) (point : y.State) (query : y.Query)
+        → answer_to (dump_in state.entries tables) (y.ask how point query)
+        ≡ held_to state (y.ask how point query) }
 {
-    questions_are_answered_by_the_history::<()>();
-    questions_are_answered_by_the_history::<Monomial>();
-    logs_and_spans_hold_the_history::<Monomial>();
-    agreement_is_having_the_same_rows::<Monomial>();
-    commits_publish_the_spans::<Monomial>();
-    annotations_change_no_reply::<Monomial, ()>();
-    annotations_commute::<Monomial, ()>();
-    histories_are_annotated();
+    unstopped_histories_answer_their_questions::<BaseMonomial>();
+    agreement_is_having_the_same_rows::<BaseMonomial>();
+    annotations_change_no_reply::<BaseMonomial, ()>();
+    annotations_change_no_replay::<BaseMonomial, ()>();
+    annotations_commute::<BaseMonomial, ()>();
     rules_give_the_values_of_the_history::<Count>();
     rules_give_the_values_of_the_history::<Bool>();
     rules_give_the_values_of_the_history::<Cost>();
     rules_give_the_values_of_the_history::<Level>();
     rules_give_the_values_of_the_history::<Poly>();
     rules_give_the_values_of_the_history::<PosBool>()
+}
+
+/// The dump of a history answers every question as the history held it, and refuses it where the history did
+/// ([`unstopped_histories_answer_as_their_dumps`]): no transaction of a history stops. What would be with a change of a transaction is
+/// what the history held that would have been ([`changed_histories_answer_their_questions`]).
+pub fn histories_answer_as_their_dumps()
+    ensures { (lines : List Line) (question : y.Question)
+        → answer_to (dump_of (after plain limits start lines)) question
+        ≡ held_to (after monomials limits start lines) question }
+{
+    unstopped_histories_answer_as_their_dumps();
+    changed_histories_answer_their_questions();
+    changed_logs_are_coherent();
+    histories_do_not_stop::<BaseMonomial>();
+    commits_publish_the_spans::<BaseMonomial>();
+    annotations_change_no_reply::<BaseMonomial, ()>()
+}
+
+/// The commits of a log that keeps its sessions, made again without a stop, are a history of their own. A dump of the log and of the
+/// row versions that are made, in any order, answers every question about its states as that history held it. So no version of it
+/// differs, and no run passes a limit.
+pub fn replays_answer_as_their_histories()
+    ensures { (entries : List Entry) → CommitsInOrder (log_of entries)
+        → replay_stop plain (log_of entries) limits (length (tables_in entries))
+        (versions_in entries) ≡ None → (tables : List (List Span))
+        → ((place : ℕ) → IsPermutation (spans_at tables place) (replayed_spans plain
+        (log_of entries) (length (tables_in entries)) (versions_in entries) place))
+        → (how : y.How) (point : y.State) (query : y.Query)
+        → answer_to (dump_in entries tables) (y.ask how point query)
+        ≡ held_to (replayed_state monomials (tables_in entries) entries) (y.ask how point query) }
+{
+    unstopped_histories_answer_as_their_dumps();
+    histories_do_not_stop::<BaseMonomial>();
+    annotations_change_no_replay::<BaseMonomial, ()>();
+    annotations_commute::<BaseMonomial, ()>()
+}
+
+/// A question about the history that would have been gets from a dump the answer of that history: the commits of the changed log,
+/// made again, are a history, which held its rows and their provenance (`held`). So no version of it differs, and no run passes
+/// a limit, once its commits were made again. The order of the row versions does not matter (`any_order`).
+pub fn changed_histories_answer_their_questions()
+    ensures held { (entries : List Entry) (change : y.LogChange) → IsCoherent entries
+        → (how : y.How) (point : y.State) (query : y.Query)
+        → what_if_answer entries change how point query
+        ≡ what_if_held entries change how point query }
+    ensures any_order { (entries : List Entry) → IsReplayable entries
+        → stop_upto entries (versions_in entries) ≡ None → (tables : List (List Span))
+        → ((place : ℕ) → IsPermutation (spans_at tables place) (replayed_spans plain
+        (log_of entries) (length (tables_in entries)) (versions_in entries) place))
+        → (how : y.How) (point : y.State) (query : y.Query)
+        → answer_to (dump_in entries tables) (y.ask how point query)
+        ≡ answer_to (replayed_dump entries) (y.ask how point query) }
+{
+    replays_answer_as_their_histories();
+    logs_keep_their_sessions();
+    changed_logs_are_coherent();
+    replays_have_the_tables_of_their_logs()
+}
+
+/// Every well-formed dump, whether a history made it or not, answers a question about what would be with a change as the history
+/// held it that would have been: the commits of the changed log, made again, lead to it.
+pub fn dumps_answer_as_changed_histories()
+    ensures { (dump : Dump) → IsDump dump → (question : y.Question)
+        → answer_to dump question ≡ remade_to dump question }
+{
+    changed_histories_answer_their_questions();
+    changed_logs_are_coherent()
 }

@@ -4,16 +4,18 @@
 //! that made the dump is needed. LOG and VERSIONS print lines of the dump, AS OF answers a query over the rows of a past
 //! version, and REENACT over those that a transaction saw after one of its statements, or that its commit published. PROVENANCE OF
 //! gives each of these rows with its provenance polynomial, and VALUE IN with the value of that polynomial in a semiring. WITHOUT gives the
-//! rows that the query has over the state without the rows whose provenance has some token. The answers are those that the history
-//! itself would have given: so says the law [`histories_answer_as_their_dumps`].
+//! rows that the query has over the state without the rows whose provenance has some token. WHATIF asks one of these about the history
+//! that would have been with a statement dropped, replaced or added. The answers are those that the history itself would have given: so
+//! says the law [`histories_answer_as_their_dumps`].
 //!
 //! In reading order: [`Answered`] is the answer to a question, [`answer`] answers a question that was read, [`answer_line`]
 //! a line, [`answer_by`] a plain AS OF or REENACT by what a [`Backend`] gives, of which [`Plain`] is the executor, and
 //! [`write_answer`] writes the answer. [`answer_line_in`] and [`write_answer_in`] do the same in a [`Format`]: as text, or as CSV. In
-//! `specs/`, `Answers` says what the answer is, `Formats` which of them are exported as CSV, `Questions` which answers the lines of a file
-//! get, and `Texts` how they are written. `Values` has the semirings and the rules of VALUE IN, `Witnesses` the minimal witnesses of
-//! rows, and `Remaining` what remains for WITHOUT. Inside, `logs` answers LOG, `row_versions` VERSIONS, `queries` AS OF and REENACT,
-//! `provenance` PROVENANCE OF, `values` VALUE IN, and `deletion` WITHOUT.
+//! `specs/`, `Asking` and `Answers` say what the answer is, `Hypothetical` what the history answers that would have been, `Formats`
+//! which answers are exported as CSV, `Questions` which answers the lines of a file get, and `Texts` how they are written. `Values` has
+//! the semirings and the rules of VALUE IN, `Witnesses` the minimal witnesses of rows, and `Remaining` what remains for WITHOUT. Inside,
+//! `logs` answers LOG, `row_versions` VERSIONS, `asking` any question about a state, by `queries` AS OF and REENACT, by `provenance`
+//! PROVENANCE OF, by `values` VALUE IN, by `deletion` WITHOUT and by `programs` EXPLAIN, and `hypothetical` WHATIF.
 //!
 //! ```text
 //! let answered = answer_line(alloc, &dump, b"as of 2 select * from acct")?;
@@ -24,10 +26,12 @@
 
 mod answered;
 mod answering;
+mod asking;
 mod deletion;
 mod display;
 mod exporting;
 mod format;
+mod hypothetical;
 mod laws;
 mod logs;
 mod programs;
@@ -43,4 +47,8 @@ pub use display::write_answer;
 pub use exporting::{answer_line, answer_line_in, write_answer_in};
 pub use format::Format;
 pub use gp_exec::{Backend, Plain};
-pub use laws::{histories_answer_as_their_dumps, read_questions_are_valid};
+pub use laws::{
+    changed_histories_answer_their_questions, dumps_answer_as_changed_histories,
+    histories_answer_as_their_dumps, read_questions_are_valid, replays_answer_as_their_histories,
+    unstopped_histories_answer_as_their_dumps,
+};

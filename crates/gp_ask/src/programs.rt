@@ -1,27 +1,28 @@
 //! The programs that queries over past states are.
 
-ghost use Rattle.std.specs.Prelude.{◌≡◌, None, true, IfOk};
+ghost use Rattle.std.specs.Prelude.{◌≡◌, [], None, true, IfOk};
 ghost use Rattle.gp_algebra.specs.Fitting.{select_fits};
 ghost use Rattle.gp_algebra.specs.Views.{select_view};
 ghost use Rattle.gp_check.specs.Valid.{query_is_valid, tables_are_valid};
-ghost use Rattle.gp_dump.specs.Dumps.{IsDump};
-ghost use Rattle.gp_dump.specs.Views.{dump_view};
 ghost use Rattle.gp_explain.specs.Explained.{Explains};
 ghost use Rattle.gp_grammar.specs.Syntax as y;
 ghost use Rattle.gp_log.specs.LogFacts.{tables_in};
+ghost use Rattle.gp_log.specs.LogFitting.{statements_fit};
+ghost use Rattle.gp_log.specs.Logs.{log_view};
 ghost use Rattle.gp_machine.specs.Questions as m;
 ghost use Rattle.gp_syntax.specs.Views.{query_view, state_view};
-ghost use Rattle.gp_ask.specs.Answers.{answer_to, dump_program};
+ghost use Rattle.gp_ask.specs.Asking.{ask_to, dump_program};
 ghost use Rattle.gp_ask.specs.Explained.{ExplainsQuestion};
 ghost use Rattle.gp_ask.specs.Programs.{explained_text};
+ghost use Rattle.gp_ask.specs.Replays.{dump_in};
 
 use crate::answered::Answered;
 use crate::queries::asked;
 use gp_algebra::Select;
 use gp_base::NoMemory;
 use gp_check::CheckStop;
-use gp_dump::Dump;
 use gp_explain::{explain, explained_lines};
+use gp_log::Log;
 use gp_reenact::ReenactStop;
 use gp_syntax::{Query, State};
 use std::alloc::Global;
@@ -29,22 +30,24 @@ use std::alloc::Global;
 /// The lines of the program of a checked query over a state that the log has.
 fn selected_program(
     alloc: Global,
-    dump: &Dump,
+    log: &Log,
     prov: bool,
     state: State,
     select: &Select,
 ) -> Result<Answered, NoMemory>
-    requires rules { IsDump (dump_view dump.now) }
-    requires known { m.log_refusal (dump_view dump.now).entries (state_view state) ≡ None }
-    requires fits { select_fits (tables_in (dump_view dump.now).entries) (select_view select.now)
+    requires statements { statements_fit (tables_in (log_view log.now.entries))
+        (log_view log.now.entries) ≡ true }
+    requires known { m.log_refusal (log_view log.now.entries) (state_view state) ≡ None }
+    requires fits { select_fits (tables_in (log_view log.now.entries)) (select_view select.now)
         ≡ true }
     ensures answered { IfOk result (λ answered. answered
-        ≡ dump_program (dump_view dump.now) prov (state_view state) (select_view select.now)) }
-    ensures explained { IfOk result (λ answered. Explains (dump_view dump.now).entries
+        ≡ dump_program (dump_in (log_view log.now.entries) []) prov (state_view state)
+        (select_view select.now)) }
+    ensures explained { IfOk result (λ answered. Explains (log_view log.now.entries)
         (state_view state) (select_view select.now) prov (explained_text
-        (dump_view dump.now).entries prov (state_view state) (select_view select.now))) }
+        (log_view log.now.entries) prov (state_view state) (select_view select.now))) }
 {
-    match explain(alloc, &dump.log, state, select, prov) {
+    match explain(alloc, log, state, select, prov) {
         Ok(text) => Ok(Answered::Program(explained_lines(alloc, &text)?)),
         Err(ReenactStop::Refused(_)) => unreachable!(),
         Err(ReenactStop::NoMemory) => Err(NoMemory),
@@ -55,21 +58,23 @@ fn selected_program(
 /// such state, then the check of the query. Nothing is run, so no limit stops it.
 pub fn program_answer(
     alloc: Global,
-    dump: &Dump,
+    log: &Log,
     prov: bool,
     state: State,
     query: &Query,
 ) -> Result<Answered, NoMemory>
-    requires rules { IsDump (dump_view dump.now) }
-    requires valid { tables_are_valid (tables_in (dump_view dump.now).entries) ≡ true }
+    requires statements { statements_fit (tables_in (log_view log.now.entries))
+        (log_view log.now.entries) ≡ true }
+    requires valid { tables_are_valid (tables_in (log_view log.now.entries)) ≡ true }
     requires query { query_is_valid (query_view query.now) ≡ true }
-    ensures answered { IfOk result (λ answered. answered ≡ answer_to (dump_view dump.now)
-        (y.ask (y.explain prov) (state_view state) (query_view query.now))) }
-    ensures explained { IfOk result (λ answered. ExplainsQuestion (dump_view dump.now).entries
+    ensures answered { IfOk result
+        (λ answered. answered ≡ ask_to (dump_in (log_view log.now.entries) []) (y.explain prov)
+        (state_view state) (query_view query.now)) }
+    ensures explained { IfOk result (λ answered. ExplainsQuestion (log_view log.now.entries)
         (y.ask (y.explain prov) (state_view state) (query_view query.now))) }
 {
-    match asked(alloc, dump, state, query) {
-        Ok(select) => selected_program(alloc, dump, prov, state, &select),
+    match asked(alloc, log, state, query) {
+        Ok(select) => selected_program(alloc, log, prov, state, &select),
         Err(CheckStop::Refused(refusal)) => Ok(Answered::Refused(refusal)),
         Err(CheckStop::NoMemory) => Err(NoMemory),
     }

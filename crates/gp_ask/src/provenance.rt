@@ -4,12 +4,13 @@ ghost use Rattle.std.specs.Prelude.{◌≡◌, true, IfOk};
 ghost use Rattle.gp_algebra.specs.Fitting.{select_fits};
 ghost use Rattle.gp_algebra.specs.Views.{select_view};
 ghost use Rattle.gp_check.specs.Valid.{query_is_valid, tables_are_valid};
-ghost use Rattle.gp_dump.specs.Dumps.{IsDump};
 ghost use Rattle.gp_dump.specs.Views.{dump_view};
 ghost use Rattle.gp_grammar.specs.Syntax as y;
 ghost use Rattle.gp_log.specs.LogFacts.{tables_in};
 ghost use Rattle.gp_syntax.specs.Views.{query_view, state_view};
-ghost use Rattle.gp_ask.specs.Answers.{answer_to, dump_provenance};
+ghost use Rattle.gp_ask.specs.Answerable.{IsAnswerable};
+ghost use Rattle.gp_ask.specs.Answers.{answer_to};
+ghost use Rattle.gp_ask.specs.Asking.{dump_provenance};
 
 use crate::answered::Answered;
 use crate::queries::asked;
@@ -30,7 +31,7 @@ fn selected_provenance(
     state: State,
     select: &Select,
 ) -> Result<Answered, NoMemory>
-    requires rules { IsDump (dump_view dump.now) }
+    requires rules { IsAnswerable (dump_view dump.now) }
     requires fits { select_fits (tables_in (dump_view dump.now).entries) (select_view select.now)
         ≡ true }
     ensures { IfOk result (λ answered. answered
@@ -51,13 +52,13 @@ pub fn provenance_answer(
     state: State,
     query: &Query,
 ) -> Result<Answered, NoMemory>
-    requires rules { IsDump (dump_view dump.now) }
+    requires rules { IsAnswerable (dump_view dump.now) }
     requires valid { tables_are_valid (tables_in (dump_view dump.now).entries) ≡ true }
     requires query { query_is_valid (query_view query.now) ≡ true }
     ensures { IfOk result (λ answered. answered ≡ answer_to (dump_view dump.now)
         (y.ask y.provenance (state_view state) (query_view query.now))) }
 {
-    match asked(alloc, dump, state, query) {
+    match asked(alloc, &dump.log, state, query) {
         Ok(select) => selected_provenance(alloc, dump, state, &select),
         Err(CheckStop::Refused(refusal)) => Ok(Answered::Refused(refusal)),
         Err(CheckStop::NoMemory) => Err(NoMemory),

@@ -10,12 +10,13 @@ ghost use Rattle.gp_check.specs.Checking.{checked_query};
 ghost use Rattle.gp_check.specs.Valid.{query_is_valid, tables_are_valid};
 ghost use Rattle.gp_check.specs.Views.{Checks};
 ghost use Rattle.gp_log.specs.LogFacts.{tables_in};
+ghost use Rattle.gp_log.specs.Logs.{log_view};
 ghost use Rattle.gp_machine.specs.Questions as m;
 ghost use Rattle.gp_reenact.specs.Reenacting.{merged_at, transaction_at};
-ghost use Rattle.gp_dump.specs.Dumps.{IsDump};
 ghost use Rattle.gp_dump.specs.Views.{dump_view};
 ghost use Rattle.gp_ask.specs.declared.answered.Answered.TheVariants.{Rows};
-ghost use Rattle.gp_ask.specs.Answers as a;
+ghost use Rattle.gp_ask.specs.Answerable.{IsAnswerable};
+ghost use Rattle.gp_ask.specs.Asking as a;
 ghost use Rattle.gp_ask.specs.Answers.{answer_to};
 ghost use Rattle.gp_ask.specs.Backends.{AnswersBy, AnswersChecked, IsAnswered, past_of};
 
@@ -25,25 +26,26 @@ use gp_base::{NoMemory, Row, Sequence, sort_rows};
 use gp_check::{CheckStop, check_query};
 use gp_dump::Dump;
 use gp_exec::{Backend, Plain};
+use gp_log::Log;
 use gp_reenact::{ReenactStop, log_refusal, reenact_by};
 use gp_syntax::{Query, State};
 use std::alloc::Global;
 
 /// A query over a state, checked. It is refused by the log, which has no such state (E20 to E23), or else by the check of names and
 /// types.
-pub fn asked(alloc: Global, dump: &Dump, state: State, query: &Query) -> Result<Select, CheckStop>
+pub fn asked(alloc: Global, log: &Log, state: State, query: &Query) -> Result<Select, CheckStop>
     ensures checked { Checks select_view result
-        (a.asked (m.log_refusal (dump_view dump.now).entries (state_view state))
-        (checked_query (tables_in (dump_view dump.now).entries) (query_view query.now))) }
+        (a.asked (m.log_refusal (log_view log.now.entries) (state_view state))
+        (checked_query (tables_in (log_view log.now.entries)) (query_view query.now))) }
     ensures known { IfOk result
-        (λ select. m.log_refusal (dump_view dump.now).entries (state_view state) ≡ None) }
+        (λ select. m.log_refusal (log_view log.now.entries) (state_view state) ≡ None) }
     ensures fits { IfOk result (λ select.
-        tables_are_valid (tables_in (dump_view dump.now).entries) ≡ true
+        tables_are_valid (tables_in (log_view log.now.entries)) ≡ true
         → query_is_valid (query_view query.now) ≡ true
-        → select_fits (tables_in (dump_view dump.now).entries) (select_view select) ≡ true) }
+        → select_fits (tables_in (log_view log.now.entries)) (select_view select) ≡ true) }
 {
-    match log_refusal(&dump.log, state) {
-        None => check_query(alloc, dump.log.catalog(), query),
+    match log_refusal(log, state) {
+        None => check_query(alloc, log.catalog(), query),
         Some(refusal) => Err(CheckStop::Refused(refusal)),
     }
 }
@@ -65,7 +67,7 @@ fn selected_answer<B: Backend>(
     select: &Select,
     backend: &B,
 ) -> Result<Answered, NoMemory>
-    requires rules { IsDump (dump_view dump.now) }
+    requires rules { IsAnswerable (dump_view dump.now) }
     requires known { m.log_refusal (dump_view dump.now).entries (state_view state) ≡ None }
     requires fits { select_fits (tables_in (dump_view dump.now).entries) (select_view select.now)
         ≡ true }
@@ -96,7 +98,7 @@ fn state_answer<B: Backend>(
     query: &Query,
     backend: &B,
 ) -> Result<Answered, NoMemory>
-    requires rules { IsDump (dump_view dump.now) }
+    requires rules { IsAnswerable (dump_view dump.now) }
     requires known { m.log_refusal (dump_view dump.now).entries (state_view state) ≡ None }
     requires valid { tables_are_valid (tables_in (dump_view dump.now).entries) ≡ true }
     requires query { query_is_valid (query_view query.now) ≡ true }
@@ -120,7 +122,7 @@ pub fn query_answer_by<B: Backend>(
     query: &Query,
     backend: &B,
 ) -> Result<Answered, NoMemory>
-    requires rules { IsDump (dump_view dump.now) }
+    requires rules { IsAnswerable (dump_view dump.now) }
     requires valid { tables_are_valid (tables_in (dump_view dump.now).entries) ≡ true }
     requires query { query_is_valid (query_view query.now) ≡ true }
     ensures { IfOk result (λ answered. AnswersBy (B.gives backend.now) (dump_view dump.now)
@@ -139,7 +141,7 @@ pub fn query_answer(
     state: State,
     query: &Query,
 ) -> Result<Answered, NoMemory>
-    requires rules { IsDump (dump_view dump.now) }
+    requires rules { IsAnswerable (dump_view dump.now) }
     requires valid { tables_are_valid (tables_in (dump_view dump.now).entries) ≡ true }
     requires query { query_is_valid (query_view query.now) ≡ true }
     ensures { IfOk result (λ answered. answered

@@ -5,7 +5,8 @@ ghost use Rattle.gp_base.specs.Catalogs.{place_of};
 ghost use Rattle.gp_grammar.specs.Syntax as y;
 ghost use Rattle.gp_dump.specs.Views.{dump_view};
 ghost use Rattle.gp_dumpline.specs.Texts.{span_text};
-ghost use Rattle.gp_ask.specs.Answers.{answer_to, spans_at};
+ghost use Rattle.gp_ask.specs.Answers.{answer_to};
+ghost use Rattle.gp_ask.specs.Asking.{spans_at};
 
 use crate::answered::Answered;
 use gp_base::{Name, NoMemory, Refusal, Sequence, Text};

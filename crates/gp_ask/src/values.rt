@@ -5,19 +5,19 @@ ghost use Rattle.gp_algebra.specs.Fitting.{select_fits};
 ghost use Rattle.gp_algebra.specs.Views.{select_view};
 ghost use Rattle.gp_base.specs.declared.refusal.Refusal.TheVariants.{E28};
 ghost use Rattle.gp_check.specs.Valid.{query_is_valid, tables_are_valid};
-ghost use Rattle.gp_dump.specs.Dumps.{IsDump};
 ghost use Rattle.gp_dump.specs.Views.{dump_view};
 ghost use Rattle.gp_history.specs.Agreement.{agree};
 ghost use Rattle.gp_history.specs.Values.{HasFewItems};
 ghost use Rattle.gp_kexec.specs.Rows.{pair_view};
 ghost use Rattle.gp_log.specs.Limits.{limits};
 ghost use Rattle.gp_log.specs.LogFacts.{tables_in};
-ghost use Rattle.gp_syntax.specs.Views.{query_view, rule_view, state_view};
+ghost use Rattle.gp_syntax.specs.Views.{how_view, query_view, rule_view, state_view};
+ghost use Rattle.gp_valuation.specs.Rules as r;
 ghost use Rattle.gp_valuation.specs.Values.{token_value};
 ghost use Rattle.gp_values.specs.ValueAnswers as a;
-ghost use Rattle.gp_ask.specs.declared.answered.Answered.TheVariants.{Refused};
-ghost use Rattle.gp_ask.specs.Answerable.{has_few_items};
-ghost use Rattle.gp_ask.specs.Answers.{dump_query, dump_values, spans_at};
+ghost use Rattle.gp_ask.specs.Answerable.{IsAnswerable, has_few_items};
+ghost use Rattle.gp_ask.specs.Asking.{dump_query, dump_values, spans_at};
+ghost use Rattle.gp_ask.specs.Hypothetical as h;
 ghost use Rattle.gp_ask.specs.Operations.{semiring_with};
 ghost use Rattle.gp_ask.specs.Values as v;
 
@@ -33,7 +33,7 @@ use gp_history::values;
 use gp_kexec::KRow;
 use gp_reenact::ReenactStop;
 use gp_semiring::{Bool, Cost, Count, Level, Poly, PosBool, Semiring};
-use gp_syntax::{Query, Rule, State};
+use gp_syntax::{How, Query, Rule, State};
 use gp_valuation::{Rules, by_rules, first_outside};
 use std::alloc::Global;
 
@@ -52,11 +52,65 @@ fn name_text(name: SemiringName) -> &'static [u8]
 }
 
 /// The refusal of a number that stands for no element.
-fn outside(alloc: Global, number: u64, name: SemiringName) -> Result<Answered, NoMemory>
-    ensures { IfOk result (λ answered. answered ≡ Refused (E28 number (v.name_text name))) }
+fn outside(alloc: Global, number: u64, name: SemiringName) -> Result<Refusal, NoMemory>
+    ensures { IfOk result (λ refusal. refusal ≡ E28 number (v.name_text name)) }
 {
     let semiring = Text::from_bytes(alloc, name_text(name))?;
-    Ok(Answered::Refused(Refusal::E28 { number, semiring }))
+    Ok(Refusal::E28 { number, semiring })
+}
+
+/// The first number of the rules that stands for no element of the semiring of this name.
+fn first_outside_in(
+    alloc: Global,
+    name: SemiringName,
+    rules: &Rules,
+) -> Result<Option<u64>, NoMemory>
+    ensures { IfOk result (λ found. found ≡ r.first_outside (v.semiring_of name).number_of
+        rules.now.rules rules.now.other) }
+{
+    match name {
+        SemiringName::Count => first_outside::<Count>(alloc, rules),
+        SemiringName::Bool => first_outside::<Bool>(alloc, rules),
+        SemiringName::Cost => first_outside::<Cost>(alloc, rules),
+        SemiringName::Level => first_outside::<Level>(alloc, rules),
+        SemiringName::Poly => first_outside::<Poly>(alloc, rules),
+        SemiringName::Witness => first_outside::<PosBool>(alloc, rules),
+    }
+}
+
+/// E28 for the first number of rules that stands for no element of the semiring of this name.
+fn outside_refusal(
+    alloc: Global,
+    name: SemiringName,
+    rules: &Rules,
+) -> Result<Option<Refusal>, NoMemory>
+    ensures { IfOk result (λ refusal. refusal ≡ h.outside_refusal name (r.first_outside
+        (v.semiring_of name).number_of rules.now.rules rules.now.other)) }
+{
+    match first_outside_in(alloc, name, rules)? {
+        Some(number) => Ok(Some(outside(alloc, number, name)?)),
+        None => Ok(None),
+    }
+}
+
+/// E28 for the first number of the rules of VALUE IN that stands for no element.
+pub fn rules_refusal(alloc: Global, how: &How) -> Result<Option<Refusal>, NoMemory>
+    ensures { IfOk result (λ refusal. refusal ≡ h.rules_refusal (how_view how.now)) }
+{
+    match how {
+        How::Rows => Ok(None),
+        How::Provenance => Ok(None),
+        How::Explain { .. } => Ok(None),
+        How::Value {
+            semiring,
+            rules,
+            other,
+        } => {
+            let rules = rules_of(alloc, rules.as_slice(), *other)?;
+            outside_refusal(alloc, *semiring, &rules)
+        }
+        How::Without { .. } => Ok(None),
+    }
 }
 
 /// A row with the text of its value.
@@ -92,7 +146,7 @@ fn rows_by<K: Semiring>(
     select: &Select,
     rules: Rules,
 ) -> Result<Answered, NoMemory>
-    requires rules { IsDump (dump_view dump.now) }
+    requires rules { IsAnswerable (dump_view dump.now) }
     requires fits { select_fits (tables_in (dump_view dump.now).entries) (select_view select.now)
         ≡ true }
     requires few { HasFewItems (select_view select.now) }
@@ -126,7 +180,7 @@ fn values_in<K: Semiring>(
     name: SemiringName,
     rules: Rules,
 ) -> Result<Answered, NoMemory>
-    requires rules { IsDump (dump_view dump.now) }
+    requires rules { IsAnswerable (dump_view dump.now) }
     requires fits { select_fits (tables_in (dump_view dump.now).entries) (select_view select.now)
         ≡ true }
     requires few { HasFewItems (select_view select.now) }
@@ -135,7 +189,7 @@ fn values_in<K: Semiring>(
         (dump_view dump.now) (state_view state) (select_view select.now)) }
 {
     match first_outside::<K>(alloc, &rules)? {
-        Some(number) => outside(alloc, number, name),
+        Some(number) => Ok(Answered::Refused(outside(alloc, number, name)?)),
         None => rows_by::<K>(alloc, dump, state, select, rules),
     }
 }
@@ -149,7 +203,7 @@ fn selected_values(
     name: SemiringName,
     rules: Rules,
 ) -> Result<Answered, NoMemory>
-    requires rules { IsDump (dump_view dump.now) }
+    requires rules { IsAnswerable (dump_view dump.now) }
     requires fits { select_fits (tables_in (dump_view dump.now).entries) (select_view select.now)
         ≡ true }
     requires few { HasFewItems (select_view select.now) }
@@ -178,7 +232,7 @@ pub fn value_answer(
     state: State,
     query: &Query,
 ) -> Result<Answered, NoMemory>
-    requires rules { IsDump (dump_view dump.now) }
+    requires rules { IsAnswerable (dump_view dump.now) }
     requires valid { tables_are_valid (tables_in (dump_view dump.now).entries) ≡ true }
     requires query { query_is_valid (query_view query.now) ≡ true }
     requires few { has_few_items (query_view query.now) ≡ true }
@@ -186,7 +240,7 @@ pub fn value_answer(
         (dump_values (v.semiring_of name) name (v.rules_of (map rule_view rules.now) other)
         (dump_view dump.now) (state_view state)) (state_view state) (query_view query.now)) }
 {
-    match asked(alloc, dump, state, query) {
+    match asked(alloc, &dump.log, state, query) {
         Ok(select) => {
             let rules = rules_of(alloc, rules, other)?;
             selected_values(alloc, dump, state, &select, name, rules)

@@ -67,6 +67,7 @@ fn is_plain(question: &Question) -> bool
         Question::Log { .. } => false,
         Question::Versions { .. } => false,
         Question::Ask { how, .. } => are_asked(how),
+        Question::WhatIf { .. } => false,
     }
 }
 

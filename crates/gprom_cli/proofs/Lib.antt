@@ -11,3 +11,4 @@ pub mod StepsLemmas
 pub mod EngineLemmas
 pub mod FilesLemmas
 pub mod PromisesLemmas
+pub mod UnchangedLemmas

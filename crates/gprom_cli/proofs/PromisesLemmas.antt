@@ -9,13 +9,13 @@ use Rattle.gp_script.specs.declared.script.TheConstants.{MAX_SCRIPT_LENGTH}
 use Rattle.gp_dump.specs.declared.dump.TheConstants.{MAX_DUMP_LENGTH}
 use Rattle.gp_dump.specs.Dumps.{Dump, IsDump, WellFormed, dump_of}
 use Rattle.gp_dump.proofs.LawLemmas.{written-well-formed}
-use Rattle.gp_dump.specs.Rules.{Holds, verdict_on}
 use Rattle.gp_csv.specs.Faults.{Fault}
 use Rattle.gp_load.specs.Loading.{LoadsText, loaded_of}
 use Rattle.gp_ask.specs.declared.format.Format.{Format}
 use Rattle.gp_ask.specs.declared.format.Format.TheVariants.{Text}
-use Rattle.gp_ask.specs.Answers.{answer_to, held_to}
+use Rattle.gp_ask.specs.Answers.{answer_to, held_to, remade_to}
 use Rattle.gp_ask.specs.Explained.{ExplainsQuestions}
+use Rattle.gp_ask.specs.Hypothetical.{remaking_refusal, replayed_dump}
 use Rattle.gp_ask.specs.Questions.{answers_text, has_refused}
 use Rattle.gprom_cli.specs.declared.load.TheConstants.{MAX_SHEET_LENGTH}
 use Rattle.gprom_cli.specs.declared.status.Status.{Status}
@@ -48,6 +48,10 @@ pub record DumpLaws : Type 0 where
   pub formed : (script : List ℕ) → length script ≤ MAX_SCRIPT_LENGTH → IsDump (dump_of (final_state plain script))
   pub texts : (format : Format) (script questions : List ℕ) → answers_text format (answer_to (dump_of (final_state plain script))) questions ≡ answers_text format (held_to (final_state monomials script)) questions
   pub refusals : (format : Format) (script questions : List ℕ) → has_refused format (answer_to (dump_of (final_state plain script))) questions ≡ has_refused format (held_to (final_state monomials script)) questions
+  pub remade_texts : (format : Format) (dump : Dump) (questions : List ℕ) → IsDump dump → answers_text format (answer_to dump) questions ≡ answers_text format (remade_to dump) questions
+  pub remade_refusals : (format : Format) (dump : Dump) (questions : List ℕ) → IsDump dump → has_refused format (answer_to dump) questions ≡ has_refused format (remade_to dump) questions
+  pub unchanged : (script : List ℕ) → length script ≤ MAX_SCRIPT_LENGTH
+      → (remaking_refusal (final_state plain script).entries ≡ None) × (replayed_dump (final_state plain script).entries ≡ dump_of (final_state plain script))
 
 -- ---- a status and its outcome
 
@@ -294,6 +298,23 @@ module _ (laws : DumpLaws) (call : Call) (has : HasOutcome call) where
       let which : Determines has.outcome (Replied script) = subst (λ (o : Outcome). Determines has.outcome o) expected (determined-at files is quiet) in
       (writes-as (Replied script) which, replaced-as call.shelf call.shelf_after call.sink call.sink_after call.status name dump script has.outcome ends has.writes which)
 
+  -- the answers to questions, from a dump that is well formed
+  answers-from : (files : Files) (format : Format) (dump name bytes questions : List ℕ) (contents : Dump) → call.command ≡ Some (Ask format dump name) → call.shelf.holds ≡ Some files → NoFault call
+      → content dump files ≡ Some bytes → length bytes ≤ MAX_DUMP_LENGTH → WellFormed bytes contents
+      → content name files ≡ Some questions → length questions ≤ MAX_SCRIPT_LENGTH
+      → WritesOutput (answers_text format (answer_to contents) questions) (answered_status (has_refused format (answer_to contents) questions)) call.sink call.sink_after call.status
+  answers-from files format dump name bytes questions contents ask is quiet found small formed asked short =
+      let expected : outcome_by call.command files ≡ Answered format contents questions =
+      ap (λ (c : Option Command). outcome_by c files) ask ∙ ask-outcome files format dump name bytes questions contents found small asked short (laws.reads bytes contents formed) in
+      writes-as (Answered format contents questions) (subst (λ (o : Outcome). Determines has.outcome o) expected (determined-at files is quiet))
+
+  -- the same text, and the same refusals, by other answers
+  writes-same : (text other : List ℕ) (refused also : Bool) → text ≡ other → refused ≡ also → WritesOutput text (answered_status refused) call.sink call.sink_after call.status
+      → WritesOutput other (answered_status also) call.sink call.sink_after call.status
+  writes-same text other refused also same both writes =
+      subst (λ (t : List ℕ). WritesOutput t (answered_status also) call.sink call.sink_after call.status) same
+      (subst (λ (r : Bool). WritesOutput text (answered_status r) call.sink call.sink_after call.status) both writes)
+
   held : (files : Files) (format : Format) (dump name script questions : List ℕ) → call.command ≡ Some (Ask format dump name) → call.shelf.holds ≡ Some files → NoFault call
       → length script ≤ MAX_SCRIPT_LENGTH → content dump files ≡ Some (script_dump script) → length (script_dump script) ≤ MAX_DUMP_LENGTH
       → content name files ≡ Some questions → length questions ≤ MAX_SCRIPT_LENGTH
@@ -301,13 +322,19 @@ module _ (laws : DumpLaws) (call : Call) (has : HasOutcome call) where
       (answered_status (has_refused format (held_to (final_state monomials script)) questions)) call.sink call.sink_after call.status
   held files format dump name script questions ask is quiet brief found small asked short =
       let contents = dump_of (final_state plain script) in
-      let holds : verdict_on (script_dump script) ≡ Holds contents = laws.reads (script_dump script) contents (written-well-formed contents (laws.formed script brief)) in
-      let expected : outcome_by call.command files ≡ Answered format contents questions =
-      ap (λ (c : Option Command). outcome_by c files) ask ∙ ask-outcome files format dump name (script_dump script) questions contents found small asked short holds in
-      let answered : WritesOutput (answers_text format (answer_to contents) questions) (answered_status (has_refused format (answer_to contents) questions)) call.sink call.sink_after call.status =
-      writes-as (Answered format contents questions) (subst (λ (o : Outcome). Determines has.outcome o) expected (determined-at files is quiet)) in
-      subst (λ (text : List ℕ). WritesOutput text (answered_status (has_refused format (held_to (final_state monomials script)) questions)) call.sink call.sink_after call.status) (laws.texts format script questions)
-      (subst (λ (refused : Bool). WritesOutput (answers_text format (answer_to contents) questions) (answered_status refused) call.sink call.sink_after call.status) (laws.refusals format script questions) answered)
+      let formed = written-well-formed contents (laws.formed script brief) in
+      writes-same (answers_text format (answer_to contents) questions) (answers_text format (held_to (final_state monomials script)) questions) (has_refused format (answer_to contents) questions)
+      (has_refused format (held_to (final_state monomials script)) questions) (laws.texts format script questions) (laws.refusals format script questions)
+      (answers-from files format dump name (script_dump script) questions contents ask is quiet found small formed asked short)
+
+  hypothetical : (files : Files) (format : Format) (dump name bytes questions : List ℕ) (contents : Dump) → call.command ≡ Some (Ask format dump name) → call.shelf.holds ≡ Some files → NoFault call
+      → content dump files ≡ Some bytes → length bytes ≤ MAX_DUMP_LENGTH → WellFormed bytes contents
+      → content name files ≡ Some questions → length questions ≤ MAX_SCRIPT_LENGTH
+      → WritesOutput (answers_text format (remade_to contents) questions) (answered_status (has_refused format (remade_to contents) questions)) call.sink call.sink_after call.status
+  hypothetical files format dump name bytes questions contents ask is quiet found small formed asked short =
+      writes-same (answers_text format (answer_to contents) questions) (answers_text format (remade_to contents) questions) (has_refused format (answer_to contents) questions)
+      (has_refused format (remade_to contents) questions) (laws.remade_texts format contents questions formed.rules) (laws.remade_refusals format contents questions formed.rules)
+      (answers-from files format dump name bytes questions contents ask is quiet found small formed asked short)
 
   -- the outcome that is known, with what it explains
   explains-as : (contents : Dump) (questions : List ℕ) → Determines has.outcome (Answered Text contents questions) → IsAnswered call.status → ExplainsQuestions contents.entries questions
@@ -395,6 +422,8 @@ module _ (laws : DumpLaws) (call : Call) (has : HasOutcome call) where
     replied = replied;
     held = held;
     explained = explained;
+    hypothetical = hypothetical;
+    unchanged = laws.unchanged;
     generated = generated;
     loaded = loaded;
     usage = λ at. usage-at call.shelf call.shelf_after call.command has.outcome has.is (expected-at exit.Usage at usage-written);

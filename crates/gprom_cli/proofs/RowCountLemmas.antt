@@ -32,6 +32,7 @@ use Rattle.gp_machine.specs.Points.{at_point}
 use Rattle.gp_machine.specs.Questions.{annotated_answer, annotation_stop, answer_refusal, given, is_known, log_refusal, needed_version, own_stop, rows_answer}
 use Rattle.gp_log.specs.Limits.{limits}
 use Rattle.gp_log.specs.LogFacts.{tables_in}
+use Rattle.gp_whatif.specs.Changed.{changed}
 use Rattle.gp_dump.specs.Dumps.{Dump}
 use Rattle.gp_dump.proofs.RowPlaces.{sorted_length}
 use Rattle.gp_history.specs.Provenance.{occurrence}
@@ -44,9 +45,12 @@ use Rattle.gp_values.specs.DistinctRows.{distinct_rows}
 use Rattle.gp_values.specs.ValueAnswers.{all_elements, history_refusal, limited, value_answer, values_of}
 use Rattle.gp_history.specs.Agreement.{agree}
 use Rattle.gp_ask.specs.declared.answered.Answered.{Answered}
-use Rattle.gp_ask.specs.Answers.{answer_to, dump_minimal, dump_program, dump_provenance, dump_remaining, dump_rows, dump_valued, dump_values, of_elements, query_answer, spans_at, versions_answer, with_monomials}
+use Rattle.gp_ask.specs.Answers.{answer_to, versions_answer}
+use Rattle.gp_ask.specs.Asking.{ask_to, dump_minimal, dump_program, dump_provenance, dump_remaining, dump_rows, dump_valued, dump_values, of_elements, query_answer, spans_at, with_monomials}
+use Rattle.gp_ask.specs.Hypothetical.{asking_refusal, changed_answer, remaking_refusal, replayed_dump, unless_refused}
 use Rattle.gp_ask.specs.Questions.{answered}
 use Rattle.gp_ask.specs.Remaining.{are_too_many, has_left_out, pattern_of, remaining, remaining_answer}
+use Rattle.gp_ask.specs.Replays.{dump_in}
 use Rattle.gp_ask.specs.Values.{value_of, rules_of, semiring_of, unless_outside, valued, with_values}
 use Rattle.gp_ask.specs.Witnesses.{minimal_of}
 use Rattle.gprom_cli.specs.Summary.{line_rows, row_count, rows_in}
@@ -191,23 +195,46 @@ module _ (dump : Dump) (point : y.State) (select : Select) where
       (behind rest refusal (cond (are_too_many (has_left_out patterns) select db) (Some E27) None)
       (either rest (nat_lt limits.answer (length (distinct_rows (cells_of (answer monomials select db))))) (nat_lt limits.answer (length rest)) refl))
 
+few-ask : (dump : Dump) (how : y.How) (point : y.State) (query : y.Query) → HasFew (ask_to dump how point query)
+few-ask dump y.rows point query =
+    few-checked (dump_rows dump point) (log_refusal dump.entries point) (checked_query (tables_in dump.entries) query)
+    (λ select. few-elements (rows_answer limits dump.entries (spans_at dump.tables) point select) (few-plain dump.entries (spans_at dump.tables) point select))
+few-ask dump y.provenance point query =
+    few-checked (dump_provenance dump point) (log_refusal dump.entries point) (checked_query (tables_in dump.entries) query)
+    (λ select. few-listed (annotated_answer monomials limits agree (tables_in dump.entries) dump.entries (spans_at dump.tables) point select) (few-annotated dump.entries (spans_at dump.tables) point select (tables_in dump.entries)))
+few-ask dump (y.explain prov) point query =
+    few-checked (dump_program dump prov point) (log_refusal dump.entries point) (checked_query (tables_in dump.entries) query) (λ select. omega arith)
+few-ask dump (y.value name rules other) point query =
+    few-checked (dump_valued name rules other dump point) (log_refusal dump.entries point) (checked_query (tables_in dump.entries) query)
+    (λ select. few-by-rules dump point select name rules other)
+few-ask dump (y.without patterns) point query =
+    few-checked (dump_remaining (map pattern_of patterns) dump point) (log_refusal dump.entries point) (checked_query (tables_in dump.entries) query)
+    (λ select. few-remaining dump point select (map pattern_of patterns))
+
+-- ---- questions about changes
+
+few-unless : (refusal : Option Refusal) (answered : Answered) → HasFew answered → HasFew (unless_refused refusal answered)
+few-unless (Some refusal) answered few = omega arith
+few-unless None answered few = few
+
+few-remade : (entries : List Entry) (how : y.How) (point : y.State) (query : y.Query)
+    → HasFew (unless_refused (asking_refusal entries how point query) (unless_refused (remaking_refusal entries) (ask_to (replayed_dump entries) how point query)))
+few-remade entries how point query =
+    few-unless (asking_refusal entries how point query) _ (few-unless (remaking_refusal entries) _ (few-ask (replayed_dump entries) how point query))
+
+few-changed : (found : Result (List Entry) Refusal) (how : y.How) (point : y.State) (query : y.Query) → HasFew (changed_answer (λ own. ask_to (replayed_dump own)) found how point query)
+few-changed (Err refusal) how point query = omega arith
+few-changed (Ok entries) (y.explain prov) point query = few-ask (dump_in entries []) (y.explain prov) point query
+few-changed (Ok entries) y.rows point query = few-remade entries y.rows point query
+few-changed (Ok entries) y.provenance point query = few-remade entries y.provenance point query
+few-changed (Ok entries) (y.value name rules other) point query = few-remade entries (y.value name rules other) point query
+few-changed (Ok entries) (y.without patterns) point query = few-remade entries (y.without patterns) point query
+
 few-answer : (dump : Dump) (question : y.Question) → HasFew (answer_to dump question)
 few-answer dump (y.log t) = few-log (is_known t dump.entries) _ _ refl refl
 few-answer dump (y.versions name) = few-versions name dump.tables (place_of name (tables_in dump.entries))
-few-answer dump (y.ask y.rows point query) =
-    few-checked (dump_rows dump point) (log_refusal dump.entries point) (checked_query (tables_in dump.entries) query)
-    (λ select. few-elements (rows_answer limits dump.entries (spans_at dump.tables) point select) (few-plain dump.entries (spans_at dump.tables) point select))
-few-answer dump (y.ask y.provenance point query) =
-    few-checked (dump_provenance dump point) (log_refusal dump.entries point) (checked_query (tables_in dump.entries) query)
-    (λ select. few-listed (annotated_answer monomials limits agree (tables_in dump.entries) dump.entries (spans_at dump.tables) point select) (few-annotated dump.entries (spans_at dump.tables) point select (tables_in dump.entries)))
-few-answer dump (y.ask (y.explain prov) point query) =
-    few-checked (dump_program dump prov point) (log_refusal dump.entries point) (checked_query (tables_in dump.entries) query) (λ select. omega arith)
-few-answer dump (y.ask (y.value name rules other) point query) =
-    few-checked (dump_valued name rules other dump point) (log_refusal dump.entries point) (checked_query (tables_in dump.entries) query)
-    (λ select. few-by-rules dump point select name rules other)
-few-answer dump (y.ask (y.without patterns) point query) =
-    few-checked (dump_remaining (map pattern_of patterns) dump point) (log_refusal dump.entries point) (checked_query (tables_in dump.entries) query)
-    (λ select. few-remaining dump point select (map pattern_of patterns))
+few-answer dump (y.ask how point query) = few-ask dump how point query
+few-answer dump (y.what_if change how point query) = few-changed (changed limits dump.entries change) how point query
 
 few-read : (dump : Dump) (read : Result y.Question Fault) → HasFew (answered (answer_to dump) read)
 few-read dump (Err fault) = omega arith

@@ -2,19 +2,20 @@
 -- their own contracts. A promise about the content of a file holds where the shelf knows its files, one about the bytes of the output where the
 -- sink knows them; the real files and the real output know neither.
 use Rattle.std.specs.Prelude.{◌≡◌, ◌⊎◌, ℕ, ◌≤◌, List, [], ◌∷◌, length, Option, Some, None, Result, Ok, Err, IsSomeAnd}
-use Rattle.gp_base.specs.Annotated.{monomials}
+use Rattle.gp_base.specs.Annotated.{monomials, plain}
 use Rattle.gp_io.specs.Shelf.{Files, FilesRelate, OthersStay, Replaced, Reports, content}
 use Rattle.gp_io.specs.Sink.{Increased}
 use Rattle.gp_script.specs.History.{final_state, replies_of, replies_text, has_refusal}
 use Rattle.gp_script.specs.declared.script.TheConstants.{MAX_SCRIPT_LENGTH}
 use Rattle.gp_dump.specs.declared.dump.TheConstants.{MAX_DUMP_LENGTH}
-use Rattle.gp_dump.specs.Dumps.{Dump, WellFormed}
+use Rattle.gp_dump.specs.Dumps.{Dump, WellFormed, dump_of}
 use Rattle.gp_csv.specs.Faults.{Fault}
 use Rattle.gp_load.specs.Loading.{LoadsText, loaded_of}
 use Rattle.gp_ask.specs.declared.format.Format.{Format}
 use Rattle.gp_ask.specs.declared.format.Format.TheVariants.{Text}
-use Rattle.gp_ask.specs.Answers.{held_to}
+use Rattle.gp_ask.specs.Answers.{held_to, remade_to}
 use Rattle.gp_ask.specs.Explained.{ExplainsQuestions}
+use Rattle.gp_ask.specs.Hypothetical.{remaking_refusal, replayed_dump}
 use Rattle.gp_ask.specs.Questions.{answers_text, has_refused}
 use Rattle.gprom_cli.specs.declared.load.TheConstants.{MAX_SHEET_LENGTH}
 use Rattle.gprom_cli.specs.declared.status.Status.{Status}
@@ -117,6 +118,17 @@ pub record Promises (call : Call) : Type 0 where
       → content dump files ≡ Some bytes → length bytes ≤ MAX_DUMP_LENGTH → WellFormed bytes contents
       → content name files ≡ Some questions → length questions ≤ MAX_SCRIPT_LENGTH
       → IsAnswered call.status → ExplainsQuestions contents.entries questions
+  -- `ask` and `export` answer a question about what would be with a change as the history held it that the commits of the changed log, made again, lead to: so
+  -- every row, with its provenance and its values, is one of that history, and no difference and no limit of a run stops the question once the commits were
+  -- made again. It is refused before by the change, by the question on the changed log, or, unless it is explained, by the first commit that cannot be made
+  -- again. The dump is any that is well formed.
+  pub hypothetical : (files : Files) (format : Format) (dump name bytes questions : List ℕ) (contents : Dump) → call.command ≡ Some (Ask format dump name) → call.shelf.holds ≡ Some files → NoFault call
+      → content dump files ≡ Some bytes → length bytes ≤ MAX_DUMP_LENGTH → WellFormed bytes contents
+      → content name files ≡ Some questions → length questions ≤ MAX_SCRIPT_LENGTH
+      → WritesOutput (answers_text format (remade_to contents) questions) (answered_status (has_refused format (remade_to contents) questions)) call.sink call.sink_after call.status
+  -- With nothing changed, the commits of the log of a script, made again, do not stop, and lead to the dump of the script.
+  pub unchanged : (script : List ℕ) → length script ≤ MAX_SCRIPT_LENGTH
+      → (remaking_refusal (final_state plain script).entries ≡ None) × (replayed_dump (final_state plain script).entries ≡ dump_of (final_state plain script))
   -- `gen` writes the summary of the history of the generated script: its dump, and the rows with which that history, annotated, answered the generated
   -- questions.
   pub generated : (rounds : ℕ) → call.command ≡ Some (Generate rounds) → WritesOutput (summary_text (summary_of rounds)) Done call.sink call.sink_after call.status

@@ -10,7 +10,7 @@ ghost use Rattle.gprom_cli.specs.Views.{HasFewRounds, command_view};
 
 use crate::args::{Command, parse};
 use crate::ask::ask;
-use crate::laws::scripts_have_well_formed_dumps;
+use crate::laws::{dumps_answer_for_changed_histories, scripts_have_well_formed_dumps};
 use crate::load::load;
 use crate::output::write_output;
 use crate::run::run;
@@ -100,7 +100,8 @@ pub fn gprom<H: Shelf, K: Sink>(alloc: Global, args: &[String], shelf: &mut H, o
       status = status_of result;
     }) }
 {
-    // What `ask` promises of the dumps of scripts rests on these laws. The call does nothing.
+    // What `ask` promises of dumps, and of the dumps of scripts, rests on these laws. The calls do nothing.
     scripts_have_well_formed_dumps();
+    dumps_answer_for_changed_histories();
     execute(alloc, args, shelf, out).number()
 }

@@ -1,21 +1,24 @@
-//! Laws of the dumps of scripts. The function does nothing: its postconditions are the laws, and it cites laws of the crates below.
+//! Laws of dumps and of the dumps of scripts. Each function does nothing: its postconditions are the laws, and it cites laws of the crates below.
 
-ghost use Rattle.std.specs.Prelude.{◌≡◌, ◌≤◌, ℕ, List, length};
+ghost use Rattle.std.specs.Prelude.{◌≡◌, ◌≤◌, ℕ, List, None, length};
 ghost use Rattle.gp_base.specs.Annotated.{monomials, plain};
 ghost use Rattle.gp_script.specs.History.{final_state};
-ghost use Rattle.gp_dump.specs.Dumps.{IsDump, dump_of};
+ghost use Rattle.gp_dump.specs.Dumps.{Dump, IsDump, dump_of};
 ghost use Rattle.gp_ask.specs.declared.format.Format.{Format};
-ghost use Rattle.gp_ask.specs.Answers.{answer_to, held_to};
+ghost use Rattle.gp_ask.specs.Answers.{answer_to, held_to, remade_to};
+ghost use Rattle.gp_ask.specs.Hypothetical.{remaking_refusal, replayed_dump};
 ghost use Rattle.gp_ask.specs.Questions.{answers_text, has_refused};
 ghost use Rattle.gprom_cli.specs.Summary.{rows_in};
 
-use gp_ask::histories_answer_as_their_dumps;
+use gp_ask::{dumps_answer_as_changed_histories, histories_answer_as_their_dumps};
 use gp_base::Monomial;
 use gp_dump::dumps_of_histories_are_well_formed;
 use gp_script::{MAX_SCRIPT_LENGTH, lines_of_scripts_are_script_lines, scripts_lead_to_histories};
+use gp_whatif::histories_are_replayed_as_they_were;
 
 /// The dump of every script is well formed, and answers every file of questions as the annotated history of the script held it: with the same
-/// text in either format, as many rows, and refusing a question where the history refuses one.
+/// text in either format, as many rows, and refusing a question where the history refuses one. The commits of its log, made again with nothing
+/// changed, do not stop, and lead to this dump (`unchanged`).
 pub fn scripts_have_well_formed_dumps()
     ensures formed { (script : List ℕ) → length script ≤ MAX_SCRIPT_LENGTH
         → IsDump (dump_of (final_state plain script)) }
@@ -28,10 +31,28 @@ pub fn scripts_have_well_formed_dumps()
     ensures rows { (script questions : List ℕ)
         → rows_in (answer_to (dump_of (final_state plain script))) questions
         ≡ rows_in (held_to (final_state monomials script)) questions }
+    ensures unchanged { (script : List ℕ) → length script ≤ MAX_SCRIPT_LENGTH
+        → (remaking_refusal (final_state plain script).entries ≡ None)
+        × (replayed_dump (final_state plain script).entries
+        ≡ dump_of (final_state plain script)) }
 {
     scripts_lead_to_histories::<()>();
     scripts_lead_to_histories::<Monomial>();
     lines_of_scripts_are_script_lines();
     dumps_of_histories_are_well_formed();
+    histories_are_replayed_as_they_were();
     histories_answer_as_their_dumps()
+}
+
+/// Every well-formed dump answers every file of questions with what the histories held that would have been, where a question asks what
+/// would be with a change: with the same text in either format, and refusing a question where that history refuses it.
+pub fn dumps_answer_for_changed_histories()
+    ensures answers { (format : Format) (dump : Dump) (questions : List ℕ) → IsDump dump
+        → answers_text format (answer_to dump) questions
+        ≡ answers_text format (remade_to dump) questions }
+    ensures refusals { (format : Format) (dump : Dump) (questions : List ℕ) → IsDump dump
+        → has_refused format (answer_to dump) questions
+        ≡ has_refused format (remade_to dump) questions }
+{
+    dumps_answer_as_changed_histories()
 }

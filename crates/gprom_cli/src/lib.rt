@@ -2,7 +2,7 @@
 //!
 //! In reading order: `status.rt` (how a call ends), `words.rt` and `args.rt` (what the arguments ask for), `output.rt` and `read.rt` (what is
 //! written and read), `run.rt`, `ask.rt` and `load.rt` (the commands over files), `generated.rt` and `summary.rt` (scripts and
-//! questions that are generated, and what they come to), `laws.rt` (what dumps of scripts are), `call.rt` (the call). The contract of [`gprom`] is `Promises` in `specs/Promises.antt`.
+//! questions that are generated, and what they come to), `laws.rt` (what dumps answer, and those of scripts), `call.rt` (the call). The contract of [`gprom`] is `Promises` in `specs/Promises.antt`.
 //!
 //! ```
 //! let mut shelf = DiskShelf::new(rt, rt.alloc());
@@ -26,7 +26,7 @@ mod words;
 
 pub use call::gprom;
 pub use generated::{MAX_ROUNDS, generate_questions, generate_script};
-pub use laws::scripts_have_well_formed_dumps;
+pub use laws::{dumps_answer_for_changed_histories, scripts_have_well_formed_dumps};
 pub use load::MAX_SHEET_LENGTH;
 pub use status::Status;
 pub use summary::Summary;

@@ -7,7 +7,7 @@ use Rattle.gp_dump.specs.Views.{dump_view}
 use Rattle.gp_syntax.specs.Views.{rule_view, state_view}
 use Rattle.gp_ask.specs.declared.answered.Answered.{Answered}
 use Rattle.gp_ask.specs.declared.answered.Answered.TheVariants.{Refused}
-use Rattle.gp_ask.specs.Answers.{dump_remaining}
+use Rattle.gp_ask.specs.Asking.{dump_remaining}
 use Rattle.gp_ask.specs.Counted.{counted_answer}
 use Rattle.gp_ask.specs.Remaining.{pattern_of}
 use Rattle.gp_ask.proofs.DeletionLemmas.{none_remain, rows_remain}

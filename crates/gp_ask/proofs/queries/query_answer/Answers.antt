@@ -13,9 +13,9 @@ use Rattle.gp_machine.specs.Questions.{log_refusal, rows_answer}
 use Rattle.gp_reenact.specs.Reenacting.{merged_at, transaction_at}
 use Rattle.gp_versions.specs.declared.span.Span.{Span}
 use Rattle.gp_dump.specs.Views.{dump_view}
-use Rattle.gp_dump.proofs.FittingTables.{spans_of_dumps, statements_of_dumps}
 use Rattle.gp_ask.specs.declared.answered.Answered.{Answered}
-use Rattle.gp_ask.specs.Answers.{answer_to, of_elements, query_answer}
+use Rattle.gp_ask.specs.Answers.{answer_to}
+use Rattle.gp_ask.specs.Asking.{of_elements, query_answer}
 use Rattle.gp_ask.specs.Backends.{AnswersBy, AnswersQuery}
 use Rattle.gp_ask.proofs.BackendLemmas.{executed_answers, past_is}
 use Rattle.gp_ask.proofs.ReenactedLemmas.{dump-spans}
@@ -29,11 +29,11 @@ returns c =
     let question = y.ask y.rows point (query_view c.args.query.now) in
     let due = log_refusal entries point in
     let checked = checked_query (tables_in entries) (query_view c.args.query.now) in
-    let spans_fit = subst (λ (spans : ℕ → List Span). SpansFit (tables_in entries) spans) (sym (dump-spans dump.versions)) (spans_of_dumps (dump_view dump) c.requires.rules) in
+    let spans_fit = subst (λ (spans : ℕ → List Span). SpansFit (tables_in entries) spans) (sym (dump-spans dump.versions)) c.requires.rules.spans in
     let moved = ap (λ (spans : ℕ → List Span). query_answer (λ select. of_elements (rows_answer limits entries spans point select)) due checked) (dump-spans dump.versions) in
     IfOk-weaker c.query_answer_by.result (λ (a : Answered). AnswersBy Executes (dump_view dump) question a) (λ (a : Answered). a ≡ answer_to (dump_view dump) question)
     (λ a by.
-    executed_answers entries dump.versions point (statements_of_dumps (dump_view dump) c.requires.rules) spans_fit due checked a refl
+    executed_answers entries dump.versions point c.requires.rules.statements spans_fit due checked a refl
     (subst (λ (past : PlainEnvironment). AnswersQuery Executes (tables_in entries) (transaction_at point) (merged_at false entries point) past due checked a) (sym (past_is dump.versions)) by)
     ∙ moved)
     c.query_answer_by.ensures

@@ -12,7 +12,6 @@ use Rattle.gp_reenact.specs.Reenacting.{merged_at, transaction_at}
 use Rattle.gp_travel.specs.Encoding.{encoded}
 use Rattle.gp_travel.specs.Travel.{as_of}
 use Rattle.gp_dump.specs.Views.{dump_view}
-use Rattle.gp_dump.proofs.FittingTables.{statements_of_dumps}
 use Rattle.gp_ask.specs.declared.answered.Answered.{Answered}
 use Rattle.gp_ask.specs.declared.answered.Answered.TheVariants.{Rows}
 use Rattle.gp_ask.specs.Backends.{IsAnswered, past_of}
@@ -20,7 +19,7 @@ use Rattle.gp_ask.proofs.BackendLemmas.{found_is_answered, past_is, refusal_is_a
 use Rattle.gp_ask.proofs.queries.selected_answer.Goals as goal
 
 pub reenact_by-requires-clause-statements : goal.reenact_by-requires-clause-statements
-reenact_by-requires-clause-statements g c = statements_of_dumps (dump_view c.args.dump.now) c.requires.rules
+reenact_by-requires-clause-statements g c = c.requires.rules.statements
 
 pub returns-in-Ok : goal.returns-in-Ok
 returns-in-Ok g c =

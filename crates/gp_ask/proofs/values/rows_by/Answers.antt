@@ -9,7 +9,7 @@ use Rattle.gp_syntax.specs.Views.{state_view}
 use Rattle.gp_valuation.specs.declared.rules.Rule.{Rule}
 use Rattle.gp_dump.specs.Views.{tables_view}
 use Rattle.gp_ask.specs.declared.answered.Answered.TheVariants.{Refused, Values}
-use Rattle.gp_ask.specs.Answers.{spans_at}
+use Rattle.gp_ask.specs.Asking.{spans_at}
 use Rattle.gp_ask.specs.Operations.{semiring_with}
 use Rattle.gp_ask.specs.Values.{valued}
 use Rattle.gp_ask.proofs.ProvenanceLemmas.{sound-versions}

@@ -7,11 +7,14 @@ use Rattle.gp_machine.specs.State.{State, start}
 use Rattle.gp_log.specs.Limits.{limits}
 use Rattle.gp_script.specs.History.{lines_read}
 use Rattle.gp_dump.specs.Dumps.{IsDump, dump_of}
+use Rattle.gp_dump.proofs.HistoryDumps.{checks_targets}
+use Rattle.gp_dump.proofs.LoggedLines.{all_logged}
 use Rattle.gp_ask.specs.Answers.{answer_to, held_to}
 use Rattle.gp_ask.specs.Questions.{answers_text, has_refused}
 use Rattle.gprom_cli.specs.Summary.{row_count, rows_in}
 use Rattle.gprom_cli.proofs.AnswersLemmas.{same-refusals, same-texts}
 use Rattle.gprom_cli.proofs.RowCountLemmas.{same-rows}
+use Rattle.gprom_cli.proofs.UnchangedLemmas.{IsRemade, is-remade}
 use Rattle.gprom_cli.proofs.laws.scripts_have_well_formed_dumps.Goals as goal
 
 pub returns-clause-formed : goal.returns-clause-formed
@@ -45,3 +48,11 @@ returns-clause-rows c = λ script questions.
     subst (λ (s : State (Unit {0})). rows_in (answer_to (dump_of s)) questions ≡ rows_in (held_to (after monomials limits start lines)) questions) (sym (c.scripts_lead_to_histories.ensures.reached plain script))
     (same-rows (answer_to (dump_of plainly)) (held_to state) (λ question. ap row_count (c.histories_answer_as_their_dumps.ensures lines question)) questions)
     ∙ ap (λ (s : State Monomial). rows_in (held_to s) questions) (sym (c.scripts_lead_to_histories-2.ensures.reached monomials script))
+
+pub returns-clause-unchanged : goal.returns-clause-unchanged
+returns-clause-unchanged c = λ script short.
+    let lines = lines_read (script_lines script) in
+    let tables = (all_logged plain limits lines (c.lines_of_scripts_are_script_lines.ensures.lines script short)).1.tables in
+    subst IsRemade (sym (c.scripts_lead_to_histories.ensures.reached plain script))
+    (is-remade (after plain limits start lines) tables (c.histories_are_replayed_as_they_were.ensures.unstopped lines checks_targets tables)
+    (c.histories_are_replayed_as_they_were.ensures.spans lines checks_targets tables))

@@ -7,10 +7,11 @@ use Rattle.gp_syntax.specs.declared.question.How.{How}
 use Rattle.gp_syntax.specs.declared.question.Rule.{Rule}
 use Rattle.gp_syntax.specs.Views.{how_view, query_view, rule_view, state_view}
 use Rattle.gp_ask.specs.declared.answered.Answered.{Answered}
-use Rattle.gp_ask.specs.Answers.{answer_to, dump_query, dump_values}
+use Rattle.gp_ask.specs.Answers.{answer_to}
+use Rattle.gp_ask.specs.Asking.{dump_query, dump_values}
 use Rattle.gp_ask.specs.Values.{rules_of, semiring_of}
 use Rattle.gp_ask.proofs.WitnessLemmas.{asked_values}
-use Rattle.gp_ask.proofs.answering.ask_answer.Goals as goal
+use Rattle.gp_ask.proofs.asking.ask_answer.Goals as goal
 
 pub returns-in-Value-clause-answered : goal.returns-in-Value-clause-answered
 returns-in-Value-clause-answered c =

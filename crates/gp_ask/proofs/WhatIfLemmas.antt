@@ -1,0 +1,88 @@
+-- What the parts of an answer to a question about a change come to, by what was found.
+use Rattle.std.proofs.Common.{◌≡◌, ℕ, List, length, Option, Some, None, Result, Ok, Err, refl, sym, ap, ◌∙◌, subst}
+use Rattle.std.specs.List.Sorted.{IsPermutation}
+use Rattle.std.proofs.lemmas.List.Sorted.{IsPermutation-refl}
+use Rattle.std.specs.Option.{option_map, option_or}
+use Rattle.gp_base.specs.declared.refusal.Refusal.{Refusal}
+use Rattle.gp_algebra.specs.Statements.{Select}
+use Rattle.gp_base.specs.Annotated.{plain}
+use Rattle.gp_base.specs.Identities.{Identity}
+use Rattle.gp_algebra.specs.Effects.{Written}
+use Rattle.gp_machine.specs.Bases.{Based}
+use Rattle.gp_machine.specs.Conflicts.{Conflict, IsLeastConflict, least_conflict}
+use Rattle.gp_machine.specs.Entries.{Entry, log_of, versions_in}
+use Rattle.gp_machine.specs.Replaying.{Loses, ReplayStop, replayed_spans}
+use Rattle.gp_grammar.specs.Syntax as y
+use Rattle.gp_log.specs.Limits.{limits}
+use Rattle.gp_log.specs.LogFacts.{tables_in}
+use Rattle.gp_versions.specs.declared.span.Span.{Span}
+use Rattle.gp_versions.specs.Spans.{Versions}
+use Rattle.gp_whatif.specs.Changed.{changed}
+use Rattle.gp_whatif.specs.Replays.{IsMade, IsReplayable, stop_upto}
+use Rattle.gp_dump.specs.Views.{tables_view}
+use Rattle.gp_ask.specs.declared.answered.Answered.{Answered}
+use Rattle.gp_ask.specs.Answers.{answer_to}
+use Rattle.gp_ask.specs.Asking.{ask_to, asked, spans_at}
+use Rattle.gp_ask.specs.Explained.{ExplainsChanged, ExplainsQuestion}
+use Rattle.gp_ask.specs.Hypothetical.{changed_answer, check_refusal, remaking_refusal, replay_refusal, replayed_dump, unless_refused, what_if_answer}
+use Rattle.gp_ask.specs.Replays.{dump_in}
+use Rattle.gp_ask.proofs.FittingReplays.{replay_spans}
+use Rattle.gp_ask.proofs.StopLemmas.{IsLost, lost_is}
+
+-- the refusal of a query that was checked, after that of its state
+pub asked_refusal : (first : Option Refusal) (checked : Result Select Refusal) (own : Option Refusal) (due : Result Select Refusal) → asked first checked ≡ due
+    → option_or first (option_or (check_refusal checked) own) ≡ option_or (check_refusal due) own
+asked_refusal (Some refusal) checked own due is = ap (λ found. option_or (check_refusal found) own) is
+asked_refusal None checked own due is = ap (λ found. option_or (check_refusal found) own) is
+
+module _ (entries : List Entry) (is : IsReplayable entries) (version other table : ℕ) (id : Identity)
+    (stops : stop_upto entries (versions_in entries) ≡ Some (Loses version (record { pair = record { table = table; identity = id }; version = other })))
+    (least : (written : ℕ → List Written) (versions : ℕ) (all : List Based) (conflict : Conflict) → least_conflict written versions all ≡ Some conflict → IsLeastConflict written versions all conflict) where
+  pub lost_at : IsLost entries (versions_in entries) version (record { pair = record { table = table; identity = id }; version = other })
+  lost_at = lost_is entries is.fits least (versions_in entries) version _ stops
+
+-- the refusal of the first commit that stops, and none where no commit does
+pub remaking_is : (entries : List Entry) (stop : Option ReplayStop) → stop_upto entries (versions_in entries) ≡ stop → remaking_refusal entries ≡ option_map (replay_refusal entries) stop
+remaking_is entries stop is = ap (option_map (replay_refusal entries)) is
+
+pub none_refused : (refusal : Option Refusal) (answered : Answered) → refusal ≡ None → unless_refused refusal answered ≡ answered
+none_refused refusal answered is = ap (λ (r : Option Refusal). unless_refused r answered) is
+
+pub one_refused : (refusal : Option Refusal) (own : Refusal) (answered : Answered) → refusal ≡ Some own → unless_refused refusal answered ≡ unless_refused (Some own) answered
+one_refused refusal own answered is = ap (λ (r : Option Refusal). unless_refused r answered) is
+
+-- what is answered over the commits made again, where none stops
+module _ (entries : List Entry) (is : IsReplayable entries) (versions : List Versions) (made : IsMade entries (versions_in entries) versions)
+    (any : (own : List Entry) → IsReplayable own → stop_upto own (versions_in own) ≡ None → (tables : List (List Span))
+    → ((place : ℕ) → IsPermutation (spans_at tables place) (replayed_spans plain (log_of own) (length (tables_in own)) (versions_in own) place))
+    → (how : y.How) (point : y.State) (query : y.Query) → answer_to (dump_in own tables) (y.ask how point query) ≡ answer_to (replayed_dump own) (y.ask how point query)) where
+  pub replayed_is : (how : y.How) (point : y.State) (query : y.Query)
+      → ask_to (dump_in entries (tables_view versions)) how point query ≡ unless_refused (remaking_refusal entries) (ask_to (replayed_dump entries) how point query)
+  replayed_is how point query =
+      any entries is made.unstopped (tables_view versions)
+      (λ place. subst (λ (spans : List Span). IsPermutation (spans_at (tables_view versions) place) spans) (replay_spans entries versions made place) (IsPermutation-refl (spans_at (tables_view versions) place)))
+      how point query
+      ∙ sym (none_refused (remaking_refusal entries) (ask_to (replayed_dump entries) how point query) (remaking_is entries None made.unstopped))
+
+-- ---- by the changed log
+
+pub changed_is : (entries : List Entry) (change : y.LogChange) (how : y.How) (point : y.State) (query : y.Query) (found : Result (List Entry) Refusal) → changed limits entries change ≡ found
+    → what_if_answer entries change how point query ≡ changed_answer (λ own. ask_to (replayed_dump own)) found how point query
+changed_is entries change how point query found is = ap (λ (log : Result (List Entry) Refusal). changed_answer (λ own. ask_to (replayed_dump own)) log how point query) is
+
+-- what is said of an explained query is said over the changed log
+pub explains_changed : (entries : List Entry) (change : y.LogChange) (how : y.How) (point : y.State) (query : y.Query) (new : List Entry) → changed limits entries change ≡ Ok new
+    → ExplainsQuestion new (y.ask how point query) → ExplainsQuestion entries (y.what_if change how point query)
+explains_changed entries change (y.explain prov) point query new is says = subst (ExplainsChanged prov point query) (sym is) says
+explains_changed entries change y.rows point query new is says = tt
+explains_changed entries change y.provenance point query new is says = tt
+explains_changed entries change (y.value name rules other) point query new is says = tt
+explains_changed entries change (y.without patterns) point query new is says = tt
+
+pub explains_refused : (entries : List Entry) (change : y.LogChange) (how : y.How) (point : y.State) (query : y.Query) (refusal : Refusal) → changed limits entries change ≡ Err refusal
+    → ExplainsQuestion entries (y.what_if change how point query)
+explains_refused entries change (y.explain prov) point query refusal is = subst (ExplainsChanged prov point query) (sym is) tt
+explains_refused entries change y.rows point query refusal is = tt
+explains_refused entries change y.provenance point query refusal is = tt
+explains_refused entries change (y.value name rules other) point query refusal is = tt
+explains_refused entries change (y.without patterns) point query refusal is = tt

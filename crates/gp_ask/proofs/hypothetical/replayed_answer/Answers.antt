@@ -1,0 +1,35 @@
+use Rattle.std.proofs.Common.{List, sym, subst, ◌∙◌, ◌≡◌}
+use Rattle.std.proofs.lemmas.Result.{IfOk-weaker}
+use Rattle.gp_grammar.specs.Syntax as y
+use Rattle.gp_log.specs.Logs.{log_view}
+use Rattle.gp_syntax.specs.Views.{how_view, query_view, state_view}
+use Rattle.gp_versions.specs.Spans.{Versions}
+use Rattle.gp_dump.specs.Views.{tables_view}
+use Rattle.gp_ask.specs.declared.answered.Answered.{Answered}
+use Rattle.gp_ask.specs.Answerable.{IsAnswerable}
+use Rattle.gp_ask.specs.Answers.{answer_to}
+use Rattle.gp_ask.specs.Asking.{ask_to}
+use Rattle.gp_ask.specs.Hypothetical as h
+use Rattle.gp_ask.specs.Replays.{dump_in}
+use Rattle.gp_ask.proofs.FittingReplays.{replay_answerable}
+use Rattle.gp_ask.proofs.WhatIfLemmas.{replayed_is}
+use Rattle.gp_ask.proofs.hypothetical.replayed_answer.Goals as goal
+
+pub ask_answer-requires-clause-rules : goal.ask_answer-requires-clause-rules
+ask_answer-requires-clause-rules c =
+    subst (λ (own : List Versions). IsAnswerable (dump_in (log_view c.args.log.entries) (tables_view own))) (sym c.from_vec-versions.ensures)
+    (replay_answerable (log_view c.args.log.entries) c.requires.replayable c.in-Ok.versions.items c.in-Ok.ensures.made)
+
+pub returns-in-Ok : goal.returns-in-Ok
+returns-in-Ok c =
+    let entries = log_view c.args.log.entries in
+    let how = how_view c.args.how.now in
+    let point = state_view c.args.state in
+    let query = query_view c.args.query.now in
+    let due : Answered = h.unless_refused (h.remaking_refusal entries) (ask_to (h.replayed_dump entries) how point query) in
+    IfOk-weaker c.ask_answer.result (λ (a : Answered). a ≡ answer_to (dump_in entries (tables_view c.from_vec-versions.result)) (y.ask how point query)) (λ (a : Answered). a ≡ due)
+    (λ a is.
+    is
+    ∙ subst (λ (own : List Versions). ask_to (dump_in entries (tables_view own)) how point query ≡ due) (sym c.from_vec-versions.ensures)
+    (replayed_is entries c.requires.replayable c.in-Ok.versions.items c.in-Ok.ensures.made c.changed_histories_answer_their_questions.ensures.any_order how point query))
+    c.ask_answer.ensures.answered

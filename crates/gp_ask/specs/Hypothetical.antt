@@ -1,0 +1,88 @@
+-- Part of the statement: the answer to a question about the history that would have been. A statement of a committed transaction is dropped, replaced or
+-- added, and the commits of the changed log are made again. Such a question is refused by the first that applies: the change; then, on the changed log, what
+-- refuses the question whatever the rows are: its version, transaction or statement is not in the log, the check of its query, a number of its rules that is not
+-- in the semiring; then, unless the query is explained, the first commit that cannot be made again; then the number of its rows.
+use Rattle.std.specs.Prelude.{ℕ, List, [], length, Option, Some, None, Result, Ok, Err}
+use Rattle.std.specs.Option.{option_map, option_or}
+use Rattle.gp_base.specs.declared.limit.Limit.TheVariants as limit
+use Rattle.gp_base.specs.declared.refusal.Refusal.{Refusal}
+use Rattle.gp_base.specs.declared.refusal.Refusal.TheVariants.{E14, E28, E31}
+use Rattle.gp_base.specs.Annotated.{monomials, plain}
+use Rattle.gp_grammar.specs.declared.semiring_name.SemiringName.{SemiringName}
+use Rattle.gp_grammar.specs.Syntax as y
+use Rattle.gp_algebra.specs.Statements.{Select}
+use Rattle.gp_check.specs.Checking.{checked_query}
+use Rattle.gp_log.specs.Limits.{limits}
+use Rattle.gp_log.specs.LogFacts.{tables_in}
+use Rattle.gp_machine.specs.Entries.{Entry, committer_of, log_of, versions_in}
+use Rattle.gp_machine.specs.Event.{name_at}
+use Rattle.gp_machine.specs.Questions.{log_refusal, stop_refusal}
+use Rattle.gp_machine.specs.Replayed.{replayed_state}
+use Rattle.gp_machine.specs.Replaying as made
+use Rattle.gp_valuation.specs.Rules.{first_outside}
+use Rattle.gp_whatif.specs.Changed.{changed}
+use Rattle.gp_dump.specs.Dumps.{Dump, dump_of}
+use Rattle.gp_ask.specs.declared.answered.Answered.{Answered}
+use Rattle.gp_ask.specs.declared.answered.Answered.TheVariants.{Refused}
+use Rattle.gp_ask.specs.Asking.{ask_to, held_ask}
+use Rattle.gp_ask.specs.Replays.{dump_in}
+use Rattle.gp_ask.specs.Values.{name_text, rules_of, semiring_of}
+
+-- the dump of the history that the commits of a log, made again, lead to
+abbrev pub replayed_dump : List Entry → Dump
+replayed_dump entries = dump_of (replayed_state plain (tables_in entries) entries)
+
+-- ---- refusals
+
+-- the first number of rules that stands for no element of the semiring
+abbrev pub outside_refusal : SemiringName → Option ℕ → Option Refusal
+outside_refusal name number = option_map (λ n. E28 n (name_text name)) number
+
+abbrev pub rules_refusal : y.How → Option Refusal
+rules_refusal (y.value name rules other) =
+    outside_refusal name (first_outside (semiring_of name).number_of (rules_of rules other).0 (rules_of rules other).1)
+rules_refusal how = None
+
+abbrev pub check_refusal : Result Select Refusal → Option Refusal
+check_refusal (Ok select) = None
+check_refusal (Err refusal) = Some refusal
+
+-- what refuses a question on a log, whatever the rows are
+abbrev pub asking_refusal : List Entry → y.How → y.State → y.Query → Option Refusal
+asking_refusal entries how point query =
+    option_or (log_refusal entries point) (option_or (check_refusal (checked_query (tables_in entries) query)) (rules_refusal how))
+
+abbrev pub unless_refused : Option Refusal → Answered → Answered
+unless_refused (Some refusal) answered = Refused refusal
+unless_refused None answered = answered
+
+-- why a commit of a log cannot be made again; one that is lost, by its transaction, the one that it would lose to, the table and the identity
+abbrev pub replay_refusal : List Entry → made.ReplayStop → Refusal
+replay_refusal entries (made.Passes stop) = stop_refusal stop
+replay_refusal entries (made.Loses version conflict) =
+    E31 (committer_of version entries) (committer_of conflict.version entries) (name_at conflict.pair.table (tables_in entries)) conflict.pair.identity
+replay_refusal entries made.Fills = E14 limit.Versions
+
+abbrev pub remaking_refusal : List Entry → Option Refusal
+remaking_refusal entries = option_map (replay_refusal entries) (made.replay_stop plain (log_of entries) limits (length (tables_in entries)) (versions_in entries))
+
+-- ---- answers
+
+-- A question about the states of a log whose commits are made again, given the answer over these. An explained query needs the log alone.
+abbrev pub remade_answer : (y.How → y.State → y.Query → Answered) → List Entry → y.How → y.State → y.Query → Answered
+remade_answer answer entries (y.explain prov) point query = ask_to (dump_in entries []) (y.explain prov) point query
+remade_answer answer entries how point query =
+    unless_refused (asking_refusal entries how point query) (unless_refused (remaking_refusal entries) (answer how point query))
+
+-- by the changed log, or the refusal of the change
+abbrev pub changed_answer : (List Entry → y.How → y.State → y.Query → Answered) → Result (List Entry) Refusal → y.How → y.State → y.Query → Answered
+changed_answer answers (Err refusal) how point query = Refused refusal
+changed_answer answers (Ok entries) how point query = remade_answer (answers entries) entries how point query
+
+-- from the log of a dump: the answer over the dump of the history that would have been
+abbrev pub what_if_answer : List Entry → y.LogChange → y.How → y.State → y.Query → Answered
+what_if_answer entries change how point query = changed_answer (λ own. ask_to (replayed_dump own)) (changed limits entries change) how point query
+
+-- what that history held: its rows, and their provenance
+abbrev pub what_if_held : List Entry → y.LogChange → y.How → y.State → y.Query → Answered
+what_if_held entries change how point query = changed_answer (λ own. held_ask (replayed_state monomials (tables_in own) own)) (changed limits entries change) how point query

@@ -1,0 +1,60 @@
+//! Questions about states.
+
+ghost use Rattle.std.specs.Prelude.{◌≡◌, true, IfOk};
+ghost use Rattle.gp_grammar.specs.Syntax as y;
+ghost use Rattle.gp_syntax.specs.Views.{how_view, query_view, state_view};
+ghost use Rattle.gp_check.specs.Valid.{query_is_valid, tables_are_valid};
+ghost use Rattle.gp_log.specs.LogFacts.{tables_in};
+ghost use Rattle.gp_dump.specs.Views.{dump_view};
+ghost use Rattle.gp_ask.specs.Answerable.{IsAnswerable, has_few_items};
+ghost use Rattle.gp_ask.specs.Answers.{answer_to};
+ghost use Rattle.gp_ask.specs.Explained.{ExplainsQuestion};
+
+use crate::answered::Answered;
+use crate::deletion::remaining_answer;
+use crate::programs::program_answer;
+use crate::provenance::provenance_answer;
+use crate::queries::query_answer;
+use crate::values::value_answer;
+use gp_base::NoMemory;
+use gp_dump::Dump;
+use gp_syntax::{How, Query, State};
+use std::alloc::Global;
+
+/// Answers a query over a state.
+pub fn ask_answer(
+    alloc: Global,
+    dump: &Dump,
+    how: &How,
+    state: State,
+    query: &Query,
+) -> Result<Answered, NoMemory>
+    requires rules { IsAnswerable (dump_view dump.now) }
+    requires valid { tables_are_valid (tables_in (dump_view dump.now).entries) ≡ true }
+    requires query { query_is_valid (query_view query.now) ≡ true }
+    requires few { has_few_items (query_view query.now) ≡ true }
+    ensures answered { IfOk result (λ answered. answered ≡ answer_to (dump_view dump.now)
+        (y.ask (how_view how.now) (state_view state) (query_view query.now))) }
+    ensures explained { IfOk result (λ answered. ExplainsQuestion (dump_view dump.now).entries
+        (y.ask (how_view how.now) (state_view state) (query_view query.now))) }
+{
+    match how {
+        How::Rows => query_answer(alloc, dump, state, query),
+        How::Provenance => provenance_answer(alloc, dump, state, query),
+        How::Explain { prov } => program_answer(alloc, &dump.log, *prov, state, query),
+        How::Value {
+            semiring,
+            rules,
+            other,
+        } => value_answer(
+            alloc,
+            dump,
+            *semiring,
+            rules.as_slice(),
+            *other,
+            state,
+            query,
+        ),
+        How::Without { rules } => { remaining_answer(alloc, dump, rules.as_slice(), state, query) }
+    }
+}

@@ -1,0 +1,231 @@
+//! Questions about the history that there would be with a change of the log.
+
+ghost use Rattle.std.specs.Prelude.{◌≡◌, ◌<◌, ◌≤◌, Some, true, IfOk, length};
+ghost use Rattle.gp_base.specs.declared.refusal.Refusal.TheVariants.{E31};
+ghost use Rattle.gp_check.specs.Valid.{change_is_valid, query_is_valid, tables_are_valid};
+ghost use Rattle.gp_dump.specs.Dumps.{IsDump};
+ghost use Rattle.gp_dump.specs.Views.{dump_view};
+ghost use Rattle.gp_grammar.specs.Laws.{has_statement};
+ghost use Rattle.gp_grammar.specs.Syntax as y;
+ghost use Rattle.gp_log.specs.LogFacts.{tables_in};
+ghost use Rattle.gp_log.specs.Logs.{log_view};
+ghost use Rattle.gp_machine.specs.Entries.{committer_of, versions_in};
+ghost use Rattle.gp_machine.specs.Event.{name_at};
+ghost use Rattle.gp_syntax.specs.Views.{change_view, how_view, query_view, state_view};
+ghost use Rattle.gp_whatif.specs.Replays.{IsReplayable, Stops, stop_upto};
+ghost use Rattle.gp_ask.specs.Answerable.{has_few_items};
+ghost use Rattle.gp_ask.specs.Answers.{answer_to};
+ghost use Rattle.gp_ask.specs.Asking.{ask_to};
+ghost use Rattle.gp_ask.specs.Explained.{ExplainsQuestion};
+ghost use Rattle.gp_ask.specs.Hypothetical as h;
+ghost use Rattle.gp_ask.specs.Hypothetical.{replayed_dump};
+
+use crate::answered::Answered;
+use crate::asking::ask_answer;
+use crate::laws::changed_histories_answer_their_questions;
+use crate::programs::program_answer;
+use crate::queries::asked;
+use crate::values::rules_refusal;
+use gp_base::{Limit, NoMemory, Refusal, RowId, Sequence};
+use gp_check::CheckStop;
+use gp_dump::Dump;
+use gp_log::Log;
+use gp_machine::conflicts_are_least;
+use gp_syntax::{How, LogChange, Query, State};
+use gp_whatif::{ChangeStop, ReplayStop, changed_lines_rise, changed_logs_are_replayable, replay};
+use std::alloc::Global;
+
+// ---- refusals
+
+/// What refuses a question on a log, whatever the rows are: E20 to E23 if the log has no such state, then the check of the query, then
+/// E28 for the rules of VALUE IN.
+fn asking_refusal(
+    alloc: Global,
+    log: &Log,
+    how: &How,
+    state: State,
+    query: &Query,
+) -> Result<Option<Refusal>, NoMemory>
+    ensures { IfOk result (λ refusal. refusal ≡ h.asking_refusal (log_view log.now.entries)
+        (how_view how.now) (state_view state) (query_view query.now)) }
+{
+    match asked(alloc, log, state, query) {
+        Ok(_) => rules_refusal(alloc, how),
+        Err(CheckStop::Refused(refusal)) => Ok(Some(refusal)),
+        Err(CheckStop::NoMemory) => Err(NoMemory),
+    }
+}
+
+/// The transaction that made a version.
+fn maker(log: &Log, version: u32) -> u32
+    requires first { 0 < version }
+    requires within { version ≤ versions_in (log_view log.now.entries) }
+    ensures { result ≡ committer_of version (log_view log.now.entries) }
+{
+    match log.committer(version) {
+        Some(t) => t,
+        None => unreachable!(),
+    }
+}
+
+/// The refusal of a commit that would be lost to another one.
+fn lost(log: &Log, version: u32, other: u32, table: u32, id: RowId) -> Result<Refusal, NoMemory>
+    requires first { 0 < version }
+    requires within { version ≤ versions_in (log_view log.now.entries) }
+    requires other_first { 0 < other }
+    requires other_within { other ≤ versions_in (log_view log.now.entries) }
+    requires table { table < length (tables_in (log_view log.now.entries)) }
+    ensures { IfOk result (λ refusal. refusal
+        ≡ E31 (committer_of version (log_view log.now.entries))
+        (committer_of other (log_view log.now.entries))
+        (name_at table (tables_in (log_view log.now.entries))) id) }
+{
+    Ok(Refusal::E31 {
+        t: maker(log, version),
+        other: maker(log, other),
+        table: log.catalog().table(table).name.clone()?,
+        id,
+    })
+}
+
+/// The refusal of the first commit that cannot be made again.
+fn remaking_refusal(log: &Log, stop: ReplayStop) -> Result<Refusal, NoMemory>
+    requires replayable { IsReplayable (log_view log.now.entries) }
+    requires stops { Stops stop
+        (stop_upto (log_view log.now.entries) (versions_in (log_view log.now.entries))) }
+    ensures { IfOk result
+        (λ refusal. h.remaking_refusal (log_view log.now.entries) ≡ Some refusal) }
+{
+    // A commit is lost to a version of the log, for a row that it wrote. The call does nothing.
+    conflicts_are_least();
+    match stop {
+        ReplayStop::Lost {
+            version,
+            other,
+            table,
+            id,
+        } => lost(log, version, other, table, id),
+        ReplayStop::Rows { t, k } => Ok(Refusal::E25 { t, k }),
+        ReplayStop::Ancestry { t, k } => Ok(Refusal::E26 { t, k }),
+        ReplayStop::Full => Ok(Refusal::E14 {
+            limit: Limit::Versions,
+        }),
+        ReplayStop::NoMemory => Err(NoMemory),
+    }
+}
+
+// ---- answers
+
+/// The answer from the commits of a log, made again, unless one of them stops.
+fn replayed_answer(
+    alloc: Global,
+    log: Log,
+    how: &How,
+    state: State,
+    query: &Query,
+) -> Result<Answered, NoMemory>
+    requires replayable { IsReplayable (log_view log.entries) }
+    requires valid { tables_are_valid (tables_in (log_view log.entries)) ≡ true }
+    requires query { query_is_valid (query_view query.now) ≡ true }
+    requires few { has_few_items (query_view query.now) ≡ true }
+    ensures { IfOk result (λ answered. answered
+        ≡ h.unless_refused (h.remaking_refusal (log_view log.entries))
+        (ask_to (replayed_dump (log_view log.entries))
+        (how_view how.now) (state_view state) (query_view query.now))) }
+{
+    // The order of the row versions changes no answer. The call does nothing.
+    changed_histories_answer_their_questions();
+    match replay(alloc, &log) {
+        Ok(versions) => {
+            let versions = Sequence::from_vec(versions);
+            let dump = Dump { log, versions };
+            ask_answer(alloc, &dump, how, state, query)
+        }
+        Err(stop) => Ok(Answered::Refused(remaking_refusal(&log, stop)?)),
+    }
+}
+
+/// The same, unless the question is refused before anything is run.
+fn remade_rows(
+    alloc: Global,
+    log: Log,
+    how: &How,
+    state: State,
+    query: &Query,
+) -> Result<Answered, NoMemory>
+    requires replayable { IsReplayable (log_view log.entries) }
+    requires valid { tables_are_valid (tables_in (log_view log.entries)) ≡ true }
+    requires query { query_is_valid (query_view query.now) ≡ true }
+    requires few { has_few_items (query_view query.now) ≡ true }
+    ensures { IfOk result (λ answered. answered
+        ≡ h.unless_refused (h.asking_refusal (log_view log.entries)
+        (how_view how.now) (state_view state) (query_view query.now))
+        (h.unless_refused (h.remaking_refusal (log_view log.entries))
+        (ask_to (replayed_dump (log_view log.entries))
+        (how_view how.now) (state_view state) (query_view query.now)))) }
+{
+    match asking_refusal(alloc, &log, how, state, query)? {
+        Some(refusal) => Ok(Answered::Refused(refusal)),
+        None => replayed_answer(alloc, log, how, state, query),
+    }
+}
+
+/// The answer to a question about a log whose commits are made again. EXPLAIN runs nothing, so it needs the log alone.
+fn remade_answer(
+    alloc: Global,
+    log: Log,
+    how: &How,
+    state: State,
+    query: &Query,
+) -> Result<Answered, NoMemory>
+    requires replayable { IsReplayable (log_view log.entries) }
+    requires valid { tables_are_valid (tables_in (log_view log.entries)) ≡ true }
+    requires query { query_is_valid (query_view query.now) ≡ true }
+    requires few { has_few_items (query_view query.now) ≡ true }
+    ensures answered { IfOk result (λ answered. answered
+        ≡ h.remade_answer (ask_to (replayed_dump (log_view log.entries))) (log_view log.entries)
+        (how_view how.now) (state_view state) (query_view query.now)) }
+    ensures explained { IfOk result (λ answered. ExplainsQuestion (log_view log.entries)
+        (y.ask (how_view how.now) (state_view state) (query_view query.now))) }
+{
+    match how {
+        How::Explain { prov } => program_answer(alloc, &log, *prov, state, query),
+        _ => remade_rows(alloc, log, how, state, query),
+    }
+}
+
+/// The answer to a query over a state of the history that there would be with a change of the log: its commits are made again, from
+/// nothing, and its rows, their provenance and their values are those of that history.
+///
+/// The change is refused first (E20 to E22, E14, or the check of its statement), then the question on the changed log (E20 to E23, the check
+/// of its query, and E28), then the first commit that cannot be made again: E25, E26, E31 if it would be lost, or E14 if there would be too
+/// many row versions. E27 comes last. EXPLAIN runs nothing, so no commit stops it.
+pub fn what_if_answer(
+    alloc: Global,
+    dump: &Dump,
+    change: &LogChange,
+    how: &How,
+    state: State,
+    query: &Query,
+) -> Result<Answered, NoMemory>
+    requires rules { IsDump (dump_view dump.now) }
+    requires valid { tables_are_valid (tables_in (dump_view dump.now).entries) ≡ true }
+    requires statement { has_statement (change_view change.now) ≡ true }
+    requires change { change_is_valid (change_view change.now) ≡ true }
+    requires query { query_is_valid (query_view query.now) ≡ true }
+    requires few { has_few_items (query_view query.now) ≡ true }
+    ensures answered { IfOk result (λ answered. answered ≡ answer_to (dump_view dump.now) (y.what_if
+        (change_view change.now) (how_view how.now) (state_view state) (query_view query.now))) }
+    ensures explained { IfOk result (λ answered. ExplainsQuestion (dump_view dump.now).entries
+        (y.what_if (change_view change.now) (how_view how.now) (state_view state)
+        (query_view query.now))) }
+{
+    // The lines of a log can be doubled, and a changed log has its tables. The calls do nothing.
+    changed_lines_rise();
+    changed_logs_are_replayable();
+    match gp_whatif::change(alloc, &dump.log, change) {
+        Ok(log) => remade_answer(alloc, log, how, state, query),
+        Err(ChangeStop::Refused(refusal)) => Ok(Answered::Refused(refusal)),
+        Err(ChangeStop::NoMemory) => Err(NoMemory),
+    }
+}
