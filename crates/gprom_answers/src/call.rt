@@ -110,7 +110,7 @@ pub(crate) fn plays(alloc: Global, asked: &Asked) -> Result<bool, AllocError> {
     answers(alloc, &dump, transcript, *status)
 }
 
-/// The status and the output of one question about the rows of a query.
+/// The status and the output of one question, which is in two parts.
 fn asked_once(
     alloc: Global,
     dump: &[u8],
@@ -128,4 +128,17 @@ pub(crate) fn are_alike(alloc: Global, script: &[u8], query: &[u8]) -> Result<bo
     let (listed, list) = asked_once(alloc, &dump, b"PROVENANCE OF ", query)?;
     let (summed, sum) = asked_once(alloc, &dump, b"VALUE IN POLY OF ", query)?;
     Ok(listed == 0 && summed == 0 && list.bytes() == sum.bytes())
+}
+
+/// Whether the answer to a question about the dump of a script is the same behind a change, which ends before the question.
+pub(crate) fn keeps_answer(
+    alloc: Global,
+    script: &[u8],
+    change: &[u8],
+    question: &[u8],
+) -> Result<bool, AllocError> {
+    let dump = dump_of(alloc, script)?;
+    let (status, answer) = asked_once(alloc, &dump, b"", question)?;
+    let (changed, other) = asked_once(alloc, &dump, change, question)?;
+    Ok(status == changed && answer.bytes() == other.bytes())
 }

@@ -65,3 +65,39 @@ pub(crate) fn exploding_dump(alloc: Global) -> Result<Vec<u8>, AllocError> {
     )?;
     Ok(dump)
 }
+
+/// The commits of nine transactions, each of which writes every row of r.
+const UPDATES: &[u8] =
+    b"7 s1 BEGIN\n8 s1 UPDATE r SET a = a\n9 s1 COMMIT\n10 s1 BEGIN\n11 s1 UPDATE r SET a = a\n12 s1 COMMIT\n13 s1 BEGIN\n14 s1 UPDATE r SET a = a\n15 s1 COMMIT\n16 s1 BEGIN\n17 s1 UPDATE r SET a = a\n18 s1 COMMIT\n19 s1 BEGIN\n20 s1 UPDATE r SET a = a\n21 s1 COMMIT\n22 s1 BEGIN\n23 s1 UPDATE r SET a = a\n24 s1 COMMIT\n25 s1 BEGIN\n26 s1 UPDATE r SET a = a\n27 s1 COMMIT\n28 s1 BEGIN\n29 s1 UPDATE r SET a = a\n30 s1 COMMIT\n31 s1 BEGIN\n32 s1 UPDATE r SET a = a\n33 s1 COMMIT\n";
+
+/// A dump whose ten commits would publish 100,100 rows if they ran: 100 in n and 10,000 in r, and then those of r nine times.
+pub(crate) fn publishing_dump(alloc: Global) -> Result<Vec<u8>, AllocError> {
+    let mut dump = Vec::from_slice(
+        alloc,
+        b"gprom-dump 1\nlog 33\n1 s1 CREATE TABLE n (a INT)\n2 s1 CREATE TABLE r (a INT)\n3 s1 BEGIN\n",
+    )?;
+    push_numbers(alloc, b"4 s1 INSERT INTO n VALUES ", 1, 100, &mut dump)?;
+    dump.extend_from_slice(b"5 s1 INSERT INTO r SELECT x.a FROM n x, n y\n6 s1 COMMIT\n")?;
+    dump.extend_from_slice(UPDATES)?;
+    dump.extend_from_slice(b"table n 0\ntable r 0\nend\n")?;
+    Ok(dump)
+}
+
+/// Appends a log line that reads all rows.
+fn push_select(alloc: Global, line: u32, dump: &mut Vec<u8>) -> Result<(), AllocError> {
+    dump.extend_from_slice(format!(in alloc; "{line} s1 SELECT * FROM r\n")?.as_bytes())?;
+    Ok(())
+}
+
+/// A dump of one transaction, which has as many statements as a transaction may have.
+pub(crate) fn long_transaction_dump(alloc: Global) -> Result<Vec<u8>, AllocError> {
+    let mut dump = Vec::from_slice(
+        alloc,
+        b"gprom-dump 1\nlog 259\n1 s1 CREATE TABLE r (a INT)\n2 s1 BEGIN\n",
+    )?;
+    for line in 3..259 {
+        push_select(alloc, line, &mut dump)?;
+    }
+    dump.extend_from_slice(b"259 s1 COMMIT\ntable r 0\nend\n")?;
+    Ok(dump)
+}

@@ -11,7 +11,8 @@
 //!
 //! Reading order: `call.rt` (calls and transcripts), `scripts.rt` and `large.rt` (the scripts that are asked about), `explaining.rt`
 //! (explained queries), `spelling.rt` (their texts, read again), `backend.rt` and `deciding.rt` (rows over another backend),
-//! `provenance.rt` (monomials), `valuing.rt` (values in semirings), `deletion.rt` (what remains without some rows, and witnesses).
+//! `provenance.rt` (monomials), `valuing.rt` (values in semirings), `deletion.rt` (what remains without some rows, and witnesses),
+//! `what_if.rt` (histories that would have been).
 #![tactic(auto)]
 
 mod backend;
@@ -33,5 +34,7 @@ mod scripts;
 mod spelling;
 #[cfg(test)]
 mod valuing;
+#[cfg(test)]
+mod what_if;
 
 pub use backend::{Fixed, fixed_answer};

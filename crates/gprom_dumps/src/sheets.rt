@@ -274,6 +274,13 @@ const EXPORTS: &[(&[u8], &[u8], u8, &[u8])] = &[
         1,
         b"line,refusal\n1,E30 not exported\nline,refusal\n2,E30 not exported\nline,refusal\n3,E30 not exported\nline,refusal\n4,E03 syntax fault at column 12\nline,refusal\n5,E30 not exported\nline,refusal\n6,E30 not exported\nline,refusal\n7,E30 not exported\nline,refusal\n8,E20 no transaction 9\nline,refusal\n9,E30 not exported\nline,refusal\n10,E30 not exported\n",
     ),
+    // Nor are questions about what would have been.
+    (
+        SCRIPT,
+        b"WHATIF DROP 1 1 OF AS OF 1 SELECT * FROM people\nWHATIF REPLACE 9 1 BY (DELETE FROM nobody) OF REENACT 1 COMMIT SELECT * FROM people\nWHATIF DROP 1 OF AS OF 1 SELECT * FROM people\nAS OF 1 SELECT id FROM people WHERE id = 1\n",
+        1,
+        b"line,refusal\n1,E30 not exported\nline,refusal\n2,E30 not exported\nline,refusal\n3,E03 syntax fault at column 15\nline,c1\n4,1\n",
+    ),
 ];
 
 #[test]
