@@ -8,6 +8,7 @@ use Rattle.gp_expr.specs.Views.{expr_view, parts_of}
 use Rattle.gp_algebra.specs.declared.plain.PStep.{PStep}
 use Rattle.gp_algebra.specs.PlainViews.{query_view, step_view}
 use Rattle.gp_algebra.specs.WellBuilt.{makes_no_identity, parts_make_no_identity, is_among, is_above, step_is_built, steps_are_built, numbers_after}
+use Rattle.gp_base.proofs.SmallLemmas.{and_nothing, or_nothing}
 
 or_moved : (a b c : Bool) → (a || (b || c)) ≡ ((b || a) || c)
 or_moved true true c = refl
@@ -24,14 +25,6 @@ and_moved false false c = refl
 and_grouped : (a b c : Bool) → (a && (b && c)) ≡ ((a && b) && c)
 and_grouped true b c = refl
 and_grouped false b c = refl
-
-or_nothing : (a : Bool) → (a || false) ≡ a
-or_nothing true = refl
-or_nothing false = refl
-
-and_nothing : (a : Bool) → (a && true) ≡ a
-and_nothing true = refl
-and_nothing false = refl
 
 any_number : (f : ℕ → Bool) (earlier : List ℕ) (steps : List PStep) → list_any f (numbers_after earlier (map step_view steps)) ≡ (list_any (λ (s : PStep). f s.j) steps || list_any f earlier)
 any_number f earlier [] = refl

@@ -1,8 +1,6 @@
-pub mod Bags
 pub mod BuiltLemmas
 pub mod Erasure
-pub mod Lists
-pub mod Permutations
+pub mod FittingMore
 pub mod PlainBags
 pub mod QuerySizes
 pub mod ScanLemmas

@@ -4,16 +4,18 @@ use Rattle.std.specs.Prelude.{◌||◌, ◌&&◌, not, nat_lt, ◌==◌, Contain
 use Rattle.std.specs.List.{filter, list_any}
 use Rattle.std.proofs.lemmas.List.Elements.{filter_agree, Contains-append_left, Contains-append_right}
 use Rattle.gp_base.specs.declared.cell.Cell.{Cell}
-use Rattle.gp_expr.specs.Values.{column, passes, is_large}
+use Rattle.gp_expr.specs.Values.{column, passes}
+use Rattle.gp_expr.specs.LargeValues.{is_large}
 use Rattle.gp_algebra.specs.declared.plain.ScanAt.{ScanAt}
 use Rattle.gp_algebra.specs.Answers.{values}
 use Rattle.gp_algebra.specs.Plain as p
 use Rattle.gp_algebra.specs.Plain.{Plain, PlainStep, PlainProgram, PlainEnvironment, StepRows, no_steps, with_step, is_same_id, is_marked, has_id, is_written, published, meaning, steps_meaning, program_meaning}
-use Rattle.gp_algebra.specs.Stops.{Stop, is_insert, first_stop, stop_at, steps_stop, program_stop}
+use Rattle.gp_algebra.specs.Stops.{Stop, first_stop, stop_at, steps_stop, program_stop}
+use Rattle.gp_algebra.specs.Plain.{is_insert}
 use Rattle.gp_algebra.specs.Stops as stops
 use Rattle.gp_algebra.specs.Scans.{query_scans, steps_scans, program_scans}
 use Rattle.gp_algebra.proofs.ScanLemmas.{own_scan}
-use Rattle.gp_algebra.proofs.Bags.{SameBag, none, through, same, same_from, joined, mapped, filtered, flat_mapped, flat_mapped_each, as_long, any_same}
+use Rattle.gp_base.proofs.Bags.{SameBag, none, through, same, same_from, joined, mapped, filtered, flat_mapped, flat_mapped_each, as_long, any_same}
 
 is_written_same : (at : ℕ) (b c m n : List (List Cell)) → SameBag b c → SameBag m n → (id : Cell) → is_written at b m id ≡ is_written at c n id
 is_written_same at b c m n s u id =

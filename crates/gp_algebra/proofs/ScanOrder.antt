@@ -1,12 +1,11 @@
 -- The order of scans is total, with ties between equal scans only; the scans that the code finds are those of the program.
-use Rattle.std.proofs.Common.{◌≡◌, ℕ, Bool, true, ◌++◌, refl, sym, ap, ◌∙◌, subst, arith}
+use Rattle.std.proofs.Common.{◌≡◌, Bool, true, ◌++◌, refl, sym, ap, ◌∙◌, subst}
 use Rattle.std.specs.Prelude.{◌&&◌, ◌==◌}
 use Rattle.std.specs.List.{flat_map}
 use Rattle.std.specs.Ordering.{nat_cmp, eq_by_cmp, is_eq, ordering_then}
 use Rattle.std.specs.Cmp.{IsTotalOrder, IsEquivalence, on_total, then_total, nat_cmp_total, eq_by_cmp_equiv, unsigned_ties, first_so, second_so}
 use Rattle.std.specs.declared.cmp.Ordering.{Ordering}
 use Rattle.std.specs.declared.cmp.Ordering.TheVariants.{Less, Equal, Greater}
-use Rattle.std.proofs.lemmas.Bool.Decides.{nat_tests}
 use Rattle.gp_algebra.specs.declared.plain.ScanAt.{ScanAt}
 use Rattle.gp_algebra.specs.declared.plain.PProgram.{PProgram}
 use Rattle.gp_algebra.specs.PlainViews.{query_view, step_view, program_view}
@@ -14,7 +13,8 @@ use Rattle.gp_algebra.specs.declared.annotated.AProgram.{AProgram}
 use Rattle.gp_algebra.specs.AnnotatedQueries.{QueryStep}
 use Rattle.gp_algebra.specs.QueryViews.{annotated_view, annotated_step_view, annotated_program_view}
 use Rattle.gp_algebra.specs.Scans.{scan_cmp, query_scans, program_scans, annotated_query_scans, annotated_program_scans}
-use Rattle.gp_algebra.proofs.Lists.{flat_map-map}
+use Rattle.std.proofs.lemmas.Bool.{eqb-true}
+use Rattle.gp_base.proofs.SmallLemmas.{flat_map-map}
 
 pub scan_cmp_total : IsTotalOrder scan_cmp
 scan_cmp_total = then_total (on_total (λ (scan : ScanAt). scan.table) nat_cmp_total) (on_total (λ (scan : ScanAt). scan.version) nat_cmp_total)
@@ -34,13 +34,10 @@ scan_ties one other =
 pub same_scan_equivalence : IsEquivalence same_scan
 same_scan_equivalence = subst IsEquivalence (λ i one other. sym (scan_ties one other) i) (eq_by_cmp_equiv scan_cmp_total)
 
-same_number : (m n : ℕ) → (m == n) ≡ true → m ≡ n
-same_number m n e = grind (arith, nat_tests)
-
 pub same_scan-exact : (one other : ScanAt) → same_scan one other ≡ true → one ≡ other
 same_scan-exact one other e =
-    let t : one.table ≡ other.table = same_number one.table other.table (first_so (one.table == other.table) (one.version == other.version) e) in
-    let v : one.version ≡ other.version = same_number one.version other.version (second_so (one.table == other.table) (one.version == other.version) e) in
+    let t : one.table ≡ other.table = eqb-true one.table other.table (first_so (one.table == other.table) (one.version == other.version) e) in
+    let v : one.version ≡ other.version = eqb-true one.version other.version (second_so (one.table == other.table) (one.version == other.version) e) in
     λ i. record { table = t i; version = v i }
 
 -- the scans of a program of the code

@@ -1,31 +1,19 @@
 -- A query that fits a catalogue is simple.
-use Rattle.std.proofs.Common.{◌≡◌, ℕ, suc, Bool, true, false, List, [], ◌∷◌, length, map, refl, ap}
+use Rattle.std.proofs.Common.{◌≡◌, ℕ, Bool, true, List, [], ◌∷◌, length, map, refl, ap}
 use Rattle.std.specs.Prelude.{◌&&◌, ◌^◌, ◌==◌, nat_lt, Option, Some, None}
 use Rattle.std.specs.List.{list_all}
-use Rattle.std.proofs.lemmas.Bool.{false≢true}
+use Rattle.std.proofs.lemmas.Bool.{and_from}
 use Rattle.gp_base.specs.declared.table.Table.{Table}
-use Rattle.gp_base.specs.Cells.{is_user_cell}
-use Rattle.gp_expr.specs.Expressions.{Expr, Cond, is_simple, cond_is_simple, all_leaves, cond_all_leaves}
+use Rattle.gp_base.specs.UserCells.{is_user_cell}
+use Rattle.gp_expr.specs.Expressions.{Expr, Cond}
+use Rattle.gp_expr.specs.ExpressionForms.{is_simple, cond_is_simple, all_leaves, cond_all_leaves}
 use Rattle.gp_algebra.specs.Statements.{Branch, Select, insert_select}
-use Rattle.gp_algebra.specs.Fitting.{is_countable, is_there, is_column, joined_width, width_of, expr_fits, optional_cond_fits, branch_fits, branches_fit, select_width, select_fits, statement_fits}
+use Rattle.gp_algebra.specs.Fitting.{is_countable, is_there, is_column, joined_width, expr_fits, optional_cond_fits, branch_fits, branches_fit, select_width, select_fits, statement_fits}
+use Rattle.gp_algebra.specs.Statements.{width_of}
 use Rattle.gp_algebra.specs.Simple.{where_is_simple, branch_is_simple, select_is_simple}
-
-left_true : (a b : Bool) → (a && b) ≡ true → a ≡ true
-left_true true b e = refl
-left_true false b e = e
-
-right_true : (a b : Bool) → (a && b) ≡ true → b ≡ true
-right_true true b e = e
-right_true false b e = absurd (false≢true e)
-
-both_true : (a b : Bool) → a ≡ true → b ≡ true → (a && b) ≡ true
-both_true true b e f = f
-both_true false b e f = e
+use Rattle.gp_base.proofs.SmallLemmas.{all_weaker, left_true, length-map, right_true}
 
 -- a weaker test of each item
-all_weaker : {T : Type 0} (p q : T → Bool) → ((x : T) → p x ≡ true → q x ≡ true) → (xs : List T) → list_all p xs ≡ true → list_all q xs ≡ true
-all_weaker p q weaker [] e = refl
-all_weaker p q weaker (x ∷ xs) e = both_true (q x) (list_all q xs) (weaker x (left_true (p x) (list_all p xs) e)) (all_weaker p q weaker xs (right_true (p x) (list_all p xs) e))
 
 expr-simple : (width : ℕ) (e : Expr) → expr_fits width e ≡ true → is_simple e ≡ true
 expr-simple width e fits = left_true (is_simple e) (all_leaves (is_column width) is_user_cell e) fits
@@ -44,14 +32,14 @@ branch-simple tables width branch fits =
     let there : Bool = list_all (is_there tables) branch.from && some in
     let ends : last ≡ true =
     right_true (length branch.items == width) last (right_true (nat_lt 0 (length branch.items)) same (right_true (list_all (is_there tables) branch.from) some (right_true (nat_lt 0 (length branch.from)) there fits))) in
-    both_true (list_all is_simple branch.items) (where_is_simple branch.cond)
+    and_from (list_all is_simple branch.items) (where_is_simple branch.cond)
     (all_weaker (expr_fits inner) is_simple (expr-simple inner) branch.items (left_true items (optional_cond_fits inner branch.cond) ends))
     (where-simple inner branch.cond (right_true items (optional_cond_fits inner branch.cond) ends))
 
 branches-simple : (tables : List Table) (width : ℕ) (select : Select) → branches_fit tables width select ≡ true → select_is_simple select ≡ true
 branches-simple tables width select fits =
     let counted : is_countable select ≡ true = left_true (is_countable select) (list_all (branch_fits tables width) select) fits in
-    both_true (nat_lt (length select) (2 ^ 32)) (list_all branch_is_simple select)
+    and_from (nat_lt (length select) (2 ^ 32)) (list_all branch_is_simple select)
     (right_true (nat_lt 0 (length select)) (nat_lt (length select) (2 ^ 32)) counted)
     (all_weaker (branch_fits tables width) branch_is_simple (branch-simple tables width) select (right_true (is_countable select) (list_all (branch_fits tables width) select) fits))
 
@@ -69,8 +57,4 @@ pub all-map : {X Y : Type 0} (test : Y → Bool) (view : X → Y) (xs : List X) 
 all-map test view [] = refl
 all-map test view (x ∷ xs) = ap (λ b. test (view x) && b) (all-map test view xs)
 
-pub length-views : {X Y : Type 0} (view : X → Y) (xs : List X) → length (map view xs) ≡ length xs
-length-views view [] = refl
-length-views view (x ∷ xs) = ap suc (length-views view xs)
-
-pub ruleset tests = (all-map, length-views)
+pub ruleset tests = (all-map, length-map)

@@ -1,20 +1,16 @@
 -- Part of the statement: when a statement or a query fits the tables of a catalogue.
-use Rattle.std.specs.Prelude.{ℕ, ◌+◌, ◌^◌, nat_le, nat_lt, ◌==◌, Bool, true, ◌&&◌, List, [], ◌∷◌, length, Option, Some, None, slice_get}
+use Rattle.std.specs.Prelude.{ℕ, ◌+◌, ◌^◌, nat_le, nat_lt, ◌==◌, Bool, true, ◌&&◌, List, [], ◌∷◌, length, Option, Some, None}
 use Rattle.std.specs.List.{list_all}
-use Rattle.std.specs.Option.{option_map_or}
 use Rattle.gp_base.specs.declared.cell.Cell.{Cell}
 use Rattle.gp_base.specs.declared.table.Table.{Table}
-use Rattle.gp_base.specs.Cells.{is_user_cell}
-use Rattle.gp_expr.specs.Expressions.{Expr, Cond, is_simple, cond_is_simple, all_leaves, cond_all_leaves}
-use Rattle.gp_algebra.specs.Statements.{SetExpr, Branch, Select, Statement, insert, insert_select, update, delete, read}
+use Rattle.gp_base.specs.UserCells.{is_user_cell}
+use Rattle.gp_expr.specs.Expressions.{Expr, Cond}
+use Rattle.gp_expr.specs.ExpressionForms.{is_simple, cond_is_simple, all_leaves, cond_all_leaves}
+use Rattle.gp_algebra.specs.Statements.{SetExpr, Branch, Select, Statement, insert, insert_select, update, delete, read, width_of}
 
 -- one or more, and few enough to be numbered by 32 bits
 abbrev pub is_countable : {A : Type 0} → List A → Bool
 is_countable list = nat_lt 0 (length list) && nat_lt (length list) (2 ^ 32)
-
--- the number of columns of a table, or 0 if it is not there
-abbrev pub width_of : List Table → ℕ → ℕ
-width_of tables place = option_map_or (λ (table : Table). length table.cols) (slice_get tables place) 0
 
 -- the number of columns of some tables side by side
 abbrev pub joined_width : List Table → List ℕ → ℕ

@@ -1,6 +1,7 @@
 pub mod AnnotatedQueries
 pub mod Answers
 pub mod Effects
+pub mod Encoding
 pub mod Fitting
 pub mod Plain
 pub mod PlainViews
@@ -14,3 +15,4 @@ pub mod Statements
 pub mod Stops
 pub mod Views
 pub mod WellBuilt
+pub mod AnnotatedMeaning

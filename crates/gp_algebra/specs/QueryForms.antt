@@ -1,11 +1,11 @@
 -- Part of the statement: the forms of well-built programs of the annotated algebra. They are those of rewritten statements: the contents of a table, joins
 -- of tables, and the rows that an INSERT appends. A program's steps rise, and each reads earlier ones only.
-use Rattle.std.specs.Prelude.{◌≡◌, ℕ, ◌<◌, ◌==◌, ◌^◌, nat_lt, Bool, true, ◌&&◌, List, [], ◌∷◌, length, Option, Some, None, if◌then◌else◌}
+use Rattle.std.specs.Prelude.{◌≡◌, ℕ, ◌<◌, ◌^◌, nat_lt, Bool, true, ◌&&◌, List, [], ◌∷◌, length, Option, Some, None}
 use Rattle.std.specs.List.{list_all}
 use Rattle.gp_base.specs.declared.cell.Cell.{Cell}
-use Rattle.gp_expr.specs.Expressions.{is_simple, cond_is_simple}
+use Rattle.gp_expr.specs.ExpressionForms.{is_simple, cond_is_simple}
 use Rattle.gp_algebra.specs.WellBuilt.{is_among}
-use Rattle.gp_algebra.specs.AnnotatedQueries.{Change, Query, scan, step, select, project, product, union, given, new_rows, publish, QueryStep, Program}
+use Rattle.gp_algebra.specs.AnnotatedQueries.{Change, Query, scan, step, select, project, product, union, given, new_rows, publish, QueryStep, Program, step_table}
 
 -- ---- forms, given the number of columns of each table and the table of each step
 
@@ -81,11 +81,6 @@ is_sound (new_rows t k b query) = is_sound query && (nat_lt 0 t && (nat_lt 0 k &
 is_sound (publish base mine later) = is_sound base && (is_sound mine && is_sound later)
 
 -- ---- programs
-
--- the table of the step with this number
-abbrev pub step_table : List QueryStep → ℕ → ℕ
-step_table [] j = 0
-step_table (first ∷ others) j = if first.j == j then first.table else step_table others j
 
 abbrev pub AreAfter : ℕ → List QueryStep → Type 0
 AreAfter n [] = Unit {0}

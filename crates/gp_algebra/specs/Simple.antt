@@ -1,7 +1,8 @@
 -- Part of the statement: queries that compute neither identities nor provenance, as every query of a user.
 use Rattle.std.specs.Prelude.{◌^◌, nat_lt, Bool, true, ◌&&◌, length, Option, Some, None}
 use Rattle.std.specs.List.{list_all}
-use Rattle.gp_expr.specs.Expressions.{Cond, is_simple, cond_is_simple}
+use Rattle.gp_expr.specs.Expressions.{Cond}
+use Rattle.gp_expr.specs.ExpressionForms.{is_simple, cond_is_simple}
 use Rattle.gp_algebra.specs.Statements.{Branch, Select}
 
 abbrev pub where_is_simple : Option Cond → Bool

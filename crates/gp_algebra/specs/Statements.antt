@@ -1,7 +1,10 @@
--- Part of the statement: statements and queries, as data. The types of the code are these with boxes in their expressions.
-use Rattle.std.specs.Prelude.{ℕ, List, Option}
+-- Part of the statement: statements and queries, as data, their targets, and the widths of tables. The types of the code are these with boxes in their
+-- expressions.
+use Rattle.std.specs.Prelude.{ℕ, List, Option, None, Some, length, slice_get}
 use Rattle.gp_base.specs.declared.cell.Cell.{Cell}
 use Rattle.gp_expr.specs.Expressions.{Expr, Cond}
+use Rattle.std.specs.Option.{option_map_or}
+use Rattle.gp_base.specs.declared.table.Table.{Table}
 
 -- an assignment to a column, which count from 1
 pub record SetExpr : Type 0 where
@@ -25,3 +28,15 @@ pub data Statement : Type 0 where
   update : ℕ → List SetExpr → Cond → Statement
   delete : ℕ → Cond → Statement
   read : Select → Statement
+
+-- the table that a statement writes; a query writes none
+abbrev pub target : Statement → Option ℕ
+target (insert table rows) = Some table
+target (insert_select table select) = Some table
+target (update table sets c) = Some table
+target (delete table c) = Some table
+target (read select) = None
+
+-- the number of columns of a table, or 0 if it is not there
+abbrev pub width_of : List Table → ℕ → ℕ
+width_of tables place = option_map_or (λ (table : Table). length table.cols) (slice_get tables place) 0

@@ -3,7 +3,8 @@
 use Rattle.std.specs.Prelude.{ℕ, nat_lt, ◌==◌, Bool, true, false, ◌&&◌, List, [], ◌∷◌}
 use Rattle.std.specs.List.{list_all, list_any}
 use Rattle.gp_expr.specs.Expressions as e
-use Rattle.gp_expr.specs.Expressions.{Expr, Parts, cond_is_simple}
+use Rattle.gp_expr.specs.Expressions.{Expr, Parts}
+use Rattle.gp_expr.specs.ExpressionForms.{cond_is_simple}
 use Rattle.gp_algebra.specs.Plain.{Plain, scan, step, select, project, product, union, given, publish, PlainStep, PlainProgram}
 
 -- provenance is multiplied, and no identity is made

@@ -18,26 +18,26 @@ ghost use Rattle.gp_algebra.specs.Stops.{program_stop};
 
 /// Databases with the same rows, in any order, give answers with the same elements, in any order.
 pub fn answers_respect_bags<M>()
-    ensures answers { (kind : Annotations M) (select : Select) (db other : Database M)
+    ensures answers { (domain : Annotations M) (select : Select) (db other : Database M)
         → HaveSameRows db other
-        → IsPermutation (answer kind select db) (answer kind select other) }
+        → IsPermutation (answer domain select db) (answer domain select other) }
 {}
 
 /// On databases with the same rows, in any order, a statement leaves the same rows, writes the same rows, and is over the
 /// same limits.
 pub fn statements_respect_bags<M>()
-    ensures effects { (kind : Annotations M) (t k : ℕ) (statement : Statement)
+    ensures effects { (domain : Annotations M) (t k : ℕ) (statement : Statement)
         (db other : Database M) → HaveSameRows db other
-        → HaveSameRows (step kind t k statement db) (step kind t k statement other) }
-    ensures written { (kind : Annotations M) (t k : ℕ) (statement : Statement)
+        → HaveSameRows (step domain t k statement db) (step domain t k statement other) }
+    ensures written { (domain : Annotations M) (t k : ℕ) (statement : Statement)
         (db other : Database M) → HaveSameRows db other
-        → IsPermutation (wrote kind t k statement db) (wrote kind t k statement other) }
-    ensures rows { (kind : Annotations M) (most t k : ℕ) (statement : Statement)
+        → IsPermutation (wrote domain t k statement db) (wrote domain t k statement other) }
+    ensures rows { (domain : Annotations M) (most t k : ℕ) (statement : Statement)
         (db other : Database M) → HaveSameRows db other
-        → is_over_rows kind most t k statement db ≡ is_over_rows kind most t k statement other }
-    ensures nodes { (kind : Annotations M) (most t k : ℕ) (statement : Statement)
+        → is_over_rows domain most t k statement db ≡ is_over_rows domain most t k statement other }
+    ensures nodes { (domain : Annotations M) (most t k : ℕ) (statement : Statement)
         (db other : Database M) → HaveSameRows db other
-        → is_over_nodes kind most t k statement db ≡ is_over_nodes kind most t k statement other }
+        → is_over_nodes domain most t k statement db ≡ is_over_nodes domain most t k statement other }
 {}
 
 /// Annotations decide nothing: a homomorphism of annotations commutes with answers and with statements, row by row in the
@@ -45,29 +45,29 @@ pub fn statements_respect_bags<M>()
 /// over depend on annotations. Forgetting annotations is a homomorphism. Products of monomials need no order and no
 /// brackets: they are a commutative monoid, by [`gp_base::monomials_are_a_commutative_monoid`].
 pub fn annotations_commute<M, N>()
-    ensures answers { (kind : Annotations M) (other : Annotations N) (h : M → N)
-        → IsHomomorphism kind other h → (select : Select) (db : Database M)
+    ensures answers { (domain : Annotations M) (other : Annotations N) (h : M → N)
+        → IsHomomorphism domain other h → (select : Select) (db : Database M)
         → answer other select (database_reannotated h db)
-        ≡ map (element_reannotated h) (answer kind select db) }
-    ensures effects { (kind : Annotations M) (other : Annotations N) (h : M → N)
-        → IsHomomorphism kind other h
+        ≡ map (element_reannotated h) (answer domain select db) }
+    ensures effects { (domain : Annotations M) (other : Annotations N) (h : M → N)
+        → IsHomomorphism domain other h
         → (t k : ℕ) (statement : Statement) (db : Database M) (table : ℕ)
         → step other t k statement (database_reannotated h db) table
-        ≡ map (reannotated h) (step kind t k statement db table) }
-    ensures written { (kind : Annotations M) (other : Annotations N) (h : M → N)
-        → IsHomomorphism kind other h → (t k : ℕ) (statement : Statement) (db : Database M)
-        → wrote other t k statement (database_reannotated h db) ≡ wrote kind t k statement db }
-    ensures rows { (kind : Annotations M) (other : Annotations N) (h : M → N)
-        → IsHomomorphism kind other h
+        ≡ map (reannotated h) (step domain t k statement db table) }
+    ensures written { (domain : Annotations M) (other : Annotations N) (h : M → N)
+        → IsHomomorphism domain other h → (t k : ℕ) (statement : Statement) (db : Database M)
+        → wrote other t k statement (database_reannotated h db) ≡ wrote domain t k statement db }
+    ensures rows { (domain : Annotations M) (other : Annotations N) (h : M → N)
+        → IsHomomorphism domain other h
         → (most t k : ℕ) (statement : Statement) (db : Database M)
         → is_over_rows other most t k statement (database_reannotated h db)
-        ≡ is_over_rows kind most t k statement db }
-    ensures nodes { (kind : Annotations M) (other : Annotations N) (h : M → N)
-        → IsHomomorphism kind other h
+        ≡ is_over_rows domain most t k statement db }
+    ensures nodes { (domain : Annotations M) (other : Annotations N) (h : M → N)
+        → IsHomomorphism domain other h
         → (most t k : ℕ) (statement : Statement) (db : Database M)
         → is_over_nodes other most t k statement (database_reannotated h db)
-        ≡ is_over_nodes kind most t k statement db }
-    ensures forgetting { (kind : Annotations M) → IsHomomorphism kind plain forgotten }
+        ≡ is_over_nodes domain most t k statement db }
+    ensures forgetting { (domain : Annotations M) → IsHomomorphism domain plain forgotten }
 {}
 
 /// The rows of a plain program and where it stops depend on the tables and versions that it scans, and on nothing else.

@@ -5,7 +5,7 @@ ghost use Rattle.std.specs.List.{list_all};
 ghost use Rattle.std.specs.Option.{option_map};
 ghost use Rattle.gp_algebra.specs.Simple as s;
 ghost use Rattle.gp_algebra.specs.Views.{branch_view, select_view};
-ghost use Rattle.gp_expr.specs.Expressions.{is_simple};
+ghost use Rattle.gp_expr.specs.ExpressionForms.{is_simple};
 ghost use Rattle.gp_expr.specs.Views.{cond_view, expr_view};
 
 use crate::statement::{Branch, Select};

@@ -1,5 +1,9 @@
 //! Statements and queries. Tables are numbered by their places in the catalogue, from 0.
 
+ghost use Rattle.std.specs.Prelude.{◌≡◌};
+ghost use Rattle.gp_algebra.specs.Statements.{target};
+ghost use Rattle.gp_algebra.specs.Views.{statement_view};
+
 use gp_base::{Row, Sequence};
 use gp_expr::{Cond, Expr};
 
@@ -69,4 +73,19 @@ pub enum Stmt {
         /// The query.
         select: Select,
     },
+}
+
+impl Stmt {
+    /// The table that the statement writes. A query writes none.
+    pub fn target(&self) -> Option<u32>
+        ensures { result ≡ target (statement_view self.now) }
+    {
+        match self {
+            Stmt::Insert { table, .. }
+            | Stmt::InsertSelect { table, .. }
+            | Stmt::Update { table, .. }
+            | Stmt::Delete { table, .. } => Some(*table),
+            Stmt::Read { .. } => None,
+        }
+    }
 }

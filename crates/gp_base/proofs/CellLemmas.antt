@@ -1,7 +1,7 @@
 -- Lemmas of cells: a row in range stays in range when a cell in range is added.
 use Rattle.std.proofs.Common.{List, [], ◌∷◌, ◌++◌}
 use Rattle.gp_base.specs.declared.cell.Cell.{Cell}
-use Rattle.gp_base.specs.Cells.{IsInRange, AreInRange}
+use Rattle.gp_base.specs.CellForms.{IsInRange, AreInRange}
 
 pub AreInRange-push : (cells : List Cell) (cell : Cell) → AreInRange cells → IsInRange cell → AreInRange (cells ++ cell ∷ [])
 AreInRange-push [] cell all one = (one, tt)

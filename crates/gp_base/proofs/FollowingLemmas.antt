@@ -8,7 +8,8 @@ use Rattle.std.specs.declared.cmp.Ordering.TheVariants.{Less}
 use Rattle.std.specs.FinMap.{is_sorted}
 use Rattle.std.specs.FinMap.Entries.{below_all}
 use Rattle.gp_base.specs.declared.token.Token.{Token}
-use Rattle.gp_base.specs.Tokens.{Monomial, token_cmp, greatest_count, follows, IsToken, ArePowers, IsMonomial}
+use Rattle.gp_base.specs.Tokens.{Monomial, token_cmp, greatest_count}
+use Rattle.gp_base.specs.MonomialForms.{follows, IsToken, ArePowers, IsMonomial}
 use Rattle.gp_base.specs.TokenOrder.{token_cmp_total}
 use Rattle.gp_base.proofs.MonomialLemmas.{IsBelow, less_is, first_below, others_below, below_both, first_ascending, others_ascending}
 

@@ -2,7 +2,8 @@
 use Rattle.std.proofs.Common.{◌≡◌, ◌-◌, ◌<◌, ◌≤◌, List, [], ◌∷◌, length, take, drop, refl, arith}
 use Rattle.std.proofs.lemmas.List.{take_rest}
 use Rattle.std.specs.declared.cmp.Ordering.TheVariants.{Less}
-use Rattle.gp_base.specs.Identities.{Identity, identity, nodes, nodes_in, sources_cmp, sources_of}
+use Rattle.gp_base.specs.Identities.{Identity, identity, nodes, nodes_in, sources_cmp}
+use Rattle.gp_base.specs.IdentityParts.{sources_of}
 
 one_le_nodes : (id : Identity) → 1 ≤ nodes id
 one_le_nodes (identity t k n ids) = omega arith

@@ -1,11 +1,15 @@
+pub mod Bags
 pub mod CatalogLemmas
 pub mod CellLemmas
+pub mod DigitLemmas
+pub mod FollowingLemmas
 pub mod IdentityLaws
 pub mod IdentityLemmas
 pub mod MonomialLemmas
 pub mod OrderLemmas
+pub mod Permutations
 pub mod ProductLaws
+pub mod SmallLemmas
 pub mod TextLemmas
 pub mod UserTextLemmas
 pub mod WritingLemmas
-pub mod FollowingLemmas

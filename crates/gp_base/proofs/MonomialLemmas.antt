@@ -9,7 +9,8 @@ use Rattle.std.specs.declared.cmp.Ordering.TheVariants.{Less, Equal, Greater}
 use Rattle.std.specs.FinMap.{is_sorted}
 use Rattle.std.specs.FinMap.Entries.{by_order, below_all}
 use Rattle.gp_base.specs.declared.token.Token.{Token}
-use Rattle.gp_base.specs.Tokens.{Monomial, token_cmp, times, times_from, greatest_count, IsPower, ArePowers, IsMonomial}
+use Rattle.gp_base.specs.Tokens.{Monomial, token_cmp, times, times_from, greatest_count}
+use Rattle.gp_base.specs.MonomialForms.{IsPower, ArePowers, IsMonomial}
 use Rattle.gp_base.specs.TokenOrder.{token_cmp_total, token_cmp-exact}
 
 -- the token is less than each of the monomial

@@ -55,7 +55,7 @@ equal_from_both Less e f = absurd (false≢true f)
 equal_from_both Equal e f = refl
 equal_from_both Greater e f = absurd (false≢true e)
 
-equal_from_is_eq : (o : Ordering) → is_eq o ≡ true → o ≡ Equal
+pub equal_from_is_eq : (o : Ordering) → is_eq o ≡ true → o ≡ Equal
 equal_from_is_eq Less e = absurd (false≢true e)
 equal_from_is_eq Equal e = refl
 equal_from_is_eq Greater e = absurd (false≢true e)

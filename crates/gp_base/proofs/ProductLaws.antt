@@ -9,7 +9,8 @@ use Rattle.std.specs.FinMap.{find}
 use Rattle.std.specs.FinMap.Entries.{by_order}
 use Rattle.std.proofs.lemmas.Bool.{cases_Bool}
 use Rattle.gp_base.specs.declared.token.Token.{Token}
-use Rattle.gp_base.specs.Tokens.{Monomial, token_cmp, monomial_cmp, times, times_from, power, greatest_count, ArePowers, IsMonomial}
+use Rattle.gp_base.specs.Tokens.{Monomial, token_cmp, monomial_cmp, times, times_from, greatest_count}
+use Rattle.gp_base.specs.MonomialForms.{power, ArePowers, IsMonomial}
 use Rattle.gp_base.specs.TokenOrder.{token_cmp_total, token_cmp-exact}
 use Rattle.gp_base.proofs.MonomialLemmas.{IsBelow, below_both, first_below, others_below, lesser_below, turned, first_ascending, others_ascending}
 

@@ -13,7 +13,7 @@ use Rattle.std.proofs.lemmas.Fmt.{decimal_is_IsNumeral, decimal_nonempty, signed
 use Rattle.gp_base.specs.declared.cell.Cell.{Cell}
 use Rattle.gp_base.specs.declared.display.TheConstants.{QUOTE}
 use Rattle.gp_base.specs.declared.cell.Cell.TheVariants.{Null, Int, Text, Id, Mark, Mono}
-use Rattle.gp_base.specs.Cells.{IsPlain, ArePlain}
+use Rattle.gp_base.specs.CellForms.{IsPlain, ArePlain}
 use Rattle.gp_base.specs.Texts.{quoted_byte, cell_text, row_text}
 
 -- the empty text, or one that begins with a comma

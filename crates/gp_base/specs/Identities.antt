@@ -1,12 +1,11 @@
 -- Part of the statement: row identities, their order and their texts. An identity names the transaction and the statement that made a row, the
 -- row's number there, and the identities of the rows that it was computed from, so it is the row's whole derivation tree.
-use Rattle.std.specs.Prelude.{ℕ, ◌+◌, ◌≤◌, ◌==◌, Bool, true, false, ◌&&◌, List, [], ◌∷◌, codes}
+use Rattle.std.specs.Prelude.{ℕ, ◌+◌, ◌==◌, Bool, true, false, ◌&&◌, List, [], ◌∷◌, codes}
 use Rattle.std.specs.List.{concat}
 use Rattle.std.specs.Fmt.{decimal}
 use Rattle.std.specs.Ordering.{nat_cmp, ordering_then}
 use Rattle.std.specs.declared.cmp.Ordering.{Ordering}
 use Rattle.std.specs.declared.cmp.Ordering.TheVariants.{Less, Equal, Greater}
-use Rattle.gp_base.specs.declared.row_id.TheConstants.{MAX_NODES}
 
 mutual
   -- the transaction, the statement, the number (of the row of a VALUES list, or of the branch of a query), and the sources
@@ -17,23 +16,6 @@ mutual
   pub data Sources : Type 0 where
     no_sources : Sources
     source : Identity → Sources → Sources
-
-abbrev pub sources_of : List Identity → Sources
-sources_of [] = no_sources
-sources_of (id ∷ ids) = source id (sources_of ids)
-
--- the parts of an identity
-abbrev pub transaction_of : Identity → ℕ
-transaction_of (identity t k n ids) = t
-
-abbrev pub statement_of : Identity → ℕ
-statement_of (identity t k n ids) = k
-
-abbrev pub number_of : Identity → ℕ
-number_of (identity t k n ids) = n
-
-abbrev pub sources_in : Identity → Sources
-sources_in (identity t k n ids) = ids
 
 abbrev mutual
   -- how many identities it consists of, itself included
@@ -66,16 +48,6 @@ abbrev mutual
   sources_cmp no_sources (source id ids) = Less
   sources_cmp (source id ids) no_sources = Greater
   sources_cmp (source id ids) (source other others) = ordering_then (identity_cmp id other) (sources_cmp ids others)
-
--- numbers of 32 bits, and not too many nodes
-abbrev mutual
-  pub IsIdentity : Identity → Type 0
-  IsIdentity (identity t k n ids) =
-      (t ≤ 0xffff_ffff) × ((k ≤ 0xffff_ffff) × ((n ≤ 0xffff_ffff) × ((nodes (identity t k n ids) ≤ MAX_NODES) × AreIdentities ids)))
-
-  pub AreIdentities : Sources → Type 0
-  AreIdentities no_sources = Unit {0}
-  AreIdentities (source id ids) = IsIdentity id × AreIdentities ids
 
 abbrev mutual
   -- t.k.n, or t.k.b(id,id)

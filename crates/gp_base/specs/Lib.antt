@@ -5,6 +5,7 @@ pub mod Identities
 pub mod IdentityCodes
 pub mod IdentityOrder
 pub mod Names
+pub mod Numbered
 pub mod Order
 pub mod Refusals
 pub mod RowOrder
@@ -12,3 +13,9 @@ pub mod Texts
 pub mod TokenOrder
 pub mod Tokens
 pub mod Writing
+pub mod CellForms
+pub mod MonomialForms
+pub mod IdentityParts
+pub mod UserCells
+pub mod Digits
+pub mod Leaves

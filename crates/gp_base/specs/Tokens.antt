@@ -1,13 +1,12 @@
 -- Part of the statement: the tokens of provenance polynomials, and monomials: finite products of tokens, each with its count (Green,
 -- Karvounarakis and Tannen 2007). Their counts stop at the greatest number of 64 bits.
-use Rattle.std.specs.Prelude.{ℕ, ◌+◌, ◌≤◌, min, Bool, true, List, [], ◌∷◌, codes, unwrap_or, if◌then◌else◌, ◌==◌, IsTrue}
+use Rattle.std.specs.Prelude.{ℕ, ◌+◌, min, List, [], ◌∷◌, codes, if◌then◌else◌, ◌==◌}
 use Rattle.std.specs.List.{concat}
 use Rattle.std.specs.Fmt.{decimal}
-use Rattle.std.specs.Ordering.{nat_cmp, ordering_then, on, then_cmp, is_lt}
+use Rattle.std.specs.Ordering.{nat_cmp, ordering_then, on, then_cmp}
 use Rattle.std.specs.declared.cmp.Ordering.{Ordering}
 use Rattle.std.specs.declared.cmp.Ordering.TheVariants.{Less, Greater}
 use Rattle.std.specs.Cmp.Lexicographic.{slice_cmp}
-use Rattle.std.specs.FinMap.{find, is_sorted}
 use Rattle.std.specs.FinMap.Entries.{by_order}
 use Rattle.gp_base.specs.Writing.{joined}
 use Rattle.gp_base.specs.declared.token.Token.{Token}
@@ -24,12 +23,6 @@ token_cmp (Queried t k) (Updated u l) = Less
 token_cmp (Updated t k) (Inserted u l m) = Greater
 token_cmp (Updated t k) (Queried u l) = Greater
 token_cmp (Updated t k) (Updated u l) = ordering_then (nat_cmp t u) (nat_cmp k l)
-
--- its numbers have 32 bits
-abbrev pub IsToken : Token → Type 0
-IsToken (Inserted t k n) = (t ≤ 0xffff_ffff) × ((k ≤ 0xffff_ffff) × (n ≤ 0xffff_ffff))
-IsToken (Queried t k) = (t ≤ 0xffff_ffff) × (k ≤ 0xffff_ffff)
-IsToken (Updated t k) = (t ≤ 0xffff_ffff) × (k ≤ 0xffff_ffff)
 
 -- the greatest count
 abbrev pub greatest_count : ℕ
@@ -61,32 +54,9 @@ abbrev pub times : Monomial → Monomial → Monomial
 times [] others = others
 times (pair ∷ pairs) others = times_from pair (times pairs) others
 
--- the count of a token, 0 where it is absent
-abbrev pub power : Monomial → Token → ℕ
-power monomial token = unwrap_or (find token_cmp token monomial) 0
-
 -- by the first pair that differs: its token, then its count; a proper prefix is less
 abbrev pub monomial_cmp : Monomial → Monomial → Ordering
 monomial_cmp = slice_cmp (then_cmp (on (λ pair. pair.0) token_cmp) (on (λ pair. pair.1) nat_cmp))
-
--- a token with a count
-abbrev pub IsPower : Token × ℕ → Type 0
-IsPower pair = IsToken pair.0 × ((1 ≤ pair.1) × (pair.1 ≤ greatest_count))
-
-abbrev pub ArePowers : Monomial → Type 0
-ArePowers [] = Unit {0}
-ArePowers (pair ∷ pairs) = IsPower pair × ArePowers pairs
-
--- tokens strictly rise, and each has a count
-pub record IsMonomial (monomial : Monomial) : Type 0 where
-  pub sorted : IsTrue (is_sorted token_cmp monomial)
-  pub powers : ArePowers monomial
-
--- a token is above all of a monomial
-abbrev pub follows : Token → Monomial → Bool
-follows token [] = true
-follows token (pair ∷ []) = is_lt (token_cmp pair.0 token)
-follows token (pair ∷ next ∷ pairs) = follows token (next ∷ pairs)
 
 -- i, q or u and the numbers
 abbrev pub token_text : Token → List ℕ

@@ -1,7 +1,7 @@
 //! The value of a cell.
 
 ghost use Rattle.std.specs.Prelude.{◌≡◌, IfOk};
-ghost use Rattle.gp_base.specs.Cells.{cell_view};
+ghost use Rattle.gp_base.specs.CellForms.{cell_view};
 
 use crate::error::NoMemory;
 use crate::monomial::Monomial;

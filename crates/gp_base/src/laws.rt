@@ -6,11 +6,13 @@ ghost use Rattle.std.specs.Cmp.{IsTotalOrder};
 ghost use Rattle.std.specs.Ordering.{is_eq};
 ghost use Rattle.gp_base.specs.declared.cell.Cell.{Cell};
 ghost use Rattle.gp_base.specs.declared.token.Token.{Token};
-ghost use Rattle.gp_base.specs.Cells.{ArePlain};
-ghost use Rattle.gp_base.specs.Identities.{Identity, identity_cmp, same_identity, sources_cmp, sources_of};
+ghost use Rattle.gp_base.specs.CellForms.{ArePlain};
+ghost use Rattle.gp_base.specs.Identities.{Identity, identity_cmp, same_identity, sources_cmp};
+ghost use Rattle.gp_base.specs.IdentityParts.{sources_of};
 ghost use Rattle.gp_base.specs.Order.{row_cmp, sorted_by};
 ghost use Rattle.gp_base.specs.Texts.{row_text};
-ghost use Rattle.gp_base.specs.Tokens.{IsMonomial, Monomial, greatest_count, monomial_cmp, one, power, times, token_cmp};
+ghost use Rattle.gp_base.specs.Tokens.{Monomial, greatest_count, monomial_cmp, one, times, token_cmp};
+ghost use Rattle.gp_base.specs.MonomialForms.{IsMonomial, power};
 
 use std::cmp::Ordering;
 

@@ -5,7 +5,7 @@
 //! [`RowId`] is the identity of a row, [`Stored`] a row with its identity, and a [`Monomial`] of [`Token`]s the provenance
 //! of a row. [`sort_rows`] sorts rows, [`write_row`] prints one, and [`write_joined`] prints the items of a list in any
 //! [`TextFormat`]. [`Refusal`] is the reason why a line of a script is refused, [`NoMemory`] the error of calls that
-//! allocate. The functions of `laws.rt`, as [`sorting_is_unique`], are laws of the definitions in `specs/`, which the
+//! allocate. [`rows_text`] and [`refused_text`] print what answers a line. The functions of `laws.rt`, as [`sorting_is_unique`], are laws of the definitions in `specs/`, which the
 //! contracts cite.
 //!
 //! ```text
@@ -25,6 +25,7 @@ mod laws;
 mod limit;
 mod monomial;
 mod name;
+mod numbered;
 mod refusal;
 mod row;
 mod row_id;
@@ -44,9 +45,10 @@ pub use laws::{
     identities_are_ordered, monomials_are_a_commutative_monoid, monomials_are_ordered,
     product_adds_counts, row_text_is_injective, sorting_is_unique, tokens_are_ordered,
 };
-pub use limit::Limit;
+pub use limit::{Limit, MAX_ANSWER_ROWS, MAX_SPANS, MAX_TABLE_ROWS};
 pub use monomial::Monomial;
 pub use name::{MAX_NAME_LENGTH, Name, is_name};
+pub use numbered::{refused_text, rows_text, short_text};
 pub use refusal::{Fate, Refusal, write_refusal};
 pub use row::Row;
 pub use row_id::{MAX_NODES, RowId};

@@ -1,4 +1,13 @@
-//! The limits that a script can pass.
+//! The limits that a script can pass, and those of tables and answers.
+
+/// A table has at most this many rows after an INSERT.
+pub const MAX_TABLE_ROWS: usize = 10_000;
+
+/// An answer has at most this many rows.
+pub const MAX_ANSWER_ROWS: usize = 50_000;
+
+/// All tables together have at most this many row versions.
+pub const MAX_SPANS: u32 = 100_000;
 
 /// A limit, as a refusal names it.
 #[derive(Clone, Copy)]

@@ -3,7 +3,8 @@
 ghost use Rattle.std.specs.Prelude.{◌≡◌, ◌++◌, ◌∷◌, ◌&&◌, [], IfOk, OnErr, if◌then◌else◌, nat_le};
 ghost use Rattle.std.specs.Ordering.{eq_by_cmp, as_partial_cmp};
 ghost use Rattle.std.specs.Cmp.{eq_by_cmp_equiv, partial_equiv_from_equiv, po};
-ghost use Rattle.gp_base.specs.Tokens.{IsMonomial, follows, monomial_cmp, once, one, power, times, token_cmp};
+ghost use Rattle.gp_base.specs.Tokens.{monomial_cmp, once, one, times, token_cmp};
+ghost use Rattle.gp_base.specs.MonomialForms.{IsMonomial, follows, power};
 ghost use Rattle.gp_base.specs.TokenOrder.{monomial_cmp_total};
 
 use crate::error::NoMemory;
@@ -22,7 +23,8 @@ pub struct Monomial {
 }
 
 impl Model for Monomial {
-    ghost use Rattle.gp_base.specs.Tokens.{Monomial, IsMonomial};
+    ghost use Rattle.gp_base.specs.Tokens.{Monomial};
+    ghost use Rattle.gp_base.specs.MonomialForms.{IsMonomial};
     ghost use Rattle.gp_base.specs.TokenOrder.{coded_monomial};
 
     ghost Value = { Monomial };

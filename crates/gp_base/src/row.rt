@@ -1,7 +1,7 @@
 //! Rows of a table.
 
 ghost use Rattle.std.specs.Prelude.{◌≡◌, ◌++◌, ◌∷◌, [], IfOk, OnOk, OnErr};
-ghost use Rattle.gp_base.specs.Cells.{AreInRange};
+ghost use Rattle.gp_base.specs.CellForms.{AreInRange};
 
 use crate::cell::Cell;
 use crate::error::NoMemory;
@@ -21,7 +21,7 @@ impl Model for Row {
     ghost use Rattle.gp_base.specs.declared.cell.Cell.{Cell};
     ghost use Rattle.gp_base.specs.contracts.cell.Cell as cell;
     ghost use Rattle.std.specs.Coded.{coded_list};
-    ghost use Rattle.gp_base.specs.Cells.{AreInRange};
+    ghost use Rattle.gp_base.specs.CellForms.{AreInRange};
 
     ghost Value = { List Cell };
 

@@ -1,18 +1,18 @@
 -- A cell of an answer is read back from its field.
-use Rattle.std.proofs.Common.{◌≡◌, ℕ, zero, suc, ℤ, pos, negsuc, ◌+◌, ◌*◌, ◌-◌, ◌^◌, ◌<◌, ◌≤◌, Bool, true, false, cond, leb, ltb, eqb, ◌&&◌, List, [], ◌∷◌, Option, Some, None, option_and_then, refl, sym, ap, subst, ◌∙◌, arith}
+use Rattle.std.proofs.Common.{◌≡◌, ℕ, zero, suc, ℤ, pos, negsuc, ◌+◌, ◌*◌, ◌-◌, ◌^◌, ◌<◌, ◌≤◌, Bool, true, false, cond, ltb, eqb, List, [], ◌∷◌, Option, Some, None, option_and_then, refl, sym, ap, subst, ◌∙◌, arith}
 use Rattle.std.specs.Option.{option_map}
 use Rattle.std.specs.Fmt.{decimal}
-use Rattle.std.specs.Int.{IsInRange}
 use Rattle.std.specs.Str.{bytes_eq}
-use Rattle.std.proofs.lemmas.Bool.{and_parts, and_from, leb-true, le-leb, ne_eqb, eqb-true, lt-ltb, ltb-true}
-use Rattle.std.proofs.lemmas.Str.Parse.{IsNumeralModel, IsDigitsTest, FoldsDigits, numerals_by_fold}
+use Rattle.std.proofs.lemmas.Bool.{and_parts, leb-true, ne_eqb, eqb-true, lt-ltb, ltb-true}
 use Rattle.std.proofs.lemmas.Fmt.{digits_decimal, digits_value-decimal, decimal_digit}
 use Rattle.gp_base.specs.Cells.{fits_number, is_user_text}
 use Rattle.gp_base.specs.declared.cell.Cell.TheVariants as cell
 use Rattle.gp_base.specs.declared.table.Kind.{Kind}
 use Rattle.gp_base.specs.declared.table.Kind.TheVariants as kind
 use Rattle.gp_csv.specs.Answers.{escaped, field_of}
-use Rattle.gp_csv.specs.Fields.{is_digit, read_on, magnitude_of, positive_of, negative_of, null_field, unescaped, cell_of}
+use Rattle.gp_csv.specs.Fields.{read_on, magnitude_of, positive_of, negative_of, null_field, unescaped, cell_of}
+use Rattle.gp_base.proofs.DigitLemmas.{all_digits, fold, in_range, own}
+use Rattle.gp_base.specs.Digits.{is_digit}
 
 -- ---- texts
 
@@ -41,30 +41,6 @@ unfolding cell_of
 null-back column = refl
 
 -- ---- numbers
-
-abbrev all_digits : List ℕ → Bool
-all_digits [] = true
-all_digits (c ∷ cs) = is_digit c && all_digits cs
-
-abbrev fold : ℕ → List ℕ → ℕ
-fold n [] = n
-fold n (c ∷ cs) = fold (10 * n + (c - 48)) cs
-
-in_range : (c : ℕ) → is_digit c ≡ true → IsInRange 48 57 c
-in_range c h = let p = and_parts (leb 48 c) (leb c 57) h in (leb-true 48 c p.0, leb-true c 57 p.1)
-
-test : IsDigitsTest (λ ds. all_digits ds ≡ true)
-test = record {
-  empty = refl;
-  parts = λ c cs h. let p = and_parts (is_digit c) (all_digits cs) h in (in_range c p.0, p.1);
-  more = λ c cs h k. and_from (is_digit c) (all_digits cs) (and_from (leb 48 c) (leb c 57) (le-leb 48 c h.0) (le-leb c 57 h.1)) k;
-}
-
-folds : FoldsDigits fold
-folds = record { empty = λ n. refl; more = λ n c cs h. ap (λ (k : ℕ). fold k cs) (omega arith) }
-
-own : IsNumeralModel (λ ds. all_digits ds ≡ true) (fold 0)
-own = numerals_by_fold (λ ds. all_digits ds ≡ true) test fold folds
 
 read-digits : (n : ℕ) (ds : List ℕ) → all_digits ds ≡ true → read_on n ds ≡ Some (fold n ds)
 read-digits n [] all = refl

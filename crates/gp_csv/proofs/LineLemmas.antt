@@ -5,7 +5,8 @@ use Rattle.std.proofs.lemmas.Bool.{cases_Bool, and_from, ltb-false, le-leb, leb-
 use Rattle.gp_grammar.specs.Syntax.{insert}
 use Rattle.gp_grammar.specs.declared.limits.TheConstants.{MAX_LINE_LENGTH}
 use Rattle.gp_csv.specs.Faults.{Fault}
-use Rattle.gp_csv.specs.Scripts.{Row, rows_in, line_of, fits_line, batches_from, batches_of}
+use Rattle.gp_csv.specs.Scripts.{Row, line_of, fits_line, batches_from, batches_of}
+use Rattle.gp_csv.specs.SheetForms.{rows_in}
 use Rattle.gp_csv.specs.declared.error.TheConstants.{LONG_ROW, TOO_MANY}
 use Rattle.gp_csv.specs.declared.script.TheConstants.{MAX_ROWS, MAX_INSERTS}
 use Rattle.gp_csv.proofs.ValidLemmas.{from_map, refused}

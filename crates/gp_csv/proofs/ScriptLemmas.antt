@@ -11,8 +11,9 @@ use Rattle.gp_grammar.specs.Syntax.{Command, begin, insert}
 use Rattle.gp_grammar.specs.declared.limits.TheConstants.{MAX_LINE_LENGTH, MAX_VALUES}
 use Rattle.gp_csv.specs.Faults.{Fault, refuse, result_map, result_then}
 use Rattle.gp_csv.specs.Packing.{Output, has_room, joined, begun, line_end, put_row, put_rows, tuple_text, insert_text, no_line, create_of, packed_script, script_head, script_end}
-use Rattle.gp_base.specs.Cells.{ArePlain}
-use Rattle.gp_csv.specs.Scripts.{ArePlainRows, line_of, ended_line, fits_line, batches_from, batches_of, transaction_break, inserts_from, inserts_of, script_text, script_of}
+use Rattle.gp_base.specs.CellForms.{ArePlain}
+use Rattle.gp_csv.specs.Scripts.{line_of, ended_line, fits_line, batches_from, batches_of, transaction_break, inserts_from, inserts_of, script_text, script_of}
+use Rattle.gp_csv.specs.SheetForms.{ArePlainRows}
 use Rattle.gp_csv.specs.declared.error.TheConstants.{LONG_ROW, TOO_MANY}
 use Rattle.gp_csv.specs.declared.script.TheConstants.{MAX_ROWS, MAX_INSERTS, MAX_STEPS}
 use Rattle.gp_csv.specs.declared.script.Line.{Line}

@@ -5,7 +5,7 @@ use Rattle.std.proofs.lemmas.Grind.{flat_map-append}
 use Rattle.std.specs.Fmt.{decimal, digits}
 use Rattle.std.specs.List.{flat_map, concat}
 use Rattle.std.proofs.lemmas.Bool.{eqb-true}
-use Rattle.gp_base.specs.Cells.{IsPlain, ArePlain}
+use Rattle.gp_base.specs.CellForms.{IsPlain, ArePlain}
 use Rattle.gp_base.specs.Texts.{cell_text, row_text}
 use Rattle.gp_base.specs.declared.cell.Cell.{Cell}
 use Rattle.gp_base.specs.declared.cell.Cell.TheVariants as cell
@@ -17,7 +17,8 @@ use Rattle.gp_lexer.specs.Layout.{Page, put, written, empty_page}
 use Rattle.gp_lexer.specs.Lexemes.{symbol_text}
 use Rattle.gp_grammar.specs.Syntax.{Lexemes, Command, begin, insert}
 use Rattle.gp_csv.specs.Packing.{tuple_text, insert_text}
-use Rattle.gp_csv.specs.Scripts.{ArePlainRows, line_of, ended_line}
+use Rattle.gp_csv.specs.Scripts.{line_of, ended_line}
+use Rattle.gp_csv.specs.SheetForms.{ArePlainRows}
 use Rattle.gp_grammar.specs.Canonical.{cell_lexemes, tuple_lexemes, listed_lexemes, command_lexemes}
 
 abbrev page : List ℕ → Gap → Page

@@ -6,10 +6,11 @@ use Rattle.std.specs.Int.RustNames.{FitsSigned}
 use Rattle.std.specs.Int.{w64}
 use Rattle.std.specs.List.{AllByRecursion, IsDistinct, list_all, list_any}
 use Rattle.std.specs.Str.{bytes_eq, is_utf8, str_to_ascii_lowercase}
-use Rattle.std.proofs.lemmas.Bool.{cases_Bool, and_parts, and_from, leb-true, ltb-true, ltb-false, le-leb}
+use Rattle.std.proofs.lemmas.Bool.{cases_Bool, and_parts, and_from, leb-true, ltb-true, ltb-false, le-leb, or_parts}
 use Rattle.std.proofs.lemmas.List.{map-append}
 use Rattle.csv.specs.Records.{field_at}
-use Rattle.gp_base.specs.Cells.{IsPlain, ArePlain, fits_number, is_user_text}
+use Rattle.gp_base.specs.Cells.{fits_number, is_user_text}
+use Rattle.gp_base.specs.CellForms.{IsPlain, ArePlain}
 use Rattle.gp_base.specs.declared.cell.Cell.{Cell}
 use Rattle.gp_base.specs.declared.cell.Cell.TheVariants as cell
 use Rattle.gp_base.specs.declared.table.Column.{Column}
@@ -18,7 +19,7 @@ use Rattle.gp_base.specs.declared.table.Kind.TheVariants as kind
 use Rattle.gp_csv.specs.Faults.{Fault, refuse, result_map, result_then, Returns}
 use Rattle.gp_csv.specs.Fields.{positive_of, negative_of, magnitude_of, number_of, null_field, unescaped, text_cell, int_cell_of, value_cell_of, cell_of, cells_from}
 use Rattle.gp_csv.specs.Headings.{header_of, heading_named, heading_of, headings_from, is_taken, kind_of_suffix, name_len, or_bad_header, with_heading}
-use Rattle.gp_csv.specs.Scripts.{ArePlainRows}
+use Rattle.gp_csv.specs.SheetForms.{ArePlainRows}
 use Rattle.gp_csv.specs.Sheets.{IsSheet, is_cell_of, is_row_of, column_names, columns_from, or_bad_cell, row_of, rows_from, sheet_under, sheet_of_records, records_of}
 use Rattle.gp_csv.specs.declared.error.CsvStop.{CsvStop}
 use Rattle.gp_csv.specs.declared.error.CsvStop.TheVariants.{Refused, NoMemory}
@@ -27,6 +28,7 @@ use Rattle.gp_csv.specs.declared.sheet.Sheet.{Sheet}
 use Rattle.gp_csv.proofs.RecordLemmas.{first-some}
 use Rattle.gp_grammar.specs.declared.limits.TheConstants.{MAX_COLUMNS}
 use Rattle.gp_base.specs.Names.{is_name}
+use Rattle.std.proofs.lemmas.Option.{cond_some, same_Some}
 
 -- ---- what a value came from
 
@@ -46,10 +48,6 @@ from_mapped : {A B : Type 0} (f : A → B) (o : Option A) (y : B) → option_map
 from_mapped f (Some x) y e = (x, refl, cc)
 from_mapped f None y e = absurd cc
 
-kept : {A : Type 0} (b : Bool) (x y : A) → cond b (Some x) None ≡ Some y → (b ≡ true) × (x ≡ y)
-kept true x y e = (refl, cc)
-kept false x y e = absurd cc
-
 refused_else : {A : Type 0} (b : Bool) (c n : ℕ) (r : Result A Fault) (y : A) → cond b (refuse c n) r ≡ Ok y → r ≡ Ok y
 refused_else true c n r y e = absurd cc
 refused_else false c n r y e = e
@@ -64,15 +62,12 @@ refused c n y e = cc
 -- ---- cells
 
 positive-fits : (n : ℕ) (z : ℤ) → positive_of n ≡ Some z → fits_number z ≡ true
-positive-fits n z e = let k = kept (ltb n (2 ^ 63)) (pos n) z e in subst (λ (y : ℤ). fits_number y ≡ true) k.1 k.0
-
-same_number : (y z : ℤ) → Some y ≡ Some z → y ≡ z
-same_number y z e = cc
+positive-fits n z e = let k = cond_some (ltb n (2 ^ 63)) (pos n) z e in subst (λ (y : ℤ). fits_number y ≡ true) k.1 k.0
 
 negative-fits : (n : ℕ) (z : ℤ) → negative_of n ≡ Some z → fits_number z ≡ true
-negative-fits zero z e = subst (λ (y : ℤ). fits_number y ≡ true) (same_number (pos 0) z e) refl
+negative-fits zero z e = subst (λ (y : ℤ). fits_number y ≡ true) (same_Some (pos 0) z e) refl
 negative-fits (suc n) z e =
-    let k = kept (ltb n (2 ^ 63)) (negsuc n) z e in
+    let k = cond_some (ltb n (2 ^ 63)) (negsuc n) z e in
     let small : n < 2 ^ 63 = ltb-true n (2 ^ 63) k.0 in
     subst (λ (y : ℤ). fits_number y ≡ true) k.1 (and_from (leb n (2 ^ 63 - 1)) true (le-leb n (2 ^ 63 - 1) (omega (arith, small))) refl)
 
@@ -96,7 +91,7 @@ written-is_cell_of : (column : Kind) (field : List ℕ) (c : Cell) → value_cel
 written-is_cell_of kind.Int field c e = int-is_cell_of field c e
 written-is_cell_of kind.Text field c e =
     let x = from_option text_cell (unescaped field) c e in
-    let k = kept (is_user_text x.0) (cell.Text x.0) c x.2 in
+    let k = cond_some (is_user_text x.0) (cell.Text x.0) c x.2 in
     subst (λ (d : Cell). is_cell_of kind.Text d ≡ true) k.1 k.0
 
 null-is_cell_of : (column : Kind) → is_cell_of column cell.Null ≡ true
@@ -154,10 +149,6 @@ record AreNames (names : List (List ℕ)) : Type 0 where
   valid : list_all is_name names ≡ true
   different : IsDistinct bytes_eq names
 
-neither : (a b : Bool) → (a || b) ≡ false → (a ≡ false) × (b ≡ false)
-neither true b e = absurd cc
-neither false b e = (refl, e)
-
 all-snoc : (P : List ℕ → Type 0) (names : List (List ℕ)) (name : List ℕ) → AllByRecursion P names → P name → AllByRecursion P (names ++ name ∷ [])
 all-snoc P [] name all last = (last, tt)
 all-snoc P (first ∷ names) name all last = (all.0, all-snoc P names name all.1 last)
@@ -166,7 +157,7 @@ distinct-snoc : (names : List (List ℕ)) (name : List ℕ) → IsDistinct bytes
 unfolding IsDistinct
 distinct-snoc [] name different new = (tt, tt)
 distinct-snoc (first ∷ names) name different new =
-    let n = neither (bytes_eq first name) (list_any (λ (other : List ℕ). bytes_eq other name) names) new in
+    let n = or_parts (bytes_eq first name) (list_any (λ (other : List ℕ). bytes_eq other name) names) new in
     (all-snoc (λ (other : List ℕ). bytes_eq first other ≡ false) names name different.0 n.0, distinct-snoc names name different.1 n.1)
 
 valid-snoc : (names : List (List ℕ)) (name : List ℕ) → list_all is_name names ≡ true → is_name name ≡ true → list_all is_name (names ++ name ∷ []) ≡ true
@@ -184,7 +175,7 @@ unfolding heading_of
 heading-name field heading e =
     let word : List ℕ = take (name_len field) field in
     let x = from_option (heading_named word) (kind_of_suffix (drop (name_len field) field)) heading e in
-    let k = kept (is_name (str_to_ascii_lowercase word)) (record { name = str_to_ascii_lowercase word; kind = x.0 }) heading x.2 in
+    let k = cond_some (is_name (str_to_ascii_lowercase word)) (record { name = str_to_ascii_lowercase word; kind = x.0 }) heading x.2 in
     subst (λ (h : Heading). is_name h.name ≡ true) k.1 k.0
 
 new-else : (b : Bool) (x y : List Heading) → cond b None (Some x) ≡ Some y → (b ≡ false) × (x ≡ y)

@@ -1,9 +1,10 @@
 -- Part of the statement: the cells that fields of a sheet write. NULL is `\N`, as in the text format of PostgreSQL's COPY, or an empty field of an
 -- INT column. A text that begins with a backslash is written with two.
-use Rattle.std.specs.Prelude.{ℕ, ℤ, zero, suc, pos, negsuc, ◌+◌, ◌*◌, ◌-◌, ◌^◌, nat_le, nat_lt, Bool, true, false, ◌&&◌, List, [], ◌∷◌, Option, Some, None, option_and_then, if◌then◌else◌, ◌==◌}
+use Rattle.std.specs.Prelude.{ℕ, ℤ, zero, suc, pos, negsuc, ◌+◌, ◌*◌, ◌-◌, ◌^◌, nat_lt, Bool, List, [], ◌∷◌, Option, Some, None, option_and_then, if◌then◌else◌, ◌==◌, true, false}
 use Rattle.std.specs.Option.{option_map}
 use Rattle.std.specs.Str.{bytes_eq}
 use Rattle.csv.specs.Records.{field_at}
+use Rattle.gp_base.specs.Digits.{is_digit}
 use Rattle.gp_base.specs.Cells.{is_user_text}
 use Rattle.gp_base.specs.declared.cell.Cell.{Cell}
 use Rattle.gp_base.specs.declared.cell.Cell.TheVariants as cell
@@ -13,9 +14,6 @@ use Rattle.gp_base.specs.declared.table.Kind.TheVariants as kind
 use Rattle.gp_csv.specs.declared.field.TheConstants.{BACKSLASH, MINUS}
 
 -- ---- numbers
-
-abbrev pub is_digit : ℕ → Bool
-is_digit byte = nat_le 48 byte && nat_le byte 57
 
 -- the number that digits write after those of a number; none if a byte is no digit
 abbrev pub read_on : ℕ → List ℕ → Option ℕ
@@ -74,6 +72,13 @@ value_cell_of kind.Text field = option_and_then text_cell (unescaped field)
 unfoldable pub cell_of : Kind → List ℕ → Option Cell
 cell_of column field = if bytes_eq field null_field then Some cell.Null else value_cell_of column field
 
+-- the cells of a record in these columns, the first of which is at this place; none if a field is no cell of its column
+abbrev pub cells_from : ℕ → List (List ℕ) → List Column → Option (List Cell)
+cells_from place fields [] = Some []
+cells_from place fields (column ∷ columns) =
+    option_and_then (λ (cell : Cell). option_map (λ (cells : List Cell). cell ∷ cells) (cells_from (suc place) fields columns))
+    (option_and_then (cell_of column.kind) (field_at fields place))
+
 -- a record has no field at the place, or one that an INT column can hold
 abbrev pub is_int_field : Option (List ℕ) → Bool
 is_int_field None = true
@@ -82,10 +87,3 @@ is_int_field (Some field) = is_there (cell_of kind.Int field)
     is_there : Option Cell → Bool
     is_there None = false
     is_there (Some cell) = true
-
--- the cells of a record in these columns, the first of which is at this place; none if a field is no cell of its column
-abbrev pub cells_from : ℕ → List (List ℕ) → List Column → Option (List Cell)
-cells_from place fields [] = Some []
-cells_from place fields (column ∷ columns) =
-    option_and_then (λ (cell : Cell). option_map (λ (cells : List Cell). cell ∷ cells) (cells_from (suc place) fields columns))
-    (option_and_then (cell_of column.kind) (field_at fields place))

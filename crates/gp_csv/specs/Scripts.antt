@@ -2,7 +2,6 @@
 -- text, and each INSERT takes a batch of rows.
 use Rattle.std.specs.Prelude.{ℕ, suc, ◌+◌, ◌%◌, nat_le, nat_lt, Bool, false, ◌&&◌, List, [], ◌∷◌, ◌++◌, length, Result, Ok, if◌then◌else◌, ◌==◌, codes}
 use Rattle.std.specs.List.{flat_map}
-use Rattle.gp_base.specs.Cells.{ArePlain}
 use Rattle.gp_base.specs.declared.cell.Cell.{Cell}
 use Rattle.gp_grammar.specs.Canonical.{command_text}
 use Rattle.gp_grammar.specs.Syntax.{Command, create, begin, insert}
@@ -14,11 +13,6 @@ use Rattle.gp_csv.specs.declared.sheet.Sheet.{Sheet}
 
 abbrev pub Row : Type 0
 Row = List Cell
-
--- the cells of each row are ones that a table can hold
-abbrev pub ArePlainRows : List Row → Type 0
-ArePlainRows [] = Unit {0}
-ArePlainRows (row ∷ rows) = ArePlain row × ArePlainRows rows
 
 -- a line of the script, without its line feed and with it
 abbrev pub line_of : Command → List ℕ
@@ -51,10 +45,6 @@ unfoldable pub batches_of : List ℕ → List Row → Result (List (List Row)) F
 batches_of name [] = Ok []
 batches_of name (row ∷ rows) =
     if nat_lt MAX_LINE_LENGTH (length (line_of (insert name (row ∷ [])))) then refuse LONG_ROW 2 else batches_from name 3 1 (row ∷ []) rows
-
--- the rows of the batches
-abbrev pub rows_in : List (List Row) → List Row
-rows_in batches = flat_map (λ (batch : List Row). batch) batches
 
 -- ---- batches to commands
 

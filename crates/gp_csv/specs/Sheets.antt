@@ -14,7 +14,7 @@ use Rattle.gp_base.specs.declared.table.Kind.{Kind}
 use Rattle.gp_base.specs.declared.table.Kind.TheVariants as kind
 use Rattle.gp_grammar.specs.declared.limits.TheConstants.{MAX_COLUMNS}
 use Rattle.gp_csv.specs.Faults.{Fault, refuse, result_map, result_then}
-use Rattle.gp_csv.specs.Fields.{is_int_field, cells_from}
+use Rattle.gp_csv.specs.Fields.{cells_from, is_int_field}
 use Rattle.gp_csv.specs.Headings.{header_of}
 use Rattle.gp_csv.specs.declared.heading.Heading.{Heading}
 use Rattle.gp_csv.specs.declared.sheet.Sheet.{Sheet}

@@ -3,7 +3,8 @@
 ghost use Rattle.std.specs.Prelude.{◌≡◌, IfOk};
 ghost use Rattle.std.specs.Option.{option_map};
 ghost use Rattle.std.specs.Str.{is_utf8};
-ghost use Rattle.gp_csv.specs.Fields.{after_escape, cell_of, int_cell_of, is_int_field, text_cell, unescaped, value_cell_of};
+ghost use Rattle.gp_csv.specs.Fields.{after_escape, cell_of, int_cell_of, text_cell, unescaped, value_cell_of};
+ghost use Rattle.gp_csv.specs.Fields.{is_int_field};
 
 use crate::number::parse_integer;
 use gp_base::{Cell, Kind, NoMemory, Text, is_user_text};

@@ -10,7 +10,8 @@ ghost use Rattle.gp_base.specs.declared.table.Kind.TheVariants as kind;
 ghost use Rattle.gp_base.specs.declared.refusal.Refusal.{Refusal};
 ghost use Rattle.gp_csv.specs.Answers.{answer_records, csv_text, field_of, refusal_records};
 ghost use Rattle.gp_csv.specs.Fields.{cell_of};
-ghost use Rattle.gp_csv.specs.Scripts.{Row, fits_line, batches_of, rows_in};
+ghost use Rattle.gp_csv.specs.Scripts.{Row, fits_line, batches_of};
+ghost use Rattle.gp_csv.specs.SheetForms.{rows_in};
 ghost use Rattle.gp_csv.specs.Sheets.{records_of};
 
 use crate::script::{MAX_INSERTS, MAX_ROWS};

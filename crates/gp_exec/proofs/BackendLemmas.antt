@@ -6,16 +6,17 @@ use Rattle.std.proofs.lemmas.Bool.{eq-eqb}
 use Rattle.std.proofs.lemmas.List.Sorted.{list_any-IsPermutation}
 use Rattle.gp_base.specs.declared.cell.Cell.{Cell}
 use Rattle.gp_base.specs.declared.row_id.TheConstants.{MAX_NODES}
-use Rattle.gp_base.specs.Cells.{is_user_cell}
-use Rattle.gp_expr.specs.Values.{is_large}
+use Rattle.gp_base.specs.UserCells.{is_user_cell}
+use Rattle.gp_expr.specs.LargeValues.{is_large}
 use Rattle.gp_algebra.specs.Plain.{PlainEnvironment, PlainProgram, PlainStep, StepRows, meaning, no_steps, program_meaning, with_step}
 use Rattle.gp_algebra.specs.Stops as stops
-use Rattle.gp_algebra.specs.Stops.{Stop, is_insert, first_stop, stop_at, steps_stop, program_stop}
+use Rattle.gp_algebra.specs.Stops.{Stop, first_stop, stop_at, steps_stop, program_stop}
+use Rattle.gp_algebra.specs.Plain.{is_insert}
 use Rattle.gp_algebra.specs.WellBuilt.{is_among}
 use Rattle.gp_exec.specs.declared.env.Env.{Env}
 use Rattle.gp_exec.specs.declared.error.ExecStop.{ExecStop}
 use Rattle.gp_exec.specs.declared.error.ExecStop.TheVariants as exec
-use Rattle.gp_exec.specs.declared.limit.TheConstants.{MAX_TABLE_ROWS}
+use Rattle.gp_base.specs.declared.limit.TheConstants.{MAX_TABLE_ROWS}
 use Rattle.gp_exec.specs.Backends.{Executes, IsGiven, KeepsUserCells, StopsAtStep, step_numbers}
 use Rattle.gp_exec.specs.Running.{Runs, environment_view}
 

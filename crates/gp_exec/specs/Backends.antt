@@ -4,14 +4,14 @@ use Rattle.std.specs.List.{list_any}
 use Rattle.std.specs.List.Sorted.{IsPermutation}
 use Rattle.gp_base.specs.declared.cell.Cell.{Cell}
 use Rattle.gp_base.specs.declared.row_id.TheConstants.{MAX_NODES}
-use Rattle.gp_base.specs.Cells.{is_user_cell}
+use Rattle.gp_base.specs.UserCells.{is_user_cell}
 use Rattle.gp_algebra.specs.Plain.{PlainEnvironment, PlainProgram, PlainStep, program_meaning}
 use Rattle.gp_algebra.specs.Stops as stops
 use Rattle.gp_algebra.specs.Stops.{program_stop}
 use Rattle.gp_algebra.specs.WellBuilt.{is_among}
 use Rattle.gp_exec.specs.declared.error.ExecStop.{ExecStop}
 use Rattle.gp_exec.specs.declared.error.ExecStop.TheVariants.{Rows, Ancestry, Answer, NoMemory}
-use Rattle.gp_exec.specs.declared.limit.TheConstants.{MAX_TABLE_ROWS, MAX_ANSWER_ROWS}
+use Rattle.gp_base.specs.declared.limit.TheConstants.{MAX_TABLE_ROWS, MAX_ANSWER_ROWS}
 
 -- the rows of a program, or the reason why there are none
 abbrev pub Given : Type 0

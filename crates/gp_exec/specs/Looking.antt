@@ -3,7 +3,8 @@ use Rattle.std.specs.Prelude.{◌≡◌, ℕ, suc, Bool, true, not, ◌&&◌, �
 use Rattle.std.specs.List.{list_all, list_any}
 use Rattle.std.specs.Option.{option_map}
 use Rattle.gp_base.specs.declared.cell.Cell.{Cell}
-use Rattle.gp_expr.specs.Expressions.{Expr, is_simple}
+use Rattle.gp_expr.specs.Expressions.{Expr}
+use Rattle.gp_expr.specs.ExpressionForms.{is_simple}
 use Rattle.gp_expr.specs.Values.{column, value}
 use Rattle.gp_expr.specs.Views.{expr_view}
 use Rattle.gp_algebra.specs.Answers.{values}

@@ -1,6 +1,6 @@
 -- What an expression with others in place of its columns gives: its value on the row of their values. It is simple where all of them are.
-use Rattle.std.proofs.Common.{◌≡◌, ℕ, zero, suc, Bool, true, cond, List, [], ◌∷◌, map, refl, sym, ap, ◌∙◌}
-use Rattle.std.specs.Prelude.{get_or, ◌&&◌, ◌+ℤ◌, ◌-ℤ◌, ◌*ℤ◌}
+use Rattle.std.proofs.Common.{◌≡◌, ℕ, zero, suc, true, cond, List, [], ◌∷◌, map, refl, sym, ap, ◌∙◌}
+use Rattle.std.specs.Prelude.{get_or, ◌+ℤ◌, ◌-ℤ◌, ◌*ℤ◌}
 use Rattle.std.specs.List.{list_all}
 use Rattle.std.proofs.Math.ListN.{get_or-map}
 use Rattle.std.proofs.lemmas.Bool.{and_parts}
@@ -8,10 +8,12 @@ use Rattle.gp_base.specs.declared.cell.Cell.{Cell}
 use Rattle.gp_base.specs.declared.cell.Cell.TheVariants as cell
 use Rattle.gp_expr.specs.declared.expr.Expr.{Expr as Code}
 use Rattle.gp_expr.specs.Expressions as e
-use Rattle.gp_expr.specs.Expressions.{Expr, Cond, Parts, is_simple, cond_is_simple}
+use Rattle.gp_expr.specs.Expressions.{Expr, Cond, Parts}
+use Rattle.gp_expr.specs.ExpressionForms.{is_simple, cond_is_simple}
 use Rattle.gp_expr.specs.Substitution.{chosen, substituted, substituted_cond, substituted_parts, substituted_each}
 use Rattle.gp_expr.specs.Views.{expr_view}
 use Rattle.gp_expr.specs.Values.{value, truth, identities, column, on_numbers, negated, multiplied, with_source, made_identity, holds, compared, is_null, tested, both, either, negation}
+use Rattle.gp_base.proofs.SmallLemmas.{both_follow}
 
 -- the values of expressions on a row
 abbrev pub values_on : List Cell → List Expr → List Cell
@@ -69,10 +71,6 @@ truth_of_views c inner row = truth_substituted c (map expr_view inner) row ∙ a
 -- ---- simplicity
 
 -- two tests follow from two others
-both_follow : (a b x y : Bool) → (a ≡ true → x ≡ true) → (b ≡ true → y ≡ true) → (a && b) ≡ true → (x && y) ≡ true
-both_follow a b x y first second so =
-    let parts = and_parts a b so in
-    rw (first parts.0) (second parts.1)
 
 simple_at : (n : ℕ) (inner : List Expr) → list_all is_simple inner ≡ true → is_simple (get_or inner n (e.constant cell.Null)) ≡ true
 simple_at n [] all = refl

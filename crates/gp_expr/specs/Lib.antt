@@ -6,3 +6,5 @@ pub mod Sizes
 pub mod Substitution
 pub mod Values
 pub mod Views
+pub mod ExpressionForms
+pub mod LargeValues

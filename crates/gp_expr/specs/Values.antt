@@ -1,13 +1,13 @@
 -- Part of the statement: the value of an expression and the truth of a condition on a row. Numbers are exact here, and a result that does not
 -- fit 64 bits with sign is NULL; truth is three-valued, with the tables of SQL (ISO/IEC 9075-2), which are Kleene's.
-use Rattle.std.specs.Prelude.{ℕ, zero, suc, Bool, true, false, not, ◌||◌, List, get_or, ℤ, ◌+ℤ◌, ◌-ℤ◌, ◌*ℤ◌, neg_ℤ, nat_lt, if◌then◌else◌, Option, Some, None}
+use Rattle.std.specs.Prelude.{ℕ, zero, suc, Bool, true, false, not, List, get_or, ℤ, neg_ℤ, if◌then◌else◌, Option, Some, None, ◌+ℤ◌, ◌-ℤ◌, ◌*ℤ◌}
 use Rattle.std.specs.Ordering.{nat_cmp, int_cmp, is_eq, is_ne, is_lt, is_le, is_gt, is_ge}
 use Rattle.std.specs.Cmp.Lexicographic.{slice_cmp}
 use Rattle.std.specs.declared.cmp.Ordering.{Ordering}
 use Rattle.gp_base.specs.declared.cell.Cell.{Cell}
 use Rattle.gp_base.specs.declared.cell.Cell.TheVariants as cell
 use Rattle.gp_base.specs.Cells.{fits_number}
-use Rattle.gp_base.specs.Identities.{Sources, identity, no_sources, source, nodes}
+use Rattle.gp_base.specs.Identities.{Sources, identity, no_sources, source}
 use Rattle.gp_base.specs.Tokens as m
 use Rattle.gp_expr.specs.declared.expr.Cmp.{Cmp}
 use Rattle.gp_expr.specs.declared.expr.Cmp.TheVariants.{Eq, Ne, Lt, Le, Gt, Ge}
@@ -136,25 +136,3 @@ abbrev mutual
 -- whether a row passes a condition
 abbrev pub passes : Cond → List Cell → Bool
 passes c row = holds (truth c row)
-
--- an identity of more nodes than these
-abbrev pub is_large : ℕ → Cell → Bool
-is_large most (cell.Id id) = nat_lt most (nodes id)
-is_large most _ = false
-
--- whether the evaluation makes an identity of more nodes than these; only the taken branch of a CASE is evaluated
-abbrev mutual
-  pub makes_large : ℕ → Expr → List Cell → Bool
-  makes_large most (e.col n) row = false
-  makes_large most (e.constant x) row = false
-  makes_large most (e.add a b) row = makes_large most a row || makes_large most b row
-  makes_large most (e.sub a b) row = makes_large most a row || makes_large most b row
-  makes_large most (e.mul a b) row = makes_large most a row || makes_large most b row
-  makes_large most (e.neg a) row = makes_large most a row
-  makes_large most (e.case c a b) row = if holds (truth c row) then makes_large most a row else makes_large most b row
-  makes_large most (e.new_id t k b parts) row = parts_make_large most parts row || is_large most (made_identity t k b (identities parts row))
-  makes_large most (e.times a b) row = makes_large most a row || makes_large most b row
-
-  pub parts_make_large : ℕ → Parts → List Cell → Bool
-  parts_make_large most e.no_parts row = false
-  parts_make_large most (e.part a others) row = makes_large most a row || parts_make_large most others row

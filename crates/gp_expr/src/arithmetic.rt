@@ -1,7 +1,7 @@
 //! Arithmetic on cells. A result that does not fit 64 bits, or an operand that is no number, gives no number.
 
 ghost use Rattle.std.specs.Prelude.{◌≡◌};
-ghost use Rattle.gp_base.specs.Cells.{cell_view};
+ghost use Rattle.gp_base.specs.CellForms.{cell_view};
 ghost use Rattle.gp_expr.specs.Values.{negated, on_numbers};
 ghost use Rattle.gp_expr.specs.Results.{number_in, number_view, operation};
 

@@ -1,7 +1,7 @@
 //! Comparisons and tests.
 
 ghost use Rattle.std.specs.Prelude.{◌≡◌};
-ghost use Rattle.gp_base.specs.Cells.{cell_view};
+ghost use Rattle.gp_base.specs.CellForms.{cell_view};
 ghost use Rattle.gp_expr.specs.Values as v;
 
 use crate::expr::Cmp;

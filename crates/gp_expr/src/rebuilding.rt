@@ -2,7 +2,7 @@
 
 ghost use Rattle.std.specs.Prelude.{◌≡◌, ◌≤◌, map, box_value, IfOk, IfSome};
 ghost use Rattle.std.specs.Option.{option_map};
-ghost use Rattle.gp_base.specs.Cells.{cell_view};
+ghost use Rattle.gp_base.specs.CellForms.{cell_view};
 ghost use Rattle.gp_expr.specs.Expressions as e;
 ghost use Rattle.gp_expr.specs.Rebuilding.{column_in, expr_or_null, inner_view, rebuilt, rebuilt_cond};
 ghost use Rattle.gp_expr.specs.Sizes.{parts_size, size};

@@ -1,7 +1,7 @@
 //! Tests of expressions: whether they are simple.
 
 ghost use Rattle.std.specs.Prelude.{◌≡◌};
-ghost use Rattle.gp_expr.specs.Expressions as e;
+ghost use Rattle.gp_expr.specs.ExpressionForms as forms;
 ghost use Rattle.gp_expr.specs.Views.{cond_view, expr_view};
 
 use crate::expr::{Cond, Expr};
@@ -10,7 +10,7 @@ use crate::expr::{Cond, Expr};
 /// expressions only.
 #[cycle(simple)]
 pub fn is_simple(expr: &Expr) -> bool
-    ensures { result ≡ e.is_simple (expr_view expr.now) }
+    ensures { result ≡ forms.is_simple (expr_view expr.now) }
 {
     match expr {
         Expr::Col(_) | Expr::Const(_) => true,
@@ -28,7 +28,7 @@ pub fn is_simple(expr: &Expr) -> bool
 /// Whether every expression in a condition is simple.
 #[cycle(simple)]
 pub fn cond_is_simple(cond: &Cond) -> bool
-    ensures { result ≡ e.cond_is_simple (cond_view cond.now) }
+    ensures { result ≡ forms.cond_is_simple (cond_view cond.now) }
 {
     match cond {
         Cond::True => true,

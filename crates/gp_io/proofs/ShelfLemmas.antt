@@ -5,7 +5,8 @@ use Rattle.std.specs.Option.{option_map}
 use Rattle.std.proofs.lemmas.List.{length-replicate, replicate-append-replicate}
 use Rattle.gp_io.specs.declared.error.ShelfStop.{ShelfStop}
 use Rattle.gp_io.specs.declared.error.ShelfStop.TheVariants.{Absent, Failed, NoMemory}
-use Rattle.gp_io.specs.Shelf.{Files, content, prefix_of, ShelfState, Reports, ReadStops, FilesRelate, ReplaceStops}
+use Rattle.gp_io.specs.Shelf.{Files, content, ShelfState, Reports, FilesRelate}
+use Rattle.gp_io.specs.ShelfSteps.{prefix_of, ReadStops, ReplaceStops}
 
 -- a name that was reported in two calls was reported in both together
 pub Reports-twice : (name : List ℕ) (old middle new : List (List ℕ)) → Reports name old middle → Reports name middle new → Reports name old new

@@ -9,7 +9,8 @@ use Rattle.std.specs.List.{flat_map}
 use Rattle.std.specs.Prelude.{is_some}
 use Rattle.gp_io.specs.declared.error.SinkStop.{SinkStop}
 use Rattle.gp_io.specs.declared.error.SinkStop.TheVariants.{Failed, NoMemory}
-use Rattle.gp_io.specs.Sink.{appended, WritesPrefix, Increased, CountsFault}
+use Rattle.gp_io.specs.Sink.{appended, WritesPrefix, Increased}
+use Rattle.gp_io.specs.SinkSteps.{CountsFault}
 
 pub appended-nothing : (taken : Option (List ℕ)) → appended taken [] ≡ taken
 appended-nothing None = refl

@@ -1,10 +1,7 @@
 -- Part of the statement: what a shelf shows, and what each answer of its calls means. `old` is the state before the call and `new` the
 -- state after it. Where a replacement fails, nothing is known of that one file, as after an open that truncates and a write that fails
 -- (IEEE Std 1003.1, open and write).
-use Rattle.std.specs.Prelude.{◌≡◌, ◌≢◌, ℕ, ◌+◌, List, [], ◌∷◌, ◌++◌, replicate, take, Option, None, Some, IfSome, bytes_eq, if◌then◌else◌}
-use Rattle.std.specs.Option.{option_map}
-use Rattle.gp_io.specs.declared.error.ShelfStop.{ShelfStop}
-use Rattle.gp_io.specs.declared.error.ShelfStop.TheVariants.{Absent, Failed, NoMemory}
+use Rattle.std.specs.Prelude.{◌≡◌, ◌≢◌, ℕ, ◌+◌, List, [], ◌∷◌, ◌++◌, replicate, Option, None, Some, IfSome, bytes_eq, if◌then◌else◌}
 
 -- names, each with the bytes of its file; of two pairs with one name the first counts
 abbrev pub Files : Type 0
@@ -14,10 +11,6 @@ Files = List (List ℕ × List ℕ)
 abbrev pub content : List ℕ → Files → Option (List ℕ)
 content name [] = None
 content name (file ∷ files) = if bytes_eq file.0 name then Some file.1 else content name files
-
--- the first `most` of these bytes
-abbrev pub prefix_of : List ℕ → ℕ → Files → Option (List ℕ)
-prefix_of name most files = option_map (take most) (content name files)
 
 -- what a contract sees of a shelf
 pub record ShelfState : Type 0 where
@@ -29,10 +22,6 @@ pub record ShelfState : Type 0 where
   pub read_faults : List (List ℕ)
   -- names of files reported not replaced
   pub replace_faults : List (List ℕ)
-
--- the state with these files in which nothing has been reported
-abbrev pub unreported : Option Files → ShelfState
-unreported files = record { holds = files; misses = []; read_faults = []; replace_faults = [] }
 
 -- the name was reported: it was appended once or more, and no other name was
 pub record Reports (name : List ℕ) (old new : List (List ℕ)) : Type 0 where
@@ -49,12 +38,6 @@ pub record ReportsMiss (name : List ℕ) (old new : ShelfState) : Type 0 where
 pub record ReportsReadFault (name : List ℕ) (old new : ShelfState) : Type 0 where
   pub reported : Reports name old.read_faults new.read_faults
   pub others : new ≡ record old { read_faults = new.read_faults }
-
--- what a read that stopped leaves
-abbrev pub ReadStops : List ℕ → ShelfState → ShelfState → ShelfStop → Type 0
-ReadStops name old new Absent = ReportsMiss name old new
-ReadStops name old new Failed = ReportsReadFault name old new
-ReadStops name old new NoMemory = new ≡ old
 
 -- every other name has the same content as before
 abbrev pub OthersStay : List ℕ → Files → Files → Type 0
@@ -82,9 +65,3 @@ pub record ReportsReplaceFault (name : List ℕ) (old new : ShelfState) : Type 0
   pub files : FilesRelate (OthersStay name) old.holds new.holds
   pub reported : Reports name old.replace_faults new.replace_faults
   pub others : new ≡ record old { holds = new.holds; replace_faults = new.replace_faults }
-
--- what a replacement that stopped leaves; it never stops at a file that does not exist
-abbrev pub ReplaceStops : List ℕ → ShelfState → ShelfState → ShelfStop → Type 0
-ReplaceStops name old new Absent = ⊥
-ReplaceStops name old new Failed = ReportsReplaceFault name old new
-ReplaceStops name old new NoMemory = new ≡ old

@@ -1,9 +1,7 @@
 -- Part of the statement: what a sink shows, and how a write changes it. `old` is what it was before the call and `new` after it. A write
 -- that fails may have taken a prefix of its bytes (IEEE Std 1003.1, write).
-use Rattle.std.specs.Prelude.{◌≡◌, ℕ, ◌-◌, ◌^◌, ◌<◌, ◌⊎◌, List, ◌++◌, take, Option, Result, Ok, Err}
+use Rattle.std.specs.Prelude.{◌≡◌, ℕ, ◌-◌, ◌^◌, ◌<◌, ◌⊎◌, List, ◌++◌, take, Option}
 use Rattle.std.specs.Option.{option_map}
-use Rattle.gp_io.specs.declared.error.SinkStop.{SinkStop}
-use Rattle.gp_io.specs.declared.error.SinkStop.TheVariants.{Failed, NoMemory}
 
 -- what a contract sees of a sink
 pub record SinkState : Type 0 where
@@ -24,9 +22,3 @@ pub record WritesPrefix (bytes : List ℕ) (old new : Option (List ℕ)) : Type 
 -- the number of write errors increased, or it was and is the greatest u64
 abbrev pub Increased : ℕ → ℕ → Type 0
 Increased old new = (old < new) ⊎ ((new ≡ old) × (new ≡ 2 ^ 64 - 1))
-
--- the number of write errors increases with the answer Failed and with no other
-abbrev pub CountsFault : {T : Type 0} → Result T SinkStop → ℕ → ℕ → Type 0
-CountsFault (Ok value) old new = new ≡ old
-CountsFault (Err Failed) old new = Increased old new
-CountsFault (Err NoMemory) old new = new ≡ old

@@ -1,7 +1,7 @@
 //! A shelf and a sink in memory that never fail but for memory.
 ghost use Rattle.std.specs.Prelude.{◌≡◌, [], Some};
 ghost use Rattle.gp_io.specs.NamedFile.{files_of};
-ghost use Rattle.gp_io.specs.Shelf.{unreported};
+ghost use Rattle.gp_io.specs.ShelfSteps.{unreported};
 ghost use Rattle.gp_io.specs.Stored.{names_of};
 
 use crate::error::{ShelfStop, SinkStop};

@@ -1,7 +1,7 @@
 //! The operating system's files as a shelf.
 ghost use Rattle.std.specs.Prelude.{◌≡◌, ◌≢◌, ◌≤◌, ◌<◌, ◌↔◌, None, IfOk, OnOk, vec_len, vec_capacity, string_bytes};
 ghost use Rattle.std.specs.IoError.{error_kind};
-ghost use Rattle.gp_io.specs.Shelf.{unreported, ReadStops};
+ghost use Rattle.gp_io.specs.ShelfSteps.{unreported, ReadStops};
 ghost use Rattle.gp_io.specs.Stored.{names_of};
 
 use crate::error::ShelfStop;

@@ -2,7 +2,8 @@
 ghost use Rattle.std.specs.Prelude.{◌≡◌, ◌≤◌, OnOk, OnErr, IfSome, length, take};
 ghost use Rattle.std.specs.Option.{option_copied};
 ghost use Rattle.std.specs.List.{position};
-ghost use Rattle.gp_io.specs.Shelf.{content, prefix_of, Replaced};
+ghost use Rattle.gp_io.specs.Shelf.{content, Replaced};
+ghost use Rattle.gp_io.specs.ShelfSteps.{prefix_of};
 ghost use Rattle.gp_io.specs.NamedFile.{files_of};
 ghost use Rattle.gp_io.specs.Stored.{has_name};
 

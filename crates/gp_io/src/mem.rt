@@ -2,8 +2,10 @@
 ghost use Rattle.std.specs.Prelude.{◌≡◌, ◌≤◌, ◌+◌, ◌-◌, ◌^◌, ◌↔◌, [], min, Some, Err, IfOk, IfErr, OnOk, OnErr, IfSome, vec_len};
 ghost use Rattle.std.specs.List.{Contains};
 ghost use Rattle.gp_io.specs.NamedFile.{files_of};
-ghost use Rattle.gp_io.specs.Shelf.{prefix_of, unreported, ReadStops, ReplacesFile, ReplaceStops};
-ghost use Rattle.gp_io.specs.Sink.{appended, CountsFault, WritesPrefix};
+ghost use Rattle.gp_io.specs.Shelf.{ReplacesFile};
+ghost use Rattle.gp_io.specs.ShelfSteps.{prefix_of, unreported, ReadStops, ReplaceStops};
+ghost use Rattle.gp_io.specs.Sink.{appended, WritesPrefix};
+ghost use Rattle.gp_io.specs.SinkSteps.{CountsFault};
 ghost use Rattle.gp_io.specs.Stored.{names_of};
 
 use crate::calm::{CalmShelf, CalmSink};

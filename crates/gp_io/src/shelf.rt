@@ -1,6 +1,7 @@
 //! Named files that can be read and replaced.
 ghost use Rattle.std.specs.Prelude.{◌≡◌, ◌≤◌, Option, Some, IfOk, IfErr, OnOk, IfSome, vec_len};
-ghost use Rattle.gp_io.specs.Shelf.{ShelfState, prefix_of, ReadStops, ReplacesFile, ReplaceStops};
+ghost use Rattle.gp_io.specs.Shelf.{ShelfState, ReplacesFile};
+ghost use Rattle.gp_io.specs.ShelfSteps.{prefix_of, ReadStops, ReplaceStops};
 
 use crate::error::ShelfStop;
 

@@ -1,6 +1,7 @@
 //! A destination for output bytes.
 ghost use Rattle.std.specs.Prelude.{◌≡◌, OnOk};
-ghost use Rattle.gp_io.specs.Sink.{SinkState, appended, WritesPrefix, CountsFault};
+ghost use Rattle.gp_io.specs.Sink.{SinkState, appended, WritesPrefix};
+ghost use Rattle.gp_io.specs.SinkSteps.{CountsFault};
 
 use crate::error::SinkStop;
 

@@ -8,16 +8,20 @@ use Rattle.gp_base.specs.declared.cell.Cell.{Cell}
 use Rattle.gp_base.specs.declared.token.Token.{Token}
 use Rattle.gp_base.specs.Annotated.{Annotated, Environment, monomials}
 use Rattle.gp_base.specs.Order.{row_cmp}
-use Rattle.gp_base.specs.Tokens.{IsMonomial, Monomial}
-use Rattle.gp_algebra.specs.AnnotatedQueries.{Derived, Program, program_meaning}
+use Rattle.gp_base.specs.Tokens.{Monomial}
+use Rattle.gp_base.specs.MonomialForms.{IsMonomial}
+use Rattle.gp_algebra.specs.AnnotatedQueries.{Program}
+use Rattle.gp_algebra.specs.AnnotatedMeaning.{Derived, program_meaning}
 use Rattle.gp_algebra.specs.Reannotation.{reannotated}
 use Rattle.gp_semiring.specs.Semirings.{SemiringLaws}
-use Rattle.gp_semiring.specs.Sums.{Each, summed}
+use Rattle.gp_semiring.specs.Sums.{summed}
+use Rattle.gp_semiring.specs.SumForms.{Each}
 use Rattle.gp_semiring.specs.Totals.{total_at}
 use Rattle.gp_semiring.proofs.TotalLemmas.{find-summed}
 use Rattle.gp_valuation.specs.Values.{monomial_value, values_as_annotations}
 use Rattle.gp_valuation.proofs.MonomialValues.{monomial_value-in}
-use Rattle.gp_kexec.specs.InSemiring.{NoneStops, counted, derived_reannotated, environment_reannotated, in_semiring, spread, word_value, words}
+use Rattle.gp_kexec.specs.InSemiring.{in_semiring}
+use Rattle.gp_kexec.specs.SemiringForms.{NoneStops, counted, derived_reannotated, environment_reannotated, spread, word_value, words}
 use Rattle.gp_base.specs.RowOrder.{row_cmp_total, exact_rows}
 use Rattle.gp_kexec.specs.Rows.{pairs_of}
 use Rattle.gp_kexec.proofs.CarryLemmas.{program_carried}

@@ -7,28 +7,24 @@ use Rattle.gp_base.specs.Annotated.{Annotations, Environment}
 use Rattle.gp_base.specs.declared.row_id.TheConstants.{MAX_NODES}
 use Rattle.gp_expr.specs.Values.{passes}
 use Rattle.gp_algebra.specs.AnnotatedQueries as q
-use Rattle.gp_algebra.specs.AnnotatedQueries.{Derived, Query, QueryStep, crossed, meaning, projected, published, renewed, steps_meaning}
+use Rattle.gp_algebra.specs.AnnotatedQueries.{Query, QueryStep}
+use Rattle.gp_algebra.specs.AnnotatedMeaning.{Derived, crossed, meaning, projected, published, renewed, steps_meaning}
 use Rattle.gp_algebra.specs.Plain.{no_steps, with_step}
 use Rattle.gp_algebra.specs.QueryViews.{annotated_step_view, annotated_view}
 use Rattle.gp_algebra.specs.declared.annotated.AStep.{AStep}
 use Rattle.gp_algebra.specs.Stops.{Stop, first_stop}
-use Rattle.gp_exec.specs.declared.limit.TheConstants.{MAX_TABLE_ROWS}
+use Rattle.gp_base.specs.declared.limit.TheConstants.{MAX_TABLE_ROWS}
 use Rattle.gp_kexec.specs.declared.held.Held.{Held}
 use Rattle.gp_kexec.specs.declared.table.Done.{Done}
 use Rattle.gp_kexec.specs.AnnotatedStops.{steps_stop, stop_at}
 use Rattle.gp_kexec.specs.Evaluating.{steps_after}
 use Rattle.gp_kexec.specs.Liveness.{KeepsLive, emptied, is_live, live_ones, reads}
 use Rattle.gp_kexec.specs.Rows.{held_view}
-use Rattle.gp_kexec.proofs.StepLemmas.{other_number, same_number, steps_after-push}
+use Rattle.gp_kexec.proofs.StepLemmas.{other_number, steps_after-push}
+use Rattle.gp_base.proofs.SmallLemmas.{eq_from_same}
+use Rattle.std.proofs.lemmas.Bool.{or_left, or_right}
 
 -- ---- tests
-
-or_first : (a b : Bool) → a ≡ true → (a || b) ≡ true
-or_first a b holds = rw holds refl
-
-or_second : (a b : Bool) → b ≡ true → (a || b) ≡ true
-or_second true b holds = refl
-or_second false b holds = holds
 
 live_later : (here later last : Bool) → (later || last) ≡ true → ((here || later) || last) ≡ true
 live_later true later last live = refl
@@ -37,45 +33,45 @@ live_later false later last live = live
 false≢true : (b : Bool) → b ≡ false → b ≡ true → ⊥
 false≢true b is kept = cc
 
-module _ {M : Type 0} (kind : Annotations M) (env : Environment M) where
+module _ {M : Type 0} (domain : Annotations M) (env : Environment M) where
   abbrev Rows : Type 0
   Rows = List (Derived M)
 
   -- ---- queries
 
   -- a query means the same over the same rows of the steps that it reads
-  meaning_agrees : (query : Query) (known others : ℕ → Rows) → ((j : ℕ) → reads j query ≡ true → known j ≡ others j) → meaning kind known env query ≡ meaning kind others env query
+  meaning_agrees : (query : Query) (known others : ℕ → Rows) → ((j : ℕ) → reads j query ≡ true → known j ≡ others j) → meaning domain known env query ≡ meaning domain others env query
   meaning_agrees (q.scan table version) known others agree = refl
-  meaning_agrees (q.step j) known others agree = agree j (same_number j j refl)
+  meaning_agrees (q.step j) known others agree = agree j (eq_from_same j j refl)
   meaning_agrees (q.select query c) known others agree = ap (λ (rows : Rows). filter (λ (row : Derived M). passes c row.cells) rows) (meaning_agrees query known others agree)
-  meaning_agrees (q.project query exprs change) known others agree = ap (λ (rows : Rows). map (projected kind exprs change) rows) (meaning_agrees query known others agree)
+  meaning_agrees (q.project query exprs change) known others agree = ap (λ (rows : Rows). map (projected domain exprs change) rows) (meaning_agrees query known others agree)
   meaning_agrees (q.product left right) known others agree =
-      let first = meaning_agrees left known others (λ j read. agree j (or_first (reads j left) (reads j right) read)) in
-      let second = meaning_agrees right known others (λ j read. agree j (or_second (reads j left) (reads j right) read)) in
-      ap (λ (rows : Rows). flat_map (λ row. map (crossed kind row) rows) (meaning kind known env left)) second
-      ∙ ap (λ (rows : Rows). flat_map (λ row. map (crossed kind row) (meaning kind others env right)) rows) first
+      let first = meaning_agrees left known others (λ j read. agree j (or_left (reads j left) (reads j right) read)) in
+      let second = meaning_agrees right known others (λ j read. agree j (or_right (reads j left) (reads j right) read)) in
+      ap (λ (rows : Rows). flat_map (λ row. map (crossed domain row) rows) (meaning domain known env left)) second
+      ∙ ap (λ (rows : Rows). flat_map (λ row. map (crossed domain row) (meaning domain others env right)) rows) first
   meaning_agrees (q.union left right) known others agree =
-      let first = meaning_agrees left known others (λ j read. agree j (or_first (reads j left) (reads j right) read)) in
-      let second = meaning_agrees right known others (λ j read. agree j (or_second (reads j left) (reads j right) read)) in
-      ap (λ (rows : Rows). rows ++ meaning kind known env right) first ∙ ap (λ (rows : Rows). meaning kind others env left ++ rows) second
+      let first = meaning_agrees left known others (λ j read. agree j (or_left (reads j left) (reads j right) read)) in
+      let second = meaning_agrees right known others (λ j read. agree j (or_right (reads j left) (reads j right) read)) in
+      ap (λ (rows : Rows). rows ++ meaning domain known env right) first ∙ ap (λ (rows : Rows). meaning domain others env left ++ rows) second
   meaning_agrees (q.given t k rows) known others agree = refl
-  meaning_agrees (q.new_rows t k b query) known others agree = ap (λ (rows : Rows). map (renewed kind t k b) rows) (meaning_agrees query known others agree)
+  meaning_agrees (q.new_rows t k b query) known others agree = ap (λ (rows : Rows). map (renewed domain t k b) rows) (meaning_agrees query known others agree)
   meaning_agrees (q.publish base mine later) known others agree =
       let inner = λ (j : ℕ). reads j mine || reads j later in
-      let first = meaning_agrees base known others (λ j read. agree j (or_first (reads j base) (inner j) read)) in
-      let second = meaning_agrees mine known others (λ j read. agree j (or_second (reads j base) (inner j) (or_first (reads j mine) (reads j later) read))) in
-      let third = meaning_agrees later known others (λ j read. agree j (or_second (reads j base) (inner j) (or_second (reads j mine) (reads j later) read))) in
-      ap (λ (rows : Rows). published kind rows (meaning kind known env mine) (meaning kind known env later)) first
-      ∙ (ap (λ (rows : Rows). published kind (meaning kind others env base) rows (meaning kind known env later)) second
-      ∙ ap (λ (rows : Rows). published kind (meaning kind others env base) (meaning kind others env mine) rows) third)
+      let first = meaning_agrees base known others (λ j read. agree j (or_left (reads j base) (inner j) read)) in
+      let second = meaning_agrees mine known others (λ j read. agree j (or_right (reads j base) (inner j) (or_left (reads j mine) (reads j later) read))) in
+      let third = meaning_agrees later known others (λ j read. agree j (or_right (reads j base) (inner j) (or_right (reads j mine) (reads j later) read))) in
+      ap (λ (rows : Rows). published domain rows (meaning domain known env mine) (meaning domain known env later)) first
+      ∙ (ap (λ (rows : Rows). published domain (meaning domain others env base) rows (meaning domain known env later)) second
+      ∙ ap (λ (rows : Rows). published domain (meaning domain others env base) (meaning domain others env mine) rows) third)
 
   -- ---- the rest of a program
 
   abbrev stop_of : List QueryStep → (ℕ → Rows) → Option Stop
-  stop_of steps before = steps_stop kind MAX_TABLE_ROWS MAX_NODES env steps before
+  stop_of steps before = steps_stop domain MAX_TABLE_ROWS MAX_NODES env steps before
 
   abbrev last_rows : List QueryStep → Query → (ℕ → Rows) → Rows
-  last_rows steps last before = meaning kind (steps_meaning kind env steps before) env last
+  last_rows steps last before = meaning domain (steps_meaning domain env steps before) env last
 
   -- the rest of a program over the same rows of the live steps
   record SameRest (steps : List QueryStep) (last : Query) (old new : ℕ → Rows) : Type 0 where
@@ -86,28 +82,28 @@ module _ {M : Type 0} (kind : Annotations M) (env : Environment M) where
   rest_agrees [] last old new keeps = record { stop = refl; same = meaning_agrees last new old keeps }
   rest_agrees (first ∷ steps) last old new keeps =
       let any = λ (j : ℕ). list_any (λ s. reads j s.query) steps in
-      let was = meaning kind old env first.query in
-      let is = meaning kind new env first.query in
+      let was = meaning domain old env first.query in
+      let is = meaning domain new env first.query in
       let here : is ≡ was =
-      meaning_agrees first.query new old (λ j read. keeps j (or_first (reads j first.query || any j) (reads j last) (or_first (reads j first.query) (any j) read))) in
+      meaning_agrees first.query new old (λ j read. keeps j (or_left (reads j first.query || any j) (reads j last) (or_left (reads j first.query) (any j) read))) in
       let later : KeepsLive steps last (with_step first.j was old) (with_step first.j is new) =
       λ j live. ap (λ (rows : Rows). if j == first.j then rows else new j) here
       ∙ ap (λ (rows : Rows). if j == first.j then was else rows) (keeps j (live_later (reads j first.query) (any j) (reads j last) live)) in
       let rest = rest_agrees steps last (with_step first.j was old) (with_step first.j is new) later in
       record {
         stop =
-            ap (λ (rows : Rows). first_stop (stop_at kind MAX_TABLE_ROWS MAX_NODES first rows) (stop_of steps (with_step first.j is new))) here
-            ∙ ap (λ (stop : Option Stop). first_stop (stop_at kind MAX_TABLE_ROWS MAX_NODES first was) stop) rest.stop;
+            ap (λ (rows : Rows). first_stop (stop_at domain MAX_TABLE_ROWS MAX_NODES first rows) (stop_of steps (with_step first.j is new))) here
+            ∙ ap (λ (stop : Option Stop). first_stop (stop_at domain MAX_TABLE_ROWS MAX_NODES first was) stop) rest.stop;
         same = rest.same;
       }
 
   -- a step that does not stop, and the steps after it
-  pub rest_after : (step : QueryStep) (steps : List QueryStep) (last : Query) (old new : ℕ → Rows) → stop_at kind MAX_TABLE_ROWS MAX_NODES step (meaning kind old env step.query) ≡ None →
-      KeepsLive steps last (with_step step.j (meaning kind old env step.query) old) new →
-      (steps_stop kind MAX_TABLE_ROWS MAX_NODES env steps new ≡ steps_stop kind MAX_TABLE_ROWS MAX_NODES env (step ∷ steps) old)
-      × (meaning kind (steps_meaning kind env steps new) env last ≡ meaning kind (steps_meaning kind env (step ∷ steps) old) env last)
+  pub rest_after : (step : QueryStep) (steps : List QueryStep) (last : Query) (old new : ℕ → Rows) → stop_at domain MAX_TABLE_ROWS MAX_NODES step (meaning domain old env step.query) ≡ None →
+      KeepsLive steps last (with_step step.j (meaning domain old env step.query) old) new →
+      (steps_stop domain MAX_TABLE_ROWS MAX_NODES env steps new ≡ steps_stop domain MAX_TABLE_ROWS MAX_NODES env (step ∷ steps) old)
+      × (meaning domain (steps_meaning domain env steps new) env last ≡ meaning domain (steps_meaning domain env (step ∷ steps) old) env last)
   rest_after step steps last old new goes_on keeps =
-      let after = with_step step.j (meaning kind old env step.query) old in
+      let after = with_step step.j (meaning domain old env step.query) old in
       let rest = rest_agrees steps last after new keeps in
       (rest.stop ∙ sym (ap (λ (stop : Option Stop). first_stop stop (stop_of steps after)) goes_on), rest.same)
 

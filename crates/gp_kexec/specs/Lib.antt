@@ -10,3 +10,4 @@ pub mod Publishing
 pub mod Rows
 pub mod Running
 pub mod Valuing
+pub mod SemiringForms

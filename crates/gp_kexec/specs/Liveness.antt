@@ -1,7 +1,8 @@
 -- Machinery: a step is live while a later step or the last query reads it. The rows of other steps need not be held.
 use Rattle.std.specs.Prelude.{◌≡◌, ℕ, ◌==◌, Bool, true, false, ◌||◌, List, [], filter, Option, Some, None, if◌then◌else◌}
 use Rattle.std.specs.List.{list_any}
-use Rattle.gp_algebra.specs.AnnotatedQueries.{Derived, Query, QueryStep, scan, step, select, project, product, union, given, new_rows, publish}
+use Rattle.gp_algebra.specs.AnnotatedQueries.{Query, QueryStep, scan, step, select, project, product, union, given, new_rows, publish}
+use Rattle.gp_algebra.specs.AnnotatedMeaning.{Derived}
 use Rattle.gp_kexec.specs.declared.table.Done.{Done}
 
 -- the query reads step j

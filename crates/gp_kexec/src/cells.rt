@@ -1,7 +1,7 @@
 //! Operations on borrowed cells, as expressions and conditions have them.
 
 ghost use Rattle.std.specs.Prelude.{◌≡◌, ◌+ℤ◌, ◌-ℤ◌, ◌*ℤ◌};
-ghost use Rattle.gp_base.specs.Cells.{cell_view};
+ghost use Rattle.gp_base.specs.CellForms.{cell_view};
 ghost use Rattle.gp_expr.specs.Results.{number_view};
 ghost use Rattle.gp_expr.specs.Values as v;
 

@@ -9,8 +9,10 @@ use Rattle.gp_lexer.specs.declared.lexeme.Symbol.TheVariants as s
 use Rattle.gp_lexer.specs.declared.lexeme.Lexeme.{Lexeme}
 use Rattle.gp_lexer.specs.declared.lexeme.Lexeme.TheVariants.{Symbol as Sign}
 use Rattle.gp_lexer.specs.Layout.{is_separated, has_space, next_gap, Page, empty_page, spaced, put, written, laid_out}
-use Rattle.gp_lexer.specs.Lexemes.{symbol_text, spelled, IsProper, AreProper}
-use Rattle.gp_lexer.specs.Lexing.{Lexed, with_lexeme, lexed_from, lexed, lexemes_of}
+use Rattle.gp_lexer.specs.Lexemes.{symbol_text, spelled}
+use Rattle.gp_lexer.specs.ProperLexemes.{IsProper, AreProper}
+use Rattle.gp_lexer.specs.Lexing.{Lexed, with_lexeme, lexed_from, lexed}
+use Rattle.gp_lexer.specs.LexResults.{lexemes_of}
 use Rattle.gp_lexer.proofs.SpellingLemmas.{Lexes, Follows, lexes, open-lexes, dot-lexes, minus-lexes}
 
 -- the text that the lexemes add after this gap

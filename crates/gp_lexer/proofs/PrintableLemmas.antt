@@ -1,7 +1,7 @@
 -- The canonical text of lexemes has no control character, and it is UTF-8 if its texts are. All other lexemes are spelled in graphic
 -- ASCII characters.
 use Rattle.std.proofs.Common.{◌≡◌, ℕ, ◌<◌, ◌^◌, Bool, true, false, cond, ◌&&◌, eqb, List, [], ◌∷◌, ◌++◌, codes, refl, sym, ap, subst, arith, ◌∙◌, append_assoc, lit≤}
-use Rattle.std.proofs.lemmas.Bool.{eqb-true}
+use Rattle.std.proofs.lemmas.Bool.{eqb-true, and_parts, or_parts}
 use Rattle.std.proofs.lemmas.Bool.Decides.{nat_tests}
 use Rattle.std.proofs.lemmas.Fmt.{decimal_is_IsNumeral}
 use Rattle.std.proofs.lemmas.List.Folds.{list_any-append}
@@ -21,9 +21,10 @@ use Rattle.gp_lexer.specs.declared.lexeme.Lexeme.{Lexeme}
 use Rattle.gp_lexer.specs.declared.lexeme.Lexeme.TheVariants.{Symbol as Sign, Word, Number, Big, Text}
 use Rattle.gp_lexer.specs.declared.lexeme.TheConstants.{QUOTE}
 use Rattle.gp_lexer.specs.Layout.{has_space, next_gap, empty_page, spaced, laid_out}
-use Rattle.gp_lexer.specs.Lexemes.{symbol_text, spelled, IsProper, AreProper, HasUtf8Text, HaveUtf8Texts}
+use Rattle.gp_lexer.specs.Lexemes.{symbol_text, spelled}
+use Rattle.gp_lexer.specs.ProperLexemes.{IsProper, AreProper, HasUtf8Text, HaveUtf8Texts}
 use Rattle.gp_lexer.proofs.LayoutLemmas.{added, written-added}
-use Rattle.gp_lexer.proofs.SpellingLemmas.{both, none-of, letter-name, name-parts, are-digits}
+use Rattle.gp_lexer.proofs.SpellingLemmas.{letter-name, name-parts, are-digits}
 use Rattle.gp_lexer.proofs.Utf8Lemmas.{cut-utf8}
 
 -- ---- graphic ASCII characters
@@ -43,21 +44,21 @@ graphic-digit b h = grind (arith, nat_tests)
 all-graphic : (test : ℕ → Bool) → ((b : ℕ) → test b ≡ true → is_ascii_graphic b ≡ true) → (bytes : List ℕ) → list_all test bytes ≡ true → list_all is_ascii_graphic bytes ≡ true
 all-graphic test each [] h = refl
 all-graphic test each (b ∷ bytes) h =
-    let parts = both (test b) (list_all test bytes) h in
+    let parts = and_parts (test b) (list_all test bytes) h in
     let first : is_ascii_graphic b ≡ true = each b parts.0 in
     rw first (all-graphic test each bytes parts.1)
 
 all-plain : (bytes : List ℕ) → list_all is_ascii_graphic bytes ≡ true → list_any is_ascii_control bytes ≡ false
 all-plain [] h = refl
 all-plain (b ∷ bytes) h =
-    let parts = both (is_ascii_graphic b) (list_all is_ascii_graphic bytes) h in
+    let parts = and_parts (is_ascii_graphic b) (list_all is_ascii_graphic bytes) h in
     let first : is_ascii_control b ≡ false = graphic-plain b parts.0 in
     rw first (all-plain bytes parts.1)
 
 all-ascii : (bytes : List ℕ) → list_all is_ascii_graphic bytes ≡ true → IsAscii bytes
 all-ascii [] h = IsAscii-nil
 all-ascii (b ∷ bytes) h =
-    let parts = both (is_ascii_graphic b) (list_all is_ascii_graphic bytes) h in
+    let parts = and_parts (is_ascii_graphic b) (list_all is_ascii_graphic bytes) h in
     IsAscii-cons b bytes (graphic-low b parts.0) (all-ascii bytes parts.1)
 
 all-utf8 : (bytes : List ℕ) → list_all is_ascii_graphic bytes ≡ true → IsUtf8 bytes
@@ -131,7 +132,7 @@ both-plain xs ys h i = list_any-append is_ascii_control xs ys ∙ (rw (h, i) ref
 quoted-plain : (text : List ℕ) → list_any is_ascii_control text ≡ false → list_any is_ascii_control (flat_map quoted_byte text) ≡ false
 quoted-plain [] h = refl
 quoted-plain (b ∷ text) h =
-    let parts = none-of (is_ascii_control b) (list_any is_ascii_control text) h in
+    let parts = or_parts (is_ascii_control b) (list_any is_ascii_control text) h in
     both-plain (quoted_byte b) (flat_map quoted_byte text) (by (eqb b QUOTE) parts.0) (quoted-plain text parts.1)
   where
     by : (t : Bool) → is_ascii_control b ≡ false → list_any is_ascii_control (cond t (QUOTE ∷ QUOTE ∷ []) (b ∷ [])) ≡ false

@@ -1,7 +1,7 @@
 -- A lexeme that is spelled is read as that lexeme, if the byte after it does not go on with it.
 use Rattle.std.proofs.Common.{◌≡◌, ℕ, ◌<◌, ◌≤◌, ◌^◌, Bool, true, false, cond, not, ◌&&◌, ◌||◌, eqb, ltb, leb, List, [], ◌∷◌, ◌++◌, length, map, take, drop, Some, None, codes, refl, sym, ap, arith, ◌∙◌, append_assoc, lit≤}
 use Rattle.std.proofs.Math.Seq.{take-append_seam, drop-append_seam}
-use Rattle.std.proofs.lemmas.Bool.{eqb-true, lt-ltb, le-leb}
+use Rattle.std.proofs.lemmas.Bool.{eqb-true, lt-ltb, le-leb, and_parts, or_parts}
 use Rattle.std.proofs.lemmas.Bool.Decides.{nat_tests}
 use Rattle.std.proofs.lemmas.Fmt.{decimal_is_IsNumeral}
 use Rattle.std.proofs.lemmas.Str.Parse.{digit_from_value}
@@ -20,7 +20,8 @@ use Rattle.gp_lexer.specs.declared.lexeme.Lexeme.{Lexeme}
 use Rattle.gp_lexer.specs.declared.lexeme.Lexeme.TheVariants.{Symbol as Sign, Word, Number, Big, Text}
 use Rattle.gp_base.specs.declared.text.TheConstants.{MAX_TEXT_LENGTH}
 use Rattle.gp_lexer.specs.declared.lexeme.TheConstants.{QUOTE}
-use Rattle.gp_lexer.specs.Lexemes.{symbol_text, spelled, IsProper}
+use Rattle.gp_lexer.specs.Lexemes.{symbol_text, spelled}
+use Rattle.gp_lexer.specs.ProperLexemes.{IsProper}
 use Rattle.gp_lexer.specs.Lexing.{Quoted, is_word_byte, reserved_symbols, reserved_word, word_lexeme, word_at, number_lexeme, number_at, with_byte, quoted_text, quoted_text_after_quote, text_lexeme, sign_at, is_blank, lexeme_at}
 use Rattle.gp_lexer.proofs.WordLemmas.{same-words}
 
@@ -37,15 +38,11 @@ abbrev pub Ends : (ℕ → Bool) → List ℕ → Type 0
 Ends test [] = Unit {0}
 Ends test (b ∷ bytes) = test b ≡ false
 
-pub both : (p q : Bool) → (p && q) ≡ true → (p ≡ true) × (q ≡ true)
-both true q h = (refl, h)
-both false q h = absurd cc
-
 prefix-len : (test : ℕ → Bool) (bytes rest : List ℕ) → list_all test bytes ≡ true → Ends test rest → prefix_len test (bytes ++ rest) ≡ length bytes
 prefix-len test [] [] all ends = refl
 prefix-len test [] (b ∷ rest) all ends = rw ends refl
 prefix-len test (b ∷ bytes) rest all ends =
-    let parts = both (test b) (list_all test bytes) all in
+    let parts = and_parts (test b) (list_all test bytes) all in
     let first : test b ≡ true = parts.0 in
     let others : prefix_len test (bytes ++ rest) ≡ length bytes = prefix-len test bytes rest parts.1 ends in
     rw first (omega arith)
@@ -91,14 +88,14 @@ name-byte-lower b h = grind (arith, nat_tests)
 words-are : (bytes : List ℕ) → list_all is_name_byte bytes ≡ true → list_all is_word_byte bytes ≡ true
 words-are [] h = refl
 words-are (b ∷ bytes) h =
-    let parts = both (is_name_byte b) (list_all is_name_byte bytes) h in
+    let parts = and_parts (is_name_byte b) (list_all is_name_byte bytes) h in
     let first : is_word_byte b ≡ true = name-byte-is b parts.0 in
     rw first (words-are bytes parts.1)
 
 lower-same : (bytes : List ℕ) → list_all is_name_byte bytes ≡ true → map to_ascii_lowercase bytes ≡ bytes
 lower-same [] h = refl
 lower-same (b ∷ bytes) h =
-    let parts = both (is_name_byte b) (list_all is_name_byte bytes) h in
+    let parts = and_parts (is_name_byte b) (list_all is_name_byte bytes) h in
     let first : to_ascii_lowercase b ≡ b = name-byte-lower b parts.0 in
     let others : map to_ascii_lowercase bytes ≡ bytes = lower-same bytes parts.1 in
     cc
@@ -188,7 +185,7 @@ digits-lex : (lexeme : Lexeme) (ds rest : List ℕ) → spelled lexeme ≡ ds �
 unfolding lexeme_at
 digits-lex lexeme [] rest text some all value ends = absurd (omega arith)
 digits-lex lexeme (d ∷ ds) rest text some all value ends =
-    let digit : is_ascii_digit d ≡ true = (both (is_ascii_digit d) (list_all is_ascii_digit ds) all).0 in
+    let digit : is_ascii_digit d ≡ true = (and_parts (is_ascii_digit d) (list_all is_ascii_digit ds) all).0 in
     let letter : is_ascii_alphabetic d ≡ false = no-letter d digit in
     record {
       first = d;
@@ -211,10 +208,6 @@ big-lexes rest ends = digits-lex Big (codes "9223372036854775808") rest refl (li
 
 -- ---- texts
 
-pub none-of : (p q : Bool) → (p || q) ≡ false → (p ≡ false) × (q ≡ false)
-none-of true q h = absurd cc
-none-of false q h = (refl, h)
-
 quoted-byte : (b : ℕ) (t : Bool) → eqb b QUOTE ≡ t → is_ascii_control b ≡ false → (bytes : List ℕ) (text : Quoted) → quoted_text bytes ≡ text
     → quoted_text (cond t (QUOTE ∷ QUOTE ∷ []) (b ∷ []) ++ bytes) ≡ with_byte b text
 quoted-byte b true e plain bytes text h = let is : b ≡ QUOTE = eqb-true b QUOTE e in ap (with_byte QUOTE) h ∙ ap (λ byte. with_byte byte text) (sym is)
@@ -228,7 +221,7 @@ text-read : (text rest : List ℕ) → list_any is_ascii_control text ≡ false 
     → quoted_text (flat_map quoted_byte text ++ (QUOTE ∷ rest)) ≡ Some (text, rest)
 text-read [] rest plain ends = closed rest ends
 text-read (b ∷ text) rest plain ends =
-    let parts = none-of (is_ascii_control b) (list_any is_ascii_control text) plain in
+    let parts = or_parts (is_ascii_control b) (list_any is_ascii_control text) plain in
     ap quoted_text (append_assoc (quoted_byte b) (flat_map quoted_byte text) (QUOTE ∷ rest))
     ∙ quoted-byte b (eqb b QUOTE) refl parts.0 (flat_map quoted_byte text ++ (QUOTE ∷ rest)) (Some (text, rest)) (text-read text rest parts.1 ends)
 

@@ -20,8 +20,9 @@ use Rattle.gp_lexer.specs.declared.lexeme.Lexeme.{Lexeme}
 use Rattle.gp_lexer.specs.declared.lexeme.Lexeme.TheVariants.{Symbol as Sign, Word, Number, Big, Text}
 use Rattle.gp_base.specs.declared.text.TheConstants.{MAX_TEXT_LENGTH}
 use Rattle.gp_lexer.specs.declared.lexeme.TheConstants.{QUOTE}
-use Rattle.gp_lexer.specs.Lexemes.{HasUtf8Text, HaveUtf8Texts}
-use Rattle.gp_lexer.specs.Lexing.{Scanned, Quoted, is_word_byte, reserved_word, word_lexeme, word_at, number_at, with_byte, quoted_text, quoted_text_after_quote, text_lexeme, signs, sign_among, sign_at, is_blank, lexeme_at, Lexed, with_lexeme, lexed_at, column_of, lexed_from, lexed, lexemes_of}
+use Rattle.gp_lexer.specs.ProperLexemes.{HasUtf8Text, HaveUtf8Texts}
+use Rattle.gp_lexer.specs.Lexing.{Scanned, Quoted, is_word_byte, reserved_word, word_lexeme, word_at, number_at, with_byte, quoted_text, quoted_text_after_quote, text_lexeme, signs, sign_among, sign_at, is_blank, lexeme_at, Lexed, with_lexeme, lexed_at, column_of, lexed_from, lexed}
+use Rattle.gp_lexer.specs.LexResults.{lexemes_of}
 use Rattle.gp_lexer.proofs.TextLemmas.{with_bytes, with_bytes-with_byte, with_bytes-nil}
 
 -- ---- cutting at bytes below 128

@@ -1,11 +1,10 @@
 -- Part of the statement: the lexemes of a line with the column of each, or the column of the lexical fault. Each lexeme is the longest that
 -- can be read at its place (the longest match of scanner generators; Aho, Lam, Sethi and Ullman 2006, section 3.5), and where it cannot be
 -- read no shorter one is tried. Columns count the bytes of the line from 1.
-use Rattle.std.specs.Prelude.{◌≡◌, ℕ, zero, suc, ◌+◌, ◌-◌, ◌^◌, Bool, ◌||◌, List, [], ◌∷◌, length, take, drop, Option, Some, None, Result, Ok, Err, nat_eq, nat_lt, nat_le, ◌==◌, if◌then◌else◌, codes}
+use Rattle.std.specs.Prelude.{ℕ, zero, suc, ◌+◌, ◌-◌, ◌^◌, Bool, ◌||◌, List, [], ◌∷◌, length, take, drop, Option, Some, None, Result, Ok, Err, nat_eq, nat_lt, nat_le, ◌==◌, if◌then◌else◌, codes}
 use Rattle.std.specs.Char.{is_ascii_alphabetic, is_ascii_alphanumeric, is_ascii_control, is_ascii_digit}
 use Rattle.std.specs.List.{find, prefix_len, starts_with}
 use Rattle.std.specs.Option.{option_map, option_map_or}
-use Rattle.std.specs.Result.{result_ok}
 use Rattle.std.specs.Str.{str_eq_ignore_ascii_case, str_to_ascii_lowercase}
 use Rattle.std.specs.Str.Parse.{digits_value}
 use Rattle.gp_base.specs.declared.name.TheConstants.{MAX_NAME_LENGTH}
@@ -15,8 +14,6 @@ use Rattle.gp_lexer.specs.declared.lexeme.Lexeme.{Lexeme}
 use Rattle.gp_lexer.specs.declared.lexeme.Lexeme.TheVariants.{Symbol as Sign, Word, Number, Big, Text}
 use Rattle.gp_base.specs.declared.text.TheConstants.{MAX_TEXT_LENGTH}
 use Rattle.gp_lexer.specs.declared.lexeme.TheConstants.{QUOTE}
-use Rattle.gp_lexer.specs.declared.error.LexStop.{LexStop}
-use Rattle.gp_lexer.specs.declared.error.LexStop.TheVariants.{Fault, NoMemory}
 use Rattle.gp_lexer.specs.Lexemes.{symbol_text}
 
 -- a lexeme and the bytes after it, or None where no lexeme can be read
@@ -153,13 +150,3 @@ lexed_from (suc bound) line (byte ∷ bytes) =
 -- the lexemes of a line
 unfoldable pub lexed : List ℕ → Lexed
 lexed line = lexed_from (length line) line line
-
--- the lexemes of a line, without their columns
-abbrev pub lexemes_of : List ℕ → Option (List Lexeme)
-lexemes_of line = option_map (λ found. found.0) (result_ok (lexed line))
-
--- what the lexer answers; running out of memory says nothing about the line
-abbrev pub GivesLexemes : Result (List Lexeme × List ℕ) LexStop → Lexed → Type 0
-GivesLexemes (Ok found) line = line ≡ Ok found
-GivesLexemes (Err (Fault column)) line = line ≡ Err column
-GivesLexemes (Err NoMemory) line = Unit {0}

@@ -6,8 +6,8 @@ ghost use Rattle.std.specs.List.{list_any};
 ghost use Rattle.std.specs.Str.{IsUtf8};
 ghost use Rattle.gp_lexer.specs.declared.lexeme.Lexeme.{Lexeme};
 ghost use Rattle.gp_lexer.specs.Layout.{laid_out};
-ghost use Rattle.gp_lexer.specs.Lexemes.{AreProper, HaveUtf8Texts};
-ghost use Rattle.gp_lexer.specs.Lexing.{lexemes_of};
+ghost use Rattle.gp_lexer.specs.ProperLexemes.{AreProper, HaveUtf8Texts};
+ghost use Rattle.gp_lexer.specs.LexResults.{lexemes_of};
 
 /// Lexing inverts the canonical layout: the text of proper lexemes is read as these lexemes.
 pub fn lexing_inverts_layout()

@@ -8,6 +8,7 @@ ghost use Rattle.std.specs.Str.{str_to_ascii_lowercase};
 ghost use Rattle.std.specs.Str.Parse.{AllDigits, digits_value};
 ghost use Rattle.gp_base.specs.Names.{is_name};
 ghost use Rattle.gp_lexer.specs.Lexing as spec;
+ghost use Rattle.gp_lexer.specs.LexResults.{GivesLexemes};
 ghost use Rattle.gp_lexer.specs.Parts.{text_of_part};
 
 use crate::error::LexStop;
@@ -233,7 +234,7 @@ fn is_blank(byte: u8) -> bool
 /// begins no lexeme. Running out of memory is the only other error.
 pub fn lex(alloc: Global, line: &[u8]) -> Result<Lexemes, LexStop>
     requires { length line.now < 2 ^ 32 - 1 }
-    ensures { spec.GivesLexemes result (spec.lexed line.now) }
+    ensures { GivesLexemes result (spec.lexed line.now) }
 {
     let mut lexemes = Sequence::new(alloc);
     let mut columns = Sequence::new(alloc);

@@ -13,9 +13,10 @@ use Rattle.std.specs.FinMap.Entries.{by_order, below_all}
 use Rattle.gp_base.specs.declared.token.Token.{Token}
 use Rattle.gp_base.specs.Tokens.{token_cmp}
 use Rattle.gp_base.specs.TokenOrder.{token_cmp_total, token_cmp-exact}
-use Rattle.gp_semiring.specs.Sums.{Each}
+use Rattle.gp_semiring.specs.SumForms.{Each}
 use Rattle.gp_semiring.specs.SumLaws.{first, second, both, less, below_less, is_sorted_of, is_true_of}
-use Rattle.gp_semiring.specs.Witnesses.{IsRising, IsWitness, Sets, tagged, contains, is_within, placed, set_of, with_set, witness_plus, witness_times}
+use Rattle.gp_semiring.specs.Witnesses.{Sets, contains, is_within, placed, set_of, with_set, witness_plus, witness_times}
+use Rattle.gp_semiring.specs.WitnessForms.{IsRising, IsWitness, tagged}
 use Rattle.gp_semiring.specs.WitnessAdding.{place_in, rest_after, with_items, with_sets, with_row, with_unions}
 use Rattle.gp_semiring.specs.WitnessLaws.{or_crossed, or_assoc, or_false, and_false, any_append, all_append, any_placed, all_set, rising_placed, rising_set, same_rising, holds, holds_with, holds_plus, holds_times, with_set_in, none_in, plus_in, times_in, same_witness}
 

@@ -15,10 +15,12 @@ use Rattle.gp_base.specs.declared.token.Token.{Token}
 use Rattle.gp_base.specs.contracts.token.Token as token
 use Rattle.gp_base.specs.Tokens.{token_cmp}
 use Rattle.gp_base.specs.TokenOrder.{token_cmp_total, token_cmp-exact}
-use Rattle.gp_semiring.specs.Sums.{added, Each}
+use Rattle.gp_semiring.specs.Sums.{added}
+use Rattle.gp_semiring.specs.SumForms.{Each}
 use Rattle.gp_semiring.specs.Semirings.{SemiringLaws}
 use Rattle.gp_semiring.specs.SumLaws.{is_sorted-added, is_sorted_of, is_true_of, equal, each_append}
-use Rattle.gp_semiring.specs.Witnesses.{In, tagged, IsRising, placed, set_of, contains, is_within, with_set, witness_of, unions, witness_plus, witness_times, IsWitness, Sets, witness_number, witness_token}
+use Rattle.gp_semiring.specs.Witnesses.{placed, set_of, contains, is_within, with_set, witness_of, unions, witness_plus, witness_times, Sets, witness_number, witness_token}
+use Rattle.gp_semiring.specs.WitnessForms.{In, tagged, IsRising, IsWitness}
 
 pub or_crossed : (a b c : Bool) → (a || (b || c)) ≡ (b || (a || c))
 or_crossed true true c = refl

@@ -4,7 +4,8 @@ ghost use Rattle.std.specs.Prelude.{◌≡◌, ◌++◌, [], IfOk};
 ghost use Rattle.gp_base.specs.Tokens.{Monomial};
 ghost use Rattle.gp_semiring.specs.PolynomialLaws.{number_in, poly_laws, token_in};
 ghost use Rattle.gp_semiring.specs.Polynomials as p;
-ghost use Rattle.gp_semiring.specs.Polynomials.{IsPolynomial, poly_number, poly_one, poly_plus, poly_times, poly_token};
+ghost use Rattle.gp_semiring.specs.Polynomials.{poly_number, poly_one, poly_plus, poly_times, poly_token};
+ghost use Rattle.gp_semiring.specs.WitnessForms.{IsPolynomial};
 
 use crate::semiring::Semiring;
 use crate::terms::{TermFormat, add_products, add_terms, copied};
@@ -21,7 +22,8 @@ pub struct Poly {
 
 impl Model for Poly {
     ghost use Rattle.gp_semiring.specs.PolynomialLaws.{coded_terms};
-    ghost use Rattle.gp_semiring.specs.Polynomials.{IsPolynomial, Terms};
+    ghost use Rattle.gp_semiring.specs.Polynomials.{Terms};
+    ghost use Rattle.gp_semiring.specs.WitnessForms.{IsPolynomial};
 
     ghost Value = { Terms };
 

@@ -4,7 +4,8 @@ ghost use Rattle.std.specs.Prelude.{◌≡◌, ◌∷◌, [], IfOk};
 ghost use Rattle.gp_base.specs.Tokens.{token_cmp};
 ghost use Rattle.gp_semiring.specs.WitnessLaws.{token_witness_laws, witness_number_in, witness_token_in};
 ghost use Rattle.gp_semiring.specs.Witnesses as w;
-ghost use Rattle.gp_semiring.specs.Witnesses.{IsWitness, witness_number, witness_plus, witness_times, witness_token};
+ghost use Rattle.gp_semiring.specs.Witnesses.{witness_number, witness_plus, witness_times, witness_token};
+ghost use Rattle.gp_semiring.specs.WitnessForms.{IsWitness};
 
 use crate::semiring::Semiring;
 use crate::set_list::{copies, product, sum};
@@ -23,7 +24,8 @@ pub struct PosBool {
 impl Model for PosBool {
     ghost use Rattle.gp_base.specs.Tokens.{token_cmp};
     ghost use Rattle.gp_semiring.specs.WitnessLaws.{coded_sets};
-    ghost use Rattle.gp_semiring.specs.Witnesses.{IsWitness, Sets};
+    ghost use Rattle.gp_semiring.specs.Witnesses.{Sets};
+    ghost use Rattle.gp_semiring.specs.WitnessForms.{IsWitness};
 
     ghost Value = { Sets };
 

@@ -7,7 +7,8 @@ ghost use Rattle.gp_base.specs.Tokens as t;
 ghost use Rattle.gp_semiring.specs.WitnessAdding as a;
 ghost use Rattle.gp_semiring.specs.WitnessAdding.{place_in, with_items};
 ghost use Rattle.gp_semiring.specs.Witnesses as w;
-ghost use Rattle.gp_semiring.specs.Witnesses.{IsRising, placed, set_of, set_text};
+ghost use Rattle.gp_semiring.specs.Witnesses.{placed, set_of, set_text};
+ghost use Rattle.gp_semiring.specs.WitnessForms.{IsRising};
 
 use gp_base::{Monomial, NoMemory, TextFormat, Token, append_all, write_joined, write_monomial};
 use std::alloc::Global;
@@ -25,7 +26,7 @@ impl Model for TokenSet {
     ghost use Rattle.gp_base.specs.declared.token.Token.{Token};
     ghost use Rattle.gp_base.specs.Tokens.{token_cmp};
     ghost use Rattle.gp_semiring.specs.WitnessLaws.{coded_set};
-    ghost use Rattle.gp_semiring.specs.Witnesses.{IsRising};
+    ghost use Rattle.gp_semiring.specs.WitnessForms.{IsRising};
 
     ghost Value = { List Token };
 

@@ -11,9 +11,9 @@ use Rattle.gp_versions.specs.Spans.{Versions, row_of}
 use Rattle.gp_travel.specs.Encoding.{encoded, encoded_row}
 use Rattle.gp_travel.specs.Travel.{as_of, scans_at}
 
-pub rows-plain : {M : Type 0} → (kind : Annotations M) (spans : List Span) → map encoded_row (map (row_of kind) spans) ≡ map encoded_row (map (row_of plain) spans)
-rows-plain kind [] = refl
-rows-plain kind (span ∷ spans) = ap (λ (rows : List (List Cell)). encoded_row (row_of plain span) ∷ rows) (rows-plain kind spans)
+pub rows-plain : {M : Type 0} → (domain : Annotations M) (spans : List Span) → map encoded_row (map (row_of domain) spans) ≡ map encoded_row (map (row_of plain) spans)
+rows-plain domain [] = refl
+rows-plain domain (span ∷ spans) = ap (λ (rows : List (List Cell)). encoded_row (row_of plain span) ∷ rows) (rows-plain domain spans)
 
 module _ (versions : List Versions) where
   abbrev rows_in : ℕ → ℕ → List (List Cell)

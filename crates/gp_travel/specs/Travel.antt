@@ -12,7 +12,7 @@ no_table = record { spans = []; spare = 0 }
 
 -- the rows of each table in each version: those of the spans that hold it, in the order in which they began. No transaction has written them.
 abbrev pub as_of : {M : Type 0} → Annotations M → List Versions → Environment M
-as_of kind versions version table = rows_at kind version (slice_index_or versions table no_table).spans
+as_of domain versions version table = rows_at domain version (slice_index_or versions table no_table).spans
 
 -- a table in a version, with its rows
 abbrev pub scanned : List Versions → ScanAt → Scanned

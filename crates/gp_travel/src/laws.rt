@@ -14,8 +14,8 @@ ghost use Rattle.gp_travel.specs.Travel.{as_of, scans_at};
 
 /// The encoding does not depend on annotations.
 pub fn annotations_are_left_out<M>()
-    ensures left_out { (kind : Annotations M) (versions : List Versions) (version table : ℕ)
-        → encoded (as_of kind versions) version table
+    ensures left_out { (domain : Annotations M) (versions : List Versions) (version table : ℕ)
+        → encoded (as_of domain versions) version table
         ≡ encoded (as_of plain versions) version table }
 {}
 

@@ -14,17 +14,18 @@ use Rattle.gp_algebra.specs.Answers.{Element, answer, answer_from, choices, chos
 use Rattle.gp_algebra.specs.Statements.{Branch, Select}
 use Rattle.gp_machine.specs.Annotating.{annotated_versions}
 use Rattle.gp_machine.specs.Entries.{Entry, log_of, statement_count, version_of, versions_in}
-use Rattle.gp_machine.specs.Limits.{Limits}
+use Rattle.gp_machine.specs.Parameters.{Parameters}
 use Rattle.gp_machine.specs.Points.{at_point, version_before}
 use Rattle.gp_machine.specs.Questions.{own_stop}
 use Rattle.gp_machine.specs.Runs.{at_commit, run}
-use Rattle.gp_machine.proofs.Distinct.{each_append, each_both, each_filter, each_map}
-use Rattle.gp_kexec.specs.InSemiring.{occurs, words}
+use Rattle.gp_machine.proofs.Distinct.{each_both, each_filter}
+use Rattle.gp_kexec.specs.SemiringForms.{occurs, words}
 use Rattle.gp_values.specs.Room.{HasRoom, for_each_node, made_by}
 use Rattle.gp_values.proofs.Bounds.{at_most, within_more}
 use Rattle.gp_values.proofs.StatementBounds.{IsWithinSources, choices_within}
 use Rattle.gp_values.proofs.RunBounds.{AreWithin, commit_within, made_few, run_most, run_within, versions_within}
 use Rattle.gp_values.proofs.SmallLemmas.{AreSmall, choices_small, point_small}
+use Rattle.gp_base.proofs.SmallLemmas.{each_append, each_map}
 
 -- ---- the state that a question asks about
 
@@ -85,8 +86,8 @@ module _ (top most : ℕ) (db : Database (List Token)) (within : AreWithin (λ t
   answer_countable number [] few = tt
   answer_countable number (branch ∷ branches) few = each_append IsCountable (chosen words number branch db) (answer_from words (suc number) branches db) (chosen_countable number branch few.0) (answer_countable (suc number) branches few.1)
 
-pub elements_countable : (limits : Limits) (entries : List Entry) (spans : ℕ → List Span) (point : y.State) (query : Select) → HasRoom limits entries spans query
-    → own_stop words limits entries point (annotated_versions words entries spans) ≡ None → AllByRecursion IsCountable (answer words query (at_point words entries point (annotated_versions words entries spans)))
-elements_countable limits entries spans point query room stop =
-    answer_countable (suc (versions_in entries)) limits.nodes (at_point words entries point (annotated_versions words entries spans)) (point_within entries spans point)
-    (point_small words limits spans room.small entries point stop) 1 query room.few
+pub elements_countable : (parameters : Parameters) (entries : List Entry) (spans : ℕ → List Span) (point : y.State) (query : Select) → HasRoom parameters entries spans query
+    → own_stop words parameters entries point (annotated_versions words entries spans) ≡ None → AllByRecursion IsCountable (answer words query (at_point words entries point (annotated_versions words entries spans)))
+elements_countable parameters entries spans point query room stop =
+    answer_countable (suc (versions_in entries)) parameters.nodes (at_point words entries point (annotated_versions words entries spans)) (point_within entries spans point)
+    (point_small words parameters spans room.small entries point stop) 1 query room.few

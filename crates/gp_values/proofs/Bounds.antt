@@ -1,6 +1,6 @@
 -- How often tokens occur in annotations, against the nodes of identities: numbers, tokens and lists.
 use Rattle.std.proofs.Common.{◌≡◌, ◌≤◌, ℕ, zero, suc, ◌+◌, ◌*◌, arith, cond, refl, sym, ◌∙◌, subst, T, true, false, List, [], ◌∷◌, ◌++◌}
-use Rattle.std.specs.List.{AllByRecursion, flat_map}
+use Rattle.std.specs.List.{AllByRecursion}
 use Rattle.std.specs.Ordering.{eq_by_cmp}
 use Rattle.std.proofs.Math.Nat.{mul-add, mul-one, mul-suc}
 use Rattle.std.proofs.lemmas.Nat.{mul-le}
@@ -12,8 +12,8 @@ use Rattle.gp_base.specs.TokenOrder.{token_cmp-exact}
 use Rattle.gp_base.specs.Tokens.{token_cmp}
 use Rattle.gp_base.proofs.IdentityLaws.{same_identity-is}
 use Rattle.gp_semiring.specs.SumLaws.{equal}
-use Rattle.gp_machine.proofs.Distinct.{each_append, each_weaker}
-use Rattle.gp_kexec.specs.InSemiring.{occurs}
+use Rattle.gp_machine.proofs.Distinct.{each_weaker}
+use Rattle.gp_kexec.specs.SemiringForms.{occurs}
 use Rattle.gp_values.specs.Room.{IsWithinNodes}
 
 -- ---- numbers
@@ -82,7 +82,3 @@ pub within_more : (most more : Token → ℕ) → ((token : Token) → most toke
 within_more most more grows rows are =
     each_weaker (IsWithinNodes more) (IsWithinNodes most)
     (λ row is token. at_most (occurs token row.annotation) (most token * nodes row.identity) (more token * nodes row.identity) (is token) (mul-le (most token) (nodes row.identity) (more token) (nodes row.identity) (grows token) (omega arith))) rows are
-
-pub each_flat_map : {X Y : Type 0} (P : Y → Type 0) (Q : X → Type 0) (f : X → List Y) → ((x : X) → Q x → AllByRecursion P (f x)) → (xs : List X) → AllByRecursion Q xs → AllByRecursion P (flat_map f xs)
-each_flat_map P Q f g [] a = tt
-each_flat_map P Q f g (x ∷ xs) a = each_append P (f x) (flat_map f xs) (g x a.0) (each_flat_map P Q f g xs a.1)

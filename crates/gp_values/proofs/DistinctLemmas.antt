@@ -11,7 +11,8 @@ use Rattle.gp_base.specs.declared.cell.Cell.{Cell}
 use Rattle.gp_base.specs.Order.{row_cmp}
 use Rattle.gp_base.specs.RowOrder.{exact_rows, row_cmp_total}
 use Rattle.gp_semiring.specs.SumLaws.{equal, is_sorted-summed}
-use Rattle.gp_semiring.specs.Sums.{Each, added, summed}
+use Rattle.gp_semiring.specs.Sums.{added, summed}
+use Rattle.gp_semiring.specs.SumForms.{Each}
 use Rattle.gp_semiring.specs.Totals.{total_at}
 use Rattle.gp_semiring.proofs.TotalLemmas.{find-summed}
 use Rattle.gp_values.specs.DistinctRows.{distinct_rows, with_row}

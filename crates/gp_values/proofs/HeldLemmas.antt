@@ -16,7 +16,7 @@ use Rattle.gp_algebra.specs.Statements.{Select}
 use Rattle.gp_semiring.specs.Semirings.{SemiringLaws}
 use Rattle.gp_machine.specs.Annotating.{annotated_versions}
 use Rattle.gp_machine.specs.Entries.{log_of}
-use Rattle.gp_machine.specs.Limits.{Limits}
+use Rattle.gp_machine.specs.Parameters.{Parameters}
 use Rattle.gp_machine.specs.Points.{IsAsked, at_point, held_at}
 use Rattle.gp_machine.specs.Questions.{AreAlike, annotated_answer, annotation_stop, given, held_answer, log_refusal, needed_version, own_stop}
 use Rattle.gp_machine.specs.State.{State}
@@ -39,26 +39,26 @@ by_log None None None b e alike = refl
 by_log None (Some refusal) own true e alike = absurd (cc)
 by_log None None (Some refusal) true e alike = absurd (cc)
 
-module _ (limits : Limits) (agree : List (Annotated Monomial) → List (Annotated Monomial) → Bool) (state : State Monomial) (spans : ℕ → List Span) (point : y.State) where
+module _ (parameters : Parameters) (agree : List (Annotated Monomial) → List (Annotated Monomial) → Bool) (state : State Monomial) (spans : ℕ → List Span) (point : y.State) where
   -- a query without branches is answered as the history does, so only the log refuses
-  pub log_refuses : AreAlike (annotated_answer monomials limits agree state.catalogue state.entries spans point []) (held_answer monomials limits state point [])
-      → history_refusal monomials limits agree state.catalogue state.entries spans point ≡ log_refusal state.entries point
+  pub log_refuses : AreAlike (annotated_answer monomials parameters agree state.catalogue state.entries spans point []) (held_answer monomials parameters state point [])
+      → history_refusal monomials parameters agree state.catalogue state.entries spans point ≡ log_refusal state.entries point
   log_refuses alike =
-      by_log (log_refusal state.entries point) (annotation_stop monomials limits agree state.catalogue (log_of state.entries) spans (needed_version state.entries point))
-      (own_stop monomials limits state.entries point (annotated_versions monomials state.entries spans)) (nat_lt limits.answer 0) (none_above limits.answer) alike
+      by_log (log_refusal state.entries point) (annotation_stop monomials parameters agree state.catalogue (log_of state.entries) spans (needed_version state.entries point))
+      (own_stop monomials parameters state.entries point (annotated_versions monomials state.entries spans)) (nat_lt parameters.answer 0) (none_above parameters.answer) alike
 
   module _ {K : Type 0} {element : K → Type 0} {zero_of one_of : K} {plus times_of : K → K → K} (laws : SemiringLaws element zero_of one_of plus times_of) (value : Token → K) (value_in : (t : Token) → element (value t)) (query : Select)
-      (alike : AreAlike (annotated_answer monomials limits agree state.catalogue state.entries spans point []) (held_answer monomials limits state point []))
+      (alike : AreAlike (annotated_answer monomials parameters agree state.catalogue state.entries spans point []) (held_answer monomials parameters state point []))
       (held : IsAsked state.entries point → IsPermutation (answer monomials query (at_point monomials state.entries point (annotated_versions monomials state.entries spans))) (answer monomials query (held_at state point))) where
-    pub values_held : value_answer limits plus zero_of one_of times_of value agree state.catalogue state.entries spans point query ≡ held_value_answer limits plus zero_of one_of times_of value state point query
+    pub values_held : value_answer parameters plus zero_of one_of times_of value agree state.catalogue state.entries spans point query ≡ held_value_answer parameters plus zero_of one_of times_of value state point query
     values_held =
-        ap (λ refusal. limited limits.answer (values_of plus zero_of one_of times_of value) (given refusal (answer monomials query (at_point monomials state.entries point (annotated_versions monomials state.entries spans))))) (log_refuses alike)
+        ap (λ refusal. limited parameters.answer (values_of plus zero_of one_of times_of value) (given refusal (answer monomials query (at_point monomials state.entries point (annotated_versions monomials state.entries spans))))) (log_refuses alike)
         ∙ same (log_refusal state.entries point) refl
       where
         same : (refusal : Option Refusal) → log_refusal state.entries point ≡ refusal
-            → limited limits.answer (values_of plus zero_of one_of times_of value) (given refusal (answer monomials query (at_point monomials state.entries point (annotated_versions monomials state.entries spans))))
-            ≡ limited limits.answer (values_of plus zero_of one_of times_of value) (given refusal (answer monomials query (held_at state point)))
+            → limited parameters.answer (values_of plus zero_of one_of times_of value) (given refusal (answer monomials query (at_point monomials state.entries point (annotated_versions monomials state.entries spans))))
+            ≡ limited parameters.answer (values_of plus zero_of one_of times_of value) (given refusal (answer monomials query (held_at state point)))
         same (Some refusal) e = refl
         same None e =
-            ap (λ (rows : List (List Cell × K)). given (cond (nat_lt limits.answer (length rows)) (Some E27) None) rows)
+            ap (λ (rows : List (List Cell × K)). given (cond (nat_lt parameters.answer (length rows)) (Some E27) None) rows)
             (values_moved laws value value_in (answer monomials query (at_point monomials state.entries point (annotated_versions monomials state.entries spans))) (answer monomials query (held_at state point)) (held (asked state.entries point e)))

@@ -3,9 +3,9 @@ use Rattle.std.proofs.Common.{◌≡◌, Bool, List, sym, ap, ◌∙◌, map}
 use Rattle.gp_base.specs.declared.cell.Cell.{Cell}
 use Rattle.gp_base.specs.Annotated.{Annotated}
 use Rattle.gp_base.specs.Identities.{Identity}
-use Rattle.gp_algebra.proofs.Lists.{map-map}
 use Rattle.gp_machine.specs.Annotating.{identified}
-use Rattle.gp_values.specs.ValueAnswers.{IgnoreAnnotations}
+use Rattle.gp_base.proofs.SmallLemmas.{map-map}
+use Rattle.gp_values.specs.AnswerForms.{IgnoreAnnotations}
 
 module _ {X : Type 0} (key : Identity → List Cell → X) (test : List X → List X → Bool) where
   abbrev pub keys : {M : Type 0} → List (Annotated M) → List X

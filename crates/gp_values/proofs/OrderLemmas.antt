@@ -9,7 +9,8 @@ use Rattle.gp_base.specs.declared.cell.Cell.{Cell}
 use Rattle.gp_base.specs.Order.{row_cmp}
 use Rattle.gp_base.specs.RowOrder.{exact_rows, row_cmp_total}
 use Rattle.gp_machine.proofs.Distinct.{each_weaker}
-use Rattle.gp_values.specs.DistinctRows.{AreAscending, distinct_rows, occurs_in, with_row}
+use Rattle.gp_values.specs.DistinctRows.{distinct_rows, with_row}
+use Rattle.gp_values.specs.AnswerForms.{AreAscending, occurs_in}
 
 -- ---- order
 

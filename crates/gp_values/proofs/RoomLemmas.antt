@@ -7,16 +7,16 @@ use Rattle.gp_base.specs.Tokens.{greatest_count}
 use Rattle.gp_versions.specs.declared.span.Span.{Span}
 use Rattle.gp_algebra.specs.Statements.{Select}
 use Rattle.gp_machine.specs.Entries.{Entry, versions_in}
-use Rattle.gp_machine.specs.Limits.{Limits}
+use Rattle.gp_machine.specs.Parameters.{Parameters}
 use Rattle.gp_machine.proofs.Distinct.{each_weaker}
 use Rattle.gp_values.specs.Room.{HasRoom}
 use Rattle.gp_values.proofs.Bounds.{at_most}
 
-pub has_room : (limits : Limits) (entries : List Entry) (spans : ℕ → List Span) (query : Select) (versions items : ℕ) → ((table : ℕ) → AllByRecursion (λ span. nodes span.id ≤ limits.nodes) (spans table))
-    → versions_in entries ≤ versions → AllByRecursion (λ branch. length branch.from ≤ items) query → suc versions * (limits.nodes * items) ≤ greatest_count → HasRoom limits entries spans query
-has_room limits entries spans query versions items small few short room = record {
+pub has_room : (parameters : Parameters) (entries : List Entry) (spans : ℕ → List Span) (query : Select) (versions items : ℕ) → ((table : ℕ) → AllByRecursion (λ span. nodes span.id ≤ parameters.nodes) (spans table))
+    → versions_in entries ≤ versions → AllByRecursion (λ branch. length branch.from ≤ items) query → suc versions * (parameters.nodes * items) ≤ greatest_count → HasRoom parameters entries spans query
+has_room parameters entries spans query versions items small few short room = record {
   small = small;
-  few = each_weaker (λ branch. suc (versions_in entries) * (limits.nodes * length branch.from) ≤ greatest_count) (λ branch. length branch.from ≤ items)
-      (λ branch is. at_most (suc (versions_in entries) * (limits.nodes * length branch.from)) (suc versions * (limits.nodes * items)) greatest_count
-      (mul-le (suc (versions_in entries)) (limits.nodes * length branch.from) (suc versions) (limits.nodes * items) (omega arith) (mul-le limits.nodes (length branch.from) limits.nodes items (omega arith) is)) room) query short;
+  few = each_weaker (λ branch. suc (versions_in entries) * (parameters.nodes * length branch.from) ≤ greatest_count) (λ branch. length branch.from ≤ items)
+      (λ branch is. at_most (suc (versions_in entries) * (parameters.nodes * length branch.from)) (suc versions * (parameters.nodes * items)) greatest_count
+      (mul-le (suc (versions_in entries)) (parameters.nodes * length branch.from) (suc versions) (parameters.nodes * items) (omega arith) (mul-le parameters.nodes (length branch.from) parameters.nodes items (omega arith) is)) room) query short;
 }

@@ -15,11 +15,12 @@ use Rattle.gp_machine.specs.Committed.{cleared, unmarked}
 use Rattle.gp_machine.specs.Entries.{Log}
 use Rattle.gp_machine.specs.Publishing.{publish, was_written}
 use Rattle.gp_machine.specs.Runs.{at_commit, refreshed, run, run_before, stepped}
-use Rattle.gp_machine.proofs.Distinct.{each_all, each_append, each_filter, each_map}
-use Rattle.gp_kexec.specs.InSemiring.{occurs, words}
+use Rattle.gp_machine.proofs.Distinct.{each_all, each_filter}
+use Rattle.gp_kexec.specs.SemiringForms.{occurs, words}
 use Rattle.gp_values.specs.Room.{IsWithinNodes, for_each_node, made_by}
 use Rattle.gp_values.proofs.Bounds.{nothing, same_equal, within_more}
 use Rattle.gp_values.proofs.StatementBounds.{Grows, step_within}
+use Rattle.gp_base.proofs.SmallLemmas.{each_append, each_map}
 
 -- rows of each table
 abbrev pub AreWithin : (Token → ℕ) → Database (List Token) → Type 0

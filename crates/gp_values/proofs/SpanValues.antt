@@ -1,5 +1,5 @@
 -- A span has in a semiring the value of its monomial, where no count is stopped.
-use Rattle.std.proofs.Common.{◌≡◌, ◌≤◌, ℕ, suc, ◌*◌, arith, List, [], ◌∷◌, map, refl, sym, ap, ◌∙◌}
+use Rattle.std.proofs.Common.{◌≡◌, ◌≤◌, ℕ, suc, ◌*◌, arith, List, [], map, sym, ap, ◌∙◌}
 use Rattle.std.specs.List.{AllByRecursion}
 use Rattle.std.proofs.lemmas.Nat.{mul-le}
 use Rattle.gp_base.specs.declared.token.Token.{Token}
@@ -10,22 +10,18 @@ use Rattle.gp_base.specs.Tokens.{greatest_count}
 use Rattle.gp_versions.specs.declared.span.Span.{Span}
 use Rattle.gp_versions.specs.Spans.{holds_at, spans_at}
 use Rattle.gp_algebra.specs.Reannotation.{reannotated}
-use Rattle.gp_algebra.proofs.Lists.{map-map}
 use Rattle.gp_semiring.specs.Semirings.{SemiringLaws}
 use Rattle.gp_machine.specs.Annotating.{annotated, annotated_row, computed}
 use Rattle.gp_machine.specs.Entries.{Log}
-use Rattle.gp_machine.proofs.Distinct.{each_both, each_filter, each_map}
+use Rattle.gp_machine.proofs.Distinct.{each_both, each_filter}
 use Rattle.gp_valuation.specs.Values.{monomial_value, values_as_annotations}
-use Rattle.gp_kexec.specs.InSemiring.{counted, occurs, word_value, words}
+use Rattle.gp_kexec.specs.SemiringForms.{counted, occurs, word_value, words}
 use Rattle.gp_kexec.proofs.WordLemmas.{counted_carries, value_of_counted, word_carries}
 use Rattle.gp_values.specs.Room.{IsWithinNodes, for_each_node, made_by}
 use Rattle.gp_values.proofs.Bounds.{at_most}
 use Rattle.gp_values.proofs.RunBounds.{made_few, versions_within}
 use Rattle.gp_values.proofs.VersionReannotation.{annotated_reannotated, computed_reannotated}
-
-map_each : {X Y : Type 0} (f g : X → Y) (xs : List X) → AllByRecursion (λ x. f x ≡ g x) xs → map f xs ≡ map g xs
-map_each f g [] each = refl
-map_each f g (x ∷ xs) each = λ i. each.0 i ∷ map_each f g xs each.1 i
+use Rattle.gp_base.proofs.SmallLemmas.{each_map, map-map, map_agree_at}
 
 module _ {K : Type 0} {element : K → Type 0} {zero_of one_of : K} {plus times_of : K → K → K} (laws : SemiringLaws element zero_of one_of plus times_of) (value : Token → K) (value_in : (t : Token) → element (value t))
     (log : Log) (spans : ℕ → List Span) (newest version table most : ℕ) (small : AllByRecursion (λ span. nodes span.id ≤ most) (spans table)) (few : suc newest * most ≤ greatest_count) where
@@ -63,7 +59,7 @@ module _ {K : Type 0} {element : K → Type 0} {zero_of one_of : K} {plus times_
   span_values =
       annotated_reannotated words (values_as_annotations one_of times_of value) word (word_carries laws value value_in) spans (computed words log spans newest) (computed (values_as_annotations one_of times_of value) log spans newest)
       (computed_reannotated words (values_as_annotations one_of times_of value) word (word_carries laws value value_in) spans log newest) version table
-      ∙ map_each (reannotated word) (reannotated of_monomial) known each
+      ∙ map_agree_at (reannotated word) (reannotated of_monomial) known each
       ∙ sym (map-map (reannotated (monomial_value one_of times_of value)) (reannotated counted) known)
       ∙ ap (map (reannotated (monomial_value one_of times_of value)))
       (sym (annotated_reannotated words monomials counted counted_carries spans (computed words log spans newest) (computed monomials log spans newest) (computed_reannotated words monomials counted counted_carries spans log newest) version table))

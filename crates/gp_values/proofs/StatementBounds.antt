@@ -14,10 +14,11 @@ use Rattle.gp_expr.specs.Values.{passes}
 use Rattle.gp_algebra.specs.Answers.{Element, answer, answer_from, choices, chosen, joined, passes_where, values}
 use Rattle.gp_algebra.specs.Effects.{assigned, changed, given_from, made, step, with_rows}
 use Rattle.gp_algebra.specs.Statements.{Branch, Select, SetExpr, Statement, delete, insert, insert_select, read, update}
-use Rattle.gp_machine.proofs.Distinct.{each_append, each_filter, each_map}
-use Rattle.gp_kexec.specs.InSemiring.{occurs, words}
+use Rattle.gp_machine.proofs.Distinct.{each_filter}
+use Rattle.gp_kexec.specs.SemiringForms.{occurs, words}
 use Rattle.gp_values.specs.Room.{IsWithinNodes}
-use Rattle.gp_values.proofs.Bounds.{at_most, each_flat_map, nothing, occurs-append, one_more, one_token, one_within, parts_within, raised_within, same_token, some_node, within_more}
+use Rattle.gp_values.proofs.Bounds.{at_most, nothing, occurs-append, one_more, one_token, one_within, parts_within, raised_within, same_token, some_node, within_more}
+use Rattle.gp_base.proofs.SmallLemmas.{each_append, each_flat_map, each_map}
 
 -- no token occurs in the annotation of an element more often than this for each node of its sources
 abbrev pub IsWithinSources : (Token → ℕ) → Element (List Token) → Type 0

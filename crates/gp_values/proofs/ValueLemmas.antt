@@ -17,28 +17,30 @@ use Rattle.gp_versions.specs.declared.span.Span.{Span}
 use Rattle.gp_algebra.specs.Answers.{Element, answer, cells_of, pairs_of}
 use Rattle.gp_algebra.specs.Reannotation.{element_reannotated, reannotated}
 use Rattle.gp_algebra.specs.Statements.{Select}
-use Rattle.gp_algebra.proofs.Lists.{map-map}
 use Rattle.gp_semiring.specs.Semirings.{SemiringLaws}
-use Rattle.gp_semiring.specs.Sums.{Each, summed}
+use Rattle.gp_semiring.specs.Sums.{summed}
+use Rattle.gp_semiring.specs.SumForms.{Each}
 use Rattle.gp_semiring.specs.Totals.{total_at}
-use Rattle.gp_semiring.proofs.Bags.{SameBag, first, none, swapped, through}
+use Rattle.gp_base.proofs.Bags.{SameBag, first, none, swapped, through}
 use Rattle.gp_semiring.proofs.GroupLemmas.{summed_bag}
-use Rattle.gp_semiring.proofs.Permutations.{unpermuted}
+use Rattle.gp_base.proofs.Permutations.{unpermuted}
 use Rattle.gp_machine.specs.Annotating.{annotated_versions, identified}
 use Rattle.gp_machine.specs.Entries.{Entry, log_of}
-use Rattle.gp_machine.specs.Limits.{Limits}
+use Rattle.gp_machine.specs.Parameters.{Parameters}
 use Rattle.gp_machine.specs.Points.{at_point}
 use Rattle.gp_machine.specs.Questions.{annotation_stop, given, log_refusal, needed_version, own_stop}
 use Rattle.gp_valuation.specs.Values.{monomial_value, values_as_annotations}
 use Rattle.gp_valuation.proofs.MonomialValues.{monomial_value-in}
-use Rattle.gp_kexec.specs.InSemiring.{counted, word_value, words}
+use Rattle.gp_kexec.specs.SemiringForms.{counted, word_value, words}
 use Rattle.gp_kexec.proofs.WordLemmas.{counted_carries, value_of_counted, word_carries}
 use Rattle.gp_values.specs.DistinctRows.{distinct_rows}
 use Rattle.gp_values.specs.Room.{HasRoom}
-use Rattle.gp_values.specs.ValueAnswers.{IgnoreAnnotations, all_elements, carried, history_refusal, limited, summed_answer, sums_of, value_answer, values_of}
+use Rattle.gp_values.specs.ValueAnswers.{all_elements, history_refusal, limited, value_answer, values_of}
+use Rattle.gp_values.specs.AnswerForms.{IgnoreAnnotations, carried, summed_answer, sums_of}
 use Rattle.gp_values.proofs.AnswerCounts.{IsCountable, elements_countable}
 use Rattle.gp_values.proofs.DistinctLemmas.{rows_of, summed_totals}
 use Rattle.gp_values.proofs.VersionReannotation.{elements_reannotated}
+use Rattle.gp_base.proofs.SmallLemmas.{map-map, none_parts}
 
 identified_as : {M N : Type 0} (h : M → N) (rows : List (Annotated M)) → identified (map (reannotated h) rows) ≡ identified rows
 identified_as h rows = map-map _ (reannotated h) rows
@@ -50,10 +52,6 @@ mapped f swapped = swapped
 mapped f (through s t) = through (mapped f s) (mapped f t)
 
 -- ---- refusals in their order
-
-none_parts : {A : Type 0} (a b : Option A) → option_or a b ≡ None → (a ≡ None) × (b ≡ None)
-none_parts None b e = (refl, e)
-none_parts (Some a) b e = absurd (cc)
 
 module _ {K : Type 0} {element : K → Type 0} {zero_of one_of : K} {plus times_of : K → K → K} (laws : SemiringLaws element zero_of one_of plus times_of) (value : Token → K) (value_in : (t : Token) → element (value t)) where
   abbrev word : List Token → K
@@ -96,8 +94,8 @@ module _ {K : Type 0} {element : K → Type 0} {zero_of one_of : K} {plus times_
   sums_same : (elements : List (Element (List Token))) → AllByRecursion IsCountable elements → sums_of plus (map (element_reannotated word) elements) ≡ values_of plus zero_of one_of times_of value (map (element_reannotated counted) elements)
   sums_same elements few = ap (summed row_cmp plus) (pairs_same elements few) ∙ values_summed (map (element_reannotated counted) elements)
 
-  module _ (limits : Limits) (agree : List (Annotated Monomial) → List (Annotated Monomial) → Bool) (alike : List (Annotated K) → List (Annotated K) → Bool) (ignore : IgnoreAnnotations agree alike)
-      (catalogue : List Table) (entries : List Entry) (spans : ℕ → List Span) (point : y.State) (query : Select) (room : HasRoom limits entries spans query) where
+  module _ (parameters : Parameters) (agree : List (Annotated Monomial) → List (Annotated Monomial) → Bool) (alike : List (Annotated K) → List (Annotated K) → Bool) (ignore : IgnoreAnnotations agree alike)
+      (catalogue : List Table) (entries : List Entry) (spans : ℕ → List Span) (point : y.State) (query : Select) (room : HasRoom parameters entries spans query) where
     -- the test of equal tables, over words
     abbrev agree_words : List (Annotated (List Token)) → List (Annotated (List Token)) → Bool
     agree_words rows others = agree (map (reannotated counted) rows) (map (reannotated counted) others)
@@ -108,26 +106,26 @@ module _ {K : Type 0} {element : K → Type 0} {zero_of one_of : K} {plus times_
         (identified_as counted rows ∙ sym (identified_as word rows)) (identified_as counted others ∙ sym (identified_as word others)))
 
     abbrev spelled : Result (List (Element (List Token))) Refusal
-    spelled = all_elements words limits agree_words catalogue entries spans point query
+    spelled = all_elements words parameters agree_words catalogue entries spans point query
 
-    over_monomials : all_elements monomials limits agree catalogue entries spans point query ≡ carried counted spelled
-    over_monomials = elements_reannotated words monomials counted counted_carries spans limits agree_words agree (λ rows others. refl) catalogue entries point query
+    over_monomials : all_elements monomials parameters agree catalogue entries spans point query ≡ carried counted spelled
+    over_monomials = elements_reannotated words monomials counted counted_carries spans parameters agree_words agree (λ rows others. refl) catalogue entries point query
 
-    over_values : all_elements (values_as_annotations one_of times_of value) limits alike catalogue entries spans point query ≡ carried word spelled
-    over_values = elements_reannotated words (values_as_annotations one_of times_of value) word (word_carries laws value value_in) spans limits agree_words alike natural catalogue entries point query
+    over_values : all_elements (values_as_annotations one_of times_of value) parameters alike catalogue entries spans point query ≡ carried word spelled
+    over_values = elements_reannotated words (values_as_annotations one_of times_of value) word (word_carries laws value value_in) spans parameters agree_words alike natural catalogue entries point query
 
-    countable : (refusal : Option Refusal) → history_refusal words limits agree_words catalogue entries spans point ≡ refusal
-        → limited limits.answer (sums_of plus) (carried word (given refusal (answer words query (at_point words entries point (annotated_versions words entries spans)))))
-        ≡ limited limits.answer (values_of plus zero_of one_of times_of value) (carried counted (given refusal (answer words query (at_point words entries point (annotated_versions words entries spans)))))
+    countable : (refusal : Option Refusal) → history_refusal words parameters agree_words catalogue entries spans point ≡ refusal
+        → limited parameters.answer (sums_of plus) (carried word (given refusal (answer words query (at_point words entries point (annotated_versions words entries spans)))))
+        ≡ limited parameters.answer (values_of plus zero_of one_of times_of value) (carried counted (given refusal (answer words query (at_point words entries point (annotated_versions words entries spans)))))
     countable (Some refusal) e = refl
     countable None e =
-        let later = none_parts (log_refusal entries point) (option_or (annotation_stop words limits agree_words catalogue (log_of entries) spans (needed_version entries point)) (own_stop words limits entries point (annotated_versions words entries spans))) e in
-        let own = none_parts (annotation_stop words limits agree_words catalogue (log_of entries) spans (needed_version entries point)) (own_stop words limits entries point (annotated_versions words entries spans)) later.1 in
-        ap (λ (rows : List (List Cell × K)). given (cond (nat_lt limits.answer (length rows)) (Some E27) None) rows)
-        (sums_same (answer words query (at_point words entries point (annotated_versions words entries spans))) (elements_countable limits entries spans point query room own.1))
+        let later = none_parts (log_refusal entries point) (option_or (annotation_stop words parameters agree_words catalogue (log_of entries) spans (needed_version entries point)) (own_stop words parameters entries point (annotated_versions words entries spans))) e in
+        let own = none_parts (annotation_stop words parameters agree_words catalogue (log_of entries) spans (needed_version entries point)) (own_stop words parameters entries point (annotated_versions words entries spans)) later.1 in
+        ap (λ (rows : List (List Cell × K)). given (cond (nat_lt parameters.answer (length rows)) (Some E27) None) rows)
+        (sums_same (answer words query (at_point words entries point (annotated_versions words entries spans))) (elements_countable parameters entries spans point query room own.1))
 
-    pub values_are_sums : summed_answer limits plus (values_as_annotations one_of times_of value) alike catalogue entries spans point query ≡ value_answer limits plus zero_of one_of times_of value agree catalogue entries spans point query
+    pub values_are_sums : summed_answer parameters plus (values_as_annotations one_of times_of value) alike catalogue entries spans point query ≡ value_answer parameters plus zero_of one_of times_of value agree catalogue entries spans point query
     values_are_sums =
-        ap (limited limits.answer (sums_of plus)) over_values
-        ∙ countable (history_refusal words limits agree_words catalogue entries spans point) refl
-        ∙ sym (ap (limited limits.answer (values_of plus zero_of one_of times_of value)) over_monomials)
+        ap (limited parameters.answer (sums_of plus)) over_values
+        ∙ countable (history_refusal words parameters agree_words catalogue entries spans point) refl
+        ∙ sym (ap (limited parameters.answer (values_of plus zero_of one_of times_of value)) over_monomials)

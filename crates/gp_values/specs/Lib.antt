@@ -1,3 +1,4 @@
 pub mod DistinctRows
 pub mod Room
 pub mod ValueAnswers
+pub mod AnswerForms

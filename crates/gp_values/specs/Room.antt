@@ -9,8 +9,8 @@ use Rattle.gp_base.specs.Tokens.{greatest_count}
 use Rattle.gp_versions.specs.declared.span.Span.{Span}
 use Rattle.gp_algebra.specs.Statements.{Select}
 use Rattle.gp_machine.specs.Entries.{Entry, Log, versions_in}
-use Rattle.gp_machine.specs.Limits.{Limits}
-use Rattle.gp_kexec.specs.InSemiring.{occurs}
+use Rattle.gp_machine.specs.Parameters.{Parameters}
+use Rattle.gp_kexec.specs.SemiringForms.{occurs}
 
 -- how many of the versions up to this one a transaction made
 abbrev pub made_by : Log → ℕ → ℕ → ℕ
@@ -28,6 +28,6 @@ abbrev pub IsWithinNodes : (Token → ℕ) → Annotated (List Token) → Type 0
 IsWithinNodes most row = (token : Token) → occurs token row.annotation ≤ most token * nodes row.identity
 
 -- identities of spans are as small as those that statements make, and there are few enough versions and FROM items that no count is too great
-pub record HasRoom (limits : Limits) (entries : List Entry) (spans : ℕ → List Span) (query : Select) : Type 0 where
-  pub small : (table : ℕ) → AllByRecursion (λ span. nodes span.id ≤ limits.nodes) (spans table)
-  pub few : AllByRecursion (λ branch. suc (versions_in entries) * (limits.nodes * length branch.from) ≤ greatest_count) query
+pub record HasRoom (parameters : Parameters) (entries : List Entry) (spans : ℕ → List Span) (query : Select) : Type 0 where
+  pub small : (table : ℕ) → AllByRecursion (λ span. nodes span.id ≤ parameters.nodes) (spans table)
+  pub few : AllByRecursion (λ branch. suc (versions_in entries) * (parameters.nodes * length branch.from) ≤ greatest_count) query

@@ -18,21 +18,16 @@ ghost use Rattle.gp_machine.specs.Annotating.{annotated, computed, identified};
 ghost use Rattle.gp_machine.specs.Entries.{Entry, Log, committer_of, log_of, version_of, versions_in};
 ghost use Rattle.gp_machine.specs.Event.{Line, after};
 ghost use Rattle.gp_machine.specs.HistorySpans.{state_spans};
-ghost use Rattle.gp_machine.specs.Limits.{Limits};
+ghost use Rattle.gp_machine.specs.Parameters.{Parameters};
 ghost use Rattle.gp_machine.specs.State.{State, start};
 ghost use Rattle.gp_machine.specs.Unstopped.{IsUnstopped};
 ghost use Rattle.gp_valuation.specs.Values.{monomial_value, values_as_annotations};
-ghost use Rattle.gp_kexec.specs.InSemiring.{words};
-ghost use Rattle.gp_values.specs.DistinctRows.{AreAscending, distinct_rows, occurs_in};
+ghost use Rattle.gp_kexec.specs.SemiringForms.{words};
+ghost use Rattle.gp_values.specs.DistinctRows.{distinct_rows};
+ghost use Rattle.gp_values.specs.AnswerForms.{AreAscending, occurs_in};
 ghost use Rattle.gp_values.specs.Room.{HasRoom, IsWithinNodes, for_each_node, made_by};
-ghost use Rattle.gp_values.specs.ValueAnswers.{
-  IgnoreAnnotations,
-  all_elements,
-  carried,
-  held_value_answer,
-  summed_answer,
-  value_answer,
-};
+ghost use Rattle.gp_values.specs.ValueAnswers.{all_elements, held_value_answer, value_answer};
+ghost use Rattle.gp_values.specs.AnswerForms.{IgnoreAnnotations, carried, summed_answer};
 
 use gp_base::Monomial as BaseMonomial;
 use gp_machine::{histories_do_not_stop, unstopped_histories_answer_their_questions};
@@ -49,16 +44,16 @@ pub fn distinct_rows_are_each_once()
 /// the mapped annotations, element by element in the same order, and the refusals are the same: annotations decide nothing
 /// (Green, Karvounarakis and Tannen 2007). The test of equal tables may not look at annotations either.
 pub fn annotated_answers_are_carried<M, N>()
-    ensures elements { (kind : Annotations M) (other : Annotations N) (h : M → N)
-        → IsHomomorphism kind other h → (limits : Limits)
+    ensures elements { (domain : Annotations M) (other : Annotations N) (h : M → N)
+        → IsHomomorphism domain other h → (parameters : Parameters)
         (agree : List (Annotated M) → List (Annotated M) → Bool)
         (alike : List (Annotated N) → List (Annotated N) → Bool)
         → ((rows others : List (Annotated M))
         → alike (map (reannotated h) rows) (map (reannotated h) others) ≡ agree rows others)
         → (catalogue : List Table) (entries : List Entry) (spans : ℕ → List Span)
         (point : y.State) (query : Select)
-        → all_elements other limits alike catalogue entries spans point query
-        ≡ carried h (all_elements kind limits agree catalogue entries spans point query) }
+        → all_elements other parameters alike catalogue entries spans point query
+        ≡ carried h (all_elements domain parameters agree catalogue entries spans point query) }
 {}
 
 /// In the annotated versions of a log and its spans, a token of an INSERT occurs in the annotation of a row at most once for
@@ -94,13 +89,13 @@ pub fn versions_have_the_values_of_their_monomials<K: Semiring>()
 /// items of a FROM.
 pub fn values_are_sums_over_the_history<K: Semiring>()
     ensures answers { (value : Token → K) → ((token : Token) → K.is_element (value token))
-        → (limits : Limits) (agree : List (Annotated Monomial) → List (Annotated Monomial) → Bool)
+        → (parameters : Parameters) (agree : List (Annotated Monomial) → List (Annotated Monomial) → Bool)
         (alike : List (Annotated K) → List (Annotated K) → Bool) → IgnoreAnnotations agree alike
         → (catalogue : List Table) (entries : List Entry) (spans : ℕ → List Span)
-        (point : y.State) (query : Select) → HasRoom limits entries spans query
-        → summed_answer limits K.plus_of (values_as_annotations K.one_of K.times_of value) alike
+        (point : y.State) (query : Select) → HasRoom parameters entries spans query
+        → summed_answer parameters K.plus_of (values_as_annotations K.one_of K.times_of value) alike
         catalogue entries spans point query
-        ≡ value_answer limits K.plus_of K.zero_of K.one_of K.times_of value agree
+        ≡ value_answer parameters K.plus_of K.zero_of K.one_of K.times_of value agree
         catalogue entries spans point query }
 {}
 
@@ -109,28 +104,28 @@ pub fn values_are_sums_over_the_history<K: Semiring>()
 /// for each state that lines lead to (`answers`), and for every history in which no transaction stops (`unstopped`).
 pub fn values_are_those_of_the_history<K: Semiring>()
     ensures answers { (value : Token → K) → ((token : Token) → K.is_element (value token))
-        → (limits : Limits) (lines : List Line) (spans : ℕ → List Span) → ((table : ℕ)
-        → IsPermutation (spans table) (state_spans (after monomials limits start lines) table))
+        → (parameters : Parameters) (lines : List Line) (spans : ℕ → List Span) → ((table : ℕ)
+        → IsPermutation (spans table) (state_spans (after monomials parameters start lines) table))
         → (agree : List (Annotated Monomial) → List (Annotated Monomial) → Bool)
         → ((rows others : List (Annotated Monomial))
         → IsPermutation (identified rows) (identified others) → agree rows others ≡ true)
         → (point : y.State) (query : Select)
-        → value_answer limits K.plus_of K.zero_of K.one_of K.times_of value agree
-        (after monomials limits start lines).catalogue (after monomials limits start lines).entries
+        → value_answer parameters K.plus_of K.zero_of K.one_of K.times_of value agree
+        (after monomials parameters start lines).catalogue (after monomials parameters start lines).entries
         spans point query
-        ≡ held_value_answer limits K.plus_of K.zero_of K.one_of K.times_of value
-        (after monomials limits start lines) point query }
+        ≡ held_value_answer parameters K.plus_of K.zero_of K.one_of K.times_of value
+        (after monomials parameters start lines) point query }
     ensures unstopped { (value : Token → K) → ((token : Token) → K.is_element (value token))
-        → (limits : Limits) (state : State Monomial) → IsUnstopped monomials limits state
+        → (parameters : Parameters) (state : State Monomial) → IsUnstopped monomials parameters state
         → (spans : ℕ → List Span)
         → ((table : ℕ) → IsPermutation (spans table) (state_spans state table))
         → (agree : List (Annotated Monomial) → List (Annotated Monomial) → Bool)
         → ((rows others : List (Annotated Monomial))
         → IsPermutation (identified rows) (identified others) → agree rows others ≡ true)
         → (point : y.State) (query : Select)
-        → value_answer limits K.plus_of K.zero_of K.one_of K.times_of value agree state.catalogue
+        → value_answer parameters K.plus_of K.zero_of K.one_of K.times_of value agree state.catalogue
         state.entries spans point query
-        ≡ held_value_answer limits K.plus_of K.zero_of K.one_of K.times_of value state point query }
+        ≡ held_value_answer parameters K.plus_of K.zero_of K.one_of K.times_of value state point query }
 {
     histories_do_not_stop::<BaseMonomial>();
     unstopped_histories_answer_their_questions::<BaseMonomial>()

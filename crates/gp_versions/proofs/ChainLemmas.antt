@@ -13,7 +13,7 @@ use Rattle.gp_versions.specs.declared.span.Write.{Write}
 use Rattle.gp_versions.specs.Chains.{HasChains, IsKeyAt, IsLast, LeadsTo, change_after, is_begun, keys_of, same_keys, up_to}
 use Rattle.gp_versions.specs.Commits.{after_commit, begun, ended}
 use Rattle.gp_versions.specs.Keys.{key_of}
-use Rattle.gp_versions.specs.Spans.{AreWhole, IsApart, NoOverlap, later, later_end, least, written_after}
+use Rattle.gp_versions.specs.TableSpans.{AreWhole, IsApart, NoOverlap, later, later_end, least, written_after}
 use Rattle.gp_versions.proofs.HeldLemmas.{skip-end}
 use Rattle.gp_versions.proofs.SameLemmas.{same-exact}
 use Rattle.gp_versions.proofs.SpanLemmas.{ended_id}

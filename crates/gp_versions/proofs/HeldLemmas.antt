@@ -4,7 +4,8 @@ use Rattle.std.specs.List.{AllByRecursion}
 use Rattle.std.proofs.lemmas.Bool.{and_parts, leb-true, ltb-true, le-ltb, le-leb}
 use Rattle.gp_base.specs.Identities.{same_identity}
 use Rattle.gp_versions.specs.declared.span.Span.{Span}
-use Rattle.gp_versions.specs.Spans.{AreOfDifferentRows, AreWhole, IsApart, IsEndAbove, NoOverlap, holds_at, is_before_end, later, later_end, least, spans_at, written_after}
+use Rattle.gp_versions.specs.Spans.{holds_at, is_before_end, spans_at}
+use Rattle.gp_versions.specs.TableSpans.{AreOfDifferentRows, AreWhole, IsApart, IsEndAbove, NoOverlap, later, later_end, least, written_after}
 use Rattle.gp_versions.proofs.SameLemmas.{same-itself, same-sym}
 
 begin-passed : (v from : ℕ) → from ≤ v → later v from ≡ None

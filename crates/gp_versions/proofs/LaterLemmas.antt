@@ -3,7 +3,7 @@ use Rattle.std.proofs.Common.{◌≡◌, ℕ, ◌<◌, ◌≤◌, ◌⊎◌, tru
 use Rattle.std.proofs.lemmas.Bool.{leb-false, leb-true, lt-ltb, ltb-true}
 use Rattle.gp_base.specs.Identities.{Identity, same_identity}
 use Rattle.gp_versions.specs.declared.span.Span.{Span}
-use Rattle.gp_versions.specs.Spans.{IsChanged, later, later_end, least, written_after}
+use Rattle.gp_versions.specs.TableSpans.{IsChanged, later, later_end, least, written_after}
 
 -- ---- what holds of both versions holds of the lesser
 

@@ -1,21 +1,15 @@
 -- Lemmas of `same_identity`.
-use Rattle.std.proofs.Common.{◌≡◌, true, refl, ap, sym, ◌∙◌, subst}
+use Rattle.std.proofs.Common.{◌≡◌, true, ap, sym, ◌∙◌, subst}
 use Rattle.std.specs.Ordering.{is_eq}
-use Rattle.std.specs.declared.cmp.Ordering.{Ordering}
-use Rattle.std.specs.declared.cmp.Ordering.TheVariants.{Less, Equal, Greater}
 use Rattle.std.specs.Cmp.{tied_itself}
 use Rattle.gp_base.specs.Identities.{Identity, identity_cmp, same_identity}
 use Rattle.gp_base.specs.IdentityOrder.{identity_cmp_total, identity_cmp-exact}
 use Rattle.gp_base.proofs.IdentityLaws.{same_identity-is}
-
-tie : (o : Ordering) → is_eq o ≡ true → o ≡ Equal
-tie Less is = absurd (cc)
-tie Equal is = refl
-tie Greater is = absurd (cc)
+use Rattle.gp_base.proofs.OrderLemmas.{equal_from_is_eq}
 
 -- equal identities are one
 pub same-exact : (id other : Identity) → same_identity id other ≡ true → id ≡ other
-same-exact id other is = identity_cmp-exact id other (tie (identity_cmp id other) (sym (same_identity-is id other) ∙ is))
+same-exact id other is = identity_cmp-exact id other (equal_from_is_eq (identity_cmp id other) (sym (same_identity-is id other) ∙ is))
 
 pub same-itself : (id : Identity) → same_identity id id ≡ true
 same-itself id = same_identity-is id id ∙ ap is_eq (tied_itself identity_cmp_total id)

@@ -10,7 +10,8 @@ use Rattle.gp_base.specs.Identities.{same_identity}
 use Rattle.gp_base.specs.Annotated.{Annotated, Annotations}
 use Rattle.gp_versions.specs.declared.span.Span.{Span}
 use Rattle.gp_versions.specs.declared.span.Write.{Write}
-use Rattle.gp_versions.specs.Spans.{AreWhole, IsApart, IsEndAbove, NoOverlap, holds_at, is_before_end, row_of, rows_at, spans_at}
+use Rattle.gp_versions.specs.Spans.{holds_at, is_before_end, row_of, rows_at, spans_at}
+use Rattle.gp_versions.specs.TableSpans.{AreWhole, IsApart, IsEndAbove, NoOverlap}
 use Rattle.gp_versions.specs.Commits.{AreBelow, AreDistinct, IsEndBelow, after_commit, begun, ended, is_open, is_written, live_rows, unwritten_rows}
 use Rattle.gp_versions.proofs.SameLemmas.{same-sym}
 
@@ -26,8 +27,8 @@ ended_id version writes span = elim (is_open span.to && is_written writes span.i
 pub ended_from : (version : ℕ) (writes : List Write) (span : Span) → (ended version writes span).from ≡ span.from
 ended_from version writes span = elim (is_open span.to && is_written writes span.id) as (λ b. (cond b (record span { to = Some version }) span).from ≡ span.from) [ true ↦ refl | false ↦ refl ]
 
-ended_row : {M : Type 0} (kind : Annotations M) (version : ℕ) (writes : List Write) (span : Span) → row_of kind (ended version writes span) ≡ row_of kind span
-ended_row kind version writes span = elim (is_open span.to && is_written writes span.id) as (λ b. row_of kind (cond b (record span { to = Some version }) span) ≡ row_of kind span) [ true ↦ refl | false ↦ refl ]
+ended_row : {M : Type 0} (domain : Annotations M) (version : ℕ) (writes : List Write) (span : Span) → row_of domain (ended version writes span) ≡ row_of domain span
+ended_row domain version writes span = elim (is_open span.to && is_written writes span.id) as (λ b. row_of domain (cond b (record span { to = Some version }) span) ≡ row_of domain span) [ true ↦ refl | false ↦ refl ]
 
 -- an end is never changed
 end-stays : (version : ℕ) (b : Bool) (to : Option ℕ) (P : ℕ → Type 0) → IsSomeAnd to P → IsSomeAnd (cond (is_open to && b) (Some version) to) P
@@ -103,15 +104,15 @@ no_overlap-after version writes spans below distinct apart =
 
 -- ---- the rows of each version after a commit
 
-rows_at-append : {M : Type 0} (kind : Annotations M) (v : ℕ) (xs ys : List Span) → rows_at kind v (xs ++ ys) ≡ rows_at kind v xs ++ rows_at kind v ys
-rows_at-append kind v xs ys = ap (map (row_of kind)) (filter-append (holds_at v) xs ys) ∙ map-append (row_of kind) (filter (holds_at v) xs) (filter (holds_at v) ys)
+rows_at-append : {M : Type 0} (domain : Annotations M) (v : ℕ) (xs ys : List Span) → rows_at domain v (xs ++ ys) ≡ rows_at domain v xs ++ rows_at domain v ys
+rows_at-append domain v xs ys = ap (map (row_of domain)) (filter-append (holds_at v) xs ys) ∙ map-append (row_of domain) (filter (holds_at v) xs) (filter (holds_at v) ys)
 
 -- a row in front, if there is one
 abbrev put : {M : Type 0} → Bool → Annotated M → List (Annotated M) → List (Annotated M)
 put b row rows = cond b (row ∷ rows) rows
 
-rows_at-cons : {M : Type 0} (kind : Annotations M) (v : ℕ) (span : Span) (spans : List Span) → rows_at kind v (span ∷ spans) ≡ put (holds_at v span) (row_of kind span) (rows_at kind v spans)
-rows_at-cons kind v span spans = elim (holds_at v span) as (λ b. map (row_of kind) (cond b (span ∷ spans_at v spans) (spans_at v spans)) ≡ put b (row_of kind span) (rows_at kind v spans)) [ true ↦ refl | false ↦ refl ]
+rows_at-cons : {M : Type 0} (domain : Annotations M) (v : ℕ) (span : Span) (spans : List Span) → rows_at domain v (span ∷ spans) ≡ put (holds_at v span) (row_of domain span) (rows_at domain v spans)
+rows_at-cons domain v span spans = elim (holds_at v span) as (λ b. map (row_of domain) (cond b (span ∷ spans_at v spans) (spans_at v spans)) ≡ put b (row_of domain span) (rows_at domain v spans)) [ true ↦ refl | false ↦ refl ]
 
 end-before : (v version : ℕ) (b : Bool) (to : Option ℕ) → v < version → is_before_end v (cond (is_open to && b) (Some version) to) ≡ is_before_end v to
 end-before v version true None early = lt-ltb v version early
@@ -122,31 +123,31 @@ holds-before : (v version : ℕ) (writes : List Write) (span : Span) → v < ver
 holds-before v version writes span early =
     rw (ended_from version writes span, ended_to version writes span) (ap (λ b. leb span.from v && b) (end-before v version (is_written writes span.id) span.to early))
 
-ended-before : {M : Type 0} (kind : Annotations M) (v version : ℕ) (writes : List Write) (spans : List Span) → v < version → rows_at kind v (map (ended version writes) spans) ≡ rows_at kind v spans
-ended-before kind v version writes [] early = refl
-ended-before kind v version writes (span ∷ spans) early =
+ended-before : {M : Type 0} (domain : Annotations M) (v version : ℕ) (writes : List Write) (spans : List Span) → v < version → rows_at domain v (map (ended version writes) spans) ≡ rows_at domain v spans
+ended-before domain v version writes [] early = refl
+ended-before domain v version writes (span ∷ spans) early =
     let here = holds-before v version writes span early in
-    let row = ended_row kind version writes span in
-    let rest = ended-before kind v version writes spans early in
-    rows_at-cons kind v (ended version writes span) (map (ended version writes) spans) ∙ (cc) ∙ sym (rows_at-cons kind v span spans)
+    let row = ended_row domain version writes span in
+    let rest = ended-before domain v version writes spans early in
+    rows_at-cons domain v (ended version writes span) (map (ended version writes) spans) ∙ (cc) ∙ sym (rows_at-cons domain v span spans)
 
-begun-before : {M : Type 0} (kind : Annotations M) (v version : ℕ) (writes : List Write) → v < version → rows_at kind v (filter_map (begun version) writes) ≡ []
-begun-before kind v version [] early = refl
-begun-before kind v version (write ∷ writes) early =
-    let rest = begun-before kind v version writes early in
-    elim write.row as (λ row. rows_at kind v (cons_option (option_map (λ cells. record { id = write.id; from = version; to = None; row = cells }) row) (filter_map (begun version) writes)) ≡ []) [
+begun-before : {M : Type 0} (domain : Annotations M) (v version : ℕ) (writes : List Write) → v < version → rows_at domain v (filter_map (begun version) writes) ≡ []
+begun-before domain v version [] early = refl
+begun-before domain v version (write ∷ writes) early =
+    let rest = begun-before domain v version writes early in
+    elim write.row as (λ row. rows_at domain v (cons_option (option_map (λ cells. record { id = write.id; from = version; to = None; row = cells }) row) (filter_map (begun version) writes)) ≡ []) [
       | None ↦ rest
       | Some cells ↦
           let late = lt-leb version v early in
-          rows_at-cons kind v (record { id = write.id; from = version; to = None; row = cells }) (filter_map (begun version) writes) ∙ rw late rest
+          rows_at-cons domain v (record { id = write.id; from = version; to = None; row = cells }) (filter_map (begun version) writes) ∙ rw late rest
     ]
 
 -- a commit changes no older version
-pub rows-before : {M : Type 0} (kind : Annotations M) (v version : ℕ) (writes : List Write) (spans : List Span) → v < version → rows_at kind v (after_commit version writes spans) ≡ rows_at kind v spans
-rows-before kind v version writes spans early =
-    let old = ended-before kind v version writes spans early in
-    let new = begun-before kind v version writes early in
-    rows_at-append kind v (map (ended version writes) spans) (filter_map (begun version) writes) ∙ rw (old, new) (append-nil (rows_at kind v spans))
+pub rows-before : {M : Type 0} (domain : Annotations M) (v version : ℕ) (writes : List Write) (spans : List Span) → v < version → rows_at domain v (after_commit version writes spans) ≡ rows_at domain v spans
+rows-before domain v version writes spans early =
+    let old = ended-before domain v version writes spans early in
+    let new = begun-before domain v version writes early in
+    rows_at-append domain v (map (ended version writes) spans) (filter_map (begun version) writes) ∙ rw (old, new) (append-nil (rows_at domain v spans))
 
 -- an old span holds the new version if it held the one before and is not written
 holds-new : (n : ℕ) (b : Bool) (from : ℕ) (to : Option ℕ) → from < n + 1 → IsEndBelow (n + 1) to → (leb from (n + 1) && is_before_end (n + 1) (cond (is_open to && b) (Some (n + 1)) to)) ≡ ((leb from n && is_before_end n to) && not b)
@@ -159,42 +160,42 @@ unwritten-put : {M : Type 0} (writes : List Write) (b : Bool) (row : Annotated M
 unwritten-put writes true row rows = refl
 unwritten-put writes false row rows = refl
 
-ended-new : {M : Type 0} (kind : Annotations M) (n : ℕ) (writes : List Write) (spans : List Span) → AreBelow (n + 1) spans → rows_at kind (n + 1) (map (ended (n + 1) writes) spans) ≡ unwritten_rows writes (rows_at kind n spans)
-ended-new kind n writes [] below = refl
-ended-new kind n writes (span ∷ spans) below =
+ended-new : {M : Type 0} (domain : Annotations M) (n : ℕ) (writes : List Write) (spans : List Span) → AreBelow (n + 1) spans → rows_at domain (n + 1) (map (ended (n + 1) writes) spans) ≡ unwritten_rows writes (rows_at domain n spans)
+ended-new domain n writes [] below = refl
+ended-new domain n writes (span ∷ spans) below =
     let here : holds_at (n + 1) (ended (n + 1) writes span) ≡ (holds_at n span && not (is_written writes span.id)) =
     rw (ended_from (n + 1) writes span, ended_to (n + 1) writes span) (holds-new n (is_written writes span.id) span.from span.to below.0.0 below.0.1) in
-    let row = ended_row kind (n + 1) writes span in
-    let rest = ended-new kind n writes spans below.1 in
-    rows_at-cons kind (n + 1) (ended (n + 1) writes span) (map (ended (n + 1) writes) spans)
+    let row = ended_row domain (n + 1) writes span in
+    let rest = ended-new domain n writes spans below.1 in
+    rows_at-cons domain (n + 1) (ended (n + 1) writes span) (map (ended (n + 1) writes) spans)
     ∙ (cc)
-    ∙ sym (unwritten-put writes (holds_at n span) (row_of kind span) (rows_at kind n spans))
-    ∙ ap (unwritten_rows writes) (sym (rows_at-cons kind n span spans))
+    ∙ sym (unwritten-put writes (holds_at n span) (row_of domain span) (rows_at domain n spans))
+    ∙ ap (unwritten_rows writes) (sym (rows_at-cons domain n span spans))
 
-begun-new : {M : Type 0} (kind : Annotations M) (version : ℕ) (writes : List Write) → rows_at kind version (filter_map (begun version) writes) ≡ live_rows kind writes
-begun-new kind version [] = refl
-begun-new kind version (write ∷ writes) =
-    let rest = begun-new kind version writes in
-    elim write.row as (λ row. rows_at kind version (cons_option (option_map (λ cells. record { id = write.id; from = version; to = None; row = cells }) row) (filter_map (begun version) writes)) ≡ cons_option (option_map (λ cells. record { identity = write.id; cells = cells; mark = false; annotation = kind.one }) row) (live_rows kind writes)) [
+begun-new : {M : Type 0} (domain : Annotations M) (version : ℕ) (writes : List Write) → rows_at domain version (filter_map (begun version) writes) ≡ live_rows domain writes
+begun-new domain version [] = refl
+begun-new domain version (write ∷ writes) =
+    let rest = begun-new domain version writes in
+    elim write.row as (λ row. rows_at domain version (cons_option (option_map (λ cells. record { id = write.id; from = version; to = None; row = cells }) row) (filter_map (begun version) writes)) ≡ cons_option (option_map (λ cells. record { identity = write.id; cells = cells; mark = false; annotation = domain.one }) row) (live_rows domain writes)) [
       | None ↦ rest
       | Some cells ↦
           let now = le-leb version version (omega arith) in
-          rows_at-cons kind version (record { id = write.id; from = version; to = None; row = cells }) (filter_map (begun version) writes) ∙ rw (now, rest) refl
+          rows_at-cons domain version (record { id = write.id; from = version; to = None; row = cells }) (filter_map (begun version) writes) ∙ rw (now, rest) refl
     ]
 
 -- the new version has the rows that were not written, and then the written rows that were not deleted
-pub rows-new : {M : Type 0} (kind : Annotations M) (n : ℕ) (writes : List Write) (spans : List Span) → AreBelow (n + 1) spans → rows_at kind (n + 1) (after_commit (n + 1) writes spans) ≡ unwritten_rows writes (rows_at kind n spans) ++ live_rows kind writes
-rows-new kind n writes spans below =
-    let old = ended-new kind n writes spans below in
-    let new = begun-new kind (n + 1) writes in
-    rows_at-append kind (n + 1) (map (ended (n + 1) writes) spans) (filter_map (begun (n + 1)) writes) ∙ cc
+pub rows-new : {M : Type 0} (domain : Annotations M) (n : ℕ) (writes : List Write) (spans : List Span) → AreBelow (n + 1) spans → rows_at domain (n + 1) (after_commit (n + 1) writes spans) ≡ unwritten_rows writes (rows_at domain n spans) ++ live_rows domain writes
+rows-new domain n writes spans below =
+    let old = ended-new domain n writes spans below in
+    let new = begun-new domain (n + 1) writes in
+    rows_at-append domain (n + 1) (map (ended (n + 1) writes) spans) (filter_map (begun (n + 1)) writes) ∙ cc
 
-pub rows-new-at : {M : Type 0} (kind : Annotations M) (version : ℕ) (writes : List Write) (spans : List Span) → 1 ≤ version → AreBelow version spans → rows_at kind version (after_commit version writes spans) ≡ unwritten_rows writes (rows_at kind (version - 1) spans) ++ live_rows kind writes
-rows-new-at kind zero writes spans first below = absurd (omega arith)
-rows-new-at kind (suc n) writes spans first below =
+pub rows-new-at : {M : Type 0} (domain : Annotations M) (version : ℕ) (writes : List Write) (spans : List Span) → 1 ≤ version → AreBelow version spans → rows_at domain version (after_commit version writes spans) ≡ unwritten_rows writes (rows_at domain (version - 1) spans) ++ live_rows domain writes
+rows-new-at domain zero writes spans first below = absurd (omega arith)
+rows-new-at domain (suc n) writes spans first below =
     let e : n + 1 ≡ suc n = omega arith in
     let e' : suc n - 1 ≡ n = omega arith in
-    rw e' (subst (λ (m : ℕ). AreBelow m spans → rows_at kind m (after_commit m writes spans) ≡ unwritten_rows writes (rows_at kind n spans) ++ live_rows kind writes) e (rows-new kind n writes spans) below)
+    rw e' (subst (λ (m : ℕ). AreBelow m spans → rows_at domain m (after_commit m writes spans) ≡ unwritten_rows writes (rows_at domain n spans) ++ live_rows domain writes) e (rows-new domain n writes spans) below)
 
 -- ---- each span holds at least one version
 

@@ -8,7 +8,7 @@ use Rattle.gp_versions.specs.declared.chains.Chains.{Chains}
 use Rattle.gp_versions.specs.declared.id_key.IdKey.{IdKey}
 use Rattle.gp_versions.specs.declared.span.Span.{Span}
 use Rattle.gp_versions.specs.Keys.{key_of}
-use Rattle.gp_versions.specs.Spans.{later, later_end, least, written_after}
+use Rattle.gp_versions.specs.TableSpans.{later, later_end, least, written_after}
 
 -- what == answers at keys
 abbrev pub same_keys : IdKey → IdKey → Bool

@@ -21,10 +21,10 @@ AreDistinct (write ∷ writes) = (is_written writes write.id ≡ false) × AreDi
 
 -- the rows that the writes leave, in order; a write without a row deletes
 abbrev pub live_row : {M : Type 0} → Annotations M → Write → Option (Annotated M)
-live_row kind write = option_map (λ cells. record { identity = write.id; cells = cells; mark = false; annotation = kind.one }) write.row
+live_row domain write = option_map (λ cells. record { identity = write.id; cells = cells; mark = false; annotation = domain.one }) write.row
 
 abbrev pub live_rows : {M : Type 0} → Annotations M → List Write → List (Annotated M)
-live_rows kind writes = filter_map (live_row kind) writes
+live_rows domain writes = filter_map (live_row domain) writes
 
 -- the rows whose identity is not written
 abbrev pub unwritten_rows : {M : Type 0} → List Write → List (Annotated M) → List (Annotated M)

@@ -1,7 +1,8 @@
 -- Machinery: the key of an identity, by which a table finds its spans: the identity's own numbers, and one folded from all numbers of it and of its
 -- sources, in order. Equal identities have equal keys, and nothing is asked of the keys of others.
 use Rattle.std.specs.Prelude.{ℕ, ◌+◌, ◌*◌, ◌^◌, ◌%◌}
-use Rattle.gp_base.specs.Identities.{Identity, Sources, identity, no_sources, source, number_of, statement_of, transaction_of}
+use Rattle.gp_base.specs.Identities.{Identity, Sources, identity, no_sources, source}
+use Rattle.gp_base.specs.IdentityParts.{number_of, statement_of, transaction_of}
 use Rattle.gp_versions.specs.declared.id_key.IdKey.{IdKey}
 use Rattle.gp_versions.specs.declared.id_key.TheConstants.{FACTOR}
 

@@ -4,3 +4,4 @@ pub mod Keys
 pub mod SpanCodes
 pub mod Spans
 pub mod Written
+pub mod TableSpans

@@ -4,7 +4,7 @@ ghost use Rattle.std.specs.Prelude.{◌≡◌, ℕ, ◌+◌, ◌<◌, List, OnOk
 ghost use Rattle.gp_versions.specs.declared.span.Span as declared;
 ghost use Rattle.gp_versions.specs.Chains.{IsChained, IsKeyAt, LeadsTo, change_after, entered, is_begun, keys_of};
 ghost use Rattle.gp_versions.specs.Keys.{key_of};
-ghost use Rattle.gp_versions.specs.Spans.{AreWhole, NoOverlap, written_after};
+ghost use Rattle.gp_versions.specs.TableSpans.{AreWhole, NoOverlap, written_after};
 
 use crate::id_key::{IdKey, key_of};
 use crate::later::{changed_after, is_same, lesser};

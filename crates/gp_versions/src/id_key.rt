@@ -1,7 +1,7 @@
 //! Keys of identities, by which a table finds its spans.
 
 ghost use Rattle.std.specs.Prelude.{◌≡◌};
-ghost use Rattle.gp_base.specs.Identities.{sources_of};
+ghost use Rattle.gp_base.specs.IdentityParts.{sources_of};
 ghost use Rattle.gp_versions.specs.Keys.{folded_over, folded_over_all, key_of, mixed};
 
 use gp_base::RowId;

@@ -2,7 +2,7 @@
 
 ghost use Rattle.std.specs.Prelude.{◌≡◌};
 ghost use Rattle.gp_base.specs.Identities.{same_identity};
-ghost use Rattle.gp_versions.specs.Spans.{later, later_end, least, written_after};
+ghost use Rattle.gp_versions.specs.TableSpans.{later, later_end, least, written_after};
 
 use crate::span::Span;
 use gp_base::RowId;

@@ -4,7 +4,8 @@ ghost use Rattle.std.specs.Prelude.{◌≡◌, ℕ, ◌<◌, ◌≤◌, List, So
 ghost use Rattle.std.specs.List.{AllByRecursion};
 ghost use Rattle.gp_base.specs.Identities.{Identity};
 ghost use Rattle.gp_versions.specs.declared.span.Span.{Span};
-ghost use Rattle.gp_versions.specs.Spans.{AreOfDifferentRows, AreWhole, IsChanged, NoOverlap, spans_at, written_after};
+ghost use Rattle.gp_versions.specs.Spans.{spans_at};
+ghost use Rattle.gp_versions.specs.TableSpans.{AreOfDifferentRows, AreWhole, IsChanged, NoOverlap, written_after};
 
 /// A version has at most one row of an identity.
 pub fn a_version_has_one_row_of_an_identity()

@@ -6,7 +6,8 @@ ghost use Rattle.std.specs.List.Sorted.{IsPermutation, IsSortedByKey};
 ghost use Rattle.std.specs.Option.{option_cmp};
 ghost use Rattle.gp_base.specs.Annotated.{plain};
 ghost use Rattle.gp_versions.specs.Commits.{AreBelow, AreDistinct, after_commit, live_rows, unwritten_rows};
-ghost use Rattle.gp_versions.specs.Spans.{AreWhole, NoOverlap, rows_at, span_cmp, spans_at, written_after};
+ghost use Rattle.gp_versions.specs.Spans.{rows_at, span_cmp, spans_at};
+ghost use Rattle.gp_versions.specs.TableSpans.{AreWhole, NoOverlap, written_after};
 
 use crate::as_of::AsOf;
 use crate::chains::Chains;
@@ -34,7 +35,8 @@ pub struct VersionTable {
 impl Model for VersionTable {
     ghost use Rattle.std.specs.Prelude.{◌-◌, vec_capacity, vec_len};
     ghost use Rattle.gp_versions.specs.Chains.{IsChained};
-    ghost use Rattle.gp_versions.specs.Spans.{AreWhole, NoOverlap, Versions};
+    ghost use Rattle.gp_versions.specs.Spans.{Versions};
+    ghost use Rattle.gp_versions.specs.TableSpans.{AreWhole, NoOverlap};
     ghost use Rattle.gp_versions.specs.SpanCodes.{versions_code};
 
     ghost Value = { Versions };

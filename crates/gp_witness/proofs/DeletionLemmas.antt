@@ -13,17 +13,14 @@ use Rattle.gp_expr.specs.Values.{passes}
 use Rattle.gp_algebra.specs.Statements.{Branch, Select, Statement, insert, insert_select, update, delete, read}
 use Rattle.gp_algebra.specs.Answers.{Element, answer, answer_from, choices, chosen, joined, no_choice, passes_where, values}
 use Rattle.gp_algebra.specs.Effects.{assigned, changed, given_from, made, step, with_rows}
-use Rattle.gp_algebra.proofs.Lists.{filter-map}
 use Rattle.gp_witness.specs.Deletion.{Finds, has_token, reduced}
-
-filter_append : {X : Type 0} (p : X → Bool) (xs ys : List X) → filter p (xs ++ ys) ≡ filter p xs ++ filter p ys
-filter_append p [] ys = refl
-filter_append p (x ∷ xs) ys = elim (p x) as (λ b. cond b (x ∷ filter p (xs ++ ys)) (filter p (xs ++ ys)) ≡ cond b (x ∷ filter p xs) (filter p xs) ++ filter p ys) [ true ↦ ap (λ zs. x ∷ zs) (filter_append p xs ys) | false ↦ filter_append p xs ys ]
+use Rattle.gp_base.proofs.SmallLemmas.{filter-append, filter-map, filter_agree}
+use Rattle.std.proofs.lemmas.Bool.{both_ways}
 
 early : {X Y : Type 0} (p : Y → Bool) (q : X → Bool) (f : X → List Y) → ((x : X) → q x ≡ false → filter p (f x) ≡ []) → (xs : List X) → filter p (flat_map f xs) ≡ flat_map (λ x. cond (q x) (filter p (f x)) []) xs
 early p q f none [] = refl
 early p q f none (x ∷ xs) =
-    filter_append p (f x) (flat_map f xs)
+    filter-append p (f x) (flat_map f xs)
     ∙ ap (λ ys. filter p (f x) ++ ys) (early p q f none xs)
     ∙ ap (λ zs. zs ++ flat_map (λ x. cond (q x) (filter p (f x)) []) xs) (elim (q x) as (λ b. q x ≡ b → filter p (f x) ≡ cond b (filter p (f x)) []) [ true ↦ λ e. refl | false ↦ λ e. none x e ] refl)
 
@@ -31,24 +28,16 @@ not_or : (a b : Bool) → not (a || b) ≡ (not a && not b)
 not_or true b = refl
 not_or false b = refl
 
-filter_agree : {X : Type 0} (p q : X → Bool) → ((x : X) → p x ≡ q x) → (xs : List X) → filter p xs ≡ filter q xs
-filter_agree p q are [] = refl
-filter_agree p q are (x ∷ xs) = ap (λ b. cond b (x ∷ filter p xs) (filter p xs)) (are x) ∙ ap (λ ys. cond (q x) (x ∷ ys) ys) (filter_agree p q are xs)
-
 filter_twice : {X : Type 0} (p q : X → Bool) → ((x : X) → q x ≡ true → p x ≡ true) → (xs : List X) → filter q (filter p xs) ≡ filter q xs
 filter_twice p q stronger [] = refl
 filter_twice p q stronger (x ∷ xs) =
     elim (p x) as (λ b. p x ≡ b → filter q (cond b (x ∷ filter p xs) (filter p xs)) ≡ filter q (x ∷ xs)) [
       | true ↦ λ e. ap (λ ys. cond (q x) (x ∷ ys) ys) (filter_twice p q stronger xs)
       | false ↦ λ e. filter_twice p q stronger xs ∙ elim (q x) as (λ c. q x ≡ c → filter q xs ≡ cond c (x ∷ filter q xs) (filter q xs)) [
-        | true ↦ λ f. absurd (let g = stronger x f in clash (p x) e g)
+        | true ↦ λ f. absurd (let g = stronger x f in both_ways (p x) e g)
         | false ↦ λ f. refl
       ] refl
     ] refl
-  where
-    clash : (b : Bool) → b ≡ false → b ≡ true → ⊥
-    clash true s t = cc
-    clash false s t = cc
 
 filter_none : {X : Type 0} (xs : List X) → filter (λ x. false) xs ≡ []
 filter_none [] = refl
@@ -78,44 +67,44 @@ flat_map_same f g p are (x ∷ xs) =
       | false ↦ λ e. flat_map_same f g p are xs
     ] refl
 
-module _ {M : Type 0} (kind : Annotations M) (has : M → Bool) (finds : Finds kind has) where
+module _ {M : Type 0} (domain : Annotations M) (has : M → Bool) (finds : Finds domain has) where
   abbrev clear : Element M → Bool
   clear e = not (has e.annotation)
 
-  clear_joined : (number : ℕ) (row : Annotated M) (e : Element M) → clear (joined kind number row e) ≡ (not (has row.annotation) && clear e)
+  clear_joined : (number : ℕ) (row : Annotated M) (e : Element M) → clear (joined domain number row e) ≡ (not (has row.annotation) && clear e)
   clear_joined number row e = ap not (finds.times row.annotation e.annotation) ∙ not_or (has row.annotation) (has e.annotation)
 
-  row_out : (number : ℕ) (row : Annotated M) (es : List (Element M)) → not (has row.annotation) ≡ false → filter clear (map (joined kind number row) es) ≡ []
+  row_out : (number : ℕ) (row : Annotated M) (es : List (Element M)) → not (has row.annotation) ≡ false → filter clear (map (joined domain number row) es) ≡ []
   row_out number row es out =
-      filter-map clear (joined kind number row) es
-      ∙ ap (map (joined kind number row)) (filter_agree (λ e. clear (joined kind number row e)) (λ e. false) (λ e. clear_joined number row e ∙ ap (λ b. b && clear e) out) es ∙ filter_none es)
+      filter-map clear (joined domain number row) es
+      ∙ ap (map (joined domain number row)) (filter_agree (λ e. clear (joined domain number row e)) (λ e. false) (λ e. clear_joined number row e ∙ ap (λ b. b && clear e) out) es ∙ filter_none es)
 
-  row_in : (number : ℕ) (row : Annotated M) (es : List (Element M)) → not (has row.annotation) ≡ true → filter clear (map (joined kind number row) es) ≡ map (joined kind number row) (filter clear es)
+  row_in : (number : ℕ) (row : Annotated M) (es : List (Element M)) → not (has row.annotation) ≡ true → filter clear (map (joined domain number row) es) ≡ map (joined domain number row) (filter clear es)
   row_in number row es kept =
-      filter-map clear (joined kind number row) es
-      ∙ ap (map (joined kind number row)) (filter_agree (λ e. clear (joined kind number row e)) clear (λ e. clear_joined number row e ∙ ap (λ b. b && clear e) kept) es)
+      filter-map clear (joined domain number row) es
+      ∙ ap (map (joined domain number row)) (filter_agree (λ e. clear (joined domain number row e)) clear (λ e. clear_joined number row e ∙ ap (λ b. b && clear e) kept) es)
 
   -- the clear choices are those among the clear rows
-  choices_reduced : (number : ℕ) (tables : List ℕ) (db : Database M) → filter clear (choices kind number tables db) ≡ choices kind number tables (reduced has db)
-  choices_reduced number [] db = ap (λ b. cond (not b) (no_choice kind number ∷ []) []) finds.one
+  choices_reduced : (number : ℕ) (tables : List ℕ) (db : Database M) → filter clear (choices domain number tables db) ≡ choices domain number tables (reduced has db)
+  choices_reduced number [] db = ap (λ b. cond (not b) (no_choice domain number ∷ []) []) finds.one
   choices_reduced number (table ∷ tables) db =
-      early clear (λ row. not (has row.annotation)) (λ row. map (joined kind number row) (choices kind number tables db)) (λ row. row_out number row (choices kind number tables db)) (db table)
-      ∙ flat_map_filter (λ row. not (has row.annotation)) (λ row. filter clear (map (joined kind number row) (choices kind number tables db))) (db table)
-      ∙ flat_map_same _ _ (λ (row : Annotated M). not (has row.annotation)) (λ row kept. row_in number row (choices kind number tables db) kept ∙ ap (map (joined kind number row)) (choices_reduced number tables db)) (db table)
+      early clear (λ row. not (has row.annotation)) (λ row. map (joined domain number row) (choices domain number tables db)) (λ row. row_out number row (choices domain number tables db)) (db table)
+      ∙ flat_map_filter (λ row. not (has row.annotation)) (λ row. filter clear (map (joined domain number row) (choices domain number tables db))) (db table)
+      ∙ flat_map_same _ _ (λ (row : Annotated M). not (has row.annotation)) (λ row kept. row_in number row (choices domain number tables db) kept ∙ ap (map (joined domain number row)) (choices_reduced number tables db)) (db table)
 
-  chosen_reduced : (number : ℕ) (branch : Branch) (db : Database M) → filter clear (chosen kind number branch db) ≡ chosen kind number branch (reduced has db)
+  chosen_reduced : (number : ℕ) (branch : Branch) (db : Database M) → filter clear (chosen domain number branch db) ≡ chosen domain number branch (reduced has db)
   chosen_reduced number branch db =
-      filter-map clear (λ (e : Element M). record e { cells = values branch.items e.cells }) (filter (λ (e : Element M). passes_where branch.cond e.cells) (choices kind number branch.from db))
+      filter-map clear (λ (e : Element M). record e { cells = values branch.items e.cells }) (filter (λ (e : Element M). passes_where branch.cond e.cells) (choices domain number branch.from db))
       ∙ ap (map (λ (e : Element M). record e { cells = values branch.items e.cells }))
-      (filter_crossed clear (λ (e : Element M). passes_where branch.cond e.cells) (choices kind number branch.from db) ∙ ap (filter (λ (e : Element M). passes_where branch.cond e.cells)) (choices_reduced number branch.from db))
+      (filter_crossed clear (λ (e : Element M). passes_where branch.cond e.cells) (choices domain number branch.from db) ∙ ap (filter (λ (e : Element M). passes_where branch.cond e.cells)) (choices_reduced number branch.from db))
 
   -- the answer over the reduced database is the clear part of the answer
-  pub answer_reduced : (number : ℕ) (branches : Select) (db : Database M) → filter clear (answer_from kind number branches db) ≡ answer_from kind number branches (reduced has db)
+  pub answer_reduced : (number : ℕ) (branches : Select) (db : Database M) → filter clear (answer_from domain number branches db) ≡ answer_from domain number branches (reduced has db)
   answer_reduced number [] db = refl
   answer_reduced number (branch ∷ branches) db =
-      filter_append clear (chosen kind number branch db) (answer_from kind (suc number) branches db)
-      ∙ ap (λ es. es ++ filter clear (answer_from kind (suc number) branches db)) (chosen_reduced number branch db)
-      ∙ ap (λ es. chosen kind number branch (reduced has db) ++ es) (answer_reduced (suc number) branches db)
+      filter-append clear (chosen domain number branch db) (answer_from domain (suc number) branches db)
+      ∙ ap (λ es. es ++ filter clear (answer_from domain (suc number) branches db)) (chosen_reduced number branch db)
+      ∙ ap (λ es. chosen domain number branch (reduced has db) ++ es) (answer_reduced (suc number) branches db)
 
   abbrev clean : Annotated M → Bool
   clean row = not (has row.annotation)
@@ -124,14 +113,14 @@ module _ {M : Type 0} (kind : Annotations M) (has : M → Bool) (finds : Finds k
   clean_twice rows = sym (filter_twice clean clean (λ row e. e) rows)
 
   -- what is found in a factor is found in the product
-  left_clear : (a b : M) → not (has (kind.times a b)) ≡ true → not (has a) ≡ true
+  left_clear : (a b : M) → not (has (domain.times a b)) ≡ true → not (has a) ≡ true
   left_clear a b e = both (has a) (has b) (sym (ap not (finds.times a b)) ∙ e)
     where
       both : (x y : Bool) → not (x || y) ≡ true → not x ≡ true
       both true y p = p
       both false y p = refl
 
-  right_clear : (a b : M) → not (has (kind.times a b)) ≡ true → not (has b) ≡ true
+  right_clear : (a b : M) → not (has (domain.times a b)) ≡ true → not (has b) ≡ true
   right_clear a b e = both (has a) (has b) (sym (ap not (finds.times a b)) ∙ e)
     where
       both : (x y : Bool) → not (x || y) ≡ true → not y ≡ true
@@ -143,20 +132,20 @@ module _ {M : Type 0} (kind : Annotations M) (has : M → Bool) (finds : Finds k
   in_table table xs ys db s other = elim (other == table) as (λ c. filter clean (cond c xs (db other)) ≡ filter clean (cond c ys (reduced has db other))) [ true ↦ s | false ↦ clean_twice (db other) ]
 
   appended : (rows xs ys : List (Annotated M)) → filter clean xs ≡ filter clean ys → filter clean (rows ++ xs) ≡ filter clean (filter clean rows ++ ys)
-  appended rows xs ys s = filter_append clean rows xs ∙ ap (λ zs. filter clean rows ++ zs) s ∙ ap (λ zs. zs ++ filter clean ys) (clean_twice rows) ∙ sym (filter_append clean (filter clean rows) ys)
+  appended rows xs ys s = filter-append clean rows xs ∙ ap (λ zs. filter clean rows ++ zs) s ∙ ap (λ zs. zs ++ filter clean ys) (clean_twice rows) ∙ sym (filter-append clean (filter clean rows) ys)
 
   mapped : {X : Type 0} (f : X → Annotated M) (p : X → Bool) → ((x : X) → clean (f x) ≡ true → p x ≡ true) → (xs : List X) → filter clean (map f xs) ≡ filter clean (map f (filter p xs))
   mapped f p stronger xs = filter-map clean f xs ∙ ap (map f) (sym (filter_twice p (λ x. clean (f x)) stronger xs)) ∙ sym (filter-map clean f (filter p xs))
 
   -- leaving rows out before a statement, and then from its result, is leaving them out from its result
-  pub step_reduced : (t k : ℕ) (statement : Statement) (db : Database M) (table : ℕ) → reduced has (step kind t k statement db) table ≡ reduced has (step kind t k statement (reduced has db)) table
-  step_reduced t k (insert table rows) db = in_table table _ _ db (appended (db table) (given_from kind t k 1 rows) (given_from kind t k 1 rows) refl)
+  pub step_reduced : (t k : ℕ) (statement : Statement) (db : Database M) (table : ℕ) → reduced has (step domain t k statement db) table ≡ reduced has (step domain t k statement (reduced has db)) table
+  step_reduced t k (insert table rows) db = in_table table _ _ db (appended (db table) (given_from domain t k 1 rows) (given_from domain t k 1 rows) refl)
   step_reduced t k (insert_select table branches) db =
-      in_table table _ _ db (appended (db table) _ _ (mapped (made kind t k) clear (λ e c. right_clear _ e.annotation c) (answer kind branches db) ∙ ap (λ es. filter clean (map (made kind t k) es)) (answer_reduced 1 branches db)))
-  step_reduced t k (update table sets c) db = in_table table _ _ db (mapped (changed kind t k sets c) clean one (db table))
+      in_table table _ _ db (appended (db table) _ _ (mapped (made domain t k) clear (λ e c. right_clear _ e.annotation c) (answer domain branches db) ∙ ap (λ es. filter clean (map (made domain t k) es)) (answer_reduced 1 branches db)))
+  step_reduced t k (update table sets c) db = in_table table _ _ db (mapped (changed domain t k sets c) clean one (db table))
     where
-      one : (row : Annotated M) → clean (changed kind t k sets c row) ≡ true → clean row ≡ true
-      one row = elim (passes c row.cells) as (λ b. clean (cond b (record { identity = row.identity; cells = assigned sets row.cells; mark = true; annotation = kind.times row.annotation (kind.token (Updated t k)) }) row) ≡ true → clean row ≡ true) [
+      one : (row : Annotated M) → clean (changed domain t k sets c row) ≡ true → clean row ≡ true
+      one row = elim (passes c row.cells) as (λ b. clean (cond b (record { identity = row.identity; cells = assigned sets row.cells; mark = true; annotation = domain.times row.annotation (domain.token (Updated t k)) }) row) ≡ true → clean row ≡ true) [
         | true ↦ λ h. left_clear row.annotation _ h
         | false ↦ λ h. h
       ]
@@ -180,10 +169,6 @@ or_front false a b c = refl
 or_grouped : (a b c : Bool) → (a || (b || c)) ≡ ((a || b) || c)
 or_grouped true b c = refl
 or_grouped false b c = refl
-
-pub or_none : (a : Bool) → (a || false) ≡ a
-or_none true = refl
-or_none false = refl
 
 module _ (matches : Token → Bool) where
   found_from : (pair : Token × ℕ) (rest : Monomial → Monomial) (b : Bool) → ((others : Monomial) → has_token matches (rest others) ≡ (b || has_token matches others))

@@ -9,12 +9,15 @@ use Rattle.gp_base.specs.Order.{row_cmp}
 use Rattle.gp_base.specs.Tokens.{Monomial, token_cmp}
 use Rattle.gp_base.specs.TokenOrder.{token_cmp_total, token_cmp-exact}
 use Rattle.gp_semiring.specs.Powers.{raised}
-use Rattle.gp_semiring.specs.Sums.{Each}
-use Rattle.gp_semiring.specs.Witnesses.{IsRising, IsWitness, Sets, set_of, witness_of, witness_plus, witness_times}
+use Rattle.gp_semiring.specs.SumForms.{Each}
+use Rattle.gp_semiring.specs.Witnesses.{Sets, set_of, witness_of, witness_plus, witness_times}
+use Rattle.gp_semiring.specs.WitnessForms.{IsRising, IsWitness}
 use Rattle.gp_semiring.specs.WitnessLaws.{holds, same_witness, holds_plus, holds_times, holds_witness, witness_in, plus_in, times_in, one_in, none_in, rising_set, all_set}
 use Rattle.gp_valuation.specs.Values.{monomial_value}
 use Rattle.gp_kexec.specs.InSemiring.{in_semiring}
-use Rattle.gp_witness.specs.Minimal.{HasCounts, itself, token_sets, tokens_of}
+use Rattle.gp_witness.specs.Minimal.{token_sets, tokens_of}
+use Rattle.gp_base.proofs.SmallLemmas.{and_nothing}
+use Rattle.gp_witness.specs.CountForms.{HasCounts, itself}
 
 abbrev value : Monomial → Sets
 value = monomial_value ([] ∷ []) (witness_times token_cmp) itself
@@ -41,12 +44,8 @@ and_twice : (a : Bool) → (a && a) ≡ a
 and_twice true = refl
 and_twice false = refl
 
-and_one : (a : Bool) → (a && true) ≡ a
-and_one true = refl
-and_one false = refl
-
 holds_power : (S : Token → Bool) (t : Token) (n : ℕ) → holds S (power t (suc n)) ≡ S t
-holds_power S t zero = holds_times token_cmp token_cmp_total token_cmp-exact S (itself t) ([] ∷ []) ∙ simple (S t) true ∙ and_one (S t)
+holds_power S t zero = holds_times token_cmp token_cmp_total token_cmp-exact S (itself t) ([] ∷ []) ∙ simple (S t) true ∙ and_nothing (S t)
 holds_power S t (suc n) =
     holds_times token_cmp token_cmp_total token_cmp-exact S (itself t) (power t (suc n)) ∙ simple (S t) (holds S (power t (suc n))) ∙ ap (λ b. S t && b) (holds_power S t n) ∙ and_twice (S t)
 

@@ -1,4 +1,4 @@
-use Rattle.gp_algebra.proofs.Permutations.{permuted, unpermuted}
+use Rattle.gp_base.proofs.Permutations.{permuted, unpermuted}
 use Rattle.gp_algebra.proofs.StepBags.{answer_same}
 use Rattle.gp_algebra.proofs.laws.answers_respect_bags.Goals as goal
 

@@ -1,4 +1,4 @@
-use Rattle.gp_algebra.proofs.Permutations.{permuted, unpermuted}
+use Rattle.gp_base.proofs.Permutations.{permuted, unpermuted}
 use Rattle.gp_algebra.proofs.PlainBags.{program_meaning_same, program_stop_same}
 use Rattle.gp_algebra.proofs.laws.programs_respect_bags.Goals as goal
 

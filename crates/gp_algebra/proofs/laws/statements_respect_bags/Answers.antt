@@ -1,4 +1,4 @@
-use Rattle.gp_algebra.proofs.Permutations.{permuted, unpermuted}
+use Rattle.gp_base.proofs.Permutations.{permuted, unpermuted}
 use Rattle.gp_algebra.proofs.StepBags.{step_same, wrote_same, is_over_rows_same, is_over_nodes_same}
 use Rattle.gp_algebra.proofs.laws.statements_respect_bags.Goals as goal
 

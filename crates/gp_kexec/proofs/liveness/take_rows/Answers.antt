@@ -1,7 +1,7 @@
 use Rattle.std.proofs.Common.{◌≡◌, ◌++◌, ◌==◌, ℕ, List, map, take, get_or, if◌then◌else◌, refl, sym, ap, ◌∙◌, arith}
 use Rattle.std.proofs.lemmas.List.{append-nil, drop_all, take_all}
 use Rattle.std.proofs.lemmas.List.Edits.{map_over_more}
-use Rattle.gp_algebra.specs.AnnotatedQueries.{Derived}
+use Rattle.gp_algebra.specs.AnnotatedMeaning.{Derived}
 use Rattle.gp_algebra.specs.Plain.{no_steps}
 use Rattle.gp_exec.proofs.ListLemmas.{at_unmapped}
 use Rattle.gp_kexec.specs.declared.table.Done.{Done}

@@ -1,5 +1,5 @@
 use Rattle.std.proofs.Common.{◌≡◌, ◌++◌, List, map, subst}
-use Rattle.gp_algebra.specs.AnnotatedQueries.{Derived, meaning}
+use Rattle.gp_algebra.specs.AnnotatedMeaning.{Derived, meaning}
 use Rattle.gp_algebra.specs.Plain.{no_steps}
 use Rattle.gp_algebra.specs.QueryViews.{annotated_view}
 use Rattle.gp_kexec.specs.declared.made.Made.{Made}

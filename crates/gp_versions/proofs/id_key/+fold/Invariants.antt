@@ -1,5 +1,6 @@
 use Rattle.std.proofs.Common.{◌+◌, ◌*◌}
-use Rattle.gp_base.specs.Identities.{nodes, nodes_in, sources_of}
+use Rattle.gp_base.specs.Identities.{nodes, nodes_in}
+use Rattle.gp_base.specs.IdentityParts.{sources_of}
 use Rattle.gp_versions.proofs.id_key.+fold.Given as goal
 
 abbrev pub decreases-fold_id : goal.decreases-fold_id

@@ -1,5 +1,5 @@
 use Rattle.std.proofs.Common.{◌≡◌, drop}
-use Rattle.gp_versions.specs.Spans.{written_after, least}
+use Rattle.gp_versions.specs.TableSpans.{written_after, least}
 use Rattle.gp_versions.proofs.later.written_after.Given as goal
 
 abbrev pub invariant-loop-span : goal.invariant-loop-span

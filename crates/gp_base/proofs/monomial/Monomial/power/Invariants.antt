@@ -1,5 +1,5 @@
 use Rattle.std.proofs.Common.{◌≡◌, drop}
-use Rattle.gp_base.specs.Tokens.{power}
+use Rattle.gp_base.specs.MonomialForms.{power}
 use Rattle.gp_base.proofs.monomial.Monomial.power.Given as goal
 
 -- the pairs that remain decide

@@ -4,7 +4,7 @@ use Rattle.std.proofs.lemmas.Option.{slice_get_read}
 use Rattle.gp_versions.specs.declared.span.Span.{Span}
 use Rattle.gp_versions.specs.Chains.{entered, up_to}
 use Rattle.gp_versions.specs.Keys.{key_of}
-use Rattle.gp_versions.specs.Spans.{written_after}
+use Rattle.gp_versions.specs.TableSpans.{written_after}
 use Rattle.gp_versions.proofs.ChainLemmas.{IsKeyAt-within, least-none, step}
 use Rattle.gp_versions.proofs.chains.Chains.written_after.Goals as goal
 

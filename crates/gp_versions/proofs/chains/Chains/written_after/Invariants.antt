@@ -1,6 +1,6 @@
 use Rattle.std.proofs.Common.{◌≡◌, take}
 use Rattle.gp_versions.specs.Chains.{IsKeyAt, entered, up_to}
-use Rattle.gp_versions.specs.Spans.{least, written_after}
+use Rattle.gp_versions.specs.TableSpans.{least, written_after}
 use Rattle.gp_versions.proofs.chains.Chains.written_after.Given as goal
 
 -- what was found, and the later writes up to the place of the walk

@@ -2,7 +2,8 @@ use Rattle.std.proofs.Common.{◌+◌, subst, sym, ap, ◌∙◌}
 use Rattle.gp_base.specs.Annotated.{plain}
 use Rattle.gp_versions.specs.Chains.{IsChained}
 use Rattle.gp_versions.specs.Commits.{AreBelow, after_commit}
-use Rattle.gp_versions.specs.Spans.{AreWhole, NoOverlap, Versions, rows_at}
+use Rattle.gp_versions.specs.Spans.{Versions, rows_at}
+use Rattle.gp_versions.specs.TableSpans.{AreWhole, NoOverlap}
 use Rattle.gp_versions.proofs.ChainLemmas.{HasChains-after}
 use Rattle.gp_versions.proofs.SpanLemmas.{below-after, no_overlap-after, rows-before, rows-new-at, whole-after}
 use Rattle.gp_versions.proofs.table.VersionTable.append_commit.Goals as goal

@@ -3,7 +3,7 @@ use Rattle.std.proofs.Common.{ℕ, zero, suc, ◌<◌, List, [], ◌∷◌, leng
 use Rattle.std.specs.List.{swap}
 use Rattle.std.specs.List.Sorted.{IsPermutation}
 use Rattle.std.proofs.lemmas.List.Sorted.{IsPermutation-refl, IsPermutation-cons, IsPermutation-sym, IsPermutation-trans, IsPermutation-middle, IsPermutation-keeps}
-use Rattle.gp_algebra.proofs.Bags.{SameBag, none, first, swapped, through, same}
+use Rattle.gp_base.proofs.Bags.{SameBag, none, first, swapped, through, same}
 
 pub permuted : {X : Type 0} (xs ys : List X) → SameBag xs ys → IsPermutation xs ys
 permuted xs ys none = IsPermutation-refl []
