@@ -1,9 +1,9 @@
 -- What the check gives fits the catalogue: each fact of the statement comes from a phase that found no fault, or from the command itself.
-use Rattle.std.proofs.Common.{◌≡◌, ◌<◌, ◌≤◌, ◌+◌, ◌^◌, ℕ, zero, suc, Bool, true, false, true≢false, ◌&&◌, ◌==◌, nat_lt, nat_le, List, [], ◌∷◌, length, map, filter_map, bytes_eq, get_or, inl, inr, Option, Some, None, is_some, option_and_then, unwrap_or, slice_get, if◌then◌else◌, Result, Ok, Err, IfOk, zero-add, add-zero, refl, sym, ap, subst, ◌∙◌, arith}
+use Rattle.std.proofs.Common.{◌≡◌, ◌<◌, ◌≤◌, ◌+◌, ◌^◌, ℕ, zero, suc, Bool, true, false, true≢false, ◌&&◌, ◌==◌, nat_lt, List, [], ◌∷◌, length, map, filter_map, bytes_eq, get_or, inl, inr, Option, Some, None, is_some, option_and_then, unwrap_or, slice_get, if◌then◌else◌, Result, Ok, Err, IfOk, zero-add, add-zero, refl, sym, ap, subst, ◌∙◌, arith}
 use Rattle.std.specs.List.{list_all, cons_option}
 use Rattle.std.specs.Option.{option_map, option_map_or}
 use Rattle.std.specs.Result.{result_unwrap_or}
-use Rattle.std.proofs.lemmas.Bool.{lt-ltb, ltb-true}
+use Rattle.std.proofs.lemmas.Bool.{lt-ltb, ltb-true, and_from, and_parts, le-leb}
 use Rattle.std.proofs.lemmas.Option.{slice_get_cases}
 use Rattle.std.proofs.lemmas.List.Sums.{AllPass-from_list_all}
 use Rattle.std.proofs.lemmas.List.{length-map}
@@ -14,12 +14,13 @@ use Rattle.gp_base.specs.declared.refusal.Refusal.TheVariants.{E15}
 use Rattle.gp_base.specs.declared.table.Column.{Column}
 use Rattle.gp_base.specs.declared.table.Table.{Table}
 use Rattle.gp_base.specs.Catalogs.{place_of, table_names}
-use Rattle.gp_base.specs.Cells.{is_user_cell}
+use Rattle.gp_base.specs.UserCells.{is_user_cell}
 use Rattle.gp_grammar.specs.declared.op.Op.TheVariants as op
 use Rattle.gp_grammar.specs.Syntax as y
 use Rattle.gp_grammar.specs.Syntax.{Bytes, Term, SetTerm, Item, Items, Block, Query, Command, is_statement}
-use Rattle.gp_expr.specs.Expressions.{is_simple, cond_is_simple, all_leaves, cond_all_leaves}
-use Rattle.gp_algebra.specs.Fitting.{is_there, width_of, joined_width, is_column, expr_fits, cond_fits, optional_cond_fits, row_fits, branch_fits, set_fits, branches_fit, is_countable, select_fits, statement_fits}
+use Rattle.gp_expr.specs.ExpressionForms.{is_simple, cond_is_simple, all_leaves, cond_all_leaves}
+use Rattle.gp_algebra.specs.Fitting.{is_there, joined_width, is_column, expr_fits, cond_fits, optional_cond_fits, row_fits, branch_fits, set_fits, branches_fit, is_countable, select_fits, statement_fits}
+use Rattle.gp_algebra.specs.Statements.{width_of}
 use Rattle.gp_check.specs.declared.place.Place.{Place}
 use Rattle.gp_check.specs.declared.place.Resolution.{Resolution}
 use Rattle.gp_check.specs.declared.place.Resolution.TheVariants.{Absent, Found, Ambiguous}
@@ -33,13 +34,9 @@ use Rattle.gp_check.specs.declared.error.CheckStop.{CheckStop}
 use Rattle.gp_algebra.specs.declared.statement.Select.{Select}
 use Rattle.gp_algebra.specs.declared.statement.Stmt.{Stmt}
 use Rattle.gp_algebra.specs.Views.{select_view, statement_view}
-use Rattle.gp_check.proofs.TypingLemmas.{both}
+use Rattle.gp_base.proofs.SmallLemmas.{eq_itself}
 
 -- ---- tests and phases
-
-pub and_true : (a b : Bool) → a ≡ true → b ≡ true → a && b ≡ true
-and_true true b one other = other
-and_true false b one other = absurd (true≢false (sym one))
 
 pub none_of : (a b : Option Refusal) → or_else a b ≡ None → (a ≡ None) × (b ≡ None)
 none_of None b none = (refl, none)
@@ -53,18 +50,18 @@ pub all_of_none : {A : Type 0} (fault : A → Option Refusal) (test : A → Bool
     → (xs : List A) → first_fault fault xs ≡ None → list_all test xs ≡ true
 all_of_none fault test holds [] none = refl
 all_of_none fault test holds (x ∷ xs) none =
-    let n = none_of (fault x) (first_fault fault xs) none in and_true _ _ (holds x n.0) (all_of_none fault test holds xs n.1)
+    let n = none_of (fault x) (first_fault fault xs) none in and_from _ _ (holds x n.0) (all_of_none fault test holds xs n.1)
 
 pub all_of_two : {A : Type 0} (one other test : A → Bool) → ((x : A) → one x ≡ true → other x ≡ true → test x ≡ true)
     → (xs : List A) → list_all one xs ≡ true → list_all other xs ≡ true → list_all test xs ≡ true
 all_of_two one other test holds [] a b = refl
 all_of_two one other test holds (x ∷ xs) a b =
-    let m = both (one x) (list_all one xs) a in let n = both (other x) (list_all other xs) b in
-    and_true _ _ (holds x m.0 n.0) (all_of_two one other test holds xs m.1 n.1)
+    let m = and_parts (one x) (list_all one xs) a in let n = and_parts (other x) (list_all other xs) b in
+    and_from _ _ (holds x m.0 n.0) (all_of_two one other test holds xs m.1 n.1)
 
 pub all_mapped : {A B : Type 0} (test : B → Bool) (f : A → B) (xs : List A) → list_all (λ x. test (f x)) xs ≡ true → list_all test (map f xs) ≡ true
 all_mapped test f [] all = refl
-all_mapped test f (x ∷ xs) all = let n = both (test (f x)) _ all in and_true _ _ n.0 (all_mapped test f xs n.1)
+all_mapped test f (x ∷ xs) all = let n = and_parts (test (f x)) _ all in and_from _ _ n.0 (all_mapped test f xs n.1)
 
 -- ---- tables
 
@@ -178,11 +175,8 @@ only_numbered width (one ∷ other ∷ others) place all is = cc
 pub numbered : (width : ℕ) (scope : Scope) (name : ColumnName) (place : Place) → Within width scope → resolution scope name ≡ Found place → Numbered width place
 numbered width scope name place fits is = only_numbered width _ place (all_numbered width name scope fits) is
 
-nat_le-true : (m n : ℕ) → m ≤ n → nat_le m n ≡ true
-nat_le-true m n less = grind arith
-
 pub is_column-numbered : (width : ℕ) (n : ℕ) → 1 ≤ n → n ≤ width → is_column width n ≡ true
-is_column-numbered width n one most = and_true _ _ (nat_le-true 1 n one) (nat_le-true n width most)
+is_column-numbered width n one most = and_from _ _ (le-leb 1 n one) (le-leb n width most)
 
 -- ---- expressions
 
@@ -194,22 +188,22 @@ column_simple Ambiguous = refl
 mutual
   pub simple : (scope : Scope) (x : Term) → is_simple (expr_of scope x) ≡ true
   simple scope (y.col item name) = column_simple (resolution scope (record { item = item; col = name }))
-  simple scope (y.binary op.Add x z) = and_true _ _ (simple scope x) (simple scope z)
-  simple scope (y.binary op.Sub x z) = and_true _ _ (simple scope x) (simple scope z)
-  simple scope (y.binary op.Mul x z) = and_true _ _ (simple scope x) (simple scope z)
+  simple scope (y.binary op.Add x z) = and_from _ _ (simple scope x) (simple scope z)
+  simple scope (y.binary op.Sub x z) = and_from _ _ (simple scope x) (simple scope z)
+  simple scope (y.binary op.Mul x z) = and_from _ _ (simple scope x) (simple scope z)
   simple scope (y.neg x) = simple scope x
-  simple scope (y.case x z u) = and_true _ _ (cond_simple scope x) (and_true _ _ (simple scope z) (simple scope u))
+  simple scope (y.case x z u) = and_from _ _ (cond_simple scope x) (and_from _ _ (simple scope z) (simple scope u))
   simple scope _ = refl
 
   pub cond_simple : (scope : Scope) (x : Term) → cond_is_simple (cond_of scope x) ≡ true
-  cond_simple scope (y.binary op.Eq x z) = and_true _ _ (simple scope x) (simple scope z)
-  cond_simple scope (y.binary op.Ne x z) = and_true _ _ (simple scope x) (simple scope z)
-  cond_simple scope (y.binary op.Lt x z) = and_true _ _ (simple scope x) (simple scope z)
-  cond_simple scope (y.binary op.Le x z) = and_true _ _ (simple scope x) (simple scope z)
-  cond_simple scope (y.binary op.Gt x z) = and_true _ _ (simple scope x) (simple scope z)
-  cond_simple scope (y.binary op.Ge x z) = and_true _ _ (simple scope x) (simple scope z)
-  cond_simple scope (y.binary op.And x z) = and_true _ _ (cond_simple scope x) (cond_simple scope z)
-  cond_simple scope (y.binary op.Or x z) = and_true _ _ (cond_simple scope x) (cond_simple scope z)
+  cond_simple scope (y.binary op.Eq x z) = and_from _ _ (simple scope x) (simple scope z)
+  cond_simple scope (y.binary op.Ne x z) = and_from _ _ (simple scope x) (simple scope z)
+  cond_simple scope (y.binary op.Lt x z) = and_from _ _ (simple scope x) (simple scope z)
+  cond_simple scope (y.binary op.Le x z) = and_from _ _ (simple scope x) (simple scope z)
+  cond_simple scope (y.binary op.Gt x z) = and_from _ _ (simple scope x) (simple scope z)
+  cond_simple scope (y.binary op.Ge x z) = and_from _ _ (simple scope x) (simple scope z)
+  cond_simple scope (y.binary op.And x z) = and_from _ _ (cond_simple scope x) (cond_simple scope z)
+  cond_simple scope (y.binary op.Or x z) = and_from _ _ (cond_simple scope x) (cond_simple scope z)
   cond_simple scope (y.not x) = cond_simple scope x
   cond_simple scope (y.is_null x holds) = simple scope x
   cond_simple scope (y.is_true x holds) = cond_simple scope x
@@ -226,33 +220,33 @@ module _ (width : ℕ) (scope : Scope) (fits : Within width scope) where
     leaves (y.int n) valid = valid
     leaves (y.text bytes) valid = valid
     leaves (y.col item name) valid = column_leaf (record { item = item; col = name }) (resolution scope (record { item = item; col = name })) refl
-    leaves (y.binary op.Add x z) valid = let v = both _ _ valid in and_true _ _ (leaves x v.0) (leaves z v.1)
-    leaves (y.binary op.Sub x z) valid = let v = both _ _ valid in and_true _ _ (leaves x v.0) (leaves z v.1)
-    leaves (y.binary op.Mul x z) valid = let v = both _ _ valid in and_true _ _ (leaves x v.0) (leaves z v.1)
+    leaves (y.binary op.Add x z) valid = let v = and_parts _ _ valid in and_from _ _ (leaves x v.0) (leaves z v.1)
+    leaves (y.binary op.Sub x z) valid = let v = and_parts _ _ valid in and_from _ _ (leaves x v.0) (leaves z v.1)
+    leaves (y.binary op.Mul x z) valid = let v = and_parts _ _ valid in and_from _ _ (leaves x v.0) (leaves z v.1)
     leaves (y.neg x) valid = leaves x valid
     leaves (y.case x z u) valid =
-        let v = both _ _ valid in let w = both _ _ v.1 in and_true _ _ (cond_leaves x v.0) (and_true _ _ (leaves z w.0) (leaves u w.1))
+        let v = and_parts _ _ valid in let w = and_parts _ _ v.1 in and_from _ _ (cond_leaves x v.0) (and_from _ _ (leaves z w.0) (leaves u w.1))
     leaves _ valid = refl
 
     cond_leaves : (x : Term) → term_is_valid x ≡ true → cond_all_leaves (is_column width) is_user_cell (cond_of scope x) ≡ true
-    cond_leaves (y.binary op.Eq x z) valid = let v = both _ _ valid in and_true _ _ (leaves x v.0) (leaves z v.1)
-    cond_leaves (y.binary op.Ne x z) valid = let v = both _ _ valid in and_true _ _ (leaves x v.0) (leaves z v.1)
-    cond_leaves (y.binary op.Lt x z) valid = let v = both _ _ valid in and_true _ _ (leaves x v.0) (leaves z v.1)
-    cond_leaves (y.binary op.Le x z) valid = let v = both _ _ valid in and_true _ _ (leaves x v.0) (leaves z v.1)
-    cond_leaves (y.binary op.Gt x z) valid = let v = both _ _ valid in and_true _ _ (leaves x v.0) (leaves z v.1)
-    cond_leaves (y.binary op.Ge x z) valid = let v = both _ _ valid in and_true _ _ (leaves x v.0) (leaves z v.1)
-    cond_leaves (y.binary op.And x z) valid = let v = both _ _ valid in and_true _ _ (cond_leaves x v.0) (cond_leaves z v.1)
-    cond_leaves (y.binary op.Or x z) valid = let v = both _ _ valid in and_true _ _ (cond_leaves x v.0) (cond_leaves z v.1)
+    cond_leaves (y.binary op.Eq x z) valid = let v = and_parts _ _ valid in and_from _ _ (leaves x v.0) (leaves z v.1)
+    cond_leaves (y.binary op.Ne x z) valid = let v = and_parts _ _ valid in and_from _ _ (leaves x v.0) (leaves z v.1)
+    cond_leaves (y.binary op.Lt x z) valid = let v = and_parts _ _ valid in and_from _ _ (leaves x v.0) (leaves z v.1)
+    cond_leaves (y.binary op.Le x z) valid = let v = and_parts _ _ valid in and_from _ _ (leaves x v.0) (leaves z v.1)
+    cond_leaves (y.binary op.Gt x z) valid = let v = and_parts _ _ valid in and_from _ _ (leaves x v.0) (leaves z v.1)
+    cond_leaves (y.binary op.Ge x z) valid = let v = and_parts _ _ valid in and_from _ _ (leaves x v.0) (leaves z v.1)
+    cond_leaves (y.binary op.And x z) valid = let v = and_parts _ _ valid in and_from _ _ (cond_leaves x v.0) (cond_leaves z v.1)
+    cond_leaves (y.binary op.Or x z) valid = let v = and_parts _ _ valid in and_from _ _ (cond_leaves x v.0) (cond_leaves z v.1)
     cond_leaves (y.not x) valid = cond_leaves x valid
     cond_leaves (y.is_null x holds) valid = leaves x valid
     cond_leaves (y.is_true x holds) valid = cond_leaves x valid
     cond_leaves _ valid = refl
 
   pub expr_fit : (x : Term) → term_is_valid x ≡ true → expr_fits width (expr_of scope x) ≡ true
-  expr_fit x valid = and_true _ _ (simple scope x) (leaves x valid)
+  expr_fit x valid = and_from _ _ (simple scope x) (leaves x valid)
 
   pub cond_fit : (x : Term) → term_is_valid x ≡ true → cond_fits width (cond_of scope x) ≡ true
-  cond_fit x valid = and_true _ _ (cond_simple scope x) (cond_leaves x valid)
+  cond_fit x valid = and_from _ _ (cond_simple scope x) (cond_leaves x valid)
 
   pub where_fit : (cond : Option Term) → condition_is_valid cond ≡ true → cond_fits width (where_of scope cond) ≡ true
   where_fit None valid = refl
@@ -260,7 +254,7 @@ module _ (width : ℕ) (scope : Scope) (fits : Within width scope) where
 
   pub exprs_fit : (xs : List Term) → list_all term_is_valid xs ≡ true → list_all (expr_fits width) (map (expr_of scope) xs) ≡ true
   exprs_fit [] valid = refl
-  exprs_fit (x ∷ xs) valid = let v = both (term_is_valid x) _ valid in and_true _ _ (expr_fit x v.0) (exprs_fit xs v.1)
+  exprs_fit (x ∷ xs) valid = let v = and_parts (term_is_valid x) _ valid in and_from _ _ (expr_fit x v.0) (exprs_fit xs v.1)
 
 -- ---- select lists
 
@@ -271,7 +265,7 @@ length-columns before (suc count) = ap suc (length-columns (suc before) count)
 pub columns_fit : (width before count : ℕ) → before + count ≤ width → list_all (expr_fits width) (columns_behind before count) ≡ true
 columns_fit width before zero fits = refl
 columns_fit width before (suc count) fits =
-    and_true _ _ (is_column-numbered width (suc before) (omega arith) (omega (arith, fits))) (columns_fit width (suc before) count (omega (arith, fits)))
+    and_from _ _ (is_column-numbered width (suc before) (omega arith) (omega (arith, fits))) (columns_fit width (suc before) count (omega (arith, fits)))
 
 pub items_length : (scope : Scope) (items : Items) → length (exprs_of scope items) ≡ items_width scope items
 items_length scope y.star = length-columns 0 (scope_width scope)
@@ -280,7 +274,7 @@ items_length scope (y.list xs) = length-map xs _
 pub items_fit : (width : ℕ) (scope : Scope) → Within width scope → scope_width scope ≡ width → (items : Items) → items_are_valid items ≡ true
     → list_all (expr_fits width) (exprs_of scope items) ≡ true
 items_fit width scope fits is y.star valid = columns_fit width 0 (scope_width scope) (omega (arith, is))
-items_fit width scope fits is (y.list xs) valid = exprs_fit width scope fits xs (both (nat_lt 0 (length xs)) _ valid).1
+items_fit width scope fits is (y.list xs) valid = exprs_fit width scope fits xs (and_parts (nat_lt 0 (length xs)) _ valid).1
 
 -- the FROM of a block: its width, and that its columns are within it
 pub record FromFits (tables : List Table) (from : List Item) : Type 0 where
@@ -320,7 +314,7 @@ positive_width tables (item ∷ items) valid some none =
 
 pub items_some : (scope : Scope) (items : Items) → items_are_valid items ≡ true → 0 < scope_width scope → nat_lt 0 (length (exprs_of scope items)) ≡ true
 items_some scope y.star valid some = lt-ltb 0 _ (subst (λ n. 0 < n) (sym (length-columns 0 (scope_width scope))) some)
-items_some scope (y.list xs) valid some = subst (λ n. nat_lt 0 n ≡ true) (sym (length-map xs _)) (both (nat_lt 0 (length xs)) _ valid).0
+items_some scope (y.list xs) valid some = subst (λ n. nat_lt 0 n ≡ true) (sym (length-map xs _)) (and_parts (nat_lt 0 (length xs)) _ valid).0
 
 -- ---- blocks
 
@@ -332,7 +326,7 @@ tables_there : (tables : List Table) (from : List Item) → first_fault (λ (ite
     → list_all (is_there tables) (map (λ (item : Item). number_of_table tables item.table) from) ≡ true
 tables_there tables [] none = refl
 tables_there tables (item ∷ items) none =
-    let n = none_of (table_fault tables item.table) _ none in and_true _ _ (known tables item.table n.0) (tables_there tables items n.1)
+    let n = none_of (table_fault tables item.table) _ none in and_from _ _ (known tables item.table n.0) (tables_there tables items n.1)
 
 optional_fit : (width : ℕ) (scope : Scope) → Within width scope → (cond : Option Term) → condition_is_valid cond ≡ true
     → optional_cond_fits width (option_map (cond_of scope) cond) ≡ true
@@ -343,23 +337,23 @@ pub branch_fit : (tables : List Table) (width : ℕ) (block : Block) → list_al
     → block_tables_fault tables block ≡ None → (block_width tables block == width) ≡ true → branch_fits tables width (branch_of tables block) ≡ true
 unfolding branch_of block_width
 branch_fit tables width block columns valid none same =
-    let v = both (nat_lt 0 (length block.from)) _ valid in
-    let w = both (items_are_valid block.items) _ v.1 in
+    let v = and_parts (nat_lt 0 (length block.from)) _ valid in
+    let w = and_parts (items_are_valid block.items) _ v.1 in
     let scope : Scope = scope_of tables block.from in
     let f = from_fits tables block.from none in
     let some : 0 < scope_width scope = subst (λ n. 0 < n) (sym f.width) (positive_width tables block.from columns v.0 none) in
-    and_true _ _ (subst (λ n. nat_lt 0 n ≡ true) (sym (length-map block.from _)) v.0)
-    (and_true _ _ (tables_there tables block.from none)
-    (and_true _ _ (items_some scope block.items w.0 some)
-    (and_true _ _ (subst (λ n. (n == width) ≡ true) (sym (items_length scope block.items)) same)
-    (and_true _ _ (items_fit _ scope f.inside f.width block.items w.0) (optional_fit _ scope f.inside block.cond w.1)))))
+    and_from _ _ (subst (λ n. nat_lt 0 n ≡ true) (sym (length-map block.from _)) v.0)
+    (and_from _ _ (tables_there tables block.from none)
+    (and_from _ _ (items_some scope block.items w.0 some)
+    (and_from _ _ (subst (λ n. (n == width) ≡ true) (sym (items_length scope block.items)) same)
+    (and_from _ _ (items_fit _ scope f.inside f.width block.items w.0) (optional_fit _ scope f.inside block.cond w.1)))))
 
 pub blocks_fit : (tables : List Table) (width : ℕ) (query : Query) → list_all table_is_valid tables ≡ true → list_all block_is_valid query ≡ true
     → query_tables_fault tables query ≡ None → have_width tables query width ≡ true → list_all (branch_fits tables width) (select_of tables query) ≡ true
 blocks_fit tables width [] columns valid none same = refl
 blocks_fit tables width (block ∷ query) columns valid none same =
-    let v = both (block_is_valid block) _ valid in let n = none_of (block_tables_fault tables block) _ none in let s = both (block_width tables block == width) _ same in
-    and_true _ _ (branch_fit tables width block columns v.0 n.0 s.0) (blocks_fit tables width query columns v.1 n.1 s.1)
+    let v = and_parts (block_is_valid block) _ valid in let n = none_of (block_tables_fault tables block) _ none in let s = and_parts (block_width tables block == width) _ same in
+    and_from _ _ (branch_fit tables width block columns v.0 n.0 s.0) (blocks_fit tables width query columns v.1 n.1 s.1)
 
 countable : (tables : List Table) (query : Query) → is_countable query ≡ true → is_countable (select_of tables query) ≡ true
 countable tables query some = subst (λ n. nat_lt 0 n && nat_lt n (2 ^ 32) ≡ true) (sym (length-map query _)) some
@@ -367,17 +361,14 @@ countable tables query some = subst (λ n. nat_lt 0 n && nat_lt n (2 ^ 32) ≡ t
 pub query_fit : (tables : List Table) (width : ℕ) (query : Query) → list_all table_is_valid tables ≡ true → query_is_valid query ≡ true
     → query_tables_fault tables query ≡ None → have_width tables query width ≡ true → branches_fit tables width (select_of tables query) ≡ true
 query_fit tables width query columns valid none same =
-    let v = both (is_countable query) _ valid in and_true _ _ (countable tables query v.0) (blocks_fit tables width query columns v.1 none same)
+    let v = and_parts (is_countable query) _ valid in and_from _ _ (countable tables query v.0) (blocks_fit tables width query columns v.1 none same)
 
 pub select_fit : (tables : List Table) (query : Query) → list_all table_is_valid tables ≡ true → query_is_valid query ≡ true
     → query_tables_fault tables query ≡ None → have_one_width tables query ≡ true → select_fits tables (select_of tables query) ≡ true
 select_fit tables [] columns valid none same = absurd (true≢false (sym valid))
 select_fit tables (block ∷ query) columns valid none same =
     query_fit tables _ (block ∷ query) columns valid none
-    (subst (λ n. have_width tables (block ∷ query) n ≡ true) (sym (branch_width tables block)) (and_true _ _ (equal (block_width tables block)) same))
-  where
-    equal : (n : ℕ) → (n == n) ≡ true
-    equal n = grind arith
+    (subst (λ n. have_width tables (block ∷ query) n ≡ true) (sym (branch_width tables block)) (and_from _ _ (eq_itself (block_width tables block)) same))
 
 -- ---- statements
 
@@ -396,9 +387,9 @@ sets_fit : (scope : Scope) (width : ℕ) → Within width scope → (sets : List
     → first_fault (set_fault scope) sets ≡ None → list_all (set_fits width) (map (set_of scope) sets) ≡ true
 sets_fit scope width fits [] valid none = refl
 sets_fit scope width fits (set ∷ sets) valid none =
-    let v = both (set_is_valid set) _ valid in let n = none_of (set_fault scope set) _ none in
+    let v = and_parts (set_is_valid set) _ valid in let n = none_of (set_fault scope set) _ none in
     let m = none_of (column_fault scope (set_name set)) _ n.0 in
-    and_true _ _ (and_true _ _ (set_column scope width fits (set_name set) m.0) (expr_fit width scope fits set.term v.0)) (sets_fit scope width fits sets v.1 n.1)
+    and_from _ _ (and_from _ _ (set_column scope width fits (set_name set) m.0) (expr_fit width scope fits set.term v.0)) (sets_fit scope width fits sets v.1 n.1)
 
 -- the one table of an UPDATE or a DELETE
 target_inside : (tables : List Table) (table : Bytes) → table_fault tables table ≡ None → Within (width_of tables (number_of_table tables table)) (target_scope tables table)
@@ -408,7 +399,7 @@ target_inside tables table none =
 
 rows_fit : (width : ℕ) (rows : List (List Cell)) → list_all (list_all is_user_cell) rows ≡ true → list_all (λ (row : List Cell). length row == width) rows ≡ true
     → list_all (row_fits width) rows ≡ true
-rows_fit width rows valid same = all_of_two _ _ _ (λ row cells width. and_true _ _ width cells) rows valid same
+rows_fit width rows valid same = all_of_two _ _ _ (λ row cells width. and_from _ _ width cells) rows valid same
 
 pub fits : (tables : List Table) (command : Command) → list_all table_is_valid tables ≡ true → is_statement command ≡ true → is_valid command ≡ true
     → first_refusal tables command ≡ None → statement_fits tables (statement_of tables command) ≡ true
@@ -418,24 +409,24 @@ fits tables y.Command.commit columns statement valid none = absurd (true≢false
 fits tables y.rollback columns statement valid none = absurd (true≢false (sym statement))
 fits tables (y.insert table rows) columns statement valid none =
     let n = none_of (table_fault tables table) _ none in let m = none_of (unless (widths_agree tables (y.insert table rows)) E15) _ n.1 in
-    let v = both (is_countable rows) _ valid in
-    and_true _ _ (known tables table n.0) (and_true _ _ v.0 (rows_fit _ rows v.1
+    let v = and_parts (is_countable rows) _ valid in
+    and_from _ _ (known tables table n.0) (and_from _ _ v.0 (rows_fit _ rows v.1
     (subst (λ w. list_all (λ (row : List Cell). length row == w) rows ≡ true) (sym (width_known tables table n.0)) (holds_if _ _ m.0))))
 fits tables (y.insert_select table query) columns statement valid none =
     let n = none_of (or_else (table_fault tables table) (query_tables_fault tables query)) _ none in let t = none_of (table_fault tables table) _ n.0 in
     let names = none_of (first_fault items_fault query) _ n.1 in let cols = none_of (first_fault (block_columns_fault tables) query) _ names.1 in
     let w = none_of (unless (widths_agree tables (y.insert_select table query)) E15) _ cols.1 in
-    and_true _ _ (known tables table t.0)
+    and_from _ _ (known tables table t.0)
     (query_fit tables _ query columns valid t.1 (subst (λ w. have_width tables query w ≡ true) (sym (width_known tables table t.0)) (holds_if _ _ w.0)))
 fits tables (y.update table sets cond) columns statement valid none =
     let n = none_of (table_fault tables table) _ none in let c = none_of (or_else (first_fault (set_fault (target_scope tables table)) sets) _) _ n.1 in
     let s = none_of (first_fault (set_fault (target_scope tables table)) sets) _ c.0 in
-    let v = both (list_all set_is_valid sets) _ valid in let inside = target_inside tables table n.0 in
-    and_true _ _ (known tables table n.0)
-    (and_true _ _ (sets_fit (target_scope tables table) _ inside sets v.0 s.0) (where_fit _ (target_scope tables table) inside cond v.1))
+    let v = and_parts (list_all set_is_valid sets) _ valid in let inside = target_inside tables table n.0 in
+    and_from _ _ (known tables table n.0)
+    (and_from _ _ (sets_fit (target_scope tables table) _ inside sets v.0 s.0) (where_fit _ (target_scope tables table) inside cond v.1))
 fits tables (y.delete table cond) columns statement valid none =
     let n = none_of (table_fault tables table) _ none in
-    and_true _ _ (known tables table n.0) (where_fit _ (target_scope tables table) (target_inside tables table n.0) cond valid)
+    and_from _ _ (known tables table n.0) (where_fit _ (target_scope tables table) (target_inside tables table n.0) cond valid)
 fits tables (y.select query) columns statement valid none =
     let n = none_of (query_tables_fault tables query) _ none in
     let names = none_of (first_fault items_fault query) _ n.1 in let cols = none_of (first_fault (block_columns_fault tables) query) _ names.1 in

@@ -1,5 +1,5 @@
 -- The function that types terms is the relation.
-use Rattle.std.proofs.Common.{◌≡◌, ℕ, List, Bool, true, false, true≢false, ◌&&◌, Option, Some, None, unwrap_or, if◌then◌else◌, refl, sym, ap, subst}
+use Rattle.std.proofs.Common.{◌≡◌, ℕ, List, Bool, true, false, true≢false, Option, Some, None, if◌then◌else◌, refl, sym, ap, subst}
 use Rattle.gp_grammar.specs.declared.op.Op.{Op}
 use Rattle.gp_grammar.specs.Syntax as y
 use Rattle.gp_grammar.specs.Syntax.{Term}
@@ -10,18 +10,13 @@ use Rattle.gp_check.specs.declared.place.Resolution.TheVariants.{Absent, Found, 
 use Rattle.gp_check.specs.Scopes.{Scope, resolution}
 use Rattle.gp_check.specs.Typing as t
 use Rattle.gp_check.specs.Typing.{HasType, TypesAre, kind_type, is_value, is_number, agrees, common_type, Operation, arithmetic, comparison, connective, operation, typed_if, is_condition, operand_passes, operands_agree, operation_type, choice_type, column_type, type_of}
+use Rattle.std.proofs.lemmas.Option.{same_Some}
+use Rattle.std.proofs.lemmas.Bool.{and_parts}
 
 -- ---- what the tests say of operands
 
-pub both : (a b : Bool) → a && b ≡ true → (a ≡ true) × (b ≡ true)
-both true b e = (refl, e)
-both false b e = absurd (true≢false (sym e))
-
-same_some : (a b : TermType) → Some a ≡ Some b → a ≡ b
-same_some a b e = ap (λ o. unwrap_or o a) e
-
 typed : (right : Bool) (type a : TermType) → typed_if right type ≡ Some a → (right ≡ true) × (type ≡ a)
-typed true type a e = (refl, same_some type a e)
+typed true type a e = (refl, same_Some type a e)
 typed false type a e = cc
 
 passes : (test : TermType → Bool) (o : Option TermType) → operand_passes test o ≡ true → (a : TermType) × (o ≡ Some a) × (test a ≡ true)
@@ -61,20 +56,20 @@ module _ (scope : Scope) where
   column : (item : Option (List ℕ)) (name : List ℕ) (r : Resolution) → resolution scope (record { item = item; col = name }) ≡ r
       → (a : TermType) → column_type r ≡ Some a → HasType scope (y.col item name) a
   column item name Absent is a e = cc
-  column item name (Found place) is a e = subst (HasType scope (y.col item name)) (same_some (kind_type place.kind) a e) (t.column item name place is)
+  column item name (Found place) is a e = subst (HasType scope (y.col item name)) (same_Some (kind_type place.kind) a e) (t.column item name place is)
   column item name Ambiguous is a e = cc
 
   operated : (op : Operation) (o : Op) (u v : Term) → operation o ≡ op
       → ((b : TermType) → type_of scope u ≡ Some b → HasType scope u b) → ((b : TermType) → type_of scope v ≡ Some b → HasType scope v b)
       → (a : TermType) → operation_type op (type_of scope u) (type_of scope v) ≡ Some a → HasType scope (y.binary o u v) a
   operated arithmetic o u v is su sv a e =
-      let h = typed _ _ _ e in let n = both _ _ h.0 in let l = passes is_number _ n.0 in let r = passes is_number _ n.1 in
+      let h = typed _ _ _ e in let n = and_parts _ _ h.0 in let l = passes is_number _ n.0 in let r = passes is_number _ n.1 in
       subst (HasType scope (y.binary o u v)) h.1 (t.number o u v l.0 r.0 is (su l.0 l.1) (sv r.0 r.1) l.2 r.2)
   operated comparison o u v is su sv a e =
       let h = typed _ _ _ e in let n = agreeing _ _ h.0 in
       subst (HasType scope (y.binary o u v)) h.1 (t.compared o u v n.0 n.1 is (su n.0 n.2) (sv n.1 n.3) n.4)
   operated connective o u v is su sv a e =
-      let h = typed _ _ _ e in let n = both _ _ h.0 in
+      let h = typed _ _ _ e in let n = and_parts _ _ h.0 in
       subst (HasType scope (y.binary o u v)) h.1 (t.connected o u v is (su Condition (conditional _ n.0)) (sv Condition (conditional _ n.1)))
 
   chosen : (u v w : Term) (o p : Option TermType) (a : TermType) → HasType scope u Condition
@@ -93,9 +88,9 @@ module _ (scope : Scope) where
   case_by u v w false a is rest su e = cc
 
   pub sound : (x : Term) (a : TermType) → type_of scope x ≡ Some a → HasType scope x a
-  sound y.null a e = subst (HasType scope y.null) (same_some _ _ e) t.null
-  sound (y.int n) a e = subst (HasType scope (y.int n)) (same_some _ _ e) (t.int n)
-  sound (y.text bytes) a e = subst (HasType scope (y.text bytes)) (same_some _ _ e) (t.text bytes)
+  sound y.null a e = subst (HasType scope y.null) (same_Some _ _ e) t.null
+  sound (y.int n) a e = subst (HasType scope (y.int n)) (same_Some _ _ e) (t.int n)
+  sound (y.text bytes) a e = subst (HasType scope (y.text bytes)) (same_Some _ _ e) (t.text bytes)
   sound (y.col item name) a e = column item name (resolution scope (record { item = item; col = name })) refl a e
   sound (y.binary o u v) a e = operated (operation o) o u v refl (sound u) (sound v) a e
   sound (y.neg u) a e =

@@ -8,18 +8,19 @@ use Rattle.std.specs.Option.{option_map}
 use Rattle.std.specs.Result.{result_ok}
 use Rattle.std.specs.Str.{IsUtf8}
 use Rattle.std.specs.Str.Lossy.{utf8_valid_len}
-use Rattle.std.proofs.lemmas.Bool.{eq-eqb, le-leb, lt-ltb, ltb-false}
+use Rattle.std.proofs.lemmas.Bool.{eq-eqb, le-leb, lt-ltb, ltb-false, and_from}
 use Rattle.std.proofs.lemmas.List.Folds.{list_all-append}
 use Rattle.std.proofs.lemmas.Str.{utf8_valid_len-IsUtf8}
 use Rattle.gp_base.specs.declared.cell.Cell.TheVariants as cell
 use Rattle.gp_base.specs.declared.table.Table.{Table}
 use Rattle.gp_base.specs.declared.text.TheConstants.{MAX_TEXT_LENGTH}
-use Rattle.gp_base.specs.Cells.{is_user_cell, is_user_text}
+use Rattle.gp_base.specs.Cells.{is_user_text}
+use Rattle.gp_base.specs.UserCells.{is_user_cell}
 use Rattle.gp_lexer.specs.declared.lexeme.Lexeme.{Lexeme}
 use Rattle.gp_lexer.specs.declared.lexeme.Lexeme.TheVariants.{Symbol as Sign, Word}
 use Rattle.gp_lexer.specs.declared.lexeme.Symbol.TheVariants as s
-use Rattle.gp_lexer.specs.Lexemes.{IsProper, AreProper, HasUtf8Text, HaveUtf8Texts}
-use Rattle.gp_lexer.specs.Lexing.{lexemes_of}
+use Rattle.gp_lexer.specs.ProperLexemes.{IsProper, AreProper, HasUtf8Text, HaveUtf8Texts}
+use Rattle.gp_lexer.specs.LexResults.{lexemes_of}
 use Rattle.gp_lexer.proofs.ProperLemmas.{lexemes-proper}
 use Rattle.gp_lexer.proofs.Utf8Lemmas.{texts-utf8}
 use Rattle.gp_grammar.specs.declared.limits.TheConstants.{MAX_BRANCHES, MAX_VALUES}
@@ -32,7 +33,8 @@ use Rattle.gp_grammar.specs.CommandGrammar.{IsList, comma, union_all, IsColumn, 
 use Rattle.gp_grammar.specs.QuestionGrammar as q
 use Rattle.gp_grammar.specs.QuestionGrammar.{IsAsk, IsChange, IsOpenQuestion, IsQuestion}
 use Rattle.gp_grammar.specs.Limits.{Shape, passed_limit, query_shape, command_shape, line_shape, change_shape, question_shape}
-use Rattle.gp_grammar.specs.LineReading.{HasLexemes, ReadsText, ReadsLine, command_of, script_line_of, question_of}
+use Rattle.gp_grammar.specs.LineReading.{HasLexemes, ReadsText, ReadsLine}
+use Rattle.gp_grammar.specs.Reading.{command_of, script_line_of, question_of}
 use Rattle.gp_grammar.specs.CommandParsing.{command, script_line}
 use Rattle.gp_grammar.specs.QuestionParsing.{question}
 use Rattle.gp_grammar.specs.Capping.{capped_command, capped_line, capped_question}
@@ -42,7 +44,6 @@ use Rattle.gp_grammar.proofs.ParserLaws.{lawful-command, lawful-line, lawful-que
 use Rattle.gp_grammar.proofs.ShapeLemmas.{first_limit, of_shape, commands-fair, lines-fair, questions-fair}
 use Rattle.gp_algebra.specs.Fitting.{is_countable}
 use Rattle.gp_check.specs.Valid.{term_is_valid, condition_is_valid, items_are_valid, block_is_valid, query_is_valid, set_is_valid, is_valid, change_is_valid, table_is_valid, tables_are_valid}
-use Rattle.gp_check.proofs.FittingLemmas.{and_true}
 
 -- ---- the lexemes of a text
 
@@ -78,17 +79,17 @@ number-valid : (n : ℕ) → n < 2 ^ 63 → is_user_cell (cell.Int (pos n)) ≡ 
 number-valid n h = lt-ltb n (2 ^ 63) h
 
 negative-valid : (n : ℕ) → suc n < 2 ^ 63 → is_user_cell (cell.Int (negsuc n)) ≡ true
-negative-valid n h = and_true _ _ (le-leb n (2 ^ 63 - 1) (omega (arith, h))) refl
+negative-valid n h = and_from _ _ (le-leb n (2 ^ 63 - 1) (omega (arith, h))) refl
 
 text-valid : (bytes : Bytes) → length bytes ≤ MAX_TEXT_LENGTH → list_any is_ascii_control bytes ≡ false → IsUtf8 bytes → is_user_text bytes ≡ true
 text-valid bytes short plain utf8 =
-    and_true _ _ (eq-eqb (utf8_valid_len bytes) (length bytes) (utf8_valid_len-IsUtf8 bytes utf8))
-    (and_true _ _ (le-leb (length bytes) MAX_TEXT_LENGTH short) (ap not plain))
+    and_from _ _ (eq-eqb (utf8_valid_len bytes) (length bytes) (utf8_valid_len-IsUtf8 bytes utf8))
+    (and_from _ _ (le-leb (length bytes) MAX_TEXT_LENGTH short) (ap not plain))
 
 -- ---- terms
 
 term-valid : {p : Phrase} {a : Lexemes} {x : Term} → Derives p a x → AreOfText a → term_is_valid x ≡ true
-term-valid (t.operation at o symbol a b x z e i j) h = and_true _ _ (term-valid i (first a (Sign symbol ∷ b) h)) (term-valid j (second a (Sign symbol ∷ b) h).1)
+term-valid (t.operation at o symbol a b x z e i j) h = and_from _ _ (term-valid i (first a (Sign symbol ∷ b) h)) (term-valid j (second a (Sign symbol ∷ b) h).1)
 term-valid (t.one_operand at a x i) h = term-valid i h
 term-valid (t.negated a x i) h = term-valid i h.1
 term-valid (t.not_negated a x i) h = term-valid i h
@@ -97,7 +98,7 @@ term-valid (t.not_null_test a x i) h = term-valid i (first a (Sign s.Is ∷ Sign
 term-valid (t.true_test a x i) h = term-valid i (first a (Sign s.Is ∷ Sign s.True ∷ []) h)
 term-valid (t.not_true_test a x i) h = term-valid i (first a (Sign s.Is ∷ Sign s.Not ∷ Sign s.True ∷ []) h)
 term-valid (t.no_test a x i) h = term-valid i h
-term-valid (t.compared o symbol a b x z e i j) h = and_true _ _ (term-valid i (first a (Sign symbol ∷ b) h)) (term-valid j (second a (Sign symbol ∷ b) h).1)
+term-valid (t.compared o symbol a b x z e i j) h = and_from _ _ (term-valid i (first a (Sign symbol ∷ b) h)) (term-valid j (second a (Sign symbol ∷ b) h).1)
 term-valid (t.not_compared a x i) h = term-valid i h
 term-valid (t.signed a x i) h = term-valid i h.1
 term-valid (t.not_signed a x i) h = term-valid i h
@@ -110,8 +111,8 @@ term-valid (t.brackets a x i) h = term-valid i (inner a h)
 term-valid (t.choice a b c x z w i j k) h =
     let u : AreOfText (b ++ (Sign s.Else ∷ (c ++ (Sign s.End ∷ [])))) = (second a (Sign s.Then ∷ (b ++ (Sign s.Else ∷ (c ++ (Sign s.End ∷ []))))) h.1.1).1 in
     let v : AreOfText (c ++ (Sign s.End ∷ [])) = (second b (Sign s.Else ∷ (c ++ (Sign s.End ∷ []))) u).1 in
-    and_true _ _ (term-valid i (first a (Sign s.Then ∷ (b ++ (Sign s.Else ∷ (c ++ (Sign s.End ∷ []))))) h.1.1))
-    (and_true _ _ (term-valid j (first b (Sign s.Else ∷ (c ++ (Sign s.End ∷ []))) u)) (term-valid k (first c (Sign s.End ∷ []) v)))
+    and_from _ _ (term-valid i (first a (Sign s.Then ∷ (b ++ (Sign s.Else ∷ (c ++ (Sign s.End ∷ []))))) h.1.1))
+    (and_from _ _ (term-valid j (first b (Sign s.Else ∷ (c ++ (Sign s.End ∷ []))) u)) (term-valid k (first c (Sign s.End ∷ []) v)))
 
 -- ---- lists
 
@@ -121,10 +122,10 @@ Valid {A} Is test = (a : Lexemes) (x : A) → Is a x → AreOfText a → test x 
 
 list-valid : {A : Type 0} (separator : Lexemes) (Is : Lexemes → A → Type 0) (test : A → Bool) → Valid Is test
     → {a : Lexemes} {xs : List A} → IsList separator Is a xs → AreOfText a → list_all test xs ≡ true
-list-valid separator Is test k (g.one a x i) h = and_true _ _ (k a x i h) refl
+list-valid separator Is test k (g.one a x i) h = and_from _ _ (k a x i h) refl
 list-valid separator Is test k (g.more a b xs x i j) h =
     list_all-append test xs (x ∷ [])
-    ∙ and_true _ _ (list-valid separator Is test k i (first a (separator ++ b) h)) (and_true _ _ (k b x j (second separator b (second a (separator ++ b) h))) refl)
+    ∙ and_from _ _ (list-valid separator Is test k i (first a (separator ++ b) h)) (and_from _ _ (k b x j (second separator b (second a (separator ++ b) h))) refl)
 
 snoc-nonempty : {A : Type 0} (xs : List A) (x : A) → nat_lt 0 (length (xs ++ x ∷ [])) ≡ true
 snoc-nonempty [] x = refl
@@ -139,7 +140,7 @@ few n most small e = let k : n ≤ most = ltb-false most n e in lt-ltb n (2 ^ 32
 
 list-countable : {A : Type 0} {separator : Lexemes} {Is : Lexemes → A → Type 0} {a : Lexemes} {xs : List A} → IsList separator Is a xs
     → (most : ℕ) → most < 2 ^ 32 → ltb most (length xs) ≡ false → is_countable xs ≡ true
-list-countable {xs = xs} i most small e = and_true _ _ (list-nonempty i) (few (length xs) most small e)
+list-countable {xs = xs} i most small e = and_from _ _ (list-nonempty i) (few (length xs) most small e)
 
 -- ---- limits
 
@@ -172,7 +173,7 @@ terms-valid a x i h = term-valid i h
 
 items-valid : Valid IsItems items_are_valid
 items-valid _ _ g.star h = refl
-items-valid _ _ (g.terms a xs i) h = and_true _ _ (list-nonempty i) (list-valid comma IsTerm term_is_valid terms-valid i h)
+items-valid _ _ (g.terms a xs i) h = and_from _ _ (list-nonempty i) (list-valid comma IsTerm term_is_valid terms-valid i h)
 
 condition-valid : Valid IsWhere condition_is_valid
 condition-valid _ _ g.absent h = refl
@@ -181,11 +182,11 @@ condition-valid _ _ (g.present a x i) h = term-valid i h.1
 block-valid : Valid IsBlock block_is_valid
 block-valid _ _ (g.block a b w items from cond i j k) h =
     let u : AreOfText (b ++ w) = (second a (Sign s.From ∷ (b ++ w)) h.1).1 in
-    and_true _ _ (list-nonempty j) (and_true _ _ (items-valid a items i (first a (Sign s.From ∷ (b ++ w)) h.1)) (condition-valid w cond k (second b w u)))
+    and_from _ _ (list-nonempty j) (and_from _ _ (items-valid a items i (first a (Sign s.From ∷ (b ++ w)) h.1)) (condition-valid w cond k (second b w u)))
 
 query-valid : (a : Lexemes) (x : Query) → IsQuery a x → AreOfText a → passed_limit (query_shape x) ≡ None → query_is_valid x ≡ true
 query-valid a x i h none =
-    and_true _ _ (list-countable i MAX_BRANCHES (omega arith) (within (query_shape x) none).0) (list-valid union_all IsBlock block_is_valid block-valid i h)
+    and_from _ _ (list-countable i MAX_BRANCHES (omega arith) (within (query_shape x) none).0) (list-valid union_all IsBlock block_is_valid block-valid i h)
 
 set-valid : Valid IsSetTerm set_is_valid
 set-valid _ _ (g.set_term col a x i) h = term-valid i h.1.1
@@ -197,11 +198,11 @@ command-valid _ _ g.begin_read_committed h none = refl
 command-valid _ _ g.commit h none = refl
 command-valid _ _ g.rollback h none = refl
 command-valid _ _ (g.insert table a rows i) h none =
-    and_true _ _ (list-countable i MAX_VALUES (omega arith) (within (command_shape (y.insert table rows)) none).1)
+    and_from _ _ (list-countable i MAX_VALUES (omega arith) (within (command_shape (y.insert table rows)) none).1)
     (list-valid comma IsTuple (list_all is_user_cell) tuple-valid i h.1.1.1.1)
 command-valid _ _ (g.insert_select table a x i) h none = query-valid a x i h.1.1.1 none
 command-valid _ _ (g.update table a w sets cond i j) h none =
-    and_true _ _ (list-valid comma IsSetTerm set_is_valid set-valid i (first a w h.1.1.1)) (condition-valid w cond j (second a w h.1.1.1))
+    and_from _ _ (list-valid comma IsSetTerm set_is_valid set-valid i (first a w h.1.1.1)) (condition-valid w cond j (second a w h.1.1.1))
 command-valid _ _ (g.delete table w cond i) h none = condition-valid w cond i h.1.1.1
 command-valid _ _ (g.select a x i) h none = query-valid a x i h none
 
@@ -230,7 +231,7 @@ question-valid _ _ (q.versions table) h none = refl
 question-valid _ _ (q.ask a how state query i) h none = ask-valid a how state query i h none
 question-valid _ _ (q.what_if a b change how state query i j) h none =
     let within : (passed_limit (change_shape change) ≡ None) × (passed_limit (query_shape query) ≡ None) = both-within (change_shape change) (query_shape query) none in
-    and_true _ _ (change-valid a change i (first a (Word (codes "of") ∷ b) h.1) within.0)
+    and_from _ _ (change-valid a change i (first a (Word (codes "of") ∷ b) h.1) within.0)
     (ask-valid b how state query j (second a (Word (codes "of") ∷ b) h.1).1 within.1)
 
 closed-valid : {A : Type 0} (Is : Lexemes → A → Type 0) (shape : A → Shape) (test : A → Bool)
@@ -280,4 +281,4 @@ change-read text change how state query e = read-valid text (y.what_if change ho
 -- ---- catalogues
 
 pub tables-added : (tables : List Table) (table : Table) → tables_are_valid tables ≡ true → is_valid (y.create table) ≡ true → tables_are_valid (tables ++ table ∷ []) ≡ true
-tables-added tables table all one = list_all-append table_is_valid tables (table ∷ []) ∙ and_true _ _ all (and_true _ _ one refl)
+tables-added tables table all one = list_all-append table_is_valid tables (table ∷ []) ∙ and_from _ _ all (and_from _ _ one refl)

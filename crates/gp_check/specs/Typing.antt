@@ -57,14 +57,9 @@ abbrev pub operation : Op → Operation
 operation op.Add = arithmetic
 operation op.Sub = arithmetic
 operation op.Mul = arithmetic
-operation op.Eq = comparison
-operation op.Ne = comparison
-operation op.Lt = comparison
-operation op.Le = comparison
-operation op.Gt = comparison
-operation op.Ge = comparison
 operation op.And = connective
 operation op.Or = connective
+operation other = comparison
 
 -- the term is well typed, with this type
 pub data HasType (scope : Scope) : Term → TermType → Type 0 where

@@ -5,7 +5,7 @@ use Rattle.std.specs.Prelude.{nat_lt, Bool, true, ◌&&◌, List, length, Option
 use Rattle.std.specs.List.{list_all}
 use Rattle.gp_base.specs.declared.cell.Cell.TheVariants as cell
 use Rattle.gp_base.specs.declared.table.Table.{Table}
-use Rattle.gp_base.specs.Cells.{is_user_cell}
+use Rattle.gp_base.specs.UserCells.{is_user_cell}
 use Rattle.gp_grammar.specs.Syntax as y
 use Rattle.gp_grammar.specs.Syntax.{Term, SetTerm, Items, Block, Query, Command, LogChange}
 use Rattle.gp_algebra.specs.Fitting.{is_countable}

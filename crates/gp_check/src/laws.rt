@@ -4,7 +4,8 @@ ghost use Rattle.std.specs.Prelude.{◌≡◌, ◌&&◌, ◌++◌, ◌∷◌, []
 ghost use Rattle.gp_base.specs.declared.table.Table.{Table};
 ghost use Rattle.gp_grammar.specs.CommandGrammar.{IsCommand, IsScriptLine};
 ghost use Rattle.gp_grammar.specs.Limits.{command_shape, line_shape, question_shape};
-ghost use Rattle.gp_grammar.specs.LineReading.{command_of, question_of, script_line_of, ReadsLine, ReadsText};
+ghost use Rattle.gp_grammar.specs.LineReading.{ReadsLine, ReadsText};
+ghost use Rattle.gp_grammar.specs.Reading.{command_of, question_of, script_line_of};
 ghost use Rattle.gp_grammar.specs.QuestionGrammar.{IsQuestion};
 ghost use Rattle.gp_grammar.specs.Syntax as y;
 ghost use Rattle.gp_grammar.specs.Syntax.{Command, How, LogChange, Query, ScriptLine, State};

@@ -4,7 +4,7 @@ use Rattle.std.specs.Prelude.{◌^◌}
 use Rattle.std.specs.Str.{bytes_eq}
 use Rattle.std.specs.List.{flat_map}
 use Rattle.std.proofs.lemmas.List.{append-nil}
-use Rattle.std.proofs.lemmas.Bool.{ltb-false}
+use Rattle.std.proofs.lemmas.Bool.{ltb-false, or_parts}
 use Rattle.gp_base.specs.declared.cell.Cell.{Cell}
 use Rattle.gp_base.specs.declared.cell.Cell.TheVariants as cell
 use Rattle.gp_base.specs.declared.table.Column.{Column}
@@ -18,7 +18,7 @@ use Rattle.gp_grammar.specs.Syntax.{Lexemes, Bytes, Term, SetTerm, Item, Items, 
 use Rattle.gp_grammar.specs.Limits.{Shape, levels, some_above, passed_limit, terms_of_condition, listed, terms_of_query, command_shape}
 use Rattle.gp_grammar.specs.Depth.{is_too_deep}
 use Rattle.gp_grammar.specs.Canonical.{kind_lexeme, term_lexemes, joined_lexemes, listed_lexemes, column_definition_lexemes, cell_lexemes, tuple_lexemes, item_lexemes, items_lexemes, condition_lexemes, block_lexemes, query_lexemes, set_lexemes, command_lexemes}
-use Rattle.gp_grammar.proofs.ShapeLemmas.{first_limit, of_shape, or-false}
+use Rattle.gp_grammar.proofs.ShapeLemmas.{first_limit, of_shape}
 use Rattle.gp_grammar.proofs.CanonicalDepth.{Balanced, both, in-brackets, term-balanced}
 
 -- ---- the terms of a command are shallow
@@ -31,7 +31,7 @@ shallow-terms : (xs : List Term) → some_above MAX_LEVELS (map levels xs) ≡ f
 unfolding AreShallow
 shallow-terms [] h = tt
 shallow-terms (x ∷ xs) h =
-    let w : (ltb MAX_LEVELS (levels x) ≡ false) × (some_above MAX_LEVELS (map levels xs) ≡ false) = or-false (ltb MAX_LEVELS (levels x)) (some_above MAX_LEVELS (map levels xs)) h in
+    let w : (ltb MAX_LEVELS (levels x) ≡ false) × (some_above MAX_LEVELS (map levels xs) ≡ false) = or_parts (ltb MAX_LEVELS (levels x)) (some_above MAX_LEVELS (map levels xs)) h in
     (ltb-false MAX_LEVELS (levels x) w.0, shallow-terms xs w.1)
 
 shallow-split : (xs ys : List Term) → AreShallow (xs ++ ys) → AreShallow xs × AreShallow ys

@@ -7,7 +7,8 @@ use Rattle.gp_grammar.specs.CommandGrammar as l
 use Rattle.gp_grammar.specs.QuestionGrammar as g
 use Rattle.gp_grammar.specs.QuestionGrammar.{IsChange, IsOpenQuestion, IsQuestion}
 use Rattle.gp_grammar.specs.Limits.{question_shape}
-use Rattle.gp_grammar.specs.LineReading.{ReadsLine, question_of}
+use Rattle.gp_grammar.specs.LineReading.{ReadsLine}
+use Rattle.gp_grammar.specs.Reading.{question_of}
 use Rattle.gp_grammar.specs.QuestionParsing.{question}
 use Rattle.gp_grammar.specs.Laws.{has_statement}
 use Rattle.gp_grammar.proofs.LineLaws.{lines-read}

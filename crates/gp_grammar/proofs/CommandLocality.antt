@@ -18,9 +18,7 @@ use Rattle.gp_grammar.proofs.CommandCompleteness.{shrinks-literal, shrinks-tuple
 use Rattle.gp_grammar.proofs.Shrinking.{shrinks-term}
 use Rattle.gp_grammar.proofs.Locality.{Local, local-ok, local-bind, local-err, local-expect, local-identifier, local-term}
 use Rattle.gp_grammar.proofs.LocalCombinators.{first_choice, local-next-all, local-word-all, local-first-all, local-many, local-separated, local-in_brackets, local-closed}
-
-some-is : {A : Type 0} (a b : A) → Some a ≡ Some b → a ≡ b
-some-is a b h = cc
+use Rattle.std.proofs.lemmas.Option.{same_Some}
 
 -- ---- parsers that look at the first lexeme
 
@@ -175,7 +173,7 @@ module _ (t : Lexeme) (m m' : Lexemes) where
   IsLocal p = (n : ℕ) → Local t m m' n p
 
   is_local-is : {A : Type 0} (n : ℕ) (p q : Parser A) → Local t m m' n p → Some p ≡ Some q → Local t m m' n q
-  is_local-is n p q w e = let P : Parser _ → Type 0 = λ x. Local t m m' n x in subst P (some-is p q e) w
+  is_local-is n p q w e = let P : Parser _ → Type 0 = λ x. Local t m m' n x in subst P (same_Some p q e) w
 
   negative-chosen : (n : ℕ) (x : Lexeme) (p : Parser Cell) → negative_choice x ≡ Some p → Local t m m' n p
   negative-chosen n (Number zero) p e = is_local-is n _ p (local-ok t m m' n (cell.Int (pos 0))) e

@@ -16,6 +16,7 @@ use Rattle.gp_grammar.specs.Parsing.{whole}
 use Rattle.gp_grammar.specs.CommandParsing as c
 use Rattle.gp_grammar.specs.QuestionParsing as q
 use Rattle.gp_grammar.specs.LineReading as r
+use Rattle.gp_grammar.specs.Reading as f
 use Rattle.gp_lexer.specs.Lexing as lex
 use Rattle.std.specs.Str.{is_utf8, chars}
 use Rattle.std.specs.Option.{option_map}
@@ -76,121 +77,121 @@ zero_transaction = refl
 
 -- ---- whole lines, from their bytes
 
-misspelled : r.script_line_of (codes "s1: SELCT * FROM r") ≡ Err (r.syntax 5)
+misspelled : f.script_line_of (codes "s1: SELCT * FROM r") ≡ Err (r.syntax 5)
 unfolding is_utf8 chars lib.Utf8.encode lex.lexed lex.lexed_from lex.lexeme_at lex.word_at lex.reserved_word symbol_text lex.number_at lex.sign_at p.expect
 misspelled = refl
 
-no_such_session : r.script_line_of (codes "s65: BEGIN") ≡ Err (r.syntax 1)
+no_such_session : f.script_line_of (codes "s65: BEGIN") ≡ Err (r.syntax 1)
 unfolding is_utf8 chars lib.Utf8.encode lex.lexed lex.lexed_from lex.lexeme_at lex.word_at lex.reserved_word symbol_text lex.number_at lex.sign_at p.expect
 no_such_session = refl
 
-no_colon : r.script_line_of (codes "s1 BEGIN") ≡ Err (r.syntax 4)
+no_colon : f.script_line_of (codes "s1 BEGIN") ≡ Err (r.syntax 4)
 unfolding is_utf8 chars lib.Utf8.encode lex.lexed lex.lexed_from lex.lexeme_at lex.word_at lex.reserved_word symbol_text lex.number_at lex.sign_at p.expect
 no_colon = refl
 
-no_sign : r.script_line_of (codes "s1: SELECT a ! b FROM r") ≡ Err (r.lexical 14)
+no_sign : f.script_line_of (codes "s1: SELECT a ! b FROM r") ≡ Err (r.lexical 14)
 unfolding is_utf8 chars lib.Utf8.encode lex.lexed lex.lexed_from lex.lexeme_at lex.word_at lex.reserved_word symbol_text lex.number_at lex.sign_at p.expect
 no_sign = refl
 
-unclosed : r.script_line_of (codes "s1: SELECT * FROM r WHERE a = 'x") ≡ Err (r.lexical 31)
+unclosed : f.script_line_of (codes "s1: SELECT * FROM r WHERE a = 'x") ≡ Err (r.lexical 31)
 unfolding is_utf8 chars lib.Utf8.encode lex.lexed lex.lexed_from lex.lexeme_at lex.word_at lex.reserved_word symbol_text lex.number_at lex.sign_at p.expect
 unclosed = refl
 
-big_number : r.script_line_of (codes "s1: INSERT INTO r VALUES (9223372036854775808)") ≡ Err (r.syntax 27)
+big_number : f.script_line_of (codes "s1: INSERT INTO r VALUES (9223372036854775808)") ≡ Err (r.syntax 27)
 unfolding is_utf8 chars lib.Utf8.encode lex.lexed lex.lexed_from lex.lexeme_at lex.word_at lex.reserved_word symbol_text lex.number_at lex.sign_at p.expect c.insert c.query c.block c.items c.item c.condition c.separated c.many c.repeat c.tuple
 big_number = refl
 
-line_end : r.script_line_of (codes "s2: SELECT * FROM nowhere WHERE") ≡ Err (r.syntax 32)
+line_end : f.script_line_of (codes "s2: SELECT * FROM nowhere WHERE") ≡ Err (r.syntax 32)
 unfolding is_utf8 chars lib.Utf8.encode lex.lexed lex.lexed_from lex.lexeme_at lex.word_at lex.reserved_word symbol_text lex.number_at lex.sign_at p.expect c.insert c.query c.block c.items c.item c.condition c.separated c.many c.repeat c.tuple p.term p.term_within p.joined p.chain p.chain_within p.negation p.full_test p.factor p.column p.brackets p.value_test
 line_end = refl
 
-version_too_big : r.question_of (codes "AS OF 9223372036854775808 SELECT * FROM r") ≡ Err (r.syntax 7)
+version_too_big : f.question_of (codes "AS OF 9223372036854775808 SELECT * FROM r") ≡ Err (r.syntax 7)
 unfolding is_utf8 chars lib.Utf8.encode lex.lexed lex.lexed_from lex.lexeme_at lex.word_at lex.reserved_word symbol_text lex.number_at lex.sign_at p.expect q.open_question q.ask q.how q.state
 version_too_big = refl
 
-second_part : r.question_of (codes "VALUE IN COUNT (q1.2.3 = 1) OF AS OF 1 SELECT * FROM r") ≡ Err (r.syntax 21)
+second_part : f.question_of (codes "VALUE IN COUNT (q1.2.3 = 1) OF AS OF 1 SELECT * FROM r") ≡ Err (r.syntax 21)
 unfolding is_utf8 chars lib.Utf8.encode lex.lexed lex.lexed_from lex.lexeme_at lex.word_at lex.reserved_word symbol_text lex.number_at lex.sign_at p.expect q.open_question q.ask q.how q.value q.semiring_name q.rules q.rules_from q.rules_within q.rule
 second_part = refl
 
 -- what is left out is one pattern or more with commas between them
-left_out : r.question_of (codes "without i1.1.2, q OF as of 2 select * from r") ≡ Ok (y.ask
+left_out : f.question_of (codes "without i1.1.2, q OF as of 2 select * from r") ≡ Ok (y.ask
     (y.without ((record { kind = token.I; t = Some 1; k = Some 1; n = Some 2; value = 0 }) ∷ (record { kind = token.Q; t = None; k = None; n = None; value = 0 }) ∷ []))
     (y.as_of 2) ((record { items = y.star; from = (record { table = codes "r"; name = codes "r" }) ∷ []; cond = None }) ∷ []))
 unfolding is_utf8 chars lib.Utf8.encode lex.lexed lex.lexed_from lex.lexeme_at lex.word_at lex.reserved_word symbol_text lex.number_at lex.sign_at p.expect q.open_question q.ask q.how q.without q.left_out q.state c.query c.block c.items c.item c.condition c.separated c.many c.repeat
 left_out = refl
 
-second_part_left_out : r.question_of (codes "WITHOUT q1.7,u1.1.1,i1 OF AS OF 1 SELECT * FROM r") ≡ Err (r.syntax 18)
+second_part_left_out : f.question_of (codes "WITHOUT q1.7,u1.1.1,i1 OF AS OF 1 SELECT * FROM r") ≡ Err (r.syntax 18)
 unfolding is_utf8 chars lib.Utf8.encode lex.lexed lex.lexed_from lex.lexeme_at lex.word_at lex.reserved_word symbol_text lex.number_at lex.sign_at p.expect q.open_question q.ask q.how q.without q.left_out c.separated c.many c.repeat
 second_part_left_out = refl
 
-part_of_a_kind : r.question_of (codes "without q,i,i.1 of as of 6 select * from r") ≡ Err (r.syntax 14)
+part_of_a_kind : f.question_of (codes "without q,i,i.1 of as of 6 select * from r") ≡ Err (r.syntax 14)
 unfolding is_utf8 chars lib.Utf8.encode lex.lexed lex.lexed_from lex.lexeme_at lex.word_at lex.reserved_word symbol_text lex.number_at lex.sign_at p.expect q.open_question q.ask q.how q.without q.left_out c.separated c.many c.repeat
 part_of_a_kind = refl
 
-nothing_left_out : r.question_of (codes "WITHOUT OF AS OF 1 SELECT * FROM r") ≡ Err (r.syntax 9)
+nothing_left_out : f.question_of (codes "WITHOUT OF AS OF 1 SELECT * FROM r") ≡ Err (r.syntax 9)
 unfolding is_utf8 chars lib.Utf8.encode lex.lexed lex.lexed_from lex.lexeme_at lex.word_at lex.reserved_word symbol_text lex.number_at lex.sign_at p.expect q.open_question q.ask q.how q.without q.left_out c.separated c.many c.repeat
 nothing_left_out = refl
 
 -- WITHOUT and WITNESS are names elsewhere
-witness_name : r.question_of (codes "reenact 1 after 2 select * from witness without") ≡ Ok (y.ask y.rows (y.after 1 2)
+witness_name : f.question_of (codes "reenact 1 after 2 select * from witness without") ≡ Ok (y.ask y.rows (y.after 1 2)
     ((record { items = y.star; from = (record { table = codes "witness"; name = codes "without" }) ∷ []; cond = None }) ∷ []))
 unfolding is_utf8 chars lib.Utf8.encode lex.lexed lex.lexed_from lex.lexeme_at lex.word_at lex.reserved_word symbol_text lex.number_at lex.sign_at p.expect q.open_question q.ask q.how q.state c.query c.block c.items c.item c.condition c.separated c.many c.repeat
 witness_name = refl
 
 -- a change without a statement, and with another one in its place
-dropped : r.question_of (codes "WHATIF DROP 2 1 OF AS OF 5 SELECT * FROM acct") ≡ Ok (y.what_if (y.drop 2 1) y.rows (y.as_of 5)
+dropped : f.question_of (codes "WHATIF DROP 2 1 OF AS OF 5 SELECT * FROM acct") ≡ Ok (y.what_if (y.drop 2 1) y.rows (y.as_of 5)
     ((record { items = y.star; from = (record { table = codes "acct"; name = codes "acct" }) ∷ []; cond = None }) ∷ []))
 unfolding is_utf8 chars lib.Utf8.encode lex.lexed lex.lexed_from lex.lexeme_at lex.word_at lex.reserved_word symbol_text lex.number_at lex.sign_at p.expect q.open_question q.ask q.what_if q.change q.dropped q.how q.state c.query c.block c.items c.item c.condition c.separated c.many c.repeat
 dropped = refl
 
-replaced : r.question_of (codes "whatif replace 3 1 by (delete from r) of provenance of as of 5 select * from r;") ≡ Ok (y.what_if (y.replace 3 1 (y.delete (codes "r") None)) y.provenance (y.as_of 5)
+replaced : f.question_of (codes "whatif replace 3 1 by (delete from r) of provenance of as of 5 select * from r;") ≡ Ok (y.what_if (y.replace 3 1 (y.delete (codes "r") None)) y.provenance (y.as_of 5)
     ((record { items = y.star; from = (record { table = codes "r"; name = codes "r" }) ∷ []; cond = None }) ∷ []))
 unfolding is_utf8 chars lib.Utf8.encode lex.lexed lex.lexed_from lex.lexeme_at lex.word_at lex.reserved_word symbol_text lex.number_at lex.sign_at p.expect q.open_question q.ask q.what_if q.change q.replaced q.how q.state c.delete c.query c.block c.items c.item c.condition c.separated c.many c.repeat
 replaced = refl
 
 -- only a statement is added, and in brackets
-added_begin : r.question_of (codes "WHATIF ADD 4 BY (BEGIN) OF AS OF 4 SELECT * FROM r") ≡ Err (r.syntax 18)
+added_begin : f.question_of (codes "WHATIF ADD 4 BY (BEGIN) OF AS OF 4 SELECT * FROM r") ≡ Err (r.syntax 18)
 unfolding is_utf8 chars lib.Utf8.encode lex.lexed lex.lexed_from lex.lexeme_at lex.word_at lex.reserved_word symbol_text lex.number_at lex.sign_at p.expect q.open_question q.ask q.what_if q.change q.added
 added_begin = refl
 
-added_bare : r.question_of (codes "WHATIF ADD 4 BY DELETE FROM r OF AS OF 4 SELECT * FROM r") ≡ Err (r.syntax 17)
+added_bare : f.question_of (codes "WHATIF ADD 4 BY DELETE FROM r OF AS OF 4 SELECT * FROM r") ≡ Err (r.syntax 17)
 unfolding is_utf8 chars lib.Utf8.encode lex.lexed lex.lexed_from lex.lexeme_at lex.word_at lex.reserved_word symbol_text lex.number_at lex.sign_at p.expect q.open_question q.ask q.what_if q.change q.added
 added_bare = refl
 
-second_table : r.question_of (codes "WHATIF ADD 3 BY (UPDATE m17 AFTER SET b = b) OF AS OF 3 SELECT * FROM m17") ≡ Err (r.syntax 29)
+second_table : f.question_of (codes "WHATIF ADD 3 BY (UPDATE m17 AFTER SET b = b) OF AS OF 3 SELECT * FROM m17") ≡ Err (r.syntax 29)
 unfolding is_utf8 chars lib.Utf8.encode lex.lexed lex.lexed_from lex.lexeme_at lex.word_at lex.reserved_word symbol_text lex.number_at lex.sign_at p.expect q.open_question q.ask q.what_if q.change q.added c.update
 second_table = refl
 
 -- the words of changes are names elsewhere, and a change needs one of them
-change_names : r.question_of (codes "whatif drop 1 1 of as of 1 select * from whatif drop") ≡ Ok (y.what_if (y.drop 1 1) y.rows (y.as_of 1)
+change_names : f.question_of (codes "whatif drop 1 1 of as of 1 select * from whatif drop") ≡ Ok (y.what_if (y.drop 1 1) y.rows (y.as_of 1)
     ((record { items = y.star; from = (record { table = codes "whatif"; name = codes "drop" }) ∷ []; cond = None }) ∷ []))
 unfolding is_utf8 chars lib.Utf8.encode lex.lexed lex.lexed_from lex.lexeme_at lex.word_at lex.reserved_word symbol_text lex.number_at lex.sign_at p.expect q.open_question q.ask q.what_if q.change q.dropped q.how q.state c.query c.block c.items c.item c.condition c.separated c.many c.repeat
 change_names = refl
 
-no_change : r.question_of (codes "whatif table drop 6 0 of as of 1 select * from r") ≡ Err (r.syntax 8)
+no_change : f.question_of (codes "whatif table drop 6 0 of as of 1 select * from r") ≡ Err (r.syntax 8)
 unfolding is_utf8 chars lib.Utf8.encode lex.lexed lex.lexed_from lex.lexeme_at lex.word_at lex.reserved_word symbol_text lex.number_at lex.sign_at p.expect q.open_question q.ask q.what_if q.change
 no_change = refl
 
-canonical_update : option_map command_text (result_ok (r.command_of (codes "update R set b = -b * c + 'x' where not a = b and b is null or a <> c")))
+canonical_update : option_map command_text (result_ok (f.command_of (codes "update R set b = -b * c + 'x' where not a = b and b is null or a <> c")))
     ≡ Some (codes "UPDATE r SET b = (((-b) * c) + 'x') WHERE (((NOT (a = b)) AND (b IS NULL)) OR (a <> c))")
 unfolding is_utf8 chars lib.Utf8.encode lex.lexed lex.lexed_from lex.lexeme_at lex.word_at lex.reserved_word symbol_text lex.number_at lex.sign_at p.expect c.update c.set_term c.separated c.many c.repeat c.condition p.term p.term_within p.joined p.chain p.chain_within p.negation p.full_test p.factor p.column p.brackets p.value_test cap.binary cap.neg cap.not cap.is_null written
 canonical_update = refl
 
 -- `BEGIN READ COMMITTED` in letters of either case, and a transaction of that kind is written in capitals
-read_committed : r.script_line_of (codes "s1: begin Read COMMITTED;") ≡ Ok (record { session = 1; command = y.begin true })
+read_committed : f.script_line_of (codes "s1: begin Read COMMITTED;") ≡ Ok (record { session = 1; command = y.begin true })
 unfolding is_utf8 chars lib.Utf8.encode lex.lexed lex.lexed_from lex.lexeme_at lex.word_at lex.reserved_word symbol_text lex.number_at lex.sign_at p.expect c.begin
 read_committed = refl
 
-canonical_read_committed : option_map command_text (result_ok (r.command_of (codes "begin read committed"))) ≡ Some (codes "BEGIN READ COMMITTED")
+canonical_read_committed : option_map command_text (result_ok (f.command_of (codes "begin read committed"))) ≡ Some (codes "BEGIN READ COMMITTED")
 unfolding is_utf8 chars lib.Utf8.encode lex.lexed lex.lexed_from lex.lexeme_at lex.word_at lex.reserved_word symbol_text lex.number_at lex.sign_at p.expect c.begin
 canonical_read_committed = refl
 
 -- both words are needed, and in this order
-only_read : r.script_line_of (codes "s1: BEGIN READ") ≡ Err (r.syntax 15)
+only_read : f.script_line_of (codes "s1: BEGIN READ") ≡ Err (r.syntax 15)
 unfolding is_utf8 chars lib.Utf8.encode lex.lexed lex.lexed_from lex.lexeme_at lex.word_at lex.reserved_word symbol_text lex.number_at lex.sign_at p.expect c.begin
 only_read = refl
 
-only_committed : r.script_line_of (codes "s1: BEGIN COMMITTED") ≡ Err (r.syntax 11)
+only_committed : f.script_line_of (codes "s1: BEGIN COMMITTED") ≡ Err (r.syntax 11)
 unfolding is_utf8 chars lib.Utf8.encode lex.lexed lex.lexed_from lex.lexeme_at lex.word_at lex.reserved_word symbol_text lex.number_at lex.sign_at p.expect c.begin
 only_committed = refl
 

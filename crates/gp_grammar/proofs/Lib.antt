@@ -21,6 +21,7 @@ pub mod ParserLaws
 pub mod ShapeLemmas
 pub mod BothLemmas
 pub mod LineLaws
+pub mod ReadOnce
 pub mod ChangeLaws
 pub mod CanonicalTerms
 pub mod CanonicalDepth

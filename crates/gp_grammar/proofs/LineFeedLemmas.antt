@@ -1,6 +1,5 @@
 -- The layout of proper lexemes has no line feed.
 use Rattle.std.proofs.Common.{◌≡◌, ℕ, ◌<◌, ◌^◌, Bool, true, false, cond, eqb, List, [], ◌∷◌, ◌++◌, refl, arith}
-use Rattle.std.specs.Prelude.{◌&&◌, ◌||◌}
 use Rattle.std.specs.Char.{is_ascii_control, digit_value}
 use Rattle.std.specs.Fmt.{decimal}
 use Rattle.std.specs.List.{flat_map, list_all, list_any}
@@ -14,30 +13,20 @@ use Rattle.gp_lexer.specs.declared.lexeme.Symbol.{Symbol}
 use Rattle.gp_lexer.specs.declared.lexeme.Symbol.TheVariants as s
 use Rattle.gp_lexer.specs.declared.lexeme.Lexeme.{Lexeme}
 use Rattle.gp_lexer.specs.declared.lexeme.Lexeme.TheVariants.{Symbol as Sign, Word, Number, Big, Text}
-use Rattle.gp_lexer.specs.Lexemes.{symbol_text, spelled, IsProper, AreProper}
+use Rattle.gp_lexer.specs.Lexemes.{symbol_text, spelled}
+use Rattle.gp_lexer.specs.ProperLexemes.{IsProper, AreProper}
 use Rattle.gp_lexer.specs.Layout.{has_space, Page, empty_page, spaced, put, written, laid_out}
+use Rattle.std.proofs.lemmas.Bool.{and_parts, or_from, or_parts}
 
 -- a byte list has a line feed
 abbrev pub has_line_feed : List ℕ → Bool
 has_line_feed = list_any (λ b. eqb b 10)
 
-or-same : (a b : Bool) → a ≡ false → b ≡ false → a || b ≡ false
-or-same true b h k = cc
-or-same false b h k = k
-
-or-split : (a b : Bool) → a || b ≡ false → (a ≡ false) × (b ≡ false)
-or-split true b h = cc
-or-split false b h = (refl, h)
-
 both : (a b : List ℕ) → has_line_feed a ≡ false → has_line_feed b ≡ false → has_line_feed (a ++ b) ≡ false
 both [] b h k = k
 both (c ∷ a) b h k =
-    let w : (eqb c 10 ≡ false) × (has_line_feed a ≡ false) = or-split (eqb c 10) (has_line_feed a) h in
-    or-same (eqb c 10) (has_line_feed (a ++ b)) w.0 (both a b w.1 k)
-
-and-split : (a b : Bool) → a && b ≡ true → (a ≡ true) × (b ≡ true)
-and-split true b h = (refl, h)
-and-split false b h = cc
+    let w : (eqb c 10 ≡ false) × (has_line_feed a ≡ false) = or_parts (eqb c 10) (has_line_feed a) h in
+    or_from (eqb c 10) (has_line_feed (a ++ b)) w.0 (both a b w.1 k)
 
 symbol-plain : (symbol : Symbol) → has_line_feed (symbol_text symbol) ≡ false
 unfolding symbol_text
@@ -53,21 +42,21 @@ letter-plain c e = grind (arith, nat_tests)
 names-plain : (bytes : List ℕ) → list_all is_name_byte bytes ≡ true → has_line_feed bytes ≡ false
 names-plain [] h = refl
 names-plain (c ∷ bytes) h =
-    let w : (is_name_byte c ≡ true) × (list_all is_name_byte bytes ≡ true) = and-split _ _ h in
-    or-same (eqb c 10) (has_line_feed bytes) (name_byte-plain c w.0) (names-plain bytes w.1)
+    let w : (is_name_byte c ≡ true) × (list_all is_name_byte bytes ≡ true) = and_parts _ _ h in
+    or_from (eqb c 10) (has_line_feed bytes) (name_byte-plain c w.0) (names-plain bytes w.1)
 
 word-plain : (word : List ℕ) → is_name word ≡ true → has_line_feed word ≡ false
 word-plain [] h = refl
 word-plain (c ∷ bytes) h =
-    let x : (is_lower_letter c ≡ true) × (list_all is_name_byte bytes ≡ true) = and-split _ _ (and-split _ _ (and-split _ _ h).0).0 in
-    or-same (eqb c 10) (has_line_feed bytes) (letter-plain c x.0) (names-plain bytes x.1)
+    let x : (is_lower_letter c ≡ true) × (list_all is_name_byte bytes ≡ true) = and_parts _ _ (and_parts _ _ (and_parts _ _ h).0).0 in
+    or_from (eqb c 10) (has_line_feed bytes) (letter-plain c x.0) (names-plain bytes x.1)
 
 digit-plain : (c : ℕ) → digit_value c < 10 → eqb c 10 ≡ false
 digit-plain c h = grind (arith, nat_tests)
 
 digits-plain : (bytes : List ℕ) → AllDigits 10 bytes → has_line_feed bytes ≡ false
 digits-plain [] h = refl
-digits-plain (c ∷ bytes) h = or-same (eqb c 10) (has_line_feed bytes) (digit-plain c h.0) (digits-plain bytes h.1)
+digits-plain (c ∷ bytes) h = or_from (eqb c 10) (has_line_feed bytes) (digit-plain c h.0) (digits-plain bytes h.1)
 
 decimal-digits : (n : ℕ) → n < 2 ^ 64 → AllDigits 10 (decimal n)
 decimal-digits n h =
@@ -82,12 +71,12 @@ quoted-plain c e = by (eqb c 39)
   where
     by : (t : Bool) → has_line_feed (cond t (39 ∷ 39 ∷ []) (c ∷ [])) ≡ false
     by true = refl
-    by false = or-same (eqb c 10) false e refl
+    by false = or_from (eqb c 10) false e refl
 
 text-plain : (text : List ℕ) → list_any is_ascii_control text ≡ false → has_line_feed (flat_map quoted_byte text) ≡ false
 text-plain [] h = refl
 text-plain (c ∷ text) h =
-    let w : (is_ascii_control c ≡ false) × (list_any is_ascii_control text ≡ false) = or-split _ _ h in
+    let w : (is_ascii_control c ≡ false) × (list_any is_ascii_control text ≡ false) = or_parts _ _ h in
     both (quoted_byte c) (flat_map quoted_byte text) (quoted-plain c (control-plain c w.0)) (text-plain text w.1)
 
 spelled-plain : (lexeme : Lexeme) → IsProper lexeme → has_line_feed (spelled lexeme) ≡ false

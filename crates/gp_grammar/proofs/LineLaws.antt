@@ -10,7 +10,8 @@ use Rattle.gp_grammar.specs.Depth.{is_too_deep}
 use Rattle.gp_grammar.specs.Limits.{Limit, depth, Shape, passed_limit}
 use Rattle.gp_grammar.specs.Parsing.{Outcome, Parser, whole}
 use Rattle.gp_grammar.specs.LineReading as r
-use Rattle.gp_grammar.specs.LineReading.{Fault, too_long, not_utf8, lexical, syntax, over, HasLexemes, ReadsText, RefusesText, ReadsLine, RefusesLine, within_shape, placed, read_lexemes, read_lexed, read_text, read_line}
+use Rattle.gp_grammar.specs.LineReading.{Fault, too_long, not_utf8, lexical, syntax, over, HasLexemes, ReadsText, RefusesText, ReadsLine, RefusesLine}
+use Rattle.gp_grammar.specs.Reading.{within_shape, placed, read_lexemes, read_lexed, read_text, read_line}
 use Rattle.gp_grammar.specs.Laws.{Built, CapsFairly, IsUnambiguous, ReadsTextsExactly, RefusesTextsExactly, ReadsLinesExactly, RefusesLinesExactly}
 use Rattle.gp_grammar.proofs.ParserLaws.{Lawful}
 

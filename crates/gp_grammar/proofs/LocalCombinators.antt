@@ -10,6 +10,7 @@ use Rattle.gp_grammar.specs.CommandParsing.{where_next, fail, accept, is_word, w
 use Rattle.gp_grammar.specs.QuestionParsing.{number_if}
 use Rattle.gp_grammar.proofs.Shrinking.{Shrinks, many_step, many-unfolds}
 use Rattle.gp_grammar.proofs.Locality.{Local, Same, Past, NotLonger, not_longer-less, not_longer-past, local-weaken, local-ok, local-bind, local-err, local-expect, here, there, after, along-by, local-same}
+use Rattle.std.proofs.lemmas.Option.{same_Some}
 
 -- a parser that is chosen by the first lexeme, and another one where none is chosen
 abbrev pub first_choice : {A : Type 0} → (Lexeme → Option (Parser A)) → Parser A → Parser A
@@ -18,9 +19,6 @@ first_choice choose other (x ∷ ts) = by_option (choose x) (other (x ∷ ts)) (
 
 abbrev pub choose_if : {A : Type 0} → (Lexeme → Bool) → Parser A → Lexeme → Option (Parser A)
 choose_if test some x = cond (test x) (Some some) None
-
-some-is : {A : Type 0} (a b : A) → Some a ≡ Some b → a ≡ b
-some-is a b h = cc
 
 next-first : {A : Type 0} (symbol : Symbol) (some none : Parser A) (ts : Lexemes) → where_next symbol some none ts ≡ first_choice (choose_if (is_symbol symbol) some) none ts
 next-first symbol some none [] = refl
@@ -93,7 +91,7 @@ module _ (t : Lexeme) (m m' : Lexemes) where
   chosen-if n test some w x p = go (test x)
     where
       go : (b : Bool) → cond b (Some some) None ≡ Some p → Local t m m' n p
-      go true e = let P : Parser _ → Type 0 = λ q. Local t m m' n q in subst P (some-is some p e) w
+      go true e = let P : Parser _ → Type 0 = λ q. Local t m m' n q in subst P (same_Some some p e) w
       go false e = cc
 
   pub local-next : {A : Type 0} (n : ℕ) (symbol : Symbol) (some none : Parser A) → Local t m m' n some → Local t m m' (suc n) none → Local t m m' (suc n) (where_next symbol some none)

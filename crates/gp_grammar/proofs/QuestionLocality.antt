@@ -19,9 +19,7 @@ use Rattle.gp_grammar.proofs.QuestionCompleteness.{after_rule, rules_from-unfold
 use Rattle.gp_grammar.proofs.Locality.{Local, local-ok, local-bind, local-err, local-expect, local-identifier, local-same}
 use Rattle.gp_grammar.proofs.LocalCombinators.{first_choice, local-zero, local-next, local-next-all, local-word-all, local-number, local-first-all, local-separated, local-in_brackets, local-closed}
 use Rattle.gp_grammar.proofs.CommandLocality.{local-query, local-statement}
-
-some-is : {A : Type 0} (a b : A) → Some a ≡ Some b → a ≡ b
-some-is a b h = cc
+use Rattle.std.proofs.lemmas.Option.{same_Some}
 
 abbrev pattern_choice : Lexeme → Option (Parser Pattern)
 pattern_choice (Word name) = option_map q.pattern_parts (pattern_name name)
@@ -98,7 +96,7 @@ module _ (t : Lexeme) (m m' : Lexemes) where
     where
       go : (o : Option (TokenKind × Option ℕ)) → option_map q.pattern_parts o ≡ Some p → Local t m m' n p
       go None e = cc
-      go (Some kind) e = let P : Parser Pattern → Type 0 = λ z. Local t m m' n z in subst P (some-is (q.pattern_parts kind) p e) (is_local-parts kind n)
+      go (Some kind) e = let P : Parser Pattern → Type 0 = λ z. Local t m m' n z in subst P (same_Some (q.pattern_parts kind) p e) (is_local-parts kind n)
   pattern-chosen n (Sign symbol) p e = cc
   pattern-chosen n (Number k) p e = cc
   pattern-chosen n Big p e = cc

@@ -1,8 +1,8 @@
 -- Capping keeps the first limit that is passed, and a command within the limits.
-use Rattle.std.proofs.Common.{◌≡◌, ℕ, ◌<◌, ◌≤◌, Bool, true, false, cond, ltb, List, [], ◌∷◌, ◌++◌, length, map, Option, Some, None, refl, sym, ap, ◌∙◌, arith}
+use Rattle.std.proofs.Common.{◌≡◌, Bool, true, false, cond, ltb, List, [], ◌∷◌, ◌++◌, length, map, Option, Some, None, refl, sym, ap, ◌∙◌}
 use Rattle.std.specs.Prelude.{max, option_map, ◌||◌}
 use Rattle.std.proofs.lemmas.List.{map-append, length-map}
-use Rattle.std.proofs.lemmas.Bool.{ltb-false, ltb-true}
+use Rattle.std.proofs.lemmas.Bool.{ltb-false, ltb-true, lt-ltb, or_parts}
 use Rattle.gp_grammar.specs.declared.limits.TheConstants.{MAX_COLUMNS, MAX_FROM, MAX_BRANCHES, MAX_VALUES, MAX_NODES, MAX_LEVELS}
 use Rattle.gp_grammar.specs.Syntax as syntax
 use Rattle.gp_grammar.specs.Syntax.{Term, SetTerm, Item, Items, Block, Query, Command, ScriptLine, LogChange, Question}
@@ -27,20 +27,6 @@ AreExact (x ∷ xs) = (capped x ≡ x) × AreExact xs
 unfoldable pub some_large : List Term → Bool
 some_large xs = some_above MAX_NODES (map nodes xs)
 
-ltb-from : (n m : ℕ) → n < m → ltb n m ≡ true
-ltb-from n m h = by (ltb n m) refl
-  where
-    by : (b : Bool) → ltb n m ≡ b → b ≡ true
-    by true e = refl
-    by false e = let k : m ≤ n = ltb-false n m e in absurd (omega arith)
-
-ltb-not : (n m : ℕ) → m ≤ n → ltb n m ≡ false
-ltb-not n m h = by (ltb n m) refl
-  where
-    by : (b : Bool) → ltb n m ≡ b → b ≡ false
-    by true e = let k : n < m = ltb-true n m e in absurd (omega arith)
-    by false e = refl
-
 large-same : (x : Term) → is_large (capped x) ≡ is_large x
 large-same x = by (is_large x) refl
   where
@@ -48,7 +34,7 @@ large-same x = by (is_large x) refl
     f = capped-fair x
 
     by : (b : Bool) → is_large x ≡ b → is_large (capped x) ≡ b
-    by true e = ltb-from MAX_NODES (nodes (capped x)) (f.large (ltb-true MAX_NODES (nodes x) e))
+    by true e = lt-ltb MAX_NODES (nodes (capped x)) (f.large (ltb-true MAX_NODES (nodes x) e))
     by false e = ap is_large (f.small (ltb-false MAX_NODES (nodes x) e)) ∙ e
 
 some_large-same : (xs : List Term) → some_large (map capped xs) ≡ some_large xs
@@ -56,15 +42,11 @@ unfolding some_large
 some_large-same [] = refl
 some_large-same (x ∷ xs) = ap (λ b. b || some_large (map capped xs)) (large-same x) ∙ ap (λ b. is_large x || b) (some_large-same xs)
 
-pub or-false : (a b : Bool) → a || b ≡ false → (a ≡ false) × (b ≡ false)
-or-false true b h = cc
-or-false false b h = (refl, h)
-
 exact-terms : (xs : List Term) → some_large xs ≡ false → AreExact xs
 unfolding some_large AreExact
 exact-terms [] h = tt
 exact-terms (x ∷ xs) h =
-    let w : (is_large x ≡ false) × (some_large xs ≡ false) = or-false (is_large x) (some_large xs) h in
+    let w : (is_large x ≡ false) × (some_large xs ≡ false) = or_parts (is_large x) (some_large xs) h in
     ((capped-fair x).small (ltb-false MAX_NODES (nodes x) w.0), exact-terms xs w.1)
 
 exact-map : (xs : List Term) → AreExact xs → map capped xs ≡ xs

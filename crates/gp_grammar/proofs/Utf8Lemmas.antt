@@ -22,9 +22,11 @@ use Rattle.gp_lexer.specs.declared.lexeme.Lexeme.TheVariants.{Symbol as Sign, Wo
 use Rattle.gp_base.specs.declared.text.TheConstants.{MAX_TEXT_LENGTH}
 use Rattle.gp_base.specs.Names.{is_lower_letter, is_name_byte, is_name}
 use Rattle.gp_base.specs.Texts.{quoted_byte}
-use Rattle.gp_lexer.specs.Lexemes.{symbol_text, spelled, IsProper, AreProper}
+use Rattle.gp_lexer.specs.Lexemes.{symbol_text, spelled}
+use Rattle.gp_lexer.specs.ProperLexemes.{IsProper, AreProper}
 use Rattle.gp_lexer.specs.Layout.{has_space, Page, empty_page, spaced, put, written, laid_out}
 use Rattle.gp_lexer.specs.Lexing.{Scanned, Quoted, Lexed, is_word_byte, is_blank, word_lexeme, word_at, number_lexeme, number_at, with_byte, quoted_text, quoted_text_after_quote, text_lexeme, signs, sign_among, sign_at, lexeme_at, with_lexeme, lexed_at, column_of, lexed_from, lexed}
+use Rattle.gp_base.proofs.SmallLemmas.{left_true, right_true}
 
 -- ---- UTF-8 around ASCII bytes
 
@@ -261,22 +263,14 @@ names-ascii (c ∷ bytes) h = by (is_name_byte c) (list_all is_name_byte bytes) 
     by true false e d k = cc
     by false y e d k = cc
 
-and-first : (a b : Bool) → a && b ≡ true → a ≡ true
-and-first true b h = refl
-and-first false b h = cc
-
-and-second : (a b : Bool) → a && b ≡ true → b ≡ true
-and-second true b h = h
-and-second false b h = cc
-
 letter-ascii : (c : ℕ) → is_lower_letter c ≡ true → c < 128
 letter-ascii c e = grind (arith, nat_tests)
 
 word-utf8 : (word : List ℕ) → is_name word ≡ true → IsUtf8 word
 word-utf8 [] h = IsUtf8-nil
 word-utf8 (c ∷ bytes) h =
-    let x : (is_lower_letter c && list_all is_name_byte bytes) ≡ true = and-first _ _ (and-first _ _ h) in
-    ascii-cons c bytes (letter-ascii c (and-first _ _ x)) (ascii-utf8 bytes (names-ascii bytes (and-second _ _ x)))
+    let x : (is_lower_letter c && list_all is_name_byte bytes) ≡ true = left_true _ _ (left_true _ _ h) in
+    ascii-cons c bytes (letter-ascii c (left_true _ _ x)) (ascii-utf8 bytes (names-ascii bytes (right_true _ _ x)))
 
 quoted_bytes-utf8 : (prefix bytes : List ℕ) → IsUtf8 (prefix ++ bytes) → IsUtf8 (prefix ++ flat_map quoted_byte bytes)
 quoted_bytes-utf8 prefix [] u = u

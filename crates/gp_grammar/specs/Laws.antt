@@ -1,8 +1,8 @@
 -- Part of the statement: what the laws say of a parser, a grammar and the definitions of reading.
-use Rattle.std.specs.Prelude.{◌≡◌, ◌↔◌, Bool, None, Ok, Err, true, false, ◌==◌}
+use Rattle.std.specs.Prelude.{◌≡◌, ◌↔◌, ℕ, Bool, List, None, Ok, Err, true, false, ◌==◌}
 use Rattle.std.specs.List.{list_any}
 use Rattle.std.specs.Str.{IsUtf8}
-use Rattle.gp_lexer.specs.Lexemes.{AreProper}
+use Rattle.gp_lexer.specs.ProperLexemes.{AreProper}
 use Rattle.gp_grammar.specs.declared.limits.TheConstants.{MAX_OPEN}
 use Rattle.gp_grammar.specs.Syntax as y
 use Rattle.gp_grammar.specs.Syntax.{Lexemes, Bytes, Command, is_statement, How, State, Query, LogChange}
@@ -13,7 +13,8 @@ use Rattle.gp_grammar.specs.Limits.{Shape, passed_limit, command_shape}
 use Rattle.gp_grammar.specs.Canonical.{command_lexemes, command_text}
 use Rattle.gp_grammar.specs.Parsing.{Parser, whole}
 use Rattle.gp_grammar.specs.CommandParsing.{command}
-use Rattle.gp_grammar.specs.LineReading.{Fault, ReadsText, RefusesText, ReadsLine, RefusesLine, read_text, read_line, command_of, question_of}
+use Rattle.gp_grammar.specs.LineReading.{Fault, ReadsText, RefusesText, ReadsLine, RefusesLine, AreReadOnce}
+use Rattle.gp_grammar.specs.Reading.{read_text, read_line, command_of, question_of}
 
 -- the parser builds this: a tree that the grammar derives, capped
 pub record Built {A : Type 0} (Is : Lexemes → A → Type 0) (cap : A → A) (lexemes : Lexemes) (built : A) : Type 0 where
@@ -50,6 +51,10 @@ module _ {A : Type 0} (parser : Parser A) (Is : Lexemes → A → Type 0) (cap :
 
   abbrev pub RefusesLinesExactly : Type 0
   RefusesLinesExactly = (bytes : Bytes) (fault : Fault) → (read_line parser shape bytes ≡ Err fault) ↔ RefusesLine Is shape bytes fault
+
+-- numbered lines are read in exactly one way
+abbrev pub ReadsLinesOnce : {A : Type 0} → (Lexemes → A → Type 0) → (A → Shape) → Type 0
+ReadsLinesOnce Is shape = (lines : List (ℕ × Bytes)) → AreReadOnce Is shape lines
 
 -- ---- changes
 

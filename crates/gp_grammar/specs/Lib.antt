@@ -13,3 +13,4 @@ pub mod Capping
 pub mod Parsing
 pub mod CommandParsing
 pub mod QuestionParsing
+pub mod Reading

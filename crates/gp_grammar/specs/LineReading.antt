@@ -1,16 +1,13 @@
 -- Part of the statement: what a line is read as, or its refusal, which is the first fault in the order of the tests: length, encoding,
 -- lexemes, open brackets, syntax, shape.
-use Rattle.std.specs.Prelude.{◌≡◌, ℕ, ◌+◌, ◌-◌, ◌≤◌, ◌<◌, true, false, List, length, Option, Some, None, Result, Ok, Err, if◌then◌else◌, nat_lt, slice_index_or}
-use Rattle.std.specs.Str.{IsUtf8, is_utf8}
-use Rattle.gp_lexer.specs.Lexing.{Lexed, lexed}
+use Rattle.std.specs.Prelude.{◌≡◌, ℕ, ◌+◌, ◌-◌, ◌≤◌, ◌<◌, true, false, List, [], ◌∷◌, length, Some, None, Result, Ok, Err, slice_index_or}
+use Rattle.std.specs.Str.{IsUtf8}
+use Rattle.gp_lexer.specs.Lexing.{lexed}
 use Rattle.gp_grammar.specs.declared.limits.TheConstants.{MAX_LINE_LENGTH, MAX_OPEN}
-use Rattle.gp_grammar.specs.Syntax.{Lexemes, Bytes, Command, ScriptLine, Question}
+use Rattle.gp_grammar.specs.Syntax.{Lexemes, Bytes}
 use Rattle.gp_grammar.specs.Places.{Stops}
 use Rattle.gp_grammar.specs.Depth.{is_too_deep}
-use Rattle.gp_grammar.specs.Limits.{Limit, depth, Shape, command_shape, line_shape, question_shape, passed_limit}
-use Rattle.gp_grammar.specs.Parsing.{Outcome, Parser, whole}
-use Rattle.gp_grammar.specs.CommandParsing.{command, script_line}
-use Rattle.gp_grammar.specs.QuestionParsing.{question}
+use Rattle.gp_grammar.specs.Limits.{Limit, depth, Shape, passed_limit}
 
 -- why a text is refused; columns count from 1
 pub data Fault : Type 0 where
@@ -59,37 +56,18 @@ module _ {A : Type 0} (Is : Lexemes → A → Type 0) (shape : A → Shape) wher
     long : MAX_LINE_LENGTH < length bytes → RefusesLine bytes too_long
     refused : (fault : Fault) → length bytes ≤ MAX_LINE_LENGTH → RefusesText bytes fault → RefusesLine bytes fault
 
--- ---- reading as functions
+  -- what becomes of a line: it is read as this, or refused for this fault
+  abbrev pub IsReadAs : Bytes → Result A Fault → Type 0
+  IsReadAs bytes (Ok x) = ReadsLine bytes x
+  IsReadAs bytes (Err fault) = RefusesLine bytes fault
 
-abbrev pub within_shape : {A : Type 0} → A → Option Limit → Result A Fault
-within_shape x None = Ok x
-within_shape x (Some limit) = Err (over limit)
+  -- numbered lines, and what becomes of each of them
+  pub data AreReadAs : List (ℕ × Bytes) → List (ℕ × Result A Fault) → Type 0 where
+    no_lines : AreReadAs [] []
+    next_line : (number : ℕ) (bytes : Bytes) (reading : Result A Fault) (lines : List (ℕ × Bytes)) (readings : List (ℕ × Result A Fault))
+        → IsReadAs bytes reading → AreReadAs lines readings → AreReadAs ((number, bytes) ∷ lines) ((number, reading) ∷ readings)
 
-abbrev pub placed : {A : Type 0} → (A → Shape) → Lexemes → List ℕ → ℕ → Outcome A → Result A Fault
-placed shape lexemes columns end (Ok x) = within_shape x (passed_limit (shape x))
-placed shape lexemes columns end (Err rest) = Err (syntax (column_of lexemes columns end rest))
-
-abbrev pub read_lexemes : {A : Type 0} → Parser A → (A → Shape) → Lexemes → List ℕ → ℕ → Result A Fault
-read_lexemes parser shape lexemes columns end =
-    if is_too_deep MAX_OPEN lexemes then Err (over depth) else placed shape lexemes columns end (whole parser lexemes)
-
-abbrev pub read_lexed : {A : Type 0} → Parser A → (A → Shape) → ℕ → Lexed → Result A Fault
-read_lexed parser shape end (Err column) = Err (lexical column)
-read_lexed parser shape end (Ok l) = read_lexemes parser shape l.0 l.1 end
-
-abbrev pub read_text : {A : Type 0} → Parser A → (A → Shape) → Bytes → Result A Fault
-read_text parser shape bytes =
-    if is_utf8 bytes then read_lexed parser shape (length bytes + 1) (lexed bytes) else Err not_utf8
-
-abbrev pub read_line : {A : Type 0} → Parser A → (A → Shape) → Bytes → Result A Fault
-read_line parser shape bytes = if nat_lt MAX_LINE_LENGTH (length bytes) then Err too_long else read_text parser shape bytes
-
--- a command without a session, of any length
-abbrev pub command_of : Bytes → Result Command Fault
-command_of = read_text command command_shape
-
-abbrev pub script_line_of : Bytes → Result ScriptLine Fault
-script_line_of = read_line script_line line_shape
-
-abbrev pub question_of : Bytes → Result Question Fault
-question_of = read_line question question_shape
+  -- exactly one list says what becomes of these lines
+  abbrev pub AreReadOnce : List (ℕ × Bytes) → Type 0
+  AreReadOnce lines =
+      (readings : List (ℕ × Result A Fault)) × AreReadAs lines readings × ((others : List (ℕ × Result A Fault)) → AreReadAs lines others → others ≡ readings)

@@ -10,6 +10,7 @@ ghost use Rattle.gp_grammar.specs.CommandParsing.{command, script_line};
 ghost use Rattle.gp_grammar.specs.QuestionParsing.{question};
 ghost use Rattle.gp_grammar.specs.Laws.{ParsesExactly, StopsExactly, IsUnambiguous, CapsFairly};
 ghost use Rattle.gp_grammar.specs.Laws.{ReadsTextsExactly, RefusesTextsExactly, ReadsLinesExactly, RefusesLinesExactly};
+ghost use Rattle.gp_grammar.specs.Laws.{ReadsLinesOnce};
 ghost use Rattle.gp_grammar.specs.Laws.{CanonicalIsDerived, CanonicalIsParsed, CanonicalIsShallow, CanonicalIsProper};
 ghost use Rattle.gp_grammar.specs.Laws.{ChangesAreStatements};
 ghost use Rattle.gp_grammar.specs.Laws.{CanonicalTextIsRead, CanonicalTextIsUtf8, CanonicalTextIsOneLine};
@@ -65,6 +66,12 @@ pub fn questions_are_read()
     ensures reads { ReadsLinesExactly question IsQuestion capped_question question_shape }
     ensures refuses { RefusesLinesExactly question IsQuestion capped_question question_shape }
     ensures statement { ChangesAreStatements }
+{}
+
+/// The numbered lines of a script, or of a file of questions, are read in exactly one way.
+pub fn lines_are_read_once()
+    ensures scripts { ReadsLinesOnce IsScriptLine line_shape }
+    ensures questions { ReadsLinesOnce IsQuestion question_shape }
 {}
 
 /// The canonical lexemes of a command that the grammar derives are derived as this command and, within the limits,

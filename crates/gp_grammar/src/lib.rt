@@ -4,8 +4,8 @@
 //! In reading order: `specs/Syntax` (the abstract syntax), `specs/Grammar`, `specs/CommandGrammar` and
 //! `specs/QuestionGrammar` (the rules, as inductive relations), `specs/Places` (where a syntax fault is),
 //! `specs/Depth` and `specs/Limits` (what is too large), `specs/LineReading` (the order of the tests) and
-//! `specs/Canonical` (the canonical lexemes of a command). `specs/Parsing`, `specs/CommandParsing` and
-//! `specs/QuestionParsing` are the parser as functions; the laws in `laws` tie them to the grammar.
+//! `specs/Canonical` (the canonical lexemes of a command). `specs/Parsing`, `specs/CommandParsing`,
+//! `specs/QuestionParsing` and `specs/Reading` are the parser as functions; the laws in `laws` tie them to the grammar.
 //!
 //! The parser that runs cites the functions, as in `ensures { Parses command_tree result (command lexemes.now) }`.
 #![tactic(auto)]
@@ -19,8 +19,8 @@ mod token_kind;
 
 pub use laws::{
     canonical_lexemes_are_parsed, canonical_texts_are_read, command_texts_are_read,
-    commands_are_parsed, questions_are_parsed, questions_are_read, script_lines_are_parsed,
-    script_lines_are_read, terms_are_parsed,
+    commands_are_parsed, lines_are_read_once, questions_are_parsed, questions_are_read,
+    script_lines_are_parsed, script_lines_are_read, terms_are_parsed,
 };
 pub use level::Level;
 pub use limits::{

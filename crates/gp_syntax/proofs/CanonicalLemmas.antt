@@ -16,6 +16,7 @@ use Rattle.gp_lexer.specs.Layout.{Page, put, written}
 use Rattle.gp_lexer.specs.Lexemes.{symbol_text}
 use Rattle.gp_grammar.specs.Syntax.{Lexemes, begin}
 use Rattle.gp_grammar.specs.Canonical.{joined_lexemes, number_lexemes, cell_lexemes, command_text}
+use Rattle.gp_base.proofs.SmallLemmas.{flat_map-map}
 
 pub written-append : (page : Page) (a b : Lexemes) → written page (a ++ b) ≡ written (written page a) b
 unfolding written
@@ -116,9 +117,6 @@ choice-pages p0 p1 p2 p3 p4 p5 p6 p7 a b c e1 e2 e3 e4 e5 e6 e7 =
     ∙ sym (choice-written p0 a b c)
 
 -- lists of viewed items
-pub flat_map-map : {X Y Z : Type 0} (f : Y → List Z) (view : X → Y) (xs : List X) → flat_map f (map view xs) ≡ flat_map (λ x. f (view x)) xs
-flat_map-map f view [] = refl
-flat_map-map f view (x ∷ xs) = ap (λ list. f (view x) ++ list) (flat_map-map f view xs)
 
 pub joined-map : {X A : Type 0} (separator : Lexemes) (lexemes : A → Lexemes) (view : X → A) (xs : List X)
     → joined_lexemes separator lexemes (map view xs) ≡ joined_lexemes separator (λ x. lexemes (view x)) xs

@@ -21,20 +21,13 @@ use Rattle.gp_syntax.specs.Refusals.{limit_of}
 use Rattle.gp_syntax.specs.Views.{block_view, item_view, items_view, set_view, term_view}
 use Rattle.gp_syntax.specs.declared.limits.Measure.TheVariants.{Nodes, Levels}
 use Rattle.gp_syntax.specs.Measures.{is_above, are_above, earlier, rank, set_term_of, terms_limit, term_limit, terms_of_block, terms_of_sets}
-
-pub list_any-map : {X Y : Type 0} (p : Y → Bool) (f : X → Y) (xs : List X) → list_any p (map f xs) ≡ list_any (λ x. p (f x)) xs
-list_any-map p f [] = refl
-list_any-map p f (x ∷ xs) = ap (λ b. p (f x) || b) (list_any-map p f xs)
+use Rattle.gp_base.proofs.SmallLemmas.{any-map, or_nothing}
 
 pub list_any-flat_map : {X Y : Type 0} (p : Y → Bool) (f : X → List Y) (xs : List X) → list_any p (flat_map f xs) ≡ list_any (λ x. list_any p (f x)) xs
 list_any-flat_map p f [] = refl
 list_any-flat_map p f (x ∷ xs) = list_any-append p (f x) (flat_map f xs) ∙ ap (λ b. list_any p (f x) || b) (list_any-flat_map p f xs)
 
-pub or-false : (b : Bool) → (b || false) ≡ b
-or-false true = refl
-or-false false = refl
-
-pub ruleset any = (list_any-map, list_any-flat_map, list_any-append, or-false)
+pub ruleset any = (any-map, list_any-flat_map, list_any-append, or_nothing)
 
 -- a saturated number above a limit
 above-by : (n m most : ℕ) (a b : Bool) → nat_lt most n ≡ a → nat_lt most m ≡ b → n ≡ min m (2 ^ 64 - 1) → most < 2 ^ 64 - 1 → a ≡ b
@@ -52,10 +45,10 @@ above-levels n term s = above-by n (levels term) MAX_LEVELS _ _ refl refl s (ome
 pub ruleset measures = (above-nodes, above-levels)
 
 pub over-nodes : (terms : List Term) → some_above MAX_NODES (map nodes terms) ≡ are_above Nodes terms
-over-nodes terms = list_any-map (λ n. nat_lt MAX_NODES n) nodes terms
+over-nodes terms = any-map (λ n. nat_lt MAX_NODES n) nodes terms
 
 pub over-levels : (terms : List Term) → some_above MAX_LEVELS (map levels terms) ≡ are_above Levels terms
-over-levels terms = list_any-map (λ n. nat_lt MAX_LEVELS n) levels terms
+over-levels terms = any-map (λ n. nat_lt MAX_LEVELS n) levels terms
 
 terms_limit-by : (a b : Bool) (terms : List Term) → some_above MAX_NODES (map nodes terms) ≡ a → some_above MAX_LEVELS (map levels terms) ≡ b → terms_limit terms ≡ term_limit a b
 terms_limit-by true b terms e f = rw e refl
@@ -83,16 +76,16 @@ pub ruleset queries = (limit-nodes, limit-levels, limit-none)
 
 -- lists of the code's values
 pub terms-above : (measure : Measure) (terms : List r.Term) → are_above measure (map term_view terms) ≡ list_any (λ term. is_above measure (term_view term)) terms
-terms-above measure terms = list_any-map (is_above measure) term_view terms
+terms-above measure terms = any-map (is_above measure) term_view terms
 
 pub blocks-above : (measure : Measure) (blocks : List Block) → are_above measure (terms_of_query (map block_view blocks)) ≡ list_any (λ block. are_above measure (terms_of_block (block_view block))) blocks
-blocks-above measure blocks = list_any-flat_map (is_above measure) terms_of_block (map block_view blocks) ∙ list_any-map (λ (b : y.Block). are_above measure (terms_of_block b)) block_view blocks
+blocks-above measure blocks = list_any-flat_map (is_above measure) terms_of_block (map block_view blocks) ∙ any-map (λ (b : y.Block). are_above measure (terms_of_block b)) block_view blocks
 
 pub sets-above : (measure : Measure) (sets : List SetTerm) → are_above measure (terms_of_sets (map set_view sets)) ≡ list_any (λ set. is_above measure (term_view set.term)) sets
-sets-above measure sets = list_any-map (is_above measure) set_term_of (map set_view sets) ∙ list_any-map (λ (set : y.SetTerm). is_above measure set.term) set_view sets
+sets-above measure sets = any-map (is_above measure) set_term_of (map set_view sets) ∙ any-map (λ (set : y.SetTerm). is_above measure set.term) set_view sets
 
 pub columns-above : (most : ℕ) (blocks : List Block) → some_above most (query_shape (map block_view blocks)).columns ≡ list_any (λ block. nat_lt most (length (listed (items_view block.items)))) blocks
-columns-above most blocks = list_any-map (λ n. nat_lt most n) (λ (b : y.Block). length (listed b.items)) (map block_view blocks) ∙ list_any-map (λ (b : y.Block). nat_lt most (length (listed b.items))) block_view blocks
+columns-above most blocks = any-map (λ n. nat_lt most n) (λ (b : y.Block). length (listed b.items)) (map block_view blocks) ∙ any-map (λ (b : y.Block). nat_lt most (length (listed b.items))) block_view blocks
 
 pub tables-above : (most : ℕ) (blocks : List Block) → some_above most (query_shape (map block_view blocks)).from ≡ list_any (λ block. nat_lt most (length block.from)) blocks
 tables-above most [] = refl

@@ -1,31 +1,24 @@
 -- Numbers in names.
-use Rattle.std.proofs.Common.{◌≡◌, ℕ, ◌-◌, ◌^◌, ◌<◌, ◌≤◌, Bool, true, false, cond, ◌&&◌, List, [], ◌∷◌, min, Some, None, refl, ap, arith, nat_le, nat_lt}
+use Rattle.std.proofs.Common.{◌≡◌, ℕ, ◌-◌, ◌^◌, ◌<◌, ◌≤◌, Bool, true, false, cond, List, [], ◌∷◌, min, Some, None, refl, ap, arith, nat_le, nat_lt}
 use Rattle.gp_syntax.specs.Names.{number_up_to}
 use Rattle.std.proofs.lemmas.Bool.Decides.{nat_tests}
 use Rattle.std.specs.Str.{all_ascii_digits}
 use Rattle.std.specs.Char.{digit_value, is_ascii_digit}
 use Rattle.std.specs.Str.Parse.{AllDigits, digits_value}
 use Rattle.gp_grammar.specs.CommandGrammar.{is_number_without_zero}
+use Rattle.gp_base.proofs.SmallLemmas.{left_true, right_true}
 
 is-digit : (b : ℕ) → is_ascii_digit b ≡ true → digit_value b < 10
 is-digit b h = grind (arith, nat_tests)
 
-and-left : (a b : Bool) → (a && b) ≡ true → a ≡ true
-and-left true b h = refl
-and-left false b h = h
-
-and-right : (a b : Bool) → (a && b) ≡ true → b ≡ true
-and-right true b h = h
-and-right false b h = absurd cc
-
 pub all-digits : (ds : List ℕ) → all_ascii_digits ds ≡ true → AllDigits 10 ds
 all-digits [] h = tt
-all-digits (d ∷ ds) h = (is-digit d (and-left (is_ascii_digit d) (all_ascii_digits ds) h), all-digits ds (and-right (is_ascii_digit d) (all_ascii_digits ds) h))
+all-digits (d ∷ ds) h = (is-digit d (left_true (is_ascii_digit d) (all_ascii_digits ds) h), all-digits ds (right_true (is_ascii_digit d) (all_ascii_digits ds) h))
 
 -- digits without leading zero are digits
 pub number-digits : (ds : List ℕ) → is_number_without_zero ds ≡ true → AllDigits 10 ds
 number-digits [] h = tt
-number-digits (d ∷ ds) h = all-digits (d ∷ ds) (and-left (all_ascii_digits (d ∷ ds)) (nat_lt 48 d) h)
+number-digits (d ∷ ds) h = all-digits (d ∷ ds) (left_true (all_ascii_digits (d ∷ ds)) (nat_lt 48 d) h)
 
 pub number-none : (ds : List ℕ) (most : ℕ) → is_number_without_zero ds ≡ false → number_up_to ds most ≡ None
 number-none ds most h = rw h refl

@@ -13,11 +13,13 @@ use Rattle.gp_grammar.specs.declared.limits.TheConstants.{MAX_OPEN}
 use Rattle.gp_grammar.specs.Syntax.{Lexemes, Bytes}
 use Rattle.gp_grammar.specs.Depth.{is_too_deep}
 use Rattle.gp_grammar.specs.Limits.{Shape, depth, passed_limit}
-use Rattle.gp_grammar.specs.LineReading.{Fault, not_utf8, over, syntax, column_of, placed, read_lexed, read_text, within_shape}
+use Rattle.gp_grammar.specs.LineReading.{Fault, not_utf8, over, syntax, column_of}
+use Rattle.gp_grammar.specs.Reading.{placed, read_lexed, read_text, within_shape}
 use Rattle.gp_grammar.specs.Parsing.{Parser, whole}
 use Rattle.gp_syntax.specs.declared.error.ReadStop.{ReadStop}
 use Rattle.gp_syntax.specs.declared.error.ReadStop.TheVariants.{Refused, NoMemory}
-use Rattle.gp_syntax.specs.Refusals.{Returns, limit_of, refusal_in}
+use Rattle.gp_syntax.specs.Refusals.{limit_of}
+use Rattle.gp_syntax.specs.ReadResults.{Returns, refusal_in}
 use Rattle.gp_syntax.specs.Tests.{shallow, tested_lexemes}
 
 module _ {A : Type 0} (parser : Parser A) (shape : A → Shape) where

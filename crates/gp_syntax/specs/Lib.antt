@@ -7,3 +7,4 @@ pub mod Refusals
 pub mod Tests
 pub mod Measures
 pub mod Layouts
+pub mod ReadResults

@@ -7,12 +7,14 @@ ghost use Rattle.gp_base.specs.declared.refusal.Refusal.TheVariants.{E03 as Synt
 ghost use Rattle.gp_lexer.specs.Lexing.{lexed};
 ghost use Rattle.gp_grammar.specs.CommandParsing.{command, script_line};
 ghost use Rattle.gp_grammar.specs.Limits.{Shape, passed_limit, command_shape, line_shape, question_shape};
-ghost use Rattle.gp_grammar.specs.LineReading.{column_of, command_of, question_of, read_text, script_line_of, within_shape};
+ghost use Rattle.gp_grammar.specs.LineReading.{column_of};
+ghost use Rattle.gp_grammar.specs.Reading.{command_of, question_of, read_text, script_line_of, within_shape};
 ghost use Rattle.gp_grammar.specs.Parsing.{Parser, whole};
 ghost use Rattle.gp_grammar.specs.QuestionParsing.{question};
 ghost use Rattle.gp_grammar.specs.Syntax as y;
 ghost use Rattle.gp_syntax.specs.Parses.{ParsesAll};
-ghost use Rattle.gp_syntax.specs.Refusals.{Returns, limit_of};
+ghost use Rattle.gp_syntax.specs.Refusals.{limit_of};
+ghost use Rattle.gp_syntax.specs.ReadResults.{Returns};
 ghost use Rattle.gp_syntax.specs.Tests.{shallow, tested_lexemes};
 ghost use Rattle.gp_syntax.specs.Views.{command_view, line_view, question_view};
 

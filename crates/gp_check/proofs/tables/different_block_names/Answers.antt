@@ -1,9 +1,9 @@
 use Rattle.std.proofs.Common.{rules}
-use Rattle.gp_check.proofs.NamesLemmas.{map_of_views}
 use Rattle.gp_check.proofs.tables.different_block_names.Goals as goal
+use Rattle.gp_base.proofs.SmallLemmas.{map-map}
 
 pub returns-in-None : goal.returns-in-None
-returns-in-None c = rw map_of_views (search rules)
+returns-in-None c = rw map-map (search rules)
 
 pub returns-in_ok-clone-in-Some : goal.returns-in_ok-clone-in-Some
-returns-in_ok-clone-in-Some c = rw map_of_views (search rules)
+returns-in_ok-clone-in-Some c = rw map-map (search rules)
