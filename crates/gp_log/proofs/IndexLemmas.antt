@@ -1,5 +1,5 @@
 -- What an entry adds to the versions of a log, and what an index knows with a transaction more.
-use Rattle.std.proofs.Common.{◌≡◌, ◌≢◌, ℕ, zero, suc, ◌+◌, ◌≤◌, ◌==◌, Bool, true, false, cond, List, [], ◌∷◌, ◌++◌, length, get_or, refl, sym, ap, ◌∙◌, arith, ⊎_elim}
+use Rattle.std.proofs.Common.{◌≡◌, ◌≢◌, ℕ, zero, suc, ◌+◌, ◌≤◌, ◌==◌, Bool, true, cond, List, [], ◌∷◌, ◌++◌, length, get_or, refl, sym, ap, ◌∙◌, arith, ⊎_elim}
 use Rattle.std.proofs.Math.Seq.{get_or-append_seam}
 use Rattle.std.proofs.lemmas.Bool.{cases_lt}
 use Rattle.std.proofs.lemmas.Bool.Decides.{nat_tests}
@@ -13,6 +13,7 @@ use Rattle.gp_log.specs.declared.index.Known.{Known}
 use Rattle.gp_log.specs.declared.entry.What.{What}
 use Rattle.gp_log.specs.declared.entry.What.TheVariants as w
 use Rattle.gp_log.proofs.SteadyLemmas.{steady_began}
+use Rattle.gp_base.proofs.SmallLemmas.{eq_not}
 
 -- a commit makes a version
 pub commits-counted : (line session t : ℕ) (what : What) (log : List m.Entry) → versions_in (what_view line session t what ∷ log) ≡ versions_in log + cond (commits what) 1 0
@@ -41,15 +42,12 @@ module _ (known : List Known) (log : List m.Entry) (line session t version : ℕ
     (knows : (place : ℕ) → get_or known place unknown ≡ known_of (suc place) log) (next : t ≡ length known + 1) (newest : version ≡ versions_in log) where
   other : (u : ℕ) → t ≢ u → known_of u log ≡ known_of u (m.Began line session t level ∷ log)
   other u apart = λ i. record {
-    begin = cond (sym (differ t u apart) i) (versions_in log) (begin_version u log);
-    read_committed = cond (sym (differ t u apart) i) level (is_read_committed u log);
+    begin = cond (sym (eq_not t u apart) i) (versions_in log) (begin_version u log);
+    read_committed = cond (sym (eq_not t u apart) i) level (is_read_committed u log);
     ran = statement_count u log;
     fate = fate_of u log;
     version = version_of u log;
   }
-    where
-      differ : (a b : ℕ) → a ≢ b → (a == b) ≡ false
-      differ a b n = grind (arith, nat_tests)
 
   -- it has no entry yet
   new : unknown ≡ known_of (suc (length known)) log

@@ -1,22 +1,17 @@
 -- In a log that keeps its sessions, a transaction reads versions before the one that it makes, and commits once.
 use Rattle.std.proofs.Common.{◌≡◌, ◌≢◌, ◌⊎◌, ℕ, zero, suc, ◌<◌, ◌≤◌, Bool, true, false, cond, List, [], ◌∷◌, Some, None, refl, sym, ap, ◌∙◌, subst, arith, inl, inr, ⊎_elim}
 use Rattle.std.specs.Prelude.{◌==◌, ◌&&◌}
-use Rattle.std.proofs.lemmas.Bool.{cases_lt, eq-eqb, false≢true, ne_eqb}
+use Rattle.std.proofs.lemmas.Bool.{cases_lt, eq-eqb, false≢true, ne_eqb, eqb-true}
 use Rattle.std.proofs.lemmas.Bool.Decides.{nat_tests}
 use Rattle.gp_machine.proofs.HeldPoints.{version_is}
 use Rattle.gp_machine.proofs.LogLemmas.{began_same, committed_same, created_same, ended_same, ran_same, versions_le}
 use Rattle.gp_machine.specs.Entries.{End, Entry, Created, Began, Ran, Committed, Ended, begin_version, committer_of, is_read_committed, log_of, statement_count, statement_version, transactions_in, version_of, versions_in}
 use Rattle.gp_machine.specs.Replaying.{CommitsInOrder}
-use Rattle.gp_log.proofs.SteadyLemmas.{equal_from, steady_began, steady_committed, steady_created, steady_ended, steady_none, steady_ran, unequal_from}
+use Rattle.gp_log.proofs.SteadyLemmas.{steady_began, steady_committed, steady_created, steady_ended, steady_none, steady_ran, unequal_from}
 use Rattle.gp_log.specs.Discipline.{transaction_in}
 use Rattle.gp_log.specs.Indexing.{AreSteady}
 use Rattle.gp_log.specs.Sessions.{KeepsSessions}
-
-some_is : (a b : ℕ) → Some a ≡ Some b → a ≡ b
-some_is a b e = cc
-
-none_some : (a : ℕ) → None ≡ Some a → ⊥
-none_some a e = cc
+use Rattle.std.proofs.lemmas.Option.{none-some, same_Some}
 
 pub record Orderly (entries : List Entry) : Type 0 where
   -- a transaction that a session has began, and made no version
@@ -36,7 +31,7 @@ module _ (line session t : ℕ) (level : Bool) (older : List Entry) (is : t ≡ 
   begun_cases : (s u : ℕ) → transaction_in s begins ≡ Some u → (Q : Type 0) → (s ≡ session → u ≡ t → Q) → (transaction_in s older ≡ Some u → Q) → Q
   begun_cases s u e Q here there =
       (elim (s == session) as (λ b. (s == session) ≡ b → cond b (Some t) (transaction_in s older) ≡ Some u → Q) [
-        | true ↦ λ same e. here (equal_from s session same) (sym (some_is t u e))
+        | true ↦ λ same e. here (eqb-true s session same) (sym (same_Some t u e))
         | false ↦ λ differ e. there e
       ]) refl e
 
@@ -61,7 +56,7 @@ module _ (line session t : ℕ) (older : List Entry) (runs : transaction_in sess
   left_cases : (s u : ℕ) → cond (s == session) None (transaction_in s older) ≡ Some u → (s ≢ session) × (transaction_in s older ≡ Some u)
   left_cases s u e =
       (elim (s == session) as (λ b. (s == session) ≡ b → cond b None (transaction_in s older) ≡ Some u → (s ≢ session) × (transaction_in s older ≡ Some u)) [
-        | true ↦ λ same e. absurd (none_some u e)
+        | true ↦ λ same e. absurd (none-some u e)
         | false ↦ λ differ e. ((λ same. false≢true (sym differ ∙ eq-eqb s session same)), e)
       ]) refl e
 
@@ -101,9 +96,9 @@ module _ (line session t : ℕ) (older : List Entry) (runs : transaction_in sess
 
 pub orderly : (entries : List Entry) → KeepsSessions entries → Orderly entries
 orderly [] keeps = record {
-  known = λ s t e. absurd (none_some t e);
-  unfinished = λ s t u e l. absurd (none_some t e);
-  apart = λ s o t e f. absurd (none_some t e);
+  known = λ s t e. absurd (none-some t e);
+  unfinished = λ s t u e l. absurd (none-some t e);
+  apart = λ s o t e f. absurd (none-some t e);
   makers = λ u l. absurd (omega arith);
   once = λ u v l m. absurd (omega arith);
 }
@@ -156,7 +151,7 @@ rises (Began line session u level ∷ older) keeps t k l = go (u == t) refl (ris
   where
     go : (b : Bool) → (u == t) ≡ b → statement_version t k older ≤ statement_version t (suc k) older
         → statement_version t k (Began line session u level ∷ older) ≤ statement_version t (suc k) (Began line session u level ∷ older)
-    go true own m = let none : statement_count u older ≡ 0 = none_before older u keeps.1.1 keeps.0 in let same = ap (λ n. statement_count n older) (equal_from u t own) in absurd (omega arith)
+    go true own m = let none : statement_count u older ≡ 0 = none_before older u keeps.1.1 keeps.0 in let same = ap (λ n. statement_count n older) (eqb-true u t own) in absurd (omega arith)
     go false own m =
         let same = began_same line session u level older t (suc k) (unequal_from u t own) in
         let a = same.version k (omega arith) in let b = same.version (suc k) (omega arith) in omega arith
@@ -258,7 +253,7 @@ maker_version (Committed line session t ∷ older) keeps u l = go (suc (versions
 
     go : (b : Bool) → (suc (versions_in older) == suc u) ≡ b → (u < versions_in older → version_of (committer_of (suc u) older) older ≡ Some (suc u))
         → cond (t == cond b t (committer_of (suc u) older)) (Some (suc (versions_in older))) (version_of (cond b t (committer_of (suc u) older)) older) ≡ Some (suc u)
-    go true same before = ap (λ b. cond b (Some (suc (versions_in older))) (version_of t older)) (eq-eqb t t refl) ∙ ap (λ n. Some n) (equal_from (suc (versions_in older)) (suc u) same)
+    go true same before = ap (λ b. cond b (Some (suc (versions_in older))) (version_of t older)) (eq-eqb t t refl) ∙ ap (λ n. Some n) (eqb-true (suc (versions_in older)) (suc u) same)
     go false same before =
         let below = under (versions_in older) u same l in
         let c : ℕ = committer_of (suc u) older in

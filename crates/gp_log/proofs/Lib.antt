@@ -1,5 +1,6 @@
 pub mod CountLemmas
 pub mod EntryLemmas
+pub mod FittingLogs
 pub mod IndexLemmas
 pub mod KeptSessions
 pub mod LineCommands

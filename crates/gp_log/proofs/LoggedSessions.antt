@@ -5,10 +5,10 @@ use Rattle.gp_base.specs.declared.refusal.Refusal.{Refusal}
 use Rattle.gp_base.specs.declared.table.Table.{Table}
 use Rattle.gp_grammar.specs.Syntax.{Command}
 use Rattle.gp_algebra.specs.Statements.{Statement}
-use Rattle.gp_machine.specs.Actions.{Action, Begin, Commit, Create, Rollback, Run, action_of}
+use Rattle.gp_machine.specs.Actions.{Action, Begin, Commit, Create, Rollback, Run, action_of, allowed}
 use Rattle.gp_machine.specs.Entries.{Entry, RolledBack, Lost, Created, Began, Ran, Committed, Ended, statement_count, statements_in, transactions_in}
 use Rattle.gp_machine.specs.Event.{count_refusal}
-use Rattle.gp_machine.specs.Limits.{Limits}
+use Rattle.gp_machine.specs.Parameters.{Parameters}
 use Rattle.gp_log.specs.Discipline.{Flaw, Disorder, Unchecked, IsLog, IsNext, creating, doing, losing, running, transaction_in}
 use Rattle.gp_log.specs.LogFacts.{tables_in}
 use Rattle.gp_log.specs.Sessions.{KeepsSessions}
@@ -22,9 +22,9 @@ accepted entry = Ok entry
 refused_accepted : (flaw : Flaw) (entry : Entry) → refused flaw ≡ accepted entry → ⊥
 refused_accepted flaw entry e = cc
 
-module _ (limits : Limits) where
+module _ (parameters : Parameters) where
   -- BEGIN has the next number
-  begun_is : (older : List Entry) (line session t : ℕ) (level : Bool) → IsNext limits older (Began line session t level) → t ≡ suc (transactions_in older)
+  begun_is : (older : List Entry) (line session t : ℕ) (level : Bool) → IsNext parameters older (Began line session t level) → t ≡ suc (transactions_in older)
   begun_is older line session t level next = go (transaction_in session older) _ next.follows
     where
       same : (u : ℕ) (kind : Bool) → accepted (Began line session u kind) ≡ accepted (Began line session t level) → t ≡ u
@@ -34,19 +34,19 @@ module _ (limits : Limits) where
       two true kind e = absurd (refused_accepted Disorder (Began line session t level) e)
       two false kind e = same (suc (transactions_in older)) kind e
 
-      go : (o : Option ℕ) (kind : Bool) → doing limits older line session o (Begin kind) ≡ Ok (Began line session t level) → t ≡ suc (transactions_in older)
-      go None kind e = two (nat_le limits.transactions (transactions_in older)) kind e
+      go : (o : Option ℕ) (kind : Bool) → doing parameters older line session (allowed o (Begin kind)) ≡ Ok (Began line session t level) → t ≡ suc (transactions_in older)
+      go None kind e = two (nat_le parameters.transactions (transactions_in older)) kind e
       go (Some u) kind e = absurd (refused_accepted Disorder (Began line session t level) e)
 
   -- a statement is of the transaction of its session
-  ran_is : (older : List Entry) (line session : ℕ) (command : Command) (t : ℕ) (statement : Statement) → IsNext limits older (Ran line session command t statement) → transaction_in session older ≡ Some t
+  ran_is : (older : List Entry) (line session : ℕ) (command : Command) (t : ℕ) (statement : Statement) → IsNext parameters older (Ran line session command t statement) → transaction_in session older ≡ Some t
   ran_is older line session command t statement next = go (transaction_in session older) (action_of command) next.follows
     where
-      created : (table : Table) (o : Option Refusal) → creating limits older line session table o ≡ accepted (Ran line session command t statement) → ⊥
+      created : (table : Table) (o : Option Refusal) → creating parameters older line session table o ≡ accepted (Ran line session command t statement) → ⊥
       created table (Some refusal) e = cc
       created table None e = cc
 
-      creates : (b : Bool) (table : Table) (o : Option Refusal) → cond b (refused Disorder) (creating limits older line session table o) ≡ accepted (Ran line session command t statement) → ⊥
+      creates : (b : Bool) (table : Table) (o : Option Refusal) → cond b (refused Disorder) (creating parameters older line session table o) ≡ accepted (Ran line session command t statement) → ⊥
       creates true table o e = cc
       creates false table o e = created table o e
 
@@ -54,14 +54,14 @@ module _ (limits : Limits) where
       begins true u level e = cc
       begins false u level e = cc
 
-      runs : (u : ℕ) (other : Command) (o : Option Refusal) (r : Result Statement Refusal) → running limits older line session u other o r ≡ accepted (Ran line session command t statement) → u ≡ t
+      runs : (u : ℕ) (other : Command) (o : Option Refusal) (r : Result Statement Refusal) → running parameters older line session u other o r ≡ accepted (Ran line session command t statement) → u ≡ t
       runs u other (Some refusal) r e = absurd (refused_accepted Disorder (Ran line session command t statement) e)
       runs u other None (Err refusal) e = absurd (refused_accepted Unchecked (Ran line session command t statement) e)
       runs u other None (Ok found) e = cc
 
-      go : (o : Option ℕ) (a : Action) → doing limits older line session o a ≡ Ok (Ran line session command t statement) → o ≡ Some t
-      go None (Create table) e = absurd (creates (nat_le limits.tables (length (tables_in older))) table (limits.created (tables_in older) table) e)
-      go None (Begin level) e = absurd (begins (nat_le limits.transactions (transactions_in older)) (suc (transactions_in older)) level e)
+      go : (o : Option ℕ) (a : Action) → doing parameters older line session (allowed o a) ≡ Ok (Ran line session command t statement) → o ≡ Some t
+      go None (Create table) e = absurd (creates (nat_le parameters.tables (length (tables_in older))) table (parameters.created (tables_in older) table) e)
+      go None (Begin level) e = absurd (begins (nat_le parameters.transactions (transactions_in older)) (suc (transactions_in older)) level e)
       go None Commit e = absurd (refused_accepted Disorder (Ran line session command t statement) e)
       go None Rollback e = absurd (refused_accepted Disorder (Ran line session command t statement) e)
       go None (Run other) e = absurd (refused_accepted Disorder (Ran line session command t statement) e)
@@ -70,51 +70,51 @@ module _ (limits : Limits) where
       go (Some u) Commit e = absurd (cc)
       go (Some u) Rollback e = absurd (cc)
       go (Some u) (Run other) e =
-          ap Some (runs u other (count_refusal limits (statement_count u older) (statements_in older)) (limits.checked (tables_in older) other) e)
+          ap Some (runs u other (count_refusal parameters (statement_count u older) (statements_in older)) (parameters.checked (tables_in older) other) e)
 
   -- a COMMIT is of the transaction of its session
-  committed_is : (older : List Entry) (line session t : ℕ) → IsNext limits older (Committed line session t) → transaction_in session older ≡ Some t
+  committed_is : (older : List Entry) (line session t : ℕ) → IsNext parameters older (Committed line session t) → transaction_in session older ≡ Some t
   committed_is older line session t next = go (transaction_in session older) next.follows
     where
       same : (u : ℕ) → accepted (Committed line session u) ≡ accepted (Committed line session t) → u ≡ t
       same u e = cc
 
-      go : (o : Option ℕ) → doing limits older line session o Commit ≡ Ok (Committed line session t) → o ≡ Some t
+      go : (o : Option ℕ) → doing parameters older line session (allowed o Commit) ≡ Ok (Committed line session t) → o ≡ Some t
       go None e = absurd (refused_accepted Disorder (Committed line session t) e)
       go (Some u) e = ap Some (same u e)
 
-module _ (limits : Limits) (older : List Entry) (line session : ℕ) where
+module _ (parameters : Parameters) (older : List Entry) (line session : ℕ) where
   -- CREATE TABLE
-  created_free : (table : Table) (entry : Entry) (o : Option ℕ) → doing limits older line session o (Create table) ≡ Ok entry → o ≡ None
+  created_free : (table : Table) (entry : Entry) (o : Option ℕ) → doing parameters older line session (allowed o (Create table)) ≡ Ok entry → o ≡ None
   created_free table entry None e = refl
   created_free table entry (Some t) e = absurd cc
 
   -- BEGIN
-  began_free : (level : Bool) (entry : Entry) (o : Option ℕ) → doing limits older line session o (Begin level) ≡ Ok entry → o ≡ None
+  began_free : (level : Bool) (entry : Entry) (o : Option ℕ) → doing parameters older line session (allowed o (Begin level)) ≡ Ok entry → o ≡ None
   began_free level entry None e = refl
   began_free level entry (Some u) e = absurd cc
 
   -- the end of a transaction
-  rolled_in : (t : ℕ) (o : Option ℕ) → doing limits older line session o Rollback ≡ Ok (Ended line session RolledBack t) → o ≡ Some t
+  rolled_in : (t : ℕ) (o : Option ℕ) → doing parameters older line session (allowed o Rollback) ≡ Ok (Ended line session RolledBack t) → o ≡ Some t
   rolled_in t None e = absurd cc
   rolled_in t (Some u) e = ap Some (is e)
     where
       is : accepted (Ended line session RolledBack u) ≡ accepted (Ended line session RolledBack t) → u ≡ t
       is e = cc
 
-  lost_in : (t : ℕ) (o : Option ℕ) → losing limits older line session o ≡ Ok (Ended line session Lost t) → o ≡ Some t
+  lost_in : (t : ℕ) (o : Option ℕ) → losing parameters older line session o ≡ Ok (Ended line session Lost t) → o ≡ Some t
   lost_in t None e = absurd cc
   lost_in t (Some u) e = ap Some (is e)
     where
       is : accepted (Ended line session Lost u) ≡ accepted (Ended line session Lost t) → u ≡ t
       is e = cc
 
-pub sessions_kept : (limits : Limits) (entries : List Entry) → IsLog limits entries → KeepsSessions entries
-sessions_kept limits [] log = tt
-sessions_kept limits (Created line session table ∷ older) log = (created_free limits older line session table _ (transaction_in session older) log.0.follows, sessions_kept limits older log.1)
-sessions_kept limits (Began line session t level ∷ older) log =
-    (begun_is limits older line session t level log.0, (began_free limits older line session level (Began line session t level) (transaction_in session older) log.0.follows, sessions_kept limits older log.1))
-sessions_kept limits (Ran line session command t statement ∷ older) log = (ran_is limits older line session command t statement log.0, sessions_kept limits older log.1)
-sessions_kept limits (Committed line session t ∷ older) log = (committed_is limits older line session t log.0, sessions_kept limits older log.1)
-sessions_kept limits (Ended line session RolledBack t ∷ older) log = (rolled_in limits older line session t (transaction_in session older) log.0.follows, sessions_kept limits older log.1)
-sessions_kept limits (Ended line session Lost t ∷ older) log = (lost_in limits older line session t (transaction_in session older) log.0.follows, sessions_kept limits older log.1)
+pub sessions_kept : (parameters : Parameters) (entries : List Entry) → IsLog parameters entries → KeepsSessions entries
+sessions_kept parameters [] log = tt
+sessions_kept parameters (Created line session table ∷ older) log = (created_free parameters older line session table _ (transaction_in session older) log.0.follows, sessions_kept parameters older log.1)
+sessions_kept parameters (Began line session t level ∷ older) log =
+    (begun_is parameters older line session t level log.0, (began_free parameters older line session level (Began line session t level) (transaction_in session older) log.0.follows, sessions_kept parameters older log.1))
+sessions_kept parameters (Ran line session command t statement ∷ older) log = (ran_is parameters older line session command t statement log.0, sessions_kept parameters older log.1)
+sessions_kept parameters (Committed line session t ∷ older) log = (committed_is parameters older line session t log.0, sessions_kept parameters older log.1)
+sessions_kept parameters (Ended line session RolledBack t ∷ older) log = (rolled_in parameters older line session t (transaction_in session older) log.0.follows, sessions_kept parameters older log.1)
+sessions_kept parameters (Ended line session Lost t ∷ older) log = (lost_in parameters older line session t (transaction_in session older) log.0.follows, sessions_kept parameters older log.1)

@@ -1,16 +1,13 @@
 -- A transaction that is not read committed has read its begin version, where no statement of it comes before its BEGIN.
 use Rattle.std.proofs.Common.{◌≡◌, ◌≢◌, ℕ, zero, suc, ◌≤◌, ◌==◌, Bool, true, false, cond, List, [], ◌∷◌, refl, ap, arith, ⊎_elim}
 use Rattle.std.specs.Prelude.{◌&&◌}
-use Rattle.std.proofs.lemmas.Bool.{cases_lt}
+use Rattle.std.proofs.lemmas.Bool.{cases_lt, eqb-true}
 use Rattle.std.proofs.lemmas.Bool.Decides.{nat_tests}
 use Rattle.gp_algebra.specs.Statements.{Statement}
 use Rattle.gp_base.specs.declared.table.Table.{Table}
 use Rattle.gp_grammar.specs.Syntax.{Command}
 use Rattle.gp_machine.specs.Entries.{Began, Committed, Created, End, Ended, Entry, Ran, begin_version, is_read_committed, statement_count, statement_version, versions_in}
 use Rattle.gp_log.specs.Indexing.{AreSteady}
-
-pub equal_from : (a b : ℕ) → (a == b) ≡ true → a ≡ b
-equal_from a b e = grind (arith, nat_tests)
 
 pub unequal_from : (a b : ℕ) → (a == b) ≡ false → a ≢ b
 unequal_from a b e f = grind (arith, nat_tests)
@@ -29,7 +26,7 @@ steady_began line session u level log none steady t (suc k) e l = go (u == t) re
   where
     go : (b : Bool) → (u == t) ≡ b → cond b level (is_read_committed t log) ≡ false → (is_read_committed t log ≡ false → suc k ≤ statement_count t log → statement_version t (suc k) log ≡ begin_version t log)
         → statement_version t (suc k) log ≡ cond b (versions_in log) (begin_version t log)
-    go true own e before = let same = ap (λ n. statement_count n log) (equal_from u t own) in absurd (omega arith)
+    go true own e before = let same = ap (λ n. statement_count n log) (eqb-true u t own) in absurd (omega arith)
     go false own e before = before e l
 
 pub steady_ran : (line session : ℕ) (command : Command) (u : ℕ) (statement : Statement) (log : List Entry) → AreSteady log → AreSteady (Ran line session command u statement ∷ log)

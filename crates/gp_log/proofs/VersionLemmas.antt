@@ -7,15 +7,13 @@ use Rattle.gp_algebra.specs.Statements.{Statement}
 use Rattle.gp_machine.specs.Entries as m
 use Rattle.gp_machine.specs.Entries.{begin_version, is_read_committed, statement_at, statement_count, statement_version, versions_in}
 use Rattle.gp_log.specs.Indexing.{AreSteady}
-use Rattle.gp_log.specs.LogFacts.{numbered, version_read}
+use Rattle.gp_log.specs.LogCounts.{numbered, version_read}
 use Rattle.gp_log.proofs.NumberingLemmas.{no-statement, statement-outside}
+use Rattle.std.proofs.lemmas.Bool.{and_right, leb-false}
+use Rattle.gp_base.proofs.SmallLemmas.{some_none}
 
 positive : (n : ℕ) → (suc n == zero) ≡ false
 positive n = grind (arith, nat_tests)
-
-never : (a b : Bool) → b ≡ false → (a && b) ≡ false
-never true b e = e
-never false b e = refl
 
 -- there is no statement 0
 none_read : (t : ℕ) (entries : List m.Entry) → version_read t zero entries ≡ None
@@ -23,7 +21,7 @@ none_read t [] = refl
 none_read t (m.Created line session table ∷ older) = none_read t older
 none_read t (m.Began line session u level ∷ older) = none_read t older
 none_read t (m.Ran line session command u statement ∷ older) =
-    ap (λ b. cond b (Some (cond (is_read_committed t older) (versions_in older) (begin_version t older))) (version_read t zero older)) (never (u == t) _ (positive (statement_count t older))) ∙ none_read t older
+    ap (λ b. cond b (Some (cond (is_read_committed t older) (versions_in older) (begin_version t older))) (version_read t zero older)) (and_right (u == t) _ (positive (statement_count t older))) ∙ none_read t older
 none_read t (m.Committed line session u ∷ older) = none_read t older
 none_read t (m.Ended line session end u ∷ older) = none_read t older
 
@@ -31,7 +29,7 @@ none_at : (t : ℕ) (entries : List m.Entry) → statement_at t zero entries ≡
 none_at t [] = refl
 none_at t (m.Created line session table ∷ older) = none_at t older
 none_at t (m.Began line session u level ∷ older) = none_at t older
-none_at t (m.Ran line session command u statement ∷ older) = ap (λ b. cond b (Some statement) (statement_at t zero older)) (never (u == t) _ (positive (statement_count t older))) ∙ none_at t older
+none_at t (m.Ran line session command u statement ∷ older) = ap (λ b. cond b (Some statement) (statement_at t zero older)) (and_right (u == t) _ (positive (statement_count t older))) ∙ none_at t older
 none_at t (m.Committed line session u ∷ older) = none_at t older
 none_at t (m.Ended line session end u ∷ older) = none_at t older
 
@@ -54,17 +52,11 @@ pub steady_read : (t k : ℕ) (entries : List m.Entry) → AreSteady entries →
     → numbered k (statement_count t entries) (begin_version t entries) ≡ option_map (λ (s : Statement). statement_version t k entries) (statement_at t k entries)
 steady_read t k entries steady kind = go (statement_at t k entries) refl (nat_lt 0 k) (nat_le k (statement_count t entries)) refl refl
   where
-    some_none : (s : Statement) → Some s ≡ None → ⊥
-    some_none s e = cc
-
     inside : (k n : ℕ) → nat_lt 0 k ≡ true → nat_le k n ≡ true → (0 < k) × (k ≤ n)
     inside k n a b = (grind (arith, nat_tests), grind (arith, nat_tests))
 
     zero_is : (k : ℕ) → nat_lt 0 k ≡ false → k ≡ 0
     zero_is k a = grind (arith, nat_tests)
-
-    above_is : (k n : ℕ) → nat_le k n ≡ false → n < k
-    above_is k n b = grind (arith, nat_tests)
 
     apart : (k n : ℕ) → (0 < k) × (k ≤ n) → (k ≡ 0) ⊎ (n < k) → ⊥
     apart k n within outside = ⊎_elim (λ z. omega (arith, within.0)) (λ l. omega (arith, within.1)) outside
@@ -75,5 +67,5 @@ steady_read t k entries steady kind = go (statement_at t k entries) refl (nat_lt
     go None is true false a b = refl
     go None is false b' a b = refl
     go (Some s) is true true a b = ap (λ n. Some n) (sym (steady t k kind (inside k (statement_count t entries) a b).1))
-    go (Some s) is true false a b = absurd (some_none s (sym is ∙ statement-outside t k entries (inr (above_is k (statement_count t entries) b))))
+    go (Some s) is true false a b = absurd (some_none s (sym is ∙ statement-outside t k entries (inr (leb-false k (statement_count t entries) b))))
     go (Some s) is false b' a b = absurd (some_none s (sym is ∙ statement-outside t k entries (inl (zero_is k a))))

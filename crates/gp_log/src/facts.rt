@@ -3,7 +3,7 @@
 ghost use Rattle.std.specs.Prelude.{◌≡◌, ◌<◌, ◌^◌, length};
 ghost use Rattle.std.specs.Option.{option_map};
 ghost use Rattle.gp_algebra.specs.Views.{statement_view};
-ghost use Rattle.gp_log.specs.LogFacts.{version_at, version_read};
+ghost use Rattle.gp_log.specs.LogCounts.{version_at, version_read};
 ghost use Rattle.gp_log.specs.Logs.{log_view};
 ghost use Rattle.gp_machine.specs.Entries.{begin_version, committer_of, fate_of, is_read_committed, statement_at, statement_count, version_of};
 

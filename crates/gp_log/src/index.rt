@@ -6,7 +6,7 @@ ghost use Rattle.gp_algebra.specs.Statements.{Statement};
 ghost use Rattle.gp_grammar.specs.Syntax.{Command};
 ghost use Rattle.gp_log.specs.Indexing.{AreSteady, IsIndex, begun, known_of};
 ghost use Rattle.gp_log.specs.Kinds.{HasNextNumber};
-ghost use Rattle.gp_log.specs.LogFacts.{numbered};
+ghost use Rattle.gp_log.specs.LogCounts.{numbered};
 ghost use Rattle.gp_log.specs.Logs.{what_view};
 ghost use Rattle.gp_machine.specs.Entries as m;
 ghost use Rattle.gp_machine.specs.Entries.{committer_of, fate_of_end, statement_count, versions_in};

@@ -3,7 +3,9 @@
 ghost use Rattle.std.specs.Prelude.{◌≡◌, ◌<◌, ◌≤◌, ◌+◌, ◌-◌, ◌^◌, ◌++◌, ◌∷◌, [], OnOk, OnErr, IsOk, if◌then◌else◌, true, false, length, slice_get, take, vec_capacity, vec_len, Some};
 ghost use Rattle.std.specs.Option.{option_map};
 ghost use Rattle.gp_algebra.specs.Views.{statement_view};
-ghost use Rattle.gp_log.specs.LogFacts.{numbered, open_in, tables_in, version_at};
+ghost use Rattle.gp_log.specs.Contents.{entries, tables};
+ghost use Rattle.gp_log.specs.LogFacts.{tables_in};
+ghost use Rattle.gp_log.specs.LogCounts.{numbered, open_in, version_at};
 ghost use Rattle.gp_log.specs.Logs.{log_view};
 ghost use Rattle.gp_log.specs.Indexing.{known_of};
 ghost use Rattle.gp_log.specs.Kinds.{begins, commits, created_by, creates, ends, is_statement, CreatesNew, IsAddable, IsNumbered};
@@ -35,7 +37,8 @@ impl Model for Log {
     ghost use Rattle.std.specs.Prelude.{◌≡◌, ◌≤◌, ◌<◌, ◌+◌, ◌-◌, ◌^◌, if◌then◌else◌, vec_len, vec_capacity};
     ghost use Rattle.gp_log.specs.Indexing.{IsIndex};
     ghost use Rattle.gp_log.specs.Kinds.{AreNumbered};
-    ghost use Rattle.gp_log.specs.LogFacts.{ends_in, tables_in};
+    ghost use Rattle.gp_log.specs.LogFacts.{tables_in};
+    ghost use Rattle.gp_log.specs.LogCounts.{ends_in};
     ghost use Rattle.gp_log.specs.LogCode.{logged_code};
     ghost use Rattle.gp_log.specs.Logs.{Logged, log_view};
     ghost use Rattle.gp_machine.specs.Entries.{statements_in, transactions_in, versions_in};
@@ -174,7 +177,7 @@ impl Log {
 
     /// The tables, in order of creation.
     pub fn catalog(&self) -> &Catalog
-        ensures { result.now ≡ tables_in (log_view self.now.entries) }
+        ensures { result.now ≡ tables self.now }
     {
         &self.catalog
     }
@@ -205,12 +208,11 @@ impl Log {
     /// is unchanged.
     pub fn append(&mut self, entry: Entry) -> Result<(), NoMemory>
         requires few { length self.old.entries < 2 ^ 32 - 1 }
-        requires new { IsAddable (log_view self.old.entries) entry }
+        requires new { IsAddable (entries self.old) entry }
         ensures ok { OnOk result (self.new.entries ≡ self.old.entries ++ entry ∷ []) }
         ensures used { OnOk result (self.new.ready ≡ false) }
         ensures err { OnErr result (self.new ≡ self.old) }
-        ensures ends { ends entry.what ≡ true
-            → 0 < open_in (log_view self.old.entries) → IsOk result }
+        ensures ends { ends entry.what ≡ true → 0 < open_in (entries self.old) → IsOk result }
         ensures ready { is_statement entry.what ≡ true → self.old.ready ≡ true → IsOk result }
     {
         let begun = self.begun + begun_by(&entry.what);
@@ -234,28 +236,28 @@ impl Log {
 impl Log {
     /// The number of commits, which is the newest version.
     pub fn commits(&self) -> u32
-        ensures { result ≡ versions_in (log_view self.now.entries) }
+        ensures { result ≡ versions_in (entries self.now) }
     {
         self.commits
     }
 
     /// How many transactions began. They are numbered from 1.
     pub fn transactions(&self) -> u32
-        ensures { result ≡ transactions_in (log_view self.now.entries) }
+        ensures { result ≡ transactions_in (entries self.now) }
     {
         self.begun
     }
 
     /// The number of statements, of all transactions.
     pub fn statements(&self) -> u32
-        ensures { result ≡ statements_in (log_view self.now.entries) }
+        ensures { result ≡ statements_in (entries self.now) }
     {
         self.statements
     }
 
     /// What is known of a transaction: by the index or, where that does not have it, by passes over the entries.
     fn known(&self, t: u32) -> Known
-        ensures { result ≡ known_of t (log_view self.now.entries) }
+        ensures { result ≡ known_of t (entries self.now) }
     {
         match self.index.known(t) {
             Some(known) => known,
@@ -271,7 +273,7 @@ impl Log {
 
     /// The transaction that made a version: by the index or, where that does not have it, by a pass over the entries.
     fn maker(&self, version: u32) -> u32
-        ensures { result ≡ committer_of version (log_view self.now.entries) }
+        ensures { result ≡ committer_of version (entries self.now) }
     {
         match self.index.committer(version) {
             Some(t) => t,
@@ -281,8 +283,8 @@ impl Log {
 
     /// What has become of the transaction, or None if no transaction has this number.
     pub fn fate(&self, t: u32) -> Option<Fate>
-        ensures { result ≡ numbered t (transactions_in (log_view self.now.entries))
-            (fate_of t (log_view self.now.entries)) }
+        ensures { result ≡ numbered t (transactions_in (entries self.now))
+            (fate_of t (entries self.now)) }
     {
         if 0 < t && t <= self.begun {
             Some(self.known(t).fate)
@@ -293,8 +295,8 @@ impl Log {
 
     /// The newest version when the transaction began, or None if no transaction has this number.
     pub fn begin_version(&self, t: u32) -> Option<u32>
-        ensures { result ≡ numbered t (transactions_in (log_view self.now.entries))
-            (begin_version t (log_view self.now.entries)) }
+        ensures { result ≡ numbered t (transactions_in (entries self.now))
+            (begin_version t (entries self.now)) }
     {
         if 0 < t && t <= self.begun {
             Some(self.known(t).begin)
@@ -306,14 +308,14 @@ impl Log {
     /// How many statements the transaction ran. A number that no transaction has ran none, in a log whose lines follow each
     /// other: [`statements_are_numbered`](crate::statements_are_numbered).
     pub fn statement_count(&self, t: u32) -> u32
-        ensures { result ≡ statement_count t (log_view self.now.entries) }
+        ensures { result ≡ statement_count t (entries self.now) }
     {
         self.known(t).ran
     }
 
     /// The version that the transaction made, if it made one.
     pub fn version_of(&self, t: u32) -> Option<u32>
-        ensures { result ≡ version_of t (log_view self.now.entries) }
+        ensures { result ≡ version_of t (entries self.now) }
     {
         self.known(t).version
     }
@@ -328,7 +330,7 @@ impl Log {
     /// above the count of its statements, by [`statements_are_numbered`](crate::statements_are_numbered).
     pub fn statement(&self, t: u32, k: u32) -> Option<&Stmt>
         ensures { option_map (λ s. statement_view s.now) result
-            ≡ statement_at t k (log_view self.now.entries) }
+            ≡ statement_at t k (entries self.now) }
     {
         facts::statement(&self.entries, t, k)
     }
@@ -337,8 +339,8 @@ impl Log {
     /// the transaction began, if it is not read committed. None if there is no such statement.
     #[tactic(auto, using(crate::proofs::VersionLemmas::version_read_is))]
     pub fn statement_version(&self, t: u32, k: u32) -> Option<u32>
-        ensures { result ≡ option_map (λ s. statement_version t k (log_view self.now.entries))
-            (statement_at t k (log_view self.now.entries)) }
+        ensures { result ≡ option_map (λ s. statement_version t k (entries self.now))
+            (statement_at t k (entries self.now)) }
     {
         match self.index.known(t) {
             // A pass over the entries for each statement would be slow in a history without the words.
@@ -349,8 +351,8 @@ impl Log {
 
     /// The transaction that made the version, or None if no commit did.
     pub fn committer(&self, version: u32) -> Option<u32>
-        ensures { result ≡ numbered version (versions_in (log_view self.now.entries))
-            (committer_of version (log_view self.now.entries)) }
+        ensures { result ≡ numbered version (versions_in (entries self.now))
+            (committer_of version (entries self.now)) }
     {
         if 0 < version && version <= self.commits {
             Some(self.maker(version))
@@ -361,7 +363,7 @@ impl Log {
 
     /// The number of commits at lines up to this one.
     pub fn version_at(&self, line: u32) -> u32
-        ensures { result ≡ version_at line (log_view self.now.entries) }
+        ensures { result ≡ version_at line (entries self.now) }
     {
         facts::version_at(&self.entries, line)
     }

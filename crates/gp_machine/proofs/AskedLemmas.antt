@@ -1,23 +1,14 @@
 -- What the log does not refuse may be asked about.
-use Rattle.std.proofs.Common.{◌≡◌, ℕ, ◌≤◌, Bool, true, false, cond, List, refl, arith, Option, Some, None, nat_le}
+use Rattle.std.proofs.Common.{◌≡◌, ℕ, ◌≤◌, Bool, true, false, cond, List, refl, Option, Some, None, nat_le}
 use Rattle.std.specs.Prelude.{◌&&◌, not, nat_lt}
-use Rattle.std.specs.Option.{option_or, is_none}
-use Rattle.std.proofs.lemmas.Bool.Decides.{nat_tests}
+use Rattle.std.specs.Option.{is_none}
 use Rattle.gp_grammar.specs.Syntax as y
 use Rattle.gp_base.specs.declared.refusal.Refusal.TheVariants.{E20, E21, E22, E23}
 use Rattle.gp_machine.specs.Entries.{Entry, fate_of, statement_count, version_of, versions_in}
 use Rattle.gp_machine.specs.Points.{IsAsked, to_commit, to_statement, to_version}
 use Rattle.gp_machine.specs.Questions.{is_known, log_refusal, statement_refusal, transaction_refusal}
-
-within_from : (a b : ℕ) → nat_le a b ≡ true → a ≤ b
-within_from a b e = grind (arith, nat_tests)
-
-some_none : {A : Type 0} (a : A) → Some a ≡ None → ⊥
-some_none a e = cc
-
-none_parts : {A : Type 0} (a b : Option A) → option_or a b ≡ None → (a ≡ None) × (b ≡ None)
-none_parts None b e = (refl, e)
-none_parts (Some a) b e = absurd (some_none a e)
+use Rattle.gp_base.proofs.SmallLemmas.{none_parts, some_none}
+use Rattle.std.proofs.lemmas.Bool.{leb-true}
 
 -- a transaction that the log does not refuse made a version
 made_version : (t : ℕ) (entries : List Entry) → transaction_refusal t entries ≡ None → (version : ℕ) × (version_of t entries ≡ Some version)
@@ -32,7 +23,7 @@ has_statement : (t k : ℕ) (entries : List Entry) → statement_refusal t k ent
 has_statement t k entries e = go (nat_lt 0 k) (nat_le k (statement_count t entries)) refl e
   where
     go : (a b : Bool) → nat_le k (statement_count t entries) ≡ b → cond (a && b) None (Some (E22 t (statement_count t entries))) ≡ None → k ≤ statement_count t entries
-    go true true is e = within_from k (statement_count t entries) is
+    go true true is e = leb-true k (statement_count t entries) is
     go true false is e = absurd (some_none _ e)
     go false b is e = absurd (some_none _ e)
 
@@ -41,7 +32,7 @@ pub asked : (entries : List Entry) (point : y.State) → log_refusal entries poi
 asked entries (y.as_of version) e = go (nat_le version (versions_in entries)) refl e
   where
     go : (b : Bool) → nat_le version (versions_in entries) ≡ b → cond b None (Some (E23 (versions_in entries))) ≡ None → IsAsked entries (y.as_of version)
-    go true is e = to_version (within_from version (versions_in entries) is)
+    go true is e = to_version (leb-true version (versions_in entries) is)
     go false is e = absurd (some_none _ e)
 asked entries (y.after t k) e =
     let parts = none_parts (transaction_refusal t entries) (statement_refusal t k entries) e in

@@ -3,17 +3,17 @@
 use Rattle.std.proofs.Common.{◌≡◌, ℕ, zero, suc, ◌<◌, ◌≤◌, Bool, true, false, cond, List, ◌++◌, refl, sym, ap, ◌∙◌, subst, arith, map, Option, Some, None, ⊎_elim, ◌≢◌}
 use Rattle.std.specs.Prelude.{◌||◌, ◌==◌}
 use Rattle.std.specs.List.{filter}
-use Rattle.std.proofs.lemmas.Bool.{false≢true, cases_lt}
+use Rattle.std.proofs.lemmas.Bool.{false≢true, cases_lt, eqb-true}
 use Rattle.std.proofs.lemmas.List.Folds.{list_any-append}
 use Rattle.std.proofs.lemmas.List.{append-nil}
-use Rattle.gp_algebra.proofs.Lists.{any-map}
 use Rattle.gp_algebra.specs.Effects.{Written}
 use Rattle.gp_algebra.specs.Statements.{Statement}
 use Rattle.gp_base.specs.Annotated.{Annotated, Annotations, Database, Environment}
-use Rattle.gp_base.specs.Identities.{Identity, same_identity, statement_of, transaction_of}
+use Rattle.gp_base.specs.Identities.{Identity, same_identity}
+use Rattle.gp_base.specs.IdentityParts.{statement_of, transaction_of}
 use Rattle.gp_machine.proofs.BaseLemmas.{each_front, found, is_written_based}
-use Rattle.gp_machine.proofs.Distinct.{differ_map, each_all, each_append, each_both, each_filter, each_map, each_weaker, none_any}
-use Rattle.gp_machine.proofs.Made.{eq_from, same_equal}
+use Rattle.gp_machine.proofs.Distinct.{differ_map, each_all, each_both, each_filter, each_weaker, none_any}
+use Rattle.gp_machine.proofs.Made.{same_equal}
 use Rattle.gp_machine.proofs.PublishLemmas.{publish_is}
 use Rattle.gp_machine.proofs.StepViews.{AllKept, MadeBy, kept_agree, step_each, step_kept}
 use Rattle.gp_machine.proofs.ViewLemmas.{holds_each, holds_others, kept_merged, unique_merged}
@@ -24,8 +24,9 @@ use Rattle.gp_machine.specs.Histories.{IsHistory}
 use Rattle.gp_machine.specs.Publishing.{holds, publish}
 use Rattle.gp_machine.specs.Reading.{Seen, seen_by, started, wrote_by}
 use Rattle.gp_machine.specs.Runs.{at_commit, refreshed, run, stepped}
-use Rattle.gp_machine.specs.Views.{HaveDifferentIdentities, IsView, same_row, unwritten}
+use Rattle.gp_machine.specs.SeenRows.{HaveDifferentIdentities, AreSeenRows, same_row, unwritten}
 use Rattle.std.specs.List.{AllByRecursion}
+use Rattle.gp_base.proofs.SmallLemmas.{any-map, each_append, each_map, or_nothing}
 
 -- the identity was made by the transaction of one of the first u commits
 abbrev pub IsMadeBy : Log → ℕ → Identity → Type 0
@@ -37,20 +38,20 @@ pub record Sound {M : Type 0} (log : Log) (u : ℕ) (rows : List (Annotated M)) 
   pub unmarked : AllByRecursion (λ row. row.mark ≡ false) rows
   pub makers : AllByRecursion (λ row. IsMadeBy log u row.identity) rows
 
-module _ {M : Type 0} (kind : Annotations M) (log : Log) (committed : Environment M) (written : ℕ → List Written) (history : IsHistory kind log committed written) where
+module _ {M : Type 0} (domain : Annotations M) (log : Log) (committed : Environment M) (written : ℕ → List Written) (history : IsHistory domain log committed written) where
   abbrev seen : ℕ → ℕ → Seen M
-  seen t k = seen_by kind log t k committed
+  seen t k = seen_by domain log t k committed
 
   -- ---- the view of a transaction
 
   stepped_each : (P : Identity → Type 0) (t k : ℕ) (statement : Option Statement) (view : Database M) → ((n : ℕ) (ids : _) → P (Identity.identity t k n ids)) → ((table : ℕ) → AllByRecursion (λ row. P row.identity) (view table)) →
-      (table : ℕ) → AllByRecursion (λ row. P row.identity) (stepped kind t k statement view table)
+      (table : ℕ) → AllByRecursion (λ row. P row.identity) (stepped domain t k statement view table)
   stepped_each P t k None view new old = old
-  stepped_each P t k (Some statement) view new old = step_each kind P t k statement view new old
+  stepped_each P t k (Some statement) view new old = step_each domain P t k statement view new old
 
-  stepped_kept : (t k : ℕ) (statement : Option Statement) (w : List Written) (base view : Database M) → AllKept base view w → MadeBy t k view → AllKept base (stepped kind t (suc k) statement view) (w ++ wrote_by kind t (suc k) statement view)
+  stepped_kept : (t k : ℕ) (statement : Option Statement) (w : List Written) (base view : Database M) → AllKept base view w → MadeBy t k view → AllKept base (stepped domain t (suc k) statement view) (w ++ wrote_by domain t (suc k) statement view)
   stepped_kept t k None w base view kept old = subst (AllKept base view) (sym (append-nil w)) kept
-  stepped_kept t k (Some statement) w base view kept old = step_kept kind t k statement w base view kept old
+  stepped_kept t k (Some statement) w base view kept old = step_kept domain t k statement w base view kept old
 
   started_each : (P : Identity → Type 0) (old new : ℕ) (s : Seen M) → ((table : ℕ) → AllByRecursion (λ row. P row.identity) (committed new table)) → ((table : ℕ) → AllByRecursion (λ row. P row.identity) (s.view table)) → (table : ℕ) → AllByRecursion (λ row. P row.identity) (started old new (committed new) s table)
   started_each P old new s a b table =
@@ -92,16 +93,16 @@ module _ {M : Type 0} (kind : Annotations M) (log : Log) (committed : Environmen
   pub started_kept : (t k : ℕ) → Clean t (suc k) → AllKept (committed (log.version t k)) (seen t k).view (pairs (seen t k).written) →
       AllKept (committed (log.version t (suc k))) (started (log.version t k) (log.version t (suc k)) (committed (log.version t (suc k))) (seen t k)) (pairs (seen t k).written)
   started_kept t k c kept table =
-      elim (log.version t (suc k) == log.version t k) as (λ b. (log.version t (suc k) == log.version t k) ≡ b → IsView (λ id. is_written table id (pairs (seen t k).written)) (committed (log.version t (suc k)) table)
+      elim (log.version t (suc k) == log.version t k) as (λ b. (log.version t (suc k) == log.version t k) ≡ b → AreSeenRows (λ id. is_written table id (pairs (seen t k).written)) (committed (log.version t (suc k)) table)
       ((cond b (seen t k).view (merged (committed (log.version t (suc k))) (seen t k).view (pairs (seen t k).written))) table)) [
-        | true ↦ λ e. subst (λ v. IsView (λ id. is_written table id (pairs (seen t k).written)) (committed v table) ((seen t k).view table)) (sym (eq_from (log.version t (suc k)) (log.version t k) e)) (kept table)
+        | true ↦ λ e. subst (λ v. AreSeenRows (λ id. is_written table id (pairs (seen t k).written)) (committed v table) ((seen t k).view table)) (sym (eqb-true (log.version t (suc k)) (log.version t k) e)) (kept table)
         | false ↦ λ e. kept_merged (λ id. is_written table id (pairs (seen t k).written)) (committed (log.version t k) table) ((seen t k).view table) (committed (log.version t (suc k)) table) (kept table) (c.different (suc k) (omega arith) table) (c.unmarked (suc k) (omega arith) table)
       ] refl
 
   pub view_kept : (t k : ℕ) → Clean t k → AllKept (committed (log.version t k)) (seen t k).view (pairs (seen t k).written)
   view_kept t zero c = λ table. record { different = c.different zero (omega arith) table; marks = c.unmarked zero (omega arith) table; others = refl }
   view_kept t (suc k) c = λ table.
-      kept_agree _ _ _ _ (λ id. sym (is_written_based table id (log.version t (suc k)) (seen t k).written (wrote_by kind t (suc k) (log.statement t (suc k)) (started (log.version t k) (log.version t (suc k)) (committed (log.version t (suc k))) (seen t k)))))
+      kept_agree _ _ _ _ (λ id. sym (is_written_based table id (log.version t (suc k)) (seen t k).written (wrote_by domain t (suc k) (log.statement t (suc k)) (started (log.version t k) (log.version t (suc k)) (committed (log.version t (suc k))) (seen t k)))))
       (stepped_kept t k (log.statement t (suc k)) (pairs (seen t k).written) (committed (log.version t (suc k))) (started (log.version t k) (log.version t (suc k)) (committed (log.version t (suc k))) (seen t k))
       (started_kept t k c (view_kept t k (shorter t k c))) (made_start t k c.others (made_view t k (λ j l. c.others j (omega arith)))) table)
 
@@ -120,7 +121,7 @@ module _ {M : Type 0} (kind : Annotations M) (log : Log) (committed : Environmen
       let begun = begun_before t (suc k) rising in
       each_append _ (seen t k).written _
       (each_weaker _ _ (λ based w. let last = rising k (omega arith) in (w.0, omega (arith, w.1))) (seen t k).written (bases_within t k (λ j l. rising j (omega arith))))
-      (each_map _ (λ pair. Unit {0}) _ (λ pair g. (begun, omega arith)) _ (each_all _ (λ pair. tt) (filter _ (wrote_by kind t (suc k) (log.statement t (suc k)) (started (log.version t k) (log.version t (suc k)) (committed (log.version t (suc k))) (seen t k))))))
+      (each_map _ (λ pair. Unit {0}) _ (λ pair g. (begun, omega arith)) _ (each_all _ (λ pair. tt) (filter _ (wrote_by domain t (suc k) (log.statement t (suc k)) (started (log.version t k) (log.version t (suc k)) (committed (log.version t (suc k))) (seen t k))))))
 
   -- ---- one commit
 
@@ -142,7 +143,7 @@ module _ {M : Type 0} (kind : Annotations M) (log : Log) (committed : Environmen
       ∙ list_any-append (λ row. same_identity row.identity id) (unwritten p (committed u table)) (filter (λ row. p row.identity) view)
       ∙ ap (λ b. b || holds id (filter (λ row. p row.identity) view)) (holds_others p id (committed u table) e)
       ∙ ap (λ b. holds id (committed u table) || b) (none_any _ (filter (λ row. p row.identity) view) (each_filter _ (λ row. Unit {0}) (λ row. p row.identity) (λ row f g. unlike row f) view (each_all _ (λ row. tt) view)))
-      ∙ nothing (holds id (committed u table))
+      ∙ or_nothing (holds id (committed u table))
     where
       p : Identity → Bool
       p id = is_written table id (written (suc u))
@@ -155,10 +156,6 @@ module _ {M : Type 0} (kind : Annotations M) (log : Log) (committed : Environmen
         | true ↦ λ g. absurd (false≢true (sym e ∙ ap p (sym (same_equal row.identity id g)) ∙ f))
         | false ↦ λ g. refl
       ] refl
-
-      nothing : (b : Bool) → (b || false) ≡ b
-      nothing true = refl
-      nothing false = refl
 
   -- one that was not written after v stands in a later version exactly where it stands in version v
   pub holds_since : (u v table : ℕ) (id : Identity) → v ≤ u → u ≤ log.versions → ((w : ℕ) → v < w → w ≤ u → is_written table id (written w) ≡ false) → holds id (committed u table) ≡ holds id (committed v table)
@@ -208,16 +205,16 @@ module _ {M : Type 0} (kind : Annotations M) (log : Log) (committed : Environmen
     ]
 
     -- run again over the committed versions, the transaction sees what it saw
-    pub run_is_seen : (k : ℕ) → k ≤ log.statement_count t → run kind log t k committed ≡ (seen t k).view
+    pub run_is_seen : (k : ℕ) → k ≤ log.statement_count t → run domain log t k committed ≡ (seen t k).view
     run_is_seen zero l = refl
-    run_is_seen (suc k) l = ap (stepped kind t (suc k) (log.statement t (suc k))) (ap (refreshed (log.version t k) (log.version t (suc k)) committed) (run_is_seen k (omega arith)) ∙ refreshed_is k l)
+    run_is_seen (suc k) l = ap (stepped domain t (suc k) (log.statement t (suc k))) (ap (refreshed (log.version t k) (log.version t (suc k)) committed) (run_is_seen k (omega arith)) ∙ refreshed_is k l)
 
   -- the parts of the invariant at the end of the transaction that made version u + 1
   pub kept_at_end : (u : ℕ) → u < log.versions → ((v : ℕ) → v ≤ u → IsSound v) → AllKept (committed (log.version (log.committer (suc u)) (log.statement_count (log.committer (suc u))))) (seen (log.committer (suc u)) (log.statement_count (log.committer (suc u)))).view (written (suc u))
   kept_at_end u inside sound = subst (AllKept _ _) (sym (history.wrote u inside)) (view_kept (log.committer (suc u)) (log.statement_count (log.committer (suc u))) (clean u inside sound (log.statement_count (log.committer (suc u))) (omega arith)))
 
   -- publishing by marks and absence is the commit
-  publish_at_end : (u : ℕ) → u < log.versions → ((v : ℕ) → v ≤ u → IsSound v) → (table : ℕ) → at_commit kind log (log.committer (suc u)) u committed table
+  publish_at_end : (u : ℕ) → u < log.versions → ((v : ℕ) → v ≤ u → IsSound v) → (table : ℕ) → at_commit domain log (log.committer (suc u)) u committed table
       ≡ merged (committed u) (seen (log.committer (suc u)) (log.statement_count (log.committer (suc u)))).view (written (suc u)) table
   publish_at_end u inside sound table =
       let t : ℕ = log.committer (suc u) in
@@ -255,5 +252,5 @@ module _ {M : Type 0} (kind : Annotations M) (log : Log) (committed : Environmen
       ⊎_elim (λ below. earlier v (omega arith)) (λ above. let is : v ≡ suc u = omega arith in subst IsSound (sym is) (sound_next u inside earlier)) (cases_lt v (suc u))
 
   -- The database that publishing by marks and absence gives for the transaction that made a version is the one that its commit made.
-  pub computed_is : (u : ℕ) → u < log.versions → (table : ℕ) → cleared (at_commit kind log (log.committer (suc u)) u committed) table ≡ committed (suc u) table
+  pub computed_is : (u : ℕ) → u < log.versions → (table : ℕ) → cleared (at_commit domain log (log.committer (suc u)) u committed) table ≡ committed (suc u) table
   computed_is u inside table = ap (map unmarked) (publish_at_end u inside (all_sound u (omega arith)) table) ∙ sym (history.published u table inside)

@@ -2,21 +2,22 @@
 use Rattle.std.proofs.Common.{◌≡◌, ◌≢◌, ℕ, zero, suc, ◌-◌, ◌<◌, ◌≤◌, ◌⊎◌, inl, inr, ⊎_elim, Bool, true, false, cond, List, [], ◌∷◌, refl, sym, ap, ◌∙◌, subst, arith, map, Option, Some, None}
 use Rattle.std.specs.Prelude.{◌&&◌, ◌||◌, ◌==◌, not, option_and_then}
 use Rattle.std.specs.List.{filter}
-use Rattle.std.proofs.lemmas.Bool.{false≢true}
+use Rattle.std.proofs.lemmas.Bool.{false≢true, and_parts, eqb-true, not-true, or_right}
 use Rattle.gp_algebra.specs.Answers.{Element, answer}
 use Rattle.gp_algebra.specs.Effects.{Written, given_from, made, written_in, wrote}
 use Rattle.gp_algebra.specs.Statements.{Statement, delete, insert, insert_select, read, update}
 use Rattle.gp_base.specs.Annotated.{Annotated, Annotations, Database, Environment, plain}
-use Rattle.gp_base.specs.Identities.{Identity, same_identity, transaction_of}
+use Rattle.gp_base.specs.Identities.{Identity, same_identity}
+use Rattle.gp_base.specs.IdentityParts.{transaction_of}
 use Rattle.gp_base.specs.declared.cell.Cell.{Cell}
 use Rattle.gp_expr.specs.Values.{passes}
 use Rattle.gp_machine.proofs.ActiveLemmas.{IsOver, active_clean, active_over, made_by_others}
 use Rattle.gp_machine.proofs.BaseLemmas.{base_is, bases_kept, found as what_holds, is_based, of_based}
 use Rattle.gp_machine.proofs.CommitLemmas.{Clean, IsMadeBy, all_sound, clean, started_kept, view_kept}
-use Rattle.gp_machine.proofs.Distinct.{each_append, each_both, each_filter, each_map, each_weaker, or_true}
+use Rattle.gp_machine.proofs.Distinct.{each_both, each_filter, each_weaker}
 use Rattle.gp_machine.proofs.EngineLemmas.{line_follows}
 use Rattle.gp_machine.proofs.LeastLemmas.{least_conflict_is, least_once, next_first}
-use Rattle.gp_machine.proofs.Made.{and_true, eq_from, eq_itself, same_equal, same_itself}
+use Rattle.gp_machine.proofs.Made.{same_equal, same_itself}
 use Rattle.gp_machine.proofs.ReachedLemmas.{all_reached, not_lost}
 use Rattle.gp_machine.proofs.SpanEnds.{spans_end}
 use Rattle.gp_machine.proofs.SpanLaws.{each_span, plain_spans_rows, spans_apart, spans_whole}
@@ -32,7 +33,7 @@ use Rattle.gp_machine.specs.Entries.{Log, begin_version, log_of}
 use Rattle.gp_machine.specs.Event.{Line, after}
 use Rattle.gp_machine.specs.HistorySpans.{as_of, next_written, spans_of}
 use Rattle.gp_machine.specs.Histories.{IsHistory}
-use Rattle.gp_machine.specs.Limits.{Limits}
+use Rattle.gp_machine.specs.Parameters.{Parameters}
 use Rattle.gp_machine.specs.Publishing.{holds}
 use Rattle.gp_machine.specs.Reached.{IsReached}
 use Rattle.gp_machine.specs.Represents.{Kept, Overlay, Represents, RepresentsActive, base_in}
@@ -40,9 +41,11 @@ use Rattle.gp_machine.specs.Reading.{Seen, seen_by, start_by, wrote_by}
 use Rattle.gp_machine.specs.State.{Active, State, start}
 use Rattle.gp_machine.specs.declared.reply.Reply.{Reply}
 use Rattle.gp_versions.proofs.HeldLemmas.{held-end}
-use Rattle.gp_versions.specs.Spans.{holds_at, later, later_end, least, row_of, rows_at, spans_at, written_after}
+use Rattle.gp_versions.specs.Spans.{holds_at, row_of, rows_at, spans_at}
+use Rattle.gp_versions.specs.TableSpans.{later, later_end, least, written_after}
 use Rattle.gp_versions.specs.declared.span.Span.{Span}
 use Rattle.std.specs.List.{AllByRecursion}
+use Rattle.gp_base.proofs.SmallLemmas.{each_append, each_map, eq_itself, some_none}
 
 -- ---- rows that a transaction wrote are its own, or are in the versions of their bases
 
@@ -62,34 +65,34 @@ holds_filter : {M : Type 0} (test : Annotated M → Bool) (id : Identity) (rows 
 holds_filter test id [] e = e
 holds_filter test id (row ∷ rows) e =
     (elim (test row) as (λ b. holds id (cond b (row ∷ filter test rows) (filter test rows)) ≡ true → (same_identity row.identity id || holds id rows) ≡ true) [
-      | true ↦ λ e. ⊎_elim (λ here. ap (λ b. b || holds id rows) here) (λ there. or_true (same_identity row.identity id) (holds id rows) (holds_filter test id rows there)) (or_cases (same_identity row.identity id) (holds id (filter test rows)) e)
-      | false ↦ λ e. or_true (same_identity row.identity id) (holds id rows) (holds_filter test id rows e)
+      | true ↦ λ e. ⊎_elim (λ here. ap (λ b. b || holds id rows) here) (λ there. or_right (same_identity row.identity id) (holds id rows) (holds_filter test id rows there)) (or_cases (same_identity row.identity id) (holds id (filter test rows)) e)
+      | false ↦ λ e. or_right (same_identity row.identity id) (holds id rows) (holds_filter test id rows e)
     ]) e
 
-module _ {M : Type 0} (kind : Annotations M) where
-  given_own : (t k n : ℕ) (rows : List (List Cell)) → AllByRecursion (λ row. transaction_of row.identity ≡ t) (given_from kind t k n rows)
+module _ {M : Type 0} (domain : Annotations M) where
+  given_own : (t k n : ℕ) (rows : List (List Cell)) → AllByRecursion (λ row. transaction_of row.identity ≡ t) (given_from domain t k n rows)
   given_own t k n [] = tt
   given_own t k n (cells ∷ rows) = (refl, given_own t k (suc n) rows)
 
-  made_own : (t k : ℕ) (elements : List (Element M)) → AllByRecursion (λ row. transaction_of row.identity ≡ t) (map (made kind t k) elements)
+  made_own : (t k : ℕ) (elements : List (Element M)) → AllByRecursion (λ row. transaction_of row.identity ≡ t) (map (made domain t k) elements)
   made_own t k [] = tt
   made_own t k (element ∷ elements) = (refl, made_own t k elements)
 
   -- a row that a statement wrote in a table
   in_table : (table other : ℕ) (id : Identity) (rows : List (Annotated M)) → is_written other id (written_in table rows) ≡ true → (other ≡ table) × (holds id rows ≡ true)
   in_table table other id rows e =
-      let both = and_true (table == other) (holds id rows) (sym (is_written_in kind table other id rows) ∙ e) in
-      (sym (eq_from table other both.0), both.1)
+      let both = and_parts (table == other) (holds id rows) (sym (is_written_in domain table other id rows) ∙ e) in
+      (sym (eqb-true table other both.0), both.1)
 
-  wrote_own : (t k : ℕ) (statement : Statement) (view : Database M) (table : ℕ) (id : Identity) → is_written table id (wrote kind t k statement view) ≡ true
+  wrote_own : (t k : ℕ) (statement : Statement) (view : Database M) (table : ℕ) (id : Identity) → is_written table id (wrote domain t k statement view) ≡ true
       → (transaction_of id ≡ t) ⊎ (holds id (view table) ≡ true)
-  wrote_own t k (insert place rows) view table id e = inl (holds_own (λ id. transaction_of id ≡ t) id (given_from kind t k 1 rows) (given_own t k 1 rows) (in_table place table id _ e).1)
-  wrote_own t k (insert_select place select) view table id e = inl (holds_own (λ id. transaction_of id ≡ t) id (map (made kind t k) (answer kind select view)) (made_own t k (answer kind select view)) (in_table place table id _ e).1)
+  wrote_own t k (insert place rows) view table id e = inl (holds_own (λ id. transaction_of id ≡ t) id (given_from domain t k 1 rows) (given_own t k 1 rows) (in_table place table id _ e).1)
+  wrote_own t k (insert_select place select) view table id e = inl (holds_own (λ id. transaction_of id ≡ t) id (map (made domain t k) (answer domain select view)) (made_own t k (answer domain select view)) (in_table place table id _ e).1)
   wrote_own t k (update place sets c) view table id e = let both = in_table place table id _ e in inr (holds_filter (λ row. passes c row.cells) id (view table) (subst (λ p. holds id (filter (λ row. passes c row.cells) (view p)) ≡ true) (sym both.0) both.1))
   wrote_own t k (delete place c) view table id e = let both = in_table place table id _ e in inr (holds_filter (λ row. passes c row.cells) id (view table) (subst (λ p. holds id (filter (λ row. passes c row.cells) (view p)) ≡ true) (sym both.0) both.1))
   wrote_own t k (read select) view table id e = absurd (false≢true e)
 
-  stepped_own : (t k : ℕ) (statement : Option Statement) (view : Database M) (table : ℕ) (id : Identity) → is_written table id (wrote_by kind t k statement view) ≡ true
+  stepped_own : (t k : ℕ) (statement : Option Statement) (view : Database M) (table : ℕ) (id : Identity) → is_written table id (wrote_by domain t k statement view) ≡ true
       → (transaction_of id ≡ t) ⊎ (holds id (view table) ≡ true)
   stepped_own t k None view table id e = absurd (false≢true e)
   stepped_own t k (Some statement) view table id e = wrote_own t k statement view table id e
@@ -99,10 +102,10 @@ each_of : (P : Written → Type 0) (all : List Written) → ((pair : Written) �
 each_of P [] f = tt
 each_of P (pair ∷ all) f = (
   f pair (ap (λ b. b || is_written pair.table pair.identity all) (λ i. eq_itself pair.table i && same_itself pair.identity i)),
-  each_of P all (λ other e. f other (or_true ((pair.table == other.table) && same_identity pair.identity other.identity) (is_written other.table other.identity all) e)),
+  each_of P all (λ other e. f other (or_right ((pair.table == other.table) && same_identity pair.identity other.identity) (is_written other.table other.identity all) e)),
 )
 
-module _ {M : Type 0} (kind : Annotations M) (log : Log) (committed : Environment M) (written : ℕ → List Written) (history : IsHistory kind log committed written) where
+module _ {M : Type 0} (domain : Annotations M) (log : Log) (committed : Environment M) (written : ℕ → List Written) (history : IsHistory domain log committed written) where
   -- a row that a transaction wrote is its own, or is in the version of its base, which is one that the transaction read
   pub record IsRead (t k : ℕ) (based : Based) : Type 0 where
     pub number : ℕ
@@ -110,52 +113,48 @@ module _ {M : Type 0} (kind : Annotations M) (log : Log) (committed : Environmen
     pub base : based.base ≡ log.version t number
     pub read : (transaction_of based.pair.identity ≡ t) ⊎ (holds based.pair.identity (committed based.base based.pair.table) ≡ true)
 
-  pub bases_read : (t k : ℕ) → Clean kind log committed written history t k → AllByRecursion (IsRead t k) (seen_by kind log t k committed).written
+  pub bases_read : (t k : ℕ) → Clean domain log committed written history t k → AllByRecursion (IsRead t k) (seen_by domain log t k committed).written
   bases_read t zero fit = tt
   bases_read t (suc k) fit =
-      each_append _ (seen_by kind log t k committed).written _
-      (each_weaker _ _ (λ based r. record { number = r.number; within = omega (arith, r.within); base = r.base; read = r.read }) (seen_by kind log t k committed).written (bases_read t k less))
-      (each_map _ (λ pair. (is_new (seen_by kind log t k committed).written pair ≡ true) × ((transaction_of pair.identity ≡ t) ⊎ (holds pair.identity (start_by kind log t k committed pair.table) ≡ true))) (with_base (log.version t (suc k)))
+      each_append _ (seen_by domain log t k committed).written _
+      (each_weaker _ _ (λ based r. record { number = r.number; within = omega (arith, r.within); base = r.base; read = r.read }) (seen_by domain log t k committed).written (bases_read t k less))
+      (each_map _ (λ pair. (is_new (seen_by domain log t k committed).written pair ≡ true) × ((transaction_of pair.identity ≡ t) ⊎ (holds pair.identity (start_by domain log t k committed pair.table) ≡ true))) (with_base (log.version t (suc k)))
       (λ pair r. record { number = suc k; within = omega arith; base = refl; read = ⊎_elim inl (λ held. inr (there pair r.0 held)) r.1 })
-      (filter (is_new (seen_by kind log t k committed).written) now)
-      (each_filter _ (λ pair. (transaction_of pair.identity ≡ t) ⊎ (holds pair.identity (start_by kind log t k committed pair.table) ≡ true)) (is_new (seen_by kind log t k committed).written) (λ pair e r. (e, r)) now
-      (each_of _ now (λ pair e. stepped_own kind t (suc k) (log.statement t (suc k)) (start_by kind log t k committed) pair.table pair.identity e))))
+      (filter (is_new (seen_by domain log t k committed).written) now)
+      (each_filter _ (λ pair. (transaction_of pair.identity ≡ t) ⊎ (holds pair.identity (start_by domain log t k committed pair.table) ≡ true)) (is_new (seen_by domain log t k committed).written) (λ pair e r. (e, r)) now
+      (each_of _ now (λ pair e. stepped_own domain t (suc k) (log.statement t (suc k)) (start_by domain log t k committed) pair.table pair.identity e))))
     where
-      less : Clean kind log committed written history t k
+      less : Clean domain log committed written history t k
       less = record { different = λ j l. fit.different j (omega arith); unmarked = λ j l. fit.unmarked j (omega arith); others = λ j l. fit.others j (omega arith) }
 
       now : List Written
-      now = wrote_by kind t (suc k) (log.statement t (suc k)) (start_by kind log t k committed)
-
-      unnot : (b : Bool) → not b ≡ true → b ≡ false
-      unnot true e = absurd (false≢true e)
-      unnot false e = refl
+      now = wrote_by domain t (suc k) (log.statement t (suc k)) (start_by domain log t k committed)
 
       -- a row that was not written before is read as it is in the version
-      there : (pair : Written) → is_new (seen_by kind log t k committed).written pair ≡ true → holds pair.identity (start_by kind log t k committed pair.table) ≡ true → holds pair.identity (committed (log.version t (suc k)) pair.table) ≡ true
+      there : (pair : Written) → is_new (seen_by domain log t k committed).written pair ≡ true → holds pair.identity (start_by domain log t k committed pair.table) ≡ true → holds pair.identity (committed (log.version t (suc k)) pair.table) ≡ true
       there pair new held =
-          let p : Identity → Bool = λ id. is_written pair.table id (pairs (seen_by kind log t k committed).written) in
-          sym (holds_others p pair.identity (committed (log.version t (suc k)) pair.table) (unnot _ new))
-          ∙ sym (ap (holds pair.identity) (started_kept kind log committed written history t k fit (view_kept kind log committed written history t k less) pair.table).others)
-          ∙ holds_others p pair.identity (start_by kind log t k committed pair.table) (unnot _ new) ∙ held
+          let p : Identity → Bool = λ id. is_written pair.table id (pairs (seen_by domain log t k committed).written) in
+          sym (holds_others p pair.identity (committed (log.version t (suc k)) pair.table) (not-true _ new))
+          ∙ sym (ap (holds pair.identity) (started_kept domain log committed written history t k fit (view_kept domain log committed written history t k less) pair.table).others)
+          ∙ holds_others p pair.identity (start_by domain log t k committed pair.table) (not-true _ new) ∙ held
 
   -- no row has two bases
-  pub one_base : (t k : ℕ) → HaveOneBase (seen_by kind log t k committed).written
+  pub one_base : (t k : ℕ) → HaveOneBase (seen_by domain log t k committed).written
   one_base t zero = λ pair base other a b. absurd a
-  one_base t (suc k) = bases_kept (log.version t (suc k)) (seen_by kind log t k committed).written (wrote_by kind t (suc k) (log.statement t (suc k)) (start_by kind log t k committed)) (one_base t k)
+  one_base t (suc k) = bases_kept (log.version t (suc k)) (seen_by domain log t k committed).written (wrote_by domain t (suc k) (log.statement t (suc k)) (start_by domain log t k committed)) (one_base t k)
 
   -- a row that a version wrote was made by a transaction that made a version
   committed_own : (u table : ℕ) (id : Identity) → u < log.versions → is_written table id (written (suc u)) ≡ true → IsMadeBy log log.versions id
   committed_own u table id l e =
       let t : ℕ = log.committer (suc u) in
-      let sound = all_sound kind log committed written history u (omega arith) in
-      what_holds (λ table id. IsMadeBy log log.versions id) (seen_by kind log t (log.statement_count t) committed).written table id
+      let sound = all_sound domain log committed written history u (omega arith) in
+      what_holds (λ table id. IsMadeBy log log.versions id) (seen_by domain log t (log.statement_count t) committed).written table id
       (each_weaker _ _ (λ based r. ⊎_elim (λ own. (u, l, own))
       (λ held.
       let o : log.version t r.number ≤ u = history.order u r.number l r.within in
       let by = holds_own (IsMadeBy log based.base) based.pair.identity (committed based.base based.pair.table) (sound based.base (omega (arith, r.base)) based.pair.table).makers held in
       (by.0, omega (arith, by.1, r.base), by.2))
-      r.read) (seen_by kind log t (log.statement_count t) committed).written (bases_read t (log.statement_count t) (clean kind log committed written history u l sound (log.statement_count t) (omega arith))))
+      r.read) (seen_by domain log t (log.statement_count t) committed).written (bases_read t (log.statement_count t) (clean domain log committed written history u l sound (log.statement_count t) (omega arith))))
       (ap (is_written table id) (sym (history.wrote u l)) ∙ e)
 
 -- ---- what the spans show
@@ -190,9 +189,6 @@ module _ (log : Log) (committed : Environment (Unit {0})) (written : ℕ → Lis
       subst (AllByRecursion (λ (span : Span). transaction_of span.id ≢ active.transaction)) (sym (represented place))
       (each_span last committed written place (λ span. transaction_of span.id ≢ active.transaction) (λ row. transaction_of row.identity ≢ active.transaction) (λ from row l n. n)
       (λ v l. made_by_others plain log committed written history active over v l place) last (omega arith))
-
-  some_none : (v : ℕ) → Some v ≡ None → ⊥
-  some_none v e = cc
 
   -- so a row of its own has no next write
   own_unwritten : (place : ℕ) (id : Identity) (base : ℕ) → transaction_of id ≡ active.transaction → written_after id base (kept.spans place) ≡ None
@@ -297,13 +293,13 @@ module _ (log : Log) (committed : Environment (Unit {0})) (written : ℕ → Lis
       go (Some conflict) (Some other) is shows = ap Some (least_once written last wrote_all conflict other bases (shown_least conflict shows) (least_conflict_is written last wrote_all other is))
 
 -- so an engine that finds it by its spans finds the conflict of the history
-pub found : (limits : Limits) (state : State (Unit {0})) (kept : Kept) → Represents kept state → IsReached plain limits state → (session : ℕ) (conflict : Overlay → Option Conflict)
+pub found : (parameters : Parameters) (state : State (Unit {0})) (kept : Kept) → Represents kept state → IsReached plain parameters state → (session : ℕ) (conflict : Overlay → Option Conflict)
     → ((overlay : Overlay) → kept.sessions session ≡ Some overlay → ShowsConflict kept overlay (conflict overlay)) → FindsConflict kept state session conflict
-found limits state kept represents reached session conflict shows overlay active f e runs =
-    shown_is (log_of state.entries) state.committed state.written reached.history active (active_over plain limits state reached session active e) kept represents.spans (begin_version active.transaction state.entries) overlay runs (conflict overlay) (shows overlay f)
+found parameters state kept represents reached session conflict shows overlay active f e runs =
+    shown_is (log_of state.entries) state.committed state.written reached.history active (active_over plain parameters state reached session active e) kept represents.spans (begin_version active.transaction state.entries) overlay runs (conflict overlay) (shows overlay f)
 
-pub line_shown : (limits : Limits) (line : Line) (kept new : Kept) (answer : Reply) (conflict : Overlay → Option Conflict)
+pub line_shown : (parameters : Parameters) (line : Line) (kept new : Kept) (answer : Reply) (conflict : Overlay → Option Conflict)
     → ((overlay : Overlay) → kept.sessions line.session ≡ Some overlay → ShowsConflict kept overlay (conflict overlay))
-    → Answers limits kept line.number line.session new answer conflict (kept.sessions line.session) (action_of line.command) → Follows limits kept new line answer
-line_shown limits line kept new answer conflict shows answers =
-    line_follows limits line kept new answer conflict (λ lines represents. found limits (after plain limits start lines) kept represents (all_reached plain limits lines) line.session conflict shows) answers
+    → Answers parameters kept line.number line.session new answer conflict (kept.sessions line.session) (action_of line.command) → Follows parameters kept new line answer
+line_shown parameters line kept new answer conflict shows answers =
+    line_follows parameters line kept new answer conflict (λ lines represents. found parameters (after plain parameters start lines) kept represents (all_reached plain parameters lines) line.session conflict shows) answers

@@ -8,6 +8,7 @@ mod ConflictLemmas
 pub mod CountLemmas
 pub mod Distinct
 pub mod EngineLemmas
+pub mod EntryCounts
 pub mod FoundLemmas
 pub mod HeldPoints
 mod LeastLemmas

@@ -8,22 +8,22 @@ use Rattle.gp_algebra.specs.Effects.{Written}
 use Rattle.gp_base.specs.Annotated.{Annotated, Environment, plain}
 use Rattle.gp_machine.proofs.ActiveLemmas.{IsOver, active_kept, active_over, active_version, made_by_others}
 use Rattle.gp_machine.proofs.BaseLemmas.{base_or_none}
-use Rattle.gp_machine.proofs.Distinct.{each_all, each_filter, each_map, each_weaker, filter_each, filter_every, filter_none}
-use Rattle.gp_machine.proofs.LogLemmas.{eq_not}
-use Rattle.gp_machine.proofs.Made.{eq_from, eq_itself}
+use Rattle.gp_machine.proofs.Distinct.{each_all, each_filter, each_weaker, filter_each, filter_every, filter_none}
 use Rattle.gp_machine.specs.Bases.{pairs}
 use Rattle.gp_machine.specs.Committed.{is_written, merged}
 use Rattle.gp_machine.specs.Entries.{Log, begin_version, log_of, versions_in}
 use Rattle.gp_machine.specs.Event.{start_now, version_now}
 use Rattle.gp_machine.specs.Histories.{IsHistory}
 use Rattle.gp_machine.specs.HistorySpans.{as_of}
-use Rattle.gp_machine.specs.Limits.{Limits}
+use Rattle.gp_machine.specs.Parameters.{Parameters}
 use Rattle.gp_machine.specs.Reached.{IsReached}
 use Rattle.gp_machine.specs.Reading.{started}
 use Rattle.gp_machine.specs.Represents.{Overlay, RepresentsActive, base_in, version_to_read, view_at, view_of}
 use Rattle.gp_machine.specs.State.{Active, State}
 use Rattle.gp_versions.specs.Spans.{row_of, spans_at}
 use Rattle.gp_versions.specs.declared.span.Span.{Span}
+use Rattle.gp_base.proofs.SmallLemmas.{each_map, eq_itself, eq_not}
+use Rattle.std.proofs.lemmas.Bool.{both_ways, eqb-true}
 
 -- in another version than the one that the writes of the table lie over
 pub view_there : (spans : ℕ → List Span) (overlay : Overlay) (version place : ℕ) → version ≢ overlay.version place
@@ -62,18 +62,14 @@ module _ (log : Log) (committed : Environment (Unit {0})) (written : ℕ → Lis
   shown_at version later within held place =
       elim (version == active.version) as (λ b. (version == active.version) ≡ b
       → view_at spans overlay version place ≡ (cond b active.seen.view (merged (committed version) active.seen.view (pairs active.seen.written))) place) [
-        | true ↦ λ is. ap (λ v. view_at spans overlay v place) (eq_from version active.version is) ∙ runs.view place
+        | true ↦ λ is. ap (λ v. view_at spans overlay v place) (eqb-true version active.version is) ∙ runs.view place
         | false ↦ λ is.
             view_there spans overlay version place (λ same. let l = runs.version place in let n : version ≢ active.version = different is in n (omega arith))
             ∙ (λ i. unwritten i ++ marked_are place i)
       ] refl
     where
       different : (version == active.version) ≡ false → version ≢ active.version
-      different f same = absurd (differ (version == active.version) f (ap (λ v. v == active.version) same ∙ eq_itself active.version))
-        where
-          differ : (b : Bool) → b ≡ false → b ≡ true → ⊥
-          differ true e f = cc
-          differ false e f = cc
+      different f same = absurd (both_ways (version == active.version) f (ap (λ v. v == active.version) same ∙ eq_itself active.version))
 
       unwritten : filter (λ row. is_none (base_in spans overlay place row.identity)) (as_of plain spans version place) ≡ filter (λ row. not (is_written place row.identity (pairs active.seen.written))) (committed version place)
       unwritten =
@@ -82,10 +78,10 @@ module _ (log : Log) (committed : Environment (Unit {0})) (written : ℕ → Lis
           (each_weaker _ _ (λ row n. ap is_none (runs.base place row.identity (λ own. n (own ∙ runs.transaction))) ∙ base_or_none place row.identity active.seen.written)
           (committed version place) (made_by_others plain log committed written history active over version within place))
 
-module _ (limits : Limits) (state : State (Unit {0})) (reached : IsReached plain limits state) (session : ℕ) (active : Active (Unit {0})) (e : state.active session ≡ Some active)
+module _ (parameters : Parameters) (state : State (Unit {0})) (reached : IsReached plain parameters state) (session : ℕ) (active : Active (Unit {0})) (e : state.active session ≡ Some active)
     (spans : ℕ → List Span) (overlay : Overlay) (runs : RepresentsActive spans (begin_version active.transaction state.entries) overlay active) where
   over : IsOver plain (log_of state.entries) state.committed active
-  over = active_over plain limits state reached session active e
+  over = active_over plain parameters state reached session active e
 
   -- the version of the next statement
   pub now_is : (newest : ℕ) → newest ≡ versions_in state.entries → version_to_read overlay newest ≡ version_now state active
@@ -99,7 +95,7 @@ module _ (limits : Limits) (state : State (Unit {0})) (reached : IsReached plain
   not_before = go active.read_committed
     where
       go : (b : Bool) → active.version ≤ cond b (versions_in state.entries) active.version
-      go true = active_version plain limits state reached session active e
+      go true = active_version plain parameters state reached session active e
       go false = omega arith
 
   pub now_within : version_now state active ≤ versions_in state.entries
@@ -107,7 +103,7 @@ module _ (limits : Limits) (state : State (Unit {0})) (reached : IsReached plain
     where
       go : (b : Bool) → cond b (versions_in state.entries) active.version ≤ versions_in state.entries
       go true = omega arith
-      go false = active_version plain limits state reached session active e
+      go false = active_version plain parameters state reached session active e
 
   -- what is shown there is what the transaction reads before its next statement
   pub start_shown : ((place : ℕ) → as_of plain spans (version_now state active) place ≡ state.committed (version_now state active) place) → (place : ℕ)

@@ -12,15 +12,15 @@ use Rattle.gp_algebra.specs.Answers.{answer, cells_of}
 use Rattle.gp_algebra.specs.Reannotation.{IsHomomorphism, database_reannotated, element_reannotated, forgotten, reannotated}
 use Rattle.gp_algebra.specs.Statements.{Select, Statement}
 use Rattle.gp_algebra.proofs.Erasure.{Reannotates, answer_reannotated, is_over_nodes_reannotated, is_over_rows_reannotated, step_reannotated}
-use Rattle.gp_algebra.proofs.Lists.{any-map, filter-map, map-map}
 use Rattle.gp_machine.specs.Committed.{cleared, unmarked}
 use Rattle.gp_machine.specs.Entries.{Entry, Log, log_of, version_of}
-use Rattle.gp_machine.specs.Limits.{Limits}
+use Rattle.gp_machine.specs.Parameters.{Parameters}
 use Rattle.gp_machine.specs.Points.{OverRows, OverNodes, at_point, at_version, held_at, run_stop, statement_stop, version_before}
 use Rattle.gp_machine.specs.Publishing.{holds, publish, was_written}
 use Rattle.gp_machine.specs.Runs.{at_commit, refreshed, run, run_before, stepped}
 use Rattle.gp_machine.specs.State.{State}
 use Rattle.gp_machine.specs.StateReannotation.{AreEqualButForAnnotations, state_reannotated}
+use Rattle.gp_base.proofs.SmallLemmas.{any-map, filter-map, map-map}
 
 module _ {M N : Type 0} (h : M → N) where
   -- each version is the other one's with other annotations
@@ -48,10 +48,10 @@ module _ {M N : Type 0} (h : M → N) where
   pub cleared_reannotated : (a : Database M) (b : Database N) → Reannotates h a b → Reannotates h (cleared a) (cleared b)
   cleared_reannotated a b same table = ap (map unmarked) (same table) ∙ map-map unmarked (reannotated h) (a table) ∙ sym (map-map (reannotated h) unmarked (a table))
 
-module _ {M N : Type 0} (kind : Annotations M) (other : Annotations N) (h : M → N) (keeps : IsHomomorphism kind other h) (a : Environment M) (b : Environment N) (are : VersionsReannotate h a b) where
-  stepped_reannotated : (t k : ℕ) (statement : Option Statement) (c : Database M) (d : Database N) → Reannotates h c d → Reannotates h (stepped kind t k statement c) (stepped other t k statement d)
+module _ {M N : Type 0} (domain : Annotations M) (other : Annotations N) (h : M → N) (keeps : IsHomomorphism domain other h) (a : Environment M) (b : Environment N) (are : VersionsReannotate h a b) where
+  stepped_reannotated : (t k : ℕ) (statement : Option Statement) (c : Database M) (d : Database N) → Reannotates h c d → Reannotates h (stepped domain t k statement c) (stepped other t k statement d)
   stepped_reannotated t k None c d same = same
-  stepped_reannotated t k (Some statement) c d same = step_reannotated kind other h keeps t k statement c d same
+  stepped_reannotated t k (Some statement) c d same = step_reannotated domain other h keeps t k statement c d same
 
   -- what a transaction reads at a later version
   refreshed_reannotated : (old new : ℕ) (c : Database M) (d : Database N) → Reannotates h c d → Reannotates h (refreshed old new a c) (refreshed old new b d)
@@ -61,64 +61,64 @@ module _ {M N : Type 0} (kind : Annotations M) (other : Annotations N) (h : M �
         | false ↦ publish_reannotated h (a old) c (a new) (b old) d (b new) (are old) same (are new)
       ]
 
-  pub run_reannotated : (log : Log) (t k : ℕ) → Reannotates h (run kind log t k a) (run other log t k b)
+  pub run_reannotated : (log : Log) (t k : ℕ) → Reannotates h (run domain log t k a) (run other log t k b)
   run_reannotated log t zero = are (log.version t zero)
   run_reannotated log t (suc k) =
-      stepped_reannotated t (suc k) (log.statement t (suc k)) (run_before kind log t k a) (run_before other log t k b)
-      (refreshed_reannotated (log.version t k) (log.version t (suc k)) (run kind log t k a) (run other log t k b) (run_reannotated log t k))
+      stepped_reannotated t (suc k) (log.statement t (suc k)) (run_before domain log t k a) (run_before other log t k b)
+      (refreshed_reannotated (log.version t k) (log.version t (suc k)) (run domain log t k a) (run other log t k b) (run_reannotated log t k))
 
-  pub before_reannotated : (log : Log) (t k : ℕ) → Reannotates h (run_before kind log t k a) (run_before other log t k b)
+  pub before_reannotated : (log : Log) (t k : ℕ) → Reannotates h (run_before domain log t k a) (run_before other log t k b)
   before_reannotated log t k =
-      refreshed_reannotated (log.version t k) (log.version t (suc k)) (run kind log t k a) (run other log t k b) (run_reannotated log t k)
+      refreshed_reannotated (log.version t k) (log.version t (suc k)) (run domain log t k a) (run other log t k b) (run_reannotated log t k)
 
-  pub at_commit_reannotated : (log : Log) (t before : ℕ) → Reannotates h (at_commit kind log t before a) (at_commit other log t before b)
+  pub at_commit_reannotated : (log : Log) (t before : ℕ) → Reannotates h (at_commit domain log t before a) (at_commit other log t before b)
   at_commit_reannotated log t before =
       let last = log.version t (log.statement_count t) in
-      publish_reannotated h (a last) (run kind log t (log.statement_count t) a) (a before)
+      publish_reannotated h (a last) (run domain log t (log.statement_count t) a) (a before)
       (b last) (run other log t (log.statement_count t) b) (b before)
       (are last) (run_reannotated log t (log.statement_count t)) (are before)
 
-  pub at_point_reannotated : (entries : List Entry) (point : y.State) → Reannotates h (at_point kind entries point a) (at_point other entries point b)
+  pub at_point_reannotated : (entries : List Entry) (point : y.State) → Reannotates h (at_point domain entries point a) (at_point other entries point b)
   at_point_reannotated entries (y.as_of version) = are version
   at_point_reannotated entries (y.after t k) = run_reannotated (log_of entries) t k
   at_point_reannotated entries (y.State.commit t) = at_commit_reannotated (log_of entries) t (version_before (version_of t entries))
 
   -- the rows of an answer
   pub cells_reannotated : (entries : List Entry) (point : y.State) (select : Select)
-      → cells_of (answer other select (at_point other entries point b)) ≡ cells_of (answer kind select (at_point kind entries point a))
+      → cells_of (answer other select (at_point other entries point b)) ≡ cells_of (answer domain select (at_point domain entries point a))
   cells_reannotated entries point select =
-      ap cells_of (answer_reannotated kind other h keeps select (at_point kind entries point a) (at_point other entries point b) (at_point_reannotated entries point))
-      ∙ map-map (λ element. element.cells) (element_reannotated h) (answer kind select (at_point kind entries point a))
+      ap cells_of (answer_reannotated domain other h keeps select (at_point domain entries point a) (at_point other entries point b) (at_point_reannotated entries point))
+      ∙ map-map (λ element. element.cells) (element_reannotated h) (answer domain select (at_point domain entries point a))
 
-  module _ (limits : Limits) (log : Log) (t : ℕ) where
+  module _ (parameters : Parameters) (log : Log) (t : ℕ) where
     statement_stop_reannotated : (k : ℕ) (statement : Option Statement) (c : Database M) (d : Database N) → Reannotates h c d
-        → statement_stop other limits t k statement d ≡ statement_stop kind limits t k statement c
+        → statement_stop other parameters t k statement d ≡ statement_stop domain parameters t k statement c
     statement_stop_reannotated k None c d same = refl
     statement_stop_reannotated k (Some statement) c d same =
-        let rows = is_over_rows_reannotated kind other h keeps limits.rows t k statement c d same in
-        let nodes = is_over_nodes_reannotated kind other h keeps limits.nodes t k statement c d same in
+        let rows = is_over_rows_reannotated domain other h keeps parameters.rows t k statement c d same in
+        let nodes = is_over_nodes_reannotated domain other h keeps parameters.nodes t k statement c d same in
         λ i. cond (rows i) (Some (OverRows t k)) (cond (nodes i) (Some (OverNodes t k)) None)
 
-    pub run_stop_reannotated : (k : ℕ) → run_stop other limits log t k b ≡ run_stop kind limits log t k a
+    pub run_stop_reannotated : (k : ℕ) → run_stop other parameters log t k b ≡ run_stop domain parameters log t k a
     run_stop_reannotated zero = refl
     run_stop_reannotated (suc k) =
         let earlier = run_stop_reannotated k in
-        let now = statement_stop_reannotated (suc k) (log.statement t (suc k)) (run_before kind log t k a) (run_before other log t k b) (before_reannotated log t k) in
+        let now = statement_stop_reannotated (suc k) (log.statement t (suc k)) (run_before domain log t k a) (run_before other log t k b) (before_reannotated log t k) in
         λ i. option_or (earlier i) (now i)
 
 -- ---- rows without their annotations
 
 -- forgetting annotations keeps one, products and tokens, whatever they are
-pub forgotten_keeps : {M : Type 0} (kind : Annotations M) → IsHomomorphism kind plain forgotten
-forgotten_keeps kind = record { one = refl; times = λ a b. refl; token = λ token. refl }
+pub forgotten_keeps : {M : Type 0} (domain : Annotations M) → IsHomomorphism domain plain forgotten
+forgotten_keeps domain = record { one = refl; times = λ a b. refl; token = λ token. refl }
 
-module _ {M N : Type 0} (kind : Annotations M) (other : Annotations N) where
+module _ {M N : Type 0} (domain : Annotations M) (other : Annotations N) where
   -- both are the states over the same rows without annotations
   pub rows_agree : (entries : List Entry) (point : y.State) (a : Environment M) (b : Environment N) → ((version : ℕ) → AreEqualButForAnnotations (a version) (b version))
-      → AreEqualButForAnnotations (at_point kind entries point a) (at_point other entries point b)
+      → AreEqualButForAnnotations (at_point domain entries point a) (at_point other entries point b)
   rows_agree entries point a b same table =
       sym (at_point_reannotated other plain forgotten (forgotten_keeps other) b (λ version. database_reannotated forgotten (a version)) (λ version table. sym (same version table)) entries point table)
-      ∙ at_point_reannotated kind plain forgotten (forgotten_keeps kind) a (λ version. database_reannotated forgotten (a version)) (λ version table. refl) entries point table
+      ∙ at_point_reannotated domain plain forgotten (forgotten_keeps domain) a (λ version. database_reannotated forgotten (a version)) (λ version table. refl) entries point table
 
 -- the states that a history held
 pub held_reannotated : {M N : Type 0} (h : M → N) (state : State M) (point : y.State) → Reannotates h (held_at state point) (held_at (state_reannotated h state) point)

@@ -4,8 +4,8 @@ use Rattle.std.specs.Prelude.{nat_lt}
 use Rattle.std.specs.Option.{option_or, option_map}
 use Rattle.std.specs.List.Sorted.{IsPermutation}
 use Rattle.gp_grammar.specs.Syntax as y
-use Rattle.gp_algebra.proofs.Bags.{SameBag, as_long}
-use Rattle.gp_algebra.proofs.Permutations.{permuted}
+use Rattle.gp_base.proofs.Bags.{SameBag, as_long}
+use Rattle.gp_base.proofs.Permutations.{permuted}
 use Rattle.gp_algebra.specs.Answers.{Element, answer}
 use Rattle.gp_algebra.specs.Statements.{Select}
 use Rattle.gp_base.specs.Annotated.{Annotated, Annotations, plain}
@@ -19,22 +19,22 @@ use Rattle.gp_machine.specs.Annotating.{annotated_versions, computed, identified
 use Rattle.gp_machine.specs.Entries.{committer_of, log_of, statement_count, versions_in}
 use Rattle.gp_machine.specs.Event.{name_at}
 use Rattle.gp_machine.specs.HistorySpans.{as_of, state_spans}
-use Rattle.gp_machine.specs.Limits.{Limits}
+use Rattle.gp_machine.specs.Parameters.{Parameters}
 use Rattle.gp_machine.specs.Points.{IsAsked, at_point, held_at, to_commit, to_statement, to_version, version_before}
 use Rattle.gp_machine.specs.Questions.{AreAlike, annotated_answer, annotation_stop, answer_refusal, difference, given, held_answer, log_refusal, needed_version, own_stop, rows_answer, stop_refusal}
 use Rattle.gp_machine.specs.State.{State}
 use Rattle.gp_machine.specs.Unstopped.{IsUnstopped}
 use Rattle.gp_versions.specs.declared.span.Span.{Span}
 
-pub finish : {M : Type 0} (kind : Annotations M) (limits : Limits) (xs ys : List (Element M)) → SameBag xs ys
-    → AreAlike (given (cond (nat_lt limits.answer (length ys)) (Some E27) None) xs) (given (cond (nat_lt limits.answer (length ys)) (Some E27) None) ys)
-finish kind limits xs ys same = elim (nat_lt limits.answer (length ys)) as (λ b. AreAlike (given (cond b (Some E27) None) xs) (given (cond b (Some E27) None) ys)) [ true ↦ refl | false ↦ permuted xs ys same ]
+pub finish : {M : Type 0} (domain : Annotations M) (parameters : Parameters) (xs ys : List (Element M)) → SameBag xs ys
+    → AreAlike (given (cond (nat_lt parameters.answer (length ys)) (Some E27) None) xs) (given (cond (nat_lt parameters.answer (length ys)) (Some E27) None) ys)
+finish domain parameters xs ys same = elim (nat_lt parameters.answer (length ys)) as (λ b. AreAlike (given (cond b (Some E27) None) xs) (given (cond b (Some E27) None) ys)) [ true ↦ refl | false ↦ permuted xs ys same ]
 
-module _ {M : Type 0} (kind : Annotations M) (limits : Limits) (state : State M) (unstopped : IsUnstopped kind limits state) (spans : ℕ → List Span) (are : (table : ℕ) → SameBag (spans table) (state_spans state table)) where
-  pub never_own : (point : y.State) → IsAsked state.entries point → own_stop kind limits state.entries point (annotated_versions kind state.entries spans) ≡ None
+module _ {M : Type 0} (domain : Annotations M) (parameters : Parameters) (state : State M) (unstopped : IsUnstopped domain parameters state) (spans : ℕ → List Span) (are : (table : ℕ) → SameBag (spans table) (state_spans state table)) where
+  pub never_own : (point : y.State) → IsAsked state.entries point → own_stop domain parameters state.entries point (annotated_versions domain state.entries spans) ≡ None
   never_own (y.as_of version) (to_version l) = refl
-  never_own (y.after t k) (to_statement {version = version} e l) = ap (option_map stop_refusal) (committed_stops kind limits state unstopped spans are t k version e l)
-  never_own (y.State.commit t) (to_commit {version = version} e) = ap (option_map stop_refusal) (committed_stops kind limits state unstopped spans are t (statement_count t state.entries) version e (omega arith))
+  never_own (y.after t k) (to_statement {version = version} e l) = ap (option_map stop_refusal) (committed_stops domain parameters state unstopped spans are t k version e l)
+  never_own (y.State.commit t) (to_commit {version = version} e) = ap (option_map stop_refusal) (committed_stops domain parameters state unstopped spans are t (statement_count t state.entries) version e (omega arith))
 
   needed : (point : y.State) → IsAsked state.entries point → needed_version state.entries point ≤ versions_in state.entries
   needed (y.as_of version) (to_version l) = l
@@ -45,46 +45,46 @@ module _ {M : Type 0} (kind : Annotations M) (limits : Limits) (state : State M)
       subst (λ o. version_before o ≤ versions_in state.entries) (sym (e ∙ ap Some i.is)) (omega arith)
 
   module _ (agree : List (Annotated M) → List (Annotated M) → Bool) (agree_same : (rows others : List (Annotated M)) → IsPermutation (identified rows) (identified others) → agree rows others ≡ true) where
-    never_differs : (tables u : ℕ) → u ≤ versions_in state.entries → difference kind limits agree state.catalogue u tables (computed kind (log_of state.entries) spans u u) (as_of kind spans u) ≡ None
+    never_differs : (tables u : ℕ) → u ≤ versions_in state.entries → difference domain parameters agree state.catalogue u tables (computed domain (log_of state.entries) spans u u) (as_of domain spans u) ≡ None
     never_differs zero u l = refl
     never_differs (suc table) u l =
         λ i. option_or (never_differs table u l i)
-        (cond (agree_same (computed kind (log_of state.entries) spans u u table) (as_of kind spans u table)
-        (permuted _ _ (consistent kind (log_of state.entries) state.committed state.written unstopped.history spans are u table l)) i)
+        (cond (agree_same (computed domain (log_of state.entries) spans u u table) (as_of domain spans u table)
+        (permuted _ _ (consistent domain (log_of state.entries) state.committed state.written unstopped.history spans are u table l)) i)
         None (Some (E24 u (name_at table state.catalogue))))
 
-    pub never_annotation : (u : ℕ) → u ≤ versions_in state.entries → annotation_stop kind limits agree state.catalogue (log_of state.entries) spans u ≡ None
+    pub never_annotation : (u : ℕ) → u ≤ versions_in state.entries → annotation_stop domain parameters agree state.catalogue (log_of state.entries) spans u ≡ None
     never_annotation zero l = refl
     never_annotation (suc u) l =
         λ i. option_or (never_annotation u (omega arith) i)
-        (option_or (option_map stop_refusal (never_stops kind limits state unstopped spans are u (statement_count (committer_of (suc u) state.entries) state.entries) u (omega arith) (omega arith) l (omega arith) i))
+        (option_or (option_map stop_refusal (never_stops domain parameters state unstopped spans are u (statement_count (committer_of (suc u) state.entries) state.entries) u (omega arith) (omega arith) l (omega arith) i))
         (never_differs (length state.catalogue) (suc u) l i))
 
-    pub annotated_alike : (point : y.State) (query : Select) → AreAlike (annotated_answer kind limits agree state.catalogue state.entries spans point query) (held_answer kind limits state point query)
+    pub annotated_alike : (point : y.State) (query : Select) → AreAlike (annotated_answer domain parameters agree state.catalogue state.entries spans point query) (held_answer domain parameters state point query)
     annotated_alike point query = go (log_refusal state.entries point) refl
       where
         go : (refusal : Option Refusal) → log_refusal state.entries point ≡ refusal →
-            AreAlike (given (option_or refusal (option_or (annotation_stop kind limits agree state.catalogue (log_of state.entries) spans (needed_version state.entries point)) (option_or (own_stop kind limits state.entries point (annotated_versions kind state.entries spans)) (answer_refusal kind limits (answer kind query (at_point kind state.entries point (annotated_versions kind state.entries spans))))))) (answer kind query (at_point kind state.entries point (annotated_versions kind state.entries spans))))
-            (given (option_or refusal (answer_refusal kind limits (answer kind query (held_at state point)))) (answer kind query (held_at state point)))
+            AreAlike (given (option_or refusal (option_or (annotation_stop domain parameters agree state.catalogue (log_of state.entries) spans (needed_version state.entries point)) (option_or (own_stop domain parameters state.entries point (annotated_versions domain state.entries spans)) (answer_refusal domain parameters (answer domain query (at_point domain state.entries point (annotated_versions domain state.entries spans))))))) (answer domain query (at_point domain state.entries point (annotated_versions domain state.entries spans))))
+            (given (option_or refusal (answer_refusal domain parameters (answer domain query (held_at state point)))) (answer domain query (held_at state point)))
         go (Some refusal) e = refl
         go None e =
             let a = asked state.entries point e in
-            let same = simulated kind limits state unstopped spans are point a query in
+            let same = simulated domain parameters state unstopped spans are point a query in
             rw (never_annotation (needed_version state.entries point) (needed point a), never_own point a, as_long same)
-            (finish kind limits (answer kind query (at_point kind state.entries point (annotated_versions kind state.entries spans))) (answer kind query (held_at state point)) same)
+            (finish domain parameters (answer domain query (at_point domain state.entries point (annotated_versions domain state.entries spans))) (answer domain query (held_at state point)) same)
 
 -- without annotations the rows of the spans are enough
-pub rows_alike : (limits : Limits) (state : State (Unit {0})) → IsUnstopped plain limits state → (spans : ℕ → List Span) → ((table : ℕ) → SameBag (spans table) (state_spans state table)) → (point : y.State) (query : Select)
-    → AreAlike (rows_answer limits state.entries spans point query) (held_answer plain limits state point query)
-rows_alike limits state unstopped spans are point query = go (log_refusal state.entries point) refl
+pub rows_alike : (parameters : Parameters) (state : State (Unit {0})) → IsUnstopped plain parameters state → (spans : ℕ → List Span) → ((table : ℕ) → SameBag (spans table) (state_spans state table)) → (point : y.State) (query : Select)
+    → AreAlike (rows_answer parameters state.entries spans point query) (held_answer plain parameters state point query)
+rows_alike parameters state unstopped spans are point query = go (log_refusal state.entries point) refl
   where
     go : (refusal : Option Refusal) → log_refusal state.entries point ≡ refusal →
-        AreAlike (given (option_or refusal (option_or (own_stop plain limits state.entries point (as_of plain spans)) (answer_refusal plain limits (answer plain query (at_point plain state.entries point (as_of plain spans)))))) (answer plain query (at_point plain state.entries point (as_of plain spans))))
-        (given (option_or refusal (answer_refusal plain limits (answer plain query (held_at state point)))) (answer plain query (held_at state point)))
+        AreAlike (given (option_or refusal (option_or (own_stop plain parameters state.entries point (as_of plain spans)) (answer_refusal plain parameters (answer plain query (at_point plain state.entries point (as_of plain spans)))))) (answer plain query (at_point plain state.entries point (as_of plain spans))))
+        (given (option_or refusal (answer_refusal plain parameters (answer plain query (held_at state point)))) (answer plain query (held_at state point)))
     go (Some refusal) e = refl
     go None e =
         let a = asked state.entries point e in
-        let same = simulated plain limits state unstopped spans are point a query in
-        let stop : own_stop plain limits state.entries point (as_of plain spans) ≡ None = never_own plain limits state unstopped spans are point a in
+        let same = simulated plain parameters state unstopped spans are point a query in
+        let stop : own_stop plain parameters state.entries point (as_of plain spans) ≡ None = never_own plain parameters state unstopped spans are point a in
         let long : length (answer plain query (at_point plain state.entries point (as_of plain spans))) ≡ length (answer plain query (held_at state point)) = as_long same in
-        rw (stop, long) (finish plain limits (answer plain query (at_point plain state.entries point (as_of plain spans))) (answer plain query (held_at state point)) same)
+        rw (stop, long) (finish plain parameters (answer plain query (at_point plain state.entries point (as_of plain spans))) (answer plain query (held_at state point)) same)

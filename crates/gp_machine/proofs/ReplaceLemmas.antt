@@ -19,12 +19,12 @@ use Rattle.gp_machine.specs.Committed.{cleared, is_written, next_version, unmark
 use Rattle.gp_machine.specs.Entries.{log_of, versions_in}
 use Rattle.gp_machine.specs.Event.{conflict_of}
 use Rattle.gp_machine.specs.Histories.{IsFirst}
-use Rattle.gp_machine.specs.Limits.{Limits}
+use Rattle.gp_machine.specs.Parameters.{Parameters}
 use Rattle.gp_machine.specs.Publishing.{holds, publish}
 use Rattle.gp_machine.specs.Replacing.{AddsNoneOf, Replaces, rows_with}
 use Rattle.gp_machine.specs.Reached.{IsReached}
 use Rattle.gp_machine.specs.State.{Active, State}
-use Rattle.gp_machine.specs.Views.{HaveDifferentIdentities, IsView, IsViewOf, unwritten}
+use Rattle.gp_machine.specs.SeenRows.{HaveDifferentIdentities, AreSeenRows, IsViewOf, unwritten}
 
 -- a test of identities, at a row that has this one
 test_at : (r : Identity → Bool) (id : Identity) (b : Bool) → r id ≡ b → (other : Identity) → (r other && same_identity other id) ≡ (b && same_identity other id)
@@ -61,7 +61,7 @@ module _ {M : Type 0} where
   pub unchanged_adds_none : (p : Identity → Bool) (base later : List (Annotated M)) → ((id : Identity) → p id ≡ true → rows_with id later ≡ rows_with id base) → AddsNoneOf p base later
   unchanged_adds_none p base later same id e f = sym (holds_with id base) ∙ ap (holds id) (sym (same id e)) ∙ holds_with id later ∙ f
 
-  module _ (p : Identity → Bool) (base view later : Database M) (table : ℕ) (kept : IsView p (base table) (view table)) (none : AddsNoneOf p (base table) (later table)) where
+  module _ (p : Identity → Bool) (base view later : Database M) (table : ℕ) (kept : AreSeenRows p (base table) (view table)) (none : AddsNoneOf p (base table) (later table)) where
     published_is : publish base view later table ≡ unwritten p (later table) ++ filter (λ row. p row.identity) (view table)
     published_is = publish_is p (base table) (view table) (later table) kept (each_weaker _ _ (λ row f e. none row.identity e f) (later table) (holds_each (later table)))
 
@@ -97,12 +97,12 @@ module _ {M : Type 0} where
   published_next t k base view later written is table none = ap (map unmarked) (published_is (λ id. is_written table id written) base view later table (is.tables table) none)
 
 -- the newest version, against one that is not before the bases of the rows that a transaction wrote, whose commit is not lost
-pub won_adds_none : {M : Type 0} (kind : Annotations M) (limits : Limits) (state : State M) → IsReached kind limits state → (active : Active M) → conflict_of state active ≡ None
+pub won_adds_none : {M : Type 0} (domain : Annotations M) (parameters : Parameters) (state : State M) → IsReached domain parameters state → (active : Active M) → conflict_of state active ≡ None
     → (version : ℕ) → version ≤ versions_in state.entries → AllByRecursion (λ (based : Based). based.base ≤ version) active.seen.written
     → (table : ℕ) → AddsNoneOf (λ id. is_written table id (pairs active.seen.written)) (state.committed version table) (state.committed (versions_in state.entries) table)
-won_adds_none kind limits state reached active won version l bases table id e f =
+won_adds_none domain parameters state reached active won version l bases table id e f =
     let n = versions_in state.entries in
     let first : AllByRecursion (IsFirst state.written n) active.seen.written = not_lost state.written n active.seen.written won in
-    sym (holds_since kind (log_of state.entries) state.committed state.written reached.history n version table id l (omega arith)
+    sym (holds_since domain (log_of state.entries) state.committed state.written reached.history n version table id l (omega arith)
     (found (λ table id. (v : ℕ) → version < v → v ≤ n → is_written table id (state.written v) ≡ false) active.seen.written table id
     (each_both _ _ _ (λ based b f v c d. f v (omega arith) d) active.seen.written bases first) e)) ∙ f

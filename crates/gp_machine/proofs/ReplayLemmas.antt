@@ -3,12 +3,12 @@ use Rattle.std.proofs.Common.{◌≡◌, ℕ, zero, suc, ◌+◌, ◌-◌, ◌<�
 use Rattle.std.specs.Prelude.{nat_lt}
 use Rattle.std.specs.List.{AllByRecursion, filter}
 use Rattle.std.specs.Option.{option_or}
-use Rattle.std.proofs.lemmas.Bool.{false≢true, cases_lt}
-use Rattle.std.proofs.lemmas.Bool.Decides.{nat_tests}
+use Rattle.std.proofs.lemmas.Bool.{false≢true, cases_lt, le-ltb}
 use Rattle.std.proofs.lemmas.List.{length-append, length-map}
 use Rattle.gp_algebra.specs.Effects.{Written}
 use Rattle.gp_base.specs.Annotated.{Annotated, Annotations, Database, Environment}
-use Rattle.gp_base.specs.Identities.{Identity, transaction_of}
+use Rattle.gp_base.specs.Identities.{Identity}
+use Rattle.gp_base.specs.IdentityParts.{transaction_of}
 use Rattle.gp_machine.proofs.ActiveLemmas.{IsOver}
 use Rattle.gp_machine.proofs.BaseLemmas.{of_based}
 use Rattle.gp_machine.proofs.CommitLemmas.{Clean, IsMadeBy, all_sound, clean}
@@ -21,26 +21,26 @@ use Rattle.gp_machine.proofs.ReachedLemmas.{all_reached, not_lost}
 use Rattle.gp_machine.proofs.RunLemmas.{before_agree, before_is, run_agree, run_is, stop_agree, written_agree, written_is}
 use Rattle.gp_machine.proofs.SpanGrowth.{spans_grow}
 use Rattle.gp_machine.proofs.SpanRows.{written_rows}
-use Rattle.gp_machine.proofs.UnstoppedLemmas.{neither, reached_unstopped}
+use Rattle.gp_machine.proofs.UnstoppedLemmas.{reached_unstopped}
 use Rattle.gp_machine.specs.Bases.{pairs}
 use Rattle.gp_machine.specs.Committed.{cleared, is_written, merged, next_version, unmarked}
 use Rattle.gp_machine.specs.Conflicts.{Conflict, least_conflict}
 use Rattle.gp_machine.specs.Entries.{Log, log_of}
 use Rattle.gp_machine.specs.Event.{Line, after, published_rows}
 use Rattle.gp_machine.specs.Histories.{IsFirst, IsHistory}
-use Rattle.gp_machine.specs.HistorySpans.{next_written, span_after, span_count, span_from, spans_from, spans_of, spans_upto, state_spans}
-use Rattle.gp_machine.specs.Limits.{ChecksTargets, Limits}
+use Rattle.gp_machine.specs.HistorySpans.{next_written, span_from, spans_from, spans_of, spans_upto, state_spans}
+use Rattle.gp_machine.specs.SpanCounts.{span_after, span_count}
+use Rattle.gp_machine.specs.Parameters.{Parameters}
+use Rattle.gp_machine.specs.CheckedTargets.{ChecksTargets}
 use Rattle.gp_machine.specs.Points.{RunStop, run_stop}
 use Rattle.gp_machine.specs.Reached.{IsReached}
 use Rattle.gp_machine.specs.Reading.{Seen, seen_by, start_by}
 use Rattle.gp_machine.specs.Replaying.{CommitsInOrder, Replay, first_stop, replay_stop, replayed, replayed_spans, rerun, upto_version, version_stop}
 use Rattle.gp_machine.specs.Runs.{run_before}
 use Rattle.gp_machine.specs.State.{State, start}
+use Rattle.gp_base.proofs.SmallLemmas.{none_parts, some_none}
 
 -- ---- no stop
-
-some_none : {X : Type 0} (x : X) → Some x ≡ None → ⊥
-some_none x e = cc
 
 -- what does not come where nothing stops
 pub record Unstopped (run : Option RunStop) (lost : Option Conflict) (full : Bool) : Type 0 where
@@ -60,12 +60,12 @@ same_log log t n = record { version = λ k l. refl; statement = λ k l. refl }
 pub upto_same : (u : ℕ) (log : Log) (t n : ℕ) → SameFor log (upto_version u log) t n
 upto_same u log t n = record { version = λ k l. refl; statement = λ k l. refl }
 
-module _ {M : Type 0} (kind : Annotations M) (log : Log) (tables : ℕ) where
+module _ {M : Type 0} (domain : Annotations M) (log : Log) (tables : ℕ) where
   abbrev made : ℕ → Replay M
-  made u = replayed kind log tables u
+  made u = replayed domain log tables u
 
   abbrev again : ℕ → Seen M
-  again u = rerun kind log (log.committer (suc u)) (made u).committed
+  again u = rerun domain log (log.committer (suc u)) (made u).committed
 
   -- what is made stays
   pub committed_stays : (u v : ℕ) → v ≤ u → (made (suc u)).committed v ≡ (made u).committed v
@@ -85,14 +85,14 @@ module _ {M : Type 0} (kind : Annotations M) (log : Log) (tables : ℕ) where
   -- the spans of the first tables, this many
   abbrev pub spans_made : ℕ → ℕ → ℕ
   spans_made u zero = zero
-  spans_made u (suc place) = spans_made u place + length (replayed_spans kind log tables u place)
+  spans_made u (suc place) = spans_made u place + length (replayed_spans domain log tables u place)
 
-  more_spans : (u place : ℕ) → length (replayed_spans kind log tables (suc u) place)
-      ≡ length (replayed_spans kind log tables u place) + length (filter (λ row. is_written place row.identity (pairs (again u).written)) ((again u).view place))
+  more_spans : (u place : ℕ) → length (replayed_spans domain log tables (suc u) place)
+      ≡ length (replayed_spans domain log tables u place) + length (filter (λ row. is_written place row.identity (pairs (again u).written)) ((again u).view place))
   more_spans u place =
       ap length (spans_grow (made u).committed (made (suc u)).committed (made u).written (made (suc u)).written u place (committed_stays u) (written_stays u))
-      ∙ length-append (map (span_after (suc u) (λ id. is_written place id ((made (suc u)).written (suc u)))) (replayed_spans kind log tables u place)) (spans_from (suc u) (made (suc u)).committed (made (suc u)).written place (suc u))
-      ∙ (λ i. length-map (replayed_spans kind log tables u place) (span_after (suc u) (λ id. is_written place id ((made (suc u)).written (suc u)))) i + new_spans i)
+      ∙ length-append (map (span_after (suc u) (λ id. is_written place id ((made (suc u)).written (suc u)))) (replayed_spans domain log tables u place)) (spans_from (suc u) (made (suc u)).committed (made (suc u)).written place (suc u))
+      ∙ (λ i. length-map (replayed_spans domain log tables u place) (span_after (suc u) (λ id. is_written place id ((made (suc u)).written (suc u)))) i + new_spans i)
     where
       new_spans : length (spans_from (suc u) (made (suc u)).committed (made (suc u)).written place (suc u)) ≡ length (filter (λ row. is_written place row.identity (pairs (again u).written)) ((again u).view place))
       new_spans =
@@ -121,9 +121,9 @@ module _ {M : Type 0} (kind : Annotations M) (log : Log) (tables : ℕ) where
 
   -- ---- without a stop it is a history
 
-  module _ (limits : Limits) (order : CommitsInOrder log) where
+  module _ (parameters : Parameters) (order : CommitsInOrder log) where
     -- the next transaction, over the versions before
-    module _ (u : ℕ) (within : u < log.versions) (before : IsHistory kind (upto_version u log) (made u).committed (made u).written) where
+    module _ (u : ℕ) (within : u < log.versions) (before : IsHistory domain (upto_version u log) (made u).committed (made u).written) where
       abbrev t : ℕ
       t = log.committer (suc u)
 
@@ -133,9 +133,9 @@ module _ {M : Type 0} (kind : Annotations M) (log : Log) (tables : ℕ) where
       reads : (k : ℕ) → k ≤ n → log.version t k ≤ u
       reads k l = order.order u k within l
 
-      fit : Clean kind (upto_version u log) (made u).committed (made u).written before t n
+      fit : Clean domain (upto_version u log) (made u).committed (made u).written before t n
       fit =
-          let sound = λ (k : ℕ) (l : k ≤ n). all_sound kind (upto_version u log) (made u).committed (made u).written before (log.version t k) (reads k l) (log.version t k) (omega arith) in
+          let sound = λ (k : ℕ) (l : k ≤ n). all_sound domain (upto_version u log) (made u).committed (made u).written before (log.version t k) (reads k l) (log.version t k) (omega arith) in
           record {
             different = λ k l table. (sound k l table).different;
             unmarked = λ k l table. (sound k l table).unmarked;
@@ -149,24 +149,24 @@ module _ {M : Type 0} (kind : Annotations M) (log : Log) (tables : ℕ) where
               omega arith
 
       -- run again, it reads and writes what it would in the history machine
-      pub again_is : again u ≡ seen_by kind (upto_version u log) t n (made u).committed
+      pub again_is : again u ≡ seen_by domain (upto_version u log) t n (made u).committed
       again_is =
           (λ i. record {
-            view = sym (run_agree kind log (upto_version u log) t n (made u).committed (made u).committed (upto_same u log t n) (λ k l. refl) n (omega arith)) i;
-            written = sym (written_agree kind log (upto_version u log) t n (made u).committed (made u).committed (upto_same u log t n) (λ k l. refl) n (omega arith)) i;
+            view = sym (run_agree domain log (upto_version u log) t n (made u).committed (made u).committed (upto_same u log t n) (λ k l. refl) n (omega arith)) i;
+            written = sym (written_agree domain log (upto_version u log) t n (made u).committed (made u).committed (upto_same u log t n) (λ k l. refl) n (omega arith)) i;
           })
           ∙ (λ i. record {
-            view = run_is kind (upto_version u log) (made u).committed (made u).written before t n fit reads (λ k l. order.later u k within l) n (omega arith) i;
-            written = written_is kind (upto_version u log) (made u).committed (made u).written before t n fit reads (λ k l. order.later u k within l) n (omega arith) i;
+            view = run_is domain (upto_version u log) (made u).committed (made u).written before t n fit reads (λ k l. order.later u k within l) n (omega arith) i;
+            written = written_is domain (upto_version u log) (made u).committed (made u).written before t n fit reads (λ k l. order.later u k within l) n (omega arith) i;
           })
 
-      pub before_again : (k : ℕ) → k < n → run_before kind log t k (made u).committed ≡ start_by kind (upto_version u log) t k (made u).committed
+      pub before_again : (k : ℕ) → k < n → run_before domain log t k (made u).committed ≡ start_by domain (upto_version u log) t k (made u).committed
       before_again k l =
-          sym (before_agree kind log (upto_version u log) t n (made u).committed (made u).committed (upto_same u log t n) (λ k l. refl) k l)
-          ∙ before_is kind (upto_version u log) (made u).committed (made u).written before t n fit reads (λ k l. order.later u k within l) k l
+          sym (before_agree domain log (upto_version u log) t n (made u).committed (made u).committed (upto_same u log t n) (λ k l. refl) k l)
+          ∙ before_is domain (upto_version u log) (made u).committed (made u).written before t n fit reads (λ k l. order.later u k within l) k l
 
       -- it has made none of these versions
-      pub over_made : (read_committed : Bool) → IsOver kind (upto_version u log) (made u).committed (record { transaction = t; read_committed = read_committed; version = log.version t n; statements = n; seen = again u })
+      pub over_made : (read_committed : Bool) → IsOver domain (upto_version u log) (made u).committed (record { transaction = t; read_committed = read_committed; version = log.version t n; statements = n; seen = again u })
       over_made read_committed = record {
         seen = again_is;
         version = refl;
@@ -175,13 +175,13 @@ module _ {M : Type 0} (kind : Annotations M) (log : Log) (tables : ℕ) where
         unfinished = λ v l is. let same : v ≡ u = order.once v u (omega arith) within is in omega arith;
       }
 
-      seen_next : seen_by kind (upto_version (suc u) log) t n (made (suc u)).committed ≡ again u
+      seen_next : seen_by domain (upto_version (suc u) log) t n (made (suc u)).committed ≡ again u
       seen_next =
-          seen_agree kind (upto_version u log) (upto_version (suc u) log) t n n (made u).committed (made (suc u)).committed (record { version = λ k l. refl; statement = λ k l. refl }) (omega arith)
+          seen_agree domain (upto_version u log) (upto_version (suc u) log) t n n (made u).committed (made (suc u)).committed (record { version = λ k l. refl; statement = λ k l. refl }) (omega arith)
           (λ k l. committed_stays u (log.version t k) (reads k l))
           ∙ sym again_is
 
-      commit_by : version_stop kind log limits tables u ≡ None → CommitBy kind (upto_version (suc u) log) (made (suc u)).committed (made (suc u)).written u t
+      commit_by : version_stop domain log parameters tables u ≡ None → CommitBy domain (upto_version (suc u) log) (made (suc u)).committed (made (suc u)).written u t
       commit_by none =
           let clear = unstopped (suc u) _ _ _ none in
           record {
@@ -195,20 +195,20 @@ module _ {M : Type 0} (kind : Annotations M) (log : Log) (tables : ℕ) where
                 (not_lost (made u).written u (again u).written clear.wins));
           }
 
-    pub history_made : (u : ℕ) → u ≤ log.versions → replay_stop kind log limits tables u ≡ None → IsHistory kind (upto_version u log) (made u).committed (made u).written
-    history_made zero within none = history_from kind (upto_version zero log) _ _ (λ table. refl) (λ v w l. absurd (omega arith)) (λ v l. absurd (omega arith))
+    pub history_made : (u : ℕ) → u ≤ log.versions → replay_stop domain log parameters tables u ≡ None → IsHistory domain (upto_version u log) (made u).committed (made u).written
+    history_made zero within none = history_from domain (upto_version zero log) _ _ (λ table. refl) (λ v w l. absurd (omega arith)) (λ v l. absurd (omega arith))
     history_made (suc u) within none =
-        let both = neither (replay_stop kind log limits tables u) (version_stop kind log limits tables u) none in
+        let both = none_parts (replay_stop domain log parameters tables u) (version_stop domain log parameters tables u) none in
         let before = history_made u (omega arith) both.0 in
-        history_from kind (upto_version (suc u) log) (made (suc u)).committed (made (suc u)).written
+        history_from domain (upto_version (suc u) log) (made (suc u)).committed (made (suc u)).written
         (λ table. ap (λ (db : Database M). db table) (committed_stays u zero (omega arith)) ∙ before.start table)
         (λ v w l m is. order.once v w (omega arith) (omega arith) is)
         (λ v l. ⊎_elim
-        (λ below. commit_agree kind (upto_version u log) (upto_version (suc u) log) (made u).committed (made (suc u)).committed (made u).written (made (suc u)).written v (log.committer (suc v))
+        (λ below. commit_agree domain (upto_version u log) (upto_version (suc u) log) (made u).committed (made (suc u)).committed (made u).written (made (suc u)).written v (log.committer (suc v))
         (record { version = λ k m. refl; statement = λ k m. refl }) refl (λ w m. committed_stays u w (omega arith)) (λ w m. written_stays u w (omega arith))
-        (commit_from kind (upto_version u log) (made u).committed (made u).written before v below))
+        (commit_from domain (upto_version u log) (made u).committed (made u).written before v below))
         (λ above. let is : u ≡ v = omega arith in
-        subst (λ v. CommitBy kind (upto_version (suc u) log) (made (suc u)).committed (made (suc u)).written v (log.committer (suc v))) is (commit_by u within before both.1))
+        subst (λ v. CommitBy domain (upto_version (suc u) log) (made (suc u)).committed (made (suc u)).written v (log.committer (suc v))) is (commit_by u within before both.1))
         (cases_lt v u))
 
 -- ---- the spans of versions that are the same
@@ -232,9 +232,9 @@ module _ {M : Type 0} (n : ℕ) (committed others : Environment M) (written more
 
 -- ---- the log of a history
 
-module _ {M : Type 0} (kind : Annotations M) (limits : Limits) (checks : ChecksTargets limits) (lines : List Line) where
+module _ {M : Type 0} (domain : Annotations M) (parameters : Parameters) (checks : ChecksTargets parameters) (lines : List Line) where
   abbrev state : State M
-  state = after kind limits start lines
+  state = after domain parameters start lines
 
   abbrev log : Log
   log = log_of state.entries
@@ -243,10 +243,10 @@ module _ {M : Type 0} (kind : Annotations M) (limits : Limits) (checks : ChecksT
   tables = length state.catalogue
 
   abbrev own : ℕ → Replay M
-  own u = replayed kind log tables u
+  own u = replayed domain log tables u
 
-  reached : IsReached kind limits state
-  reached = all_reached kind limits lines
+  reached : IsReached domain parameters state
+  reached = all_reached domain parameters lines
 
   pub record IsOwn (u : ℕ) : Type 0 where
     pub committed : (v : ℕ) → v ≤ u → (own u).committed v ≡ state.committed v
@@ -261,13 +261,13 @@ module _ {M : Type 0} (kind : Annotations M) (limits : Limits) (checks : ChecksT
     steps = log.statement_count maker
 
     abbrev mine : Seen M
-    mine = rerun kind log maker (own u).committed
+    mine = rerun domain log maker (own u).committed
 
-    agree : SameSeen kind log maker steps state.committed (own u).committed
+    agree : SameSeen domain log maker steps state.committed (own u).committed
     agree k l = is.committed (log.version maker k) (reached.history.order u k within l)
 
-    fits_it : Clean kind log state.committed state.written reached.history maker steps
-    fits_it = clean kind log state.committed state.written reached.history u within (all_sound kind log state.committed state.written reached.history u (omega arith)) steps (omega arith)
+    fits_it : Clean domain log state.committed state.written reached.history maker steps
+    fits_it = clean domain log state.committed state.written reached.history u within (all_sound domain log state.committed state.written reached.history u (omega arith)) steps (omega arith)
 
     inside : (k : ℕ) → k ≤ steps → log.version maker k ≤ log.versions
     inside k l = let o = reached.history.order u k within l in omega arith
@@ -275,12 +275,12 @@ module _ {M : Type 0} (kind : Annotations M) (limits : Limits) (checks : ChecksT
     rising : (k : ℕ) → k < steps → log.version maker k ≤ log.version maker (suc k)
     rising k l = reached.history.later u k within l
 
-    mine_is : mine ≡ seen_by kind log maker steps state.committed
+    mine_is : mine ≡ seen_by domain log maker steps state.committed
     mine_is = λ i. record {
-      view = (run_agree kind log log maker steps state.committed (own u).committed (same_log log maker steps) agree steps (omega arith)
-          ∙ run_is kind log state.committed state.written reached.history maker steps fits_it inside rising steps (omega arith)) i;
-      written = (written_agree kind log log maker steps state.committed (own u).committed (same_log log maker steps) agree steps (omega arith)
-          ∙ written_is kind log state.committed state.written reached.history maker steps fits_it inside rising steps (omega arith)) i;
+      view = (run_agree domain log log maker steps state.committed (own u).committed (same_log log maker steps) agree steps (omega arith)
+          ∙ run_is domain log state.committed state.written reached.history maker steps fits_it inside rising steps (omega arith)) i;
+      written = (written_agree domain log log maker steps state.committed (own u).committed (same_log log maker steps) agree steps (omega arith)
+          ∙ written_is domain log state.committed state.written reached.history maker steps fits_it inside rising steps (omega arith)) i;
     }
 
     wrote_own : pairs mine.written ≡ state.written (suc u)
@@ -289,24 +289,24 @@ module _ {M : Type 0} (kind : Annotations M) (limits : Limits) (checks : ChecksT
     own_next : IsOwn (suc u)
     own_next = record {
       committed = λ v l. ⊎_elim
-          (λ below. committed_stays kind log tables u v (omega arith) ∙ is.committed v (omega arith))
+          (λ below. committed_stays domain log tables u v (omega arith) ∙ is.committed v (omega arith))
           (λ above. let at' : v ≡ suc u = omega arith in
           subst (λ v. (own (suc u)).committed v ≡ state.committed v) (sym at')
-          (committed_new kind log tables u ∙ (λ i. next_version (is.committed u (omega arith) i) (mine_is i).view (wrote_own i))
+          (committed_new domain log tables u ∙ (λ i. next_version (is.committed u (omega arith) i) (mine_is i).view (wrote_own i))
           ∙ sym (λ i table. reached.history.published u table within i)))
           (cases_lt v (suc u));
       written = λ v l. ⊎_elim
-          (λ below. written_stays kind log tables u (suc v) below ∙ is.written v below)
+          (λ below. written_stays domain log tables u (suc v) below ∙ is.written v below)
           (λ above. let at' : v ≡ u = omega arith in
-          subst (λ v. (own (suc u)).written (suc v) ≡ state.written (suc v)) (sym at') (written_new kind log tables u ∙ wrote_own))
+          subst (λ v. (own (suc u)).written (suc v) ≡ state.written (suc v)) (sym at') (written_new domain log tables u ∙ wrote_own))
           (cases_lt v u);
     }
 
     -- its run does not stop
-    run_none : run_stop kind limits log maker steps (own u).committed ≡ None
+    run_none : run_stop domain parameters log maker steps (own u).committed ≡ None
     run_none =
-        stop_agree kind log log maker steps state.committed (own u).committed (same_log log maker steps) agree limits steps (omega arith)
-        ∙ (reached_unstopped kind limits state reached).runs u within
+        stop_agree domain log log maker steps state.committed (own u).committed (same_log log maker steps) agree parameters steps (omega arith)
+        ∙ (reached_unstopped domain parameters state reached).runs u within
 
     -- its commit is not lost
     won : least_conflict (own u).written u mine.written ≡ None
@@ -332,7 +332,7 @@ module _ {M : Type 0} (kind : Annotations M) (limits : Limits) (checks : ChecksT
     new_length place =
         length-map _ (span_from log.versions state.committed state.written place (suc u))
         ∙ ap (λ rows. length (filter (λ (row : Annotated M). is_written place row.identity (state.written (suc u))) rows)) (reached.history.published u place within)
-        ∙ ap length (written_rows (λ id. is_written place id (state.written (suc u))) (state.committed u place) ((seen_by kind log maker steps state.committed).view place))
+        ∙ ap length (written_rows (λ id. is_written place id (state.written (suc u))) (state.committed u place) ((seen_by domain log maker steps state.committed).view place))
         ∙ length-map _ unmarked
         ∙ (λ i. length (filter (λ (row : Annotated M). is_written place row.identity (sym wrote_own i)) ((sym mine_is i).view place)))
 
@@ -350,7 +350,7 @@ module _ {M : Type 0} (kind : Annotations M) (limits : Limits) (checks : ChecksT
   spans_begun u zero = zero
   spans_begun u (suc place) = spans_begun u place + length (spans_upto log.versions state.committed state.written place u)
 
-  begun_next : (u place : ℕ) → (within : u < log.versions) → (is : IsOwn u) → spans_begun (suc u) place ≡ spans_begun u place + published_rows (rerun kind log (log.committer (suc u)) (own u).committed) place
+  begun_next : (u place : ℕ) → (within : u < log.versions) → (is : IsOwn u) → spans_begun (suc u) place ≡ spans_begun u place + published_rows (rerun domain log (log.committer (suc u)) (own u).committed) place
   begun_next u zero within is = refl
   begun_next u (suc place) within is =
       let before = begun_next u place within is in
@@ -381,31 +381,28 @@ module _ {M : Type 0} (kind : Annotations M) (limits : Limits) (checks : ChecksT
   all_begun zero = refl
   all_begun (suc place) = ap (λ n. n + length (state_spans state place)) (all_begun place)
 
-  rows_fit : (u : ℕ) → u ≤ log.versions → (own u).rows ≤ limits.published
+  rows_fit : (u : ℕ) → u ≤ log.versions → (own u).rows ≤ parameters.published
   rows_fit u within =
       let upto = begun_more u (log.versions - u) (omega arith) in
       let end : u + (log.versions - u) ≡ log.versions = omega arith in
       let last : spans_begun u tables ≤ spans_begun log.versions tables = subst (λ v. spans_begun u tables ≤ spans_begun v tables) end upto in
-      omega (arith, rows_are u within, last, all_begun tables, (all_counted kind limits checks lines).count, (counts_are_within kind limits lines).rows)
+      omega (arith, rows_are u within, last, all_begun tables, (all_counted domain parameters checks lines).count, (counts_are_within domain parameters lines).rows)
 
-  has_room : (u : ℕ) → u < log.versions → nat_lt limits.published ((own u).rows + published_rows (rerun kind log (log.committer (suc u)) (own u).committed) tables) ≡ false
-  has_room u within = not_more limits.published ((own u).rows + published_rows (rerun kind log (log.committer (suc u)) (own u).committed) tables) (rows_fit (suc u) within)
-    where
-      not_more : (a b : ℕ) → b ≤ a → nat_lt a b ≡ false
-      not_more a b l = grind (arith, nat_tests)
+  has_room : (u : ℕ) → u < log.versions → nat_lt parameters.published ((own u).rows + published_rows (rerun domain log (log.committer (suc u)) (own u).committed) tables) ≡ false
+  has_room u within = le-ltb parameters.published ((own u).rows + published_rows (rerun domain log (log.committer (suc u)) (own u).committed) tables) (rows_fit (suc u) within)
 
   -- ---- so nothing stops, and the spans are those of the history
 
-  version_none : (u : ℕ) → u < log.versions → version_stop kind log limits tables u ≡ None
+  version_none : (u : ℕ) → u < log.versions → version_stop domain log parameters tables u ≡ None
   version_none u within =
       let is = is_own u (omega arith) in
       λ i. first_stop (suc u) (run_none u within is i) (won u within is i) (has_room u within i)
 
-  pub own_unstopped : (u : ℕ) → u ≤ log.versions → replay_stop kind log limits tables u ≡ None
+  pub own_unstopped : (u : ℕ) → u ≤ log.versions → replay_stop domain log parameters tables u ≡ None
   own_unstopped zero within = refl
-  own_unstopped (suc u) within = ap (λ s. option_or s (version_stop kind log limits tables u)) (own_unstopped u (omega arith)) ∙ version_none u within
+  own_unstopped (suc u) within = ap (λ s. option_or s (version_stop domain log parameters tables u)) (own_unstopped u (omega arith)) ∙ version_none u within
 
-  pub own_spans : (place : ℕ) → replayed_spans kind log tables log.versions place ≡ state_spans state place
+  pub own_spans : (place : ℕ) → replayed_spans domain log tables log.versions place ≡ state_spans state place
   own_spans place =
       let is = is_own log.versions (omega arith) in
       spans_agree log.versions state.committed (own log.versions).committed state.written (own log.versions).written is.committed is.written place

@@ -10,8 +10,7 @@ use Rattle.gp_base.specs.declared.table.Table.{Table}
 use Rattle.gp_grammar.specs.Syntax.{Command}
 use Rattle.gp_machine.proofs.ActiveLemmas.{active_over, active_version}
 use Rattle.gp_machine.proofs.BaseLemmas.{base_more}
-use Rattle.gp_machine.proofs.LogLemmas.{at_other, eq_not}
-use Rattle.gp_machine.proofs.Made.{eq_itself}
+use Rattle.gp_machine.proofs.LogLemmas.{at_other}
 use Rattle.gp_machine.proofs.OverlayLemmas.{now_is, now_within, start_shown}
 use Rattle.gp_machine.proofs.ReachedLemmas.{published_reached}
 use Rattle.gp_machine.proofs.SpanCommit.{commit_spans}
@@ -21,7 +20,7 @@ use Rattle.gp_machine.specs.Committed.{next_version}
 use Rattle.gp_machine.specs.Entries.{Began, Committed, Created, End, Ended, Entry, Lost, Ran, begin_version, log_of, transactions_in, versions_in}
 use Rattle.gp_machine.specs.Event.{accepted, began, conflict_of, created, ended, published, published_rows, seen_next, start_now, version_now}
 use Rattle.gp_machine.specs.HistorySpans.{as_of, spans_of}
-use Rattle.gp_machine.specs.Limits.{Limits}
+use Rattle.gp_machine.specs.Parameters.{Parameters}
 use Rattle.gp_machine.specs.Reached.{IsReached}
 use Rattle.gp_machine.specs.Represents.{Applied, AreWritesOf, IsNew, Kept, Overlay, Represents, RepresentsActive, RepresentsSession, base_after, rows_below, version_to_read, view_at}
 use Rattle.gp_machine.specs.State.{Active, State, with_value}
@@ -29,15 +28,17 @@ use Rattle.gp_versions.specs.Commits.{after_commit}
 use Rattle.gp_versions.specs.Spans.{rows_at}
 use Rattle.gp_versions.specs.declared.span.Span.{Span}
 use Rattle.gp_versions.specs.declared.span.Write.{Write}
+use Rattle.std.proofs.lemmas.Bool.{both_ways}
+use Rattle.gp_base.proofs.SmallLemmas.{eq_itself, eq_not}
 
 -- the spans hold the same rows of the versions up to this one
 abbrev KeepVersions : (ℕ → List Span) → (ℕ → List Span) → ℕ → Type 0
 KeepVersions old new versions = (version place : ℕ) → version ≤ versions → as_of plain new version place ≡ as_of plain old version place
 
 -- the spans that an engine keeps hold the rows of each version
-pub committed_rows : (limits : Limits) (state : State (Unit {0})) (kept : Kept) → Represents kept state → IsReached plain limits state → (version place : ℕ) → version ≤ versions_in state.entries
+pub committed_rows : (parameters : Parameters) (state : State (Unit {0})) (kept : Kept) → Represents kept state → IsReached plain parameters state → (version place : ℕ) → version ≤ versions_in state.entries
     → as_of plain kept.spans version place ≡ state.committed version place
-committed_rows limits state kept represents reached version place l =
+committed_rows parameters state kept represents reached version place l =
     ap (rows_at plain version) (represents.spans place) ∙ plain_spans_rows (log_of state.entries) state.committed state.written reached.history version place l
 
 -- spans that say the same of the versions up to the one that a transaction read last keep what the others keep
@@ -75,16 +76,12 @@ frame session o a old new entries later sessions active same begun here all othe
     (elim (other == session) as (λ b. (other == session) ≡ b → RepresentsSession new later (cond b o (sessions other)) (cond b a (active other))) [
       | true ↦ λ is. here
       | false ↦ λ is. session_kept old new entries later (sessions other) (active other) same
-          (λ b e. begun other b (λ eq. absurd (differ (other == session) is (ap (λ n. n == session) eq ∙ eq_itself session))) e) (all other)
+          (λ b e. begun other b (λ eq. absurd (both_ways (other == session) is (ap (λ n. n == session) eq ∙ eq_itself session))) e) (all other)
     ]) refl
-  where
-    differ : (b : Bool) → b ≡ false → b ≡ true → ⊥
-    differ true e f = cc
-    differ false e f = cc
 
-module _ (limits : Limits) (state : State (Unit {0})) (kept : Kept) (represents : Represents kept state) (reached : IsReached plain limits state) (line session : ℕ) where
+module _ (parameters : Parameters) (state : State (Unit {0})) (kept : Kept) (represents : Represents kept state) (reached : IsReached plain parameters state) (line session : ℕ) where
   within : (other : ℕ) (b : Active (Unit {0})) → state.active other ≡ Some b → b.version ≤ versions_in state.entries
-  within other b e = active_version plain limits state reached other b e
+  within other b e = active_version plain parameters state reached other b e
 
   -- CREATE TABLE changes no session
   pub created_represented : (table : Table)
@@ -124,7 +121,7 @@ module _ (limits : Limits) (state : State (Unit {0})) (kept : Kept) (represents 
           version = λ place. subst (λ v. overlay.version place ≤ v) at (new.version place);
           view = λ place.
               ap (λ v. view_at kept.spans overlay v place) (sym at) ∙ new.view place
-              ∙ ap (λ v. as_of plain kept.spans v place) at ∙ committed_rows limits state kept represents reached (versions_in state.entries) place (omega arith);
+              ∙ ap (λ v. as_of plain kept.spans v place) at ∙ committed_rows parameters state kept represents reached (versions_in state.entries) place (omega arith);
           base = new.base;
         }) represents.sessions;
   }
@@ -134,12 +131,12 @@ module _ (limits : Limits) (state : State (Unit {0})) (kept : Kept) (represents 
 
   module _ (active : Active (Unit {0})) (e : state.active session ≡ Some active) (overlay : Overlay) (runs : RepresentsActive kept.spans (begin_version active.transaction state.entries) overlay active) where
     now : version_to_read overlay kept.versions ≡ version_now state active
-    now = now_is limits state reached session active e kept.spans overlay runs kept.versions represents.versions
+    now = now_is parameters state reached session active e kept.spans overlay runs kept.versions represents.versions
 
     -- what the transaction reads before its next statement
     pub start_seen : view_at kept.spans overlay (version_to_read overlay kept.versions) ≡ start_now state active
     start_seen = λ i place. (ap (λ v. view_at kept.spans overlay v place) now
-        ∙ start_shown limits state reached session active e kept.spans overlay runs (λ place. committed_rows limits state kept represents reached (version_now state active) place (now_within limits state reached session active e kept.spans overlay runs)) place) i
+        ∙ start_shown parameters state reached session active e kept.spans overlay runs (λ place. committed_rows parameters state kept represents reached (version_now state active) place (now_within parameters state reached session active e kept.spans overlay runs)) place) i
 
     -- a statement: the writes of this session alone
     pub accepted_represented : (command : Command) (statement : Statement) (new : Overlay) → Applied statement kept.spans (version_to_read overlay kept.versions) overlay new
@@ -209,11 +206,11 @@ module _ (limits : Limits) (state : State (Unit {0})) (kept : Kept) (represents 
         exact : (place : ℕ) → after_commit (suc kept.versions) (writes place) (kept.spans place) ≡ spans_of (suc (versions_in state.entries)) next.committed next.written place
         exact place =
             ap (λ n. after_commit (suc n) (writes place) (kept.spans place)) represents.versions
-            ∙ commit_spans (log_of state.entries) state.committed state.written reached.history active (active_over plain limits state reached session active e) kept.spans (begin_version active.transaction state.entries) overlay place (writes place) (represents.spans place) runs (are place)
+            ∙ commit_spans (log_of state.entries) state.committed state.written reached.history active (active_over plain parameters state reached session active e) kept.spans (begin_version active.transaction state.entries) overlay place (writes place) (represents.spans place) runs (are place)
 
         same : KeepVersions kept.spans (λ place. after_commit (suc kept.versions) (writes place) (kept.spans place)) (versions_in state.entries)
         same version place l =
             ap (rows_at plain version) (exact place)
-            ∙ plain_spans_rows (log_of next.entries) next.committed next.written (published_reached plain limits state line session Lost active e reached won).history version place (omega arith)
+            ∙ plain_spans_rows (log_of next.entries) next.committed next.written (published_reached plain parameters state line session Lost active e reached won).history version place (omega arith)
             ∙ ap (λ (db : Database (Unit {0})). db place) (at_other (suc (versions_in state.entries)) (next_version (state.committed (versions_in state.entries)) active.seen.view (pairs active.seen.written)) state.committed version (λ is. omega arith))
-            ∙ sym (committed_rows limits state kept represents reached version place l)
+            ∙ sym (committed_rows parameters state kept represents reached version place l)

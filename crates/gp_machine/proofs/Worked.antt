@@ -23,7 +23,7 @@ use Rattle.gp_machine.specs.Annotating.{annotated_versions}
 use Rattle.gp_machine.specs.Entries.{begin_version, committer_of, statement_count, statement_version, version_of}
 use Rattle.gp_machine.specs.Event.{Line, line_event, after}
 use Rattle.gp_machine.specs.HistorySpans.{state_spans}
-use Rattle.gp_machine.specs.Limits.{Limits}
+use Rattle.gp_machine.specs.Parameters.{Parameters}
 use Rattle.gp_machine.specs.Points.{at_point, held_at}
 use Rattle.gp_machine.specs.Questions.{log_refusal}
 use Rattle.gp_machine.specs.State.{State, start}
@@ -47,7 +47,7 @@ known tables (y.delete name cond) = Ok (delete 0 always)
 known tables (y.select query) = Ok (read (record { from = 0 ∷ []; cond = None; items = col 1 ∷ [] } ∷ []))
 known tables command = Err E07
 
-abbrev numbers : Limits
+abbrev numbers : Parameters
 numbers = record {
   checked = known;
   created = λ tables table. None;
@@ -80,9 +80,9 @@ abbrev line : ℕ → ℕ → Command → Line
 line number session command = record { number = number; session = session; command = command }
 
 -- the replies to lines
-abbrev replies : Limits → State Monomial → List Line → List Reply
-replies limits state [] = []
-replies limits state (line ∷ lines) = (line_event monomials limits state line).1 ∷ replies limits (line_event monomials limits state line).0 lines
+abbrev replies : Parameters → State Monomial → List Line → List Reply
+replies parameters state [] = []
+replies parameters state (line ∷ lines) = (line_event monomials parameters state line).1 ∷ replies parameters (line_event monomials parameters state line).0 lines
 
 -- ---- the first committer wins: sessions 1 and 2 update one row, and session 1 commits first
 
@@ -192,7 +192,7 @@ updates tables (y.update (suc (suc zero) ∷ name) sets cond) = Ok (bigger 5 1)
 updates tables (y.update name sets cond) = Ok (update 0 (record { col = 2; expr = mul (col 2) (constant (number 2)) } ∷ []) always)
 updates tables command = Err E07
 
-abbrev ample : Limits
+abbrev ample : Parameters
 ample = record numbers { checked = updates; transactions = 9; steps = 9; statements = 9; rows = 9; answer = 9; published = 9 }
 
 abbrev set_by : ℕ → Command

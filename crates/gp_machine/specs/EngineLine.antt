@@ -2,24 +2,25 @@
 use Rattle.std.specs.Prelude.{◌≡◌, option_and_then, ℕ, zero, suc, ◌+◌, ◌++◌, nat_le, nat_lt, Bool, true, false, List, [], ◌∷◌, length, filter, Option, Some, None, Result, Ok, Err}
 use Rattle.gp_base.specs.declared.limit.Limit.TheVariants as limit
 use Rattle.gp_base.specs.declared.refusal.Refusal.{Refusal}
-use Rattle.gp_base.specs.declared.refusal.Refusal.TheVariants.{E09, E10, E11, E14}
+use Rattle.gp_base.specs.declared.refusal.Refusal.TheVariants.{E11, E14}
 use Rattle.gp_base.specs.declared.table.Table.{Table}
 use Rattle.gp_base.specs.Annotated.{plain}
 use Rattle.gp_grammar.specs.Syntax.{Command}
 use Rattle.gp_versions.specs.declared.span.Write.{Write}
 use Rattle.gp_versions.specs.Commits.{after_commit}
-use Rattle.gp_versions.specs.Spans.{written_after}
+use Rattle.gp_versions.specs.TableSpans.{written_after}
 use Rattle.gp_base.specs.Identities.{Identity}
 use Rattle.gp_algebra.specs.Effects.{Written}
 use Rattle.std.specs.Ordering.{is_gt}
 use Rattle.gp_algebra.specs.Statements.{Statement}
 use Rattle.gp_machine.specs.declared.reply.Reply.{Reply}
 use Rattle.gp_machine.specs.declared.reply.Reply.TheVariants as reply
-use Rattle.gp_machine.specs.Actions.{Action, Create, Begin, Commit, Rollback, Run}
+use Rattle.gp_machine.specs.Actions as allow
+use Rattle.gp_machine.specs.Actions.{Action, Allowed, allowed}
 use Rattle.gp_machine.specs.Conflicts.{Conflict, written_cmp}
 use Rattle.gp_machine.specs.Entries.{begin_version, End, RolledBack, Lost, Created, Began, Ran, Committed, Ended, committer_of}
 use Rattle.gp_machine.specs.Event.{Line, line_event, after, conflict_of, name_at, creation_refusal, count_refusal, refusal_of, reply_of}
-use Rattle.gp_machine.specs.Limits.{Limits}
+use Rattle.gp_machine.specs.Parameters.{Parameters}
 use Rattle.gp_machine.specs.Represents.{Represents, RepresentsActive, PlainDatabase, Overlay, Kept, base_in, version_to_read, view_at, view_of, AreWritesOf, IsNew, Applied}
 use Rattle.gp_machine.specs.State.{Active, State, start, with_value}
 
@@ -32,7 +33,7 @@ marked_rows view (suc place) = marked_rows view place + length (filter (λ row. 
 abbrev pub rows_after : Kept → Overlay → ℕ
 rows_after kept overlay = kept.rows + marked_rows (view_of kept.spans overlay) (length kept.catalogue)
 
-module _ (limits : Limits) (kept : Kept) (line session : ℕ) (new : Kept) (answer : Reply) where
+module _ (parameters : Parameters) (kept : Kept) (line session : ℕ) (new : Kept) (answer : Reply) where
   -- nothing changes
   abbrev pub Refuses : Refusal → Type 0
   Refuses refusal = (new ≡ kept) × (answer ≡ reply.Refused refusal)
@@ -77,7 +78,7 @@ module _ (limits : Limits) (kept : Kept) (line session : ℕ) (new : Kept) (answ
   RunsStatement overlay command (Some refusal) checked = Refuses refusal
   RunsStatement overlay command None (Err refusal) = Refuses refusal
   RunsStatement overlay command None (Ok statement) =
-      Applies overlay command statement (refusal_of plain limits kept.catalogue overlay.transaction (suc overlay.statements) statement (view_at kept.spans overlay (now overlay)))
+      Applies overlay command statement (refusal_of plain parameters kept.catalogue overlay.transaction (suc overlay.statements) statement (view_at kept.spans overlay (now overlay)))
 
   abbrev pub Ends : Overlay → End → Reply → Type 0
   Ends overlay end expected =
@@ -101,19 +102,19 @@ module _ (limits : Limits) (kept : Kept) (line session : ℕ) (new : Kept) (answ
       })
       × (answer ≡ reply.Committed overlay.transaction (suc kept.versions))
 
-  -- what an action does in a session with these writes, or without a transaction, given the conflict of a transaction
+  -- what a session may do, or why it may not, given the conflict of a transaction
+  abbrev pub Does : (Overlay → Option Conflict) → Result (Allowed Overlay) Refusal → Type 0
+  Does conflict (Err refusal) = Refuses refusal
+  Does conflict (Ok (allow.Creates table)) = Creates table (creation_refusal parameters kept.catalogue table)
+  Does conflict (Ok (allow.Begins read_committed)) = Begins read_committed (nat_le parameters.transactions kept.transactions)
+  Does conflict (Ok (allow.Commits overlay)) = Commits overlay (conflict overlay) (nat_lt parameters.published (rows_after kept overlay))
+  Does conflict (Ok (allow.RollsBack overlay)) = Ends overlay RolledBack (reply.RolledBack overlay.transaction)
+  Does conflict (Ok (allow.Runs overlay command)) =
+      RunsStatement overlay command (count_refusal parameters overlay.statements kept.statements) (parameters.checked kept.catalogue command)
+
+  -- what an action does in a session with these writes, or without a transaction
   abbrev pub Answers : (Overlay → Option Conflict) → Option Overlay → Action → Type 0
-  Answers conflict None (Create table) = Creates table (creation_refusal limits kept.catalogue table)
-  Answers conflict None (Begin read_committed) = Begins read_committed (nat_le limits.transactions kept.transactions)
-  Answers conflict None Commit = Refuses E10
-  Answers conflict None Rollback = Refuses E10
-  Answers conflict None (Run command) = Refuses E10
-  Answers conflict (Some overlay) (Create table) = Refuses E09
-  Answers conflict (Some overlay) (Begin read_committed) = Refuses E09
-  Answers conflict (Some overlay) Commit = Commits overlay (conflict overlay) (nat_lt limits.published (rows_after kept overlay))
-  Answers conflict (Some overlay) Rollback = Ends overlay RolledBack (reply.RolledBack overlay.transaction)
-  Answers conflict (Some overlay) (Run command) =
-      RunsStatement overlay command (count_refusal limits overlay.statements kept.statements) (limits.checked kept.catalogue command)
+  Answers conflict overlay action = Does conflict (allowed overlay action)
 
 -- where an engine represents a state, it finds the conflict that the commit of a session would be lost by
 abbrev pub FindsConflict : Kept → State (Unit {0}) → ℕ → (Overlay → Option Conflict) → Type 0
@@ -134,8 +135,8 @@ ShowsConflict kept overlay (Some conflict) =
 
 -- An engine follows the history machine at a line: whatever lines came before, if it represents the state that they left, then it represents the
 -- state that they leave with this one, and its answer is the reply.
-abbrev pub Follows : Limits → Kept → Kept → Line → Reply → Type 0
-Follows limits old new line answer =
-    (lines : List Line) → Represents old (after plain limits start lines)
-    → Represents new (after plain limits start (lines ++ line ∷ []))
-    × (answer ≡ (line_event plain limits (after plain limits start lines) line).1)
+abbrev pub Follows : Parameters → Kept → Kept → Line → Reply → Type 0
+Follows parameters old new line answer =
+    (lines : List Line) → Represents old (after plain parameters start lines)
+    → Represents new (after plain parameters start (lines ++ line ∷ []))
+    × (answer ≡ (line_event plain parameters (after plain parameters start lines) line).1)

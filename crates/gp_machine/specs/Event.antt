@@ -2,25 +2,25 @@
 -- 1995) a transaction reads the version that was newest when it began, and its own writes; its commit makes the next version. A read committed
 -- transaction reads at each statement the version that is the newest then, and its own writes. A refused line leaves the state unchanged, but a COMMIT
 -- that is lost ends its transaction.
-use Rattle.std.specs.Prelude.{ℕ, zero, suc, ◌+◌, nat_le, nat_lt, Bool, true, false, List, [], ◌∷◌, ◌++◌, length, filter, Option, Some, None, Result, Ok, Err, slice_get, if◌then◌else◌}
+use Rattle.std.specs.Prelude.{ℕ, zero, suc, ◌+◌, nat_le, nat_lt, Bool, true, false, List, [], ◌∷◌, ◌++◌, length, filter, Option, Some, None, Result, Ok, Err, slice_get, unwrap_or, if◌then◌else◌}
 use Rattle.std.specs.Option.{option_map_or}
 use Rattle.gp_base.specs.declared.limit.Limit.TheVariants as limit
 use Rattle.gp_base.specs.declared.refusal.Refusal.{Refusal}
-use Rattle.gp_base.specs.declared.refusal.Refusal.TheVariants.{E09, E10, E11, E12, E13, E14, E27}
+use Rattle.gp_base.specs.declared.refusal.Refusal.TheVariants.{E11, E12, E13, E14, E27}
 use Rattle.gp_base.specs.declared.table.Table.{Table}
 use Rattle.gp_base.specs.Annotated.{Annotations, Database}
 use Rattle.gp_grammar.specs.Syntax.{Command}
-use Rattle.gp_algebra.specs.Statements.{Statement, insert, insert_select, update, delete, read}
+use Rattle.gp_algebra.specs.Statements.{Statement, insert, insert_select, update, delete, read, target}
 use Rattle.gp_algebra.specs.Answers.{answer, cells_of}
 use Rattle.gp_algebra.specs.Effects.{wrote, is_over_rows, is_over_nodes}
 use Rattle.gp_machine.specs.declared.reply.Reply.{Reply}
 use Rattle.gp_machine.specs.declared.reply.Reply.TheVariants as reply
-use Rattle.gp_machine.specs.Actions.{Action, Create, Begin, Commit, Rollback, Run, action_of}
+use Rattle.gp_machine.specs.Actions.{Action, Allowed, Creates, Begins, Commits, RollsBack, Runs, action_of, allowed}
 use Rattle.gp_machine.specs.Bases.{pairs}
 use Rattle.gp_machine.specs.Committed.{is_written, next_version}
 use Rattle.gp_machine.specs.Conflicts.{Conflict, least_conflict}
 use Rattle.gp_machine.specs.Entries.{End, RolledBack, Lost, Created, Began, Ran, Committed, Ended, versions_in, transactions_in, statements_in, committer_of}
-use Rattle.gp_machine.specs.Limits.{Limits}
+use Rattle.gp_machine.specs.Parameters.{Parameters}
 use Rattle.gp_machine.specs.Reading.{Seen, next_seen, started}
 use Rattle.gp_machine.specs.State.{Active, State, with_value}
 
@@ -36,49 +36,39 @@ name_at place tables = option_map_or (λ (table : Table). table.name) (slice_get
 
 -- the table that a statement writes; a query writes none, and is given the first
 abbrev pub target_of : Statement → ℕ
-target_of (insert table rows) = table
-target_of (insert_select table select) = table
-target_of (update table sets c) = table
-target_of (delete table c) = table
-target_of (read select) = 0
+target_of statement = unwrap_or (target statement) 0
 
 -- ---- refusals
 
 -- CREATE TABLE: the number of tables is tested before the names
-abbrev pub creation_refusal : Limits → List Table → Table → Option Refusal
-creation_refusal limits tables table = if nat_le limits.tables (length tables) then Some (E14 limit.Tables) else limits.created tables table
+abbrev pub creation_refusal : Parameters → List Table → Table → Option Refusal
+creation_refusal parameters tables table = if nat_le parameters.tables (length tables) then Some (E14 limit.Tables) else parameters.created tables table
 
 -- A statement is counted before it is checked, in its transaction and then among all.
-abbrev pub count_refusal : Limits → ℕ → ℕ → Option Refusal
-count_refusal limits own all =
-    if nat_le limits.steps own then Some (E14 limit.Steps)
-    else if nat_le limits.statements all then Some (E14 limit.Statements)
+abbrev pub count_refusal : Parameters → ℕ → ℕ → Option Refusal
+count_refusal parameters own all =
+    if nat_le parameters.steps own then Some (E14 limit.Steps)
+    else if nat_le parameters.statements all then Some (E14 limit.Statements)
     else None
 
-module _ {M : Type 0} (kind : Annotations M) where
+module _ {M : Type 0} (domain : Annotations M) where
   -- a SELECT that gives more rows than these
   abbrev pub is_over_answer : ℕ → Statement → Database M → Bool
-  is_over_answer most (read select) db = nat_lt most (length (answer kind select db))
-  is_over_answer most (insert table rows) db = false
-  is_over_answer most (insert_select table select) db = false
-  is_over_answer most (update table sets c) db = false
-  is_over_answer most (delete table c) db = false
+  is_over_answer most (read select) db = nat_lt most (length (answer domain select db))
+  is_over_answer most _ db = false
 
   -- a statement that was checked: its rows, its identities, its answer
-  abbrev pub refusal_of : Limits → List Table → ℕ → ℕ → Statement → Database M → Option Refusal
-  refusal_of limits tables t k statement view =
-      if is_over_rows kind limits.rows t k statement view then Some (E12 (name_at (target_of statement) tables))
-      else if is_over_nodes kind limits.nodes t k statement view then Some E13
-      else if is_over_answer limits.answer statement view then Some E27
+  abbrev pub refusal_of : Parameters → List Table → ℕ → ℕ → Statement → Database M → Option Refusal
+  refusal_of parameters tables t k statement view =
+      if is_over_rows domain parameters.rows t k statement view then Some (E12 (name_at (target_of statement) tables))
+      else if is_over_nodes domain parameters.nodes t k statement view then Some E13
+      else if is_over_answer parameters.answer statement view then Some E27
       else None
 
   -- the reply to a statement: the rows of a query, or the number of rows that it wrote
   abbrev pub reply_of : ℕ → ℕ → Statement → Database M → Reply
-  reply_of t k (read select) view = reply.Rows (cells_of (answer kind select view))
-  reply_of t k (insert table rows) view = reply.Wrote (length (wrote kind t k (insert table rows) view))
-  reply_of t k (insert_select table select) view = reply.Wrote (length (wrote kind t k (insert_select table select) view))
-  reply_of t k (update table sets c) view = reply.Wrote (length (wrote kind t k (update table sets c) view))
-  reply_of t k (delete table c) view = reply.Wrote (length (wrote kind t k (delete table c) view))
+  reply_of t k (read select) view = reply.Rows (cells_of (answer domain select view))
+  reply_of t k statement view = reply.Wrote (length (wrote domain t k statement view))
 
 -- a refusal leaves the state unchanged
 abbrev pub refused : {M : Type 0} → State M → Refusal → State M × Reply
@@ -127,12 +117,12 @@ version_now state active = if active.read_committed then versions_in state.entri
 abbrev pub start_now : {M : Type 0} → State M → Active M → Database M
 start_now state active = started active.version (version_now state active) (state.committed (version_now state active)) active.seen
 
-module _ {M : Type 0} (kind : Annotations M) (state : State M) (line session : ℕ) (active : Active M) (command : Command) where
+module _ {M : Type 0} (domain : Annotations M) (state : State M) (line session : ℕ) (active : Active M) (command : Command) where
   -- what the transaction has read and written after the statement
   abbrev pub seen_next : Statement → Seen M
   seen_next statement =
       let now = version_now state active in
-      next_seen kind active.transaction (suc active.statements) active.version now (state.committed now) (Some statement) active.seen
+      next_seen domain active.transaction (suc active.statements) active.version now (state.committed now) (Some statement) active.seen
 
   -- the transaction reads what the statement leaves from now on
   abbrev pub accepted : Statement → State M
@@ -148,14 +138,14 @@ module _ {M : Type 0} (kind : Annotations M) (state : State M) (line session : �
 
   abbrev pub ran : Statement → Option Refusal → State M × Reply
   ran statement (Some refusal) = refused state refusal
-  ran statement None = (accepted statement, reply_of kind active.transaction (suc active.statements) statement (start_now state active))
+  ran statement None = (accepted statement, reply_of domain active.transaction (suc active.statements) statement (start_now state active))
 
   -- by the refusal of the counts, and by the check
-  abbrev pub running : Limits → Option Refusal → Result Statement Refusal → State M × Reply
-  running limits (Some refusal) checked = refused state refusal
-  running limits None (Err refusal) = refused state refusal
-  running limits None (Ok statement) =
-      ran statement (refusal_of kind limits state.catalogue active.transaction (suc active.statements) statement (start_now state active))
+  abbrev pub running : Parameters → Option Refusal → Result Statement Refusal → State M × Reply
+  running parameters (Some refusal) checked = refused state refusal
+  running parameters None (Err refusal) = refused state refusal
+  running parameters None (Ok statement) =
+      ran statement (refusal_of domain parameters state.catalogue active.transaction (suc active.statements) statement (start_now state active))
 
 -- ---- the end of a transaction
 
@@ -169,8 +159,8 @@ published_rows seen zero = zero
 published_rows seen (suc table) = published_rows seen table + length (filter (λ row. is_written table row.identity (pairs seen.written)) (seen.view table))
 
 -- whether a commit would publish too many rows
-abbrev pub is_full : {M : Type 0} → Limits → State M → Active M → Bool
-is_full limits state active = nat_lt limits.published (state.rows + published_rows active.seen (length state.catalogue))
+abbrev pub is_full : {M : Type 0} → Parameters → State M → Active M → Bool
+is_full parameters state active = nat_lt parameters.published (state.rows + published_rows active.seen (length state.catalogue))
 
 module _ {M : Type 0} (state : State M) (line session : ℕ) (active : Active M) where
   -- ROLLBACK, or a COMMIT that is lost: the session has no transaction
@@ -201,20 +191,20 @@ module _ {M : Type 0} (state : State M) (line session : ℕ) (active : Active M)
 
 -- ---- the event
 
-module _ {M : Type 0} (kind : Annotations M) (limits : Limits) where
-  -- CREATE TABLE and BEGIN are allowed only outside a transaction, all else only inside one.
+module _ {M : Type 0} (domain : Annotations M) (parameters : Parameters) where
+  -- what a session may do, or why it may not
+  abbrev pub doing : State M → ℕ → ℕ → Result (Allowed (Active M)) Refusal → State M × Reply
+  doing state line session (Err refusal) = refused state refusal
+  doing state line session (Ok (Creates table)) = creating state line session table (creation_refusal parameters state.catalogue table)
+  doing state line session (Ok (Begins read_committed)) = beginning state line session read_committed (nat_le parameters.transactions (transactions_in state.entries))
+  doing state line session (Ok (Commits active)) = committing state line session active (conflict_of state active) (is_full parameters state active)
+  doing state line session (Ok (RollsBack active)) = (ended state line session active RolledBack, reply.RolledBack active.transaction)
+  doing state line session (Ok (Runs active command)) =
+      running domain state line session active command parameters (count_refusal parameters active.statements (statements_in state.entries)) (parameters.checked state.catalogue command)
+
+  -- what an action does in a session with this transaction, or without one
   abbrev pub answered : State M → ℕ → ℕ → Option (Active M) → Action → State M × Reply
-  answered state line session None (Create table) = creating state line session table (creation_refusal limits state.catalogue table)
-  answered state line session None (Begin read_committed) = beginning state line session read_committed (nat_le limits.transactions (transactions_in state.entries))
-  answered state line session None Commit = refused state E10
-  answered state line session None Rollback = refused state E10
-  answered state line session None (Run command) = refused state E10
-  answered state line session (Some active) (Create table) = refused state E09
-  answered state line session (Some active) (Begin read_committed) = refused state E09
-  answered state line session (Some active) Commit = committing state line session active (conflict_of state active) (is_full limits state active)
-  answered state line session (Some active) Rollback = (ended state line session active RolledBack, reply.RolledBack active.transaction)
-  answered state line session (Some active) (Run command) =
-      running kind state line session active command limits (count_refusal limits active.statements (statements_in state.entries)) (limits.checked state.catalogue command)
+  answered state line session active action = doing state line session (allowed active action)
 
   -- what the command of a line does in a session, and the reply to it
   abbrev pub event : State M → ℕ → ℕ → Command → State M × Reply

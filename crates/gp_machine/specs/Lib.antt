@@ -9,7 +9,7 @@ pub mod Entries
 pub mod Event
 pub mod Histories
 pub mod HistorySpans
-pub mod Limits
+pub mod Parameters
 pub mod Points
 pub mod Publishing
 pub mod Questions
@@ -25,4 +25,6 @@ pub mod Runs
 pub mod State
 pub mod StateReannotation
 pub mod Unstopped
-pub mod Views
+pub mod SeenRows
+pub mod SpanCounts
+pub mod CheckedTargets

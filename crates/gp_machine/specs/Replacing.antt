@@ -3,7 +3,7 @@ use Rattle.std.specs.Prelude.{◌≡◌, ◌++◌, Bool, true, false, List, filt
 use Rattle.gp_base.specs.Identities.{Identity, same_identity}
 use Rattle.gp_base.specs.Annotated.{Annotated}
 use Rattle.gp_machine.specs.Publishing.{holds}
-use Rattle.gp_machine.specs.Views.{HaveDifferentIdentities, unwritten}
+use Rattle.gp_machine.specs.SeenRows.{HaveDifferentIdentities, unwritten}
 
 -- the rows with the identity
 abbrev pub rows_with : {M : Type 0} → Identity → List (Annotated M) → List (Annotated M)

@@ -10,14 +10,14 @@ use Rattle.gp_machine.specs.State.{State}
 
 -- no transaction is running
 abbrev pub replayed_state : {M : Type 0} → Annotations M → List Table → List Entry → State M
-replayed_state kind catalogue entries =
-    let made = replayed kind (log_of entries) (length catalogue) (versions_in entries) in
+replayed_state domain catalogue entries =
+    let made = replayed domain (log_of entries) (length catalogue) (versions_in entries) in
     record {
       catalogue = catalogue;
       entries = entries;
       committed = made.committed;
       written = made.written;
       rows = made.rows;
-      views = λ t k. run kind (log_of entries) t k made.committed;
+      views = λ t k. run domain (log_of entries) t k made.committed;
       active = λ session. None;
     }

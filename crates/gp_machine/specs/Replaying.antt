@@ -11,7 +11,7 @@ use Rattle.gp_machine.specs.Conflicts.{Conflict, least_conflict}
 use Rattle.gp_machine.specs.Entries.{Log}
 use Rattle.gp_machine.specs.Event.{published_rows}
 use Rattle.gp_machine.specs.HistorySpans.{spans_of}
-use Rattle.gp_machine.specs.Limits.{Limits}
+use Rattle.gp_machine.specs.Parameters.{Parameters}
 use Rattle.gp_machine.specs.Points.{RunStop, run_stop}
 use Rattle.gp_machine.specs.Reading.{Seen, wrote_by}
 use Rattle.gp_machine.specs.Runs.{run, run_before}
@@ -45,29 +45,29 @@ remade tables versions seen before = record {
   rows = before.rows + published_rows seen tables;
 }
 
-module _ {M : Type 0} (kind : Annotations M) (log : Log) where
+module _ {M : Type 0} (domain : Annotations M) (log : Log) where
   -- the rows that a transaction wrote in the run of its first statements, this many, each with its base
   abbrev pub run_written : ℕ → ℕ → Environment M → List Based
   run_written t zero versions = []
   run_written t (suc k) versions =
-      with_bases (log.version t (suc k)) (run_written t k versions) (wrote_by kind t (suc k) (log.statement t (suc k)) (run_before kind log t k versions))
+      with_bases (log.version t (suc k)) (run_written t k versions) (wrote_by domain t (suc k) (log.statement t (suc k)) (run_before domain log t k versions))
 
   -- what a transaction reads and has written at its end, run again over these versions
   abbrev pub rerun : ℕ → Environment M → Seen M
-  rerun t versions = record { view = run kind log t (log.statement_count t) versions; written = run_written t (log.statement_count t) versions }
+  rerun t versions = record { view = run domain log t (log.statement_count t) versions; written = run_written t (log.statement_count t) versions }
 
   -- the first versions made again, this many, given the number of tables
   abbrev pub replayed : ℕ → ℕ → Replay M
   replayed tables zero = record { committed = λ version. empty_database; written = λ version. []; rows = 0 }
   replayed tables (suc u) = let before = replayed tables u in remade tables u (rerun (log.committer (suc u)) before.committed) before
 
-  module _ (limits : Limits) (tables : ℕ) where
+  module _ (parameters : Parameters) (tables : ℕ) where
     -- the stop of the commit of a transaction over the versions before, this many
     abbrev pub commit_stop : ℕ → ℕ → Replay M → Option ReplayStop
     commit_stop versions t before =
         let seen = rerun t before.committed in
-        first_stop (suc versions) (run_stop kind limits log t (log.statement_count t) before.committed) (least_conflict before.written versions seen.written)
-        (nat_lt limits.published (before.rows + published_rows seen tables))
+        first_stop (suc versions) (run_stop domain parameters log t (log.statement_count t) before.committed) (least_conflict before.written versions seen.written)
+        (nat_lt parameters.published (before.rows + published_rows seen tables))
 
     abbrev pub version_stop : ℕ → Option ReplayStop
     version_stop u = commit_stop u (log.committer (suc u)) (replayed tables u)

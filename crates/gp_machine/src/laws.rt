@@ -6,11 +6,13 @@ ghost use Rattle.std.specs.List.{AllByRecursion};
 ghost use Rattle.std.specs.List.Sorted.{IsPermutation};
 ghost use Rattle.gp_base.specs.declared.table.Table.{Table};
 ghost use Rattle.gp_base.specs.Annotated.{Annotated, Annotations, Database, Environment, plain};
-ghost use Rattle.gp_base.specs.Identities.{Identity, transaction_of};
+ghost use Rattle.gp_base.specs.Identities.{Identity};
+ghost use Rattle.gp_base.specs.IdentityParts.{transaction_of};
 ghost use Rattle.gp_grammar.specs.Syntax as y;
 ghost use Rattle.gp_versions.specs.declared.span.Span.{Span};
 ghost use Rattle.gp_versions.specs.Commits.{AreBelow};
-ghost use Rattle.gp_versions.specs.Spans.{AreWhole, NoOverlap, holds_at};
+ghost use Rattle.gp_versions.specs.Spans.{holds_at};
+ghost use Rattle.gp_versions.specs.TableSpans.{AreWhole, NoOverlap};
 ghost use Rattle.gp_algebra.specs.Effects.{Written, step, wrote};
 ghost use Rattle.gp_algebra.specs.Reannotation.{IsHomomorphism, forgotten, reannotated};
 ghost use Rattle.gp_algebra.specs.Answers.{answer};
@@ -25,9 +27,11 @@ ghost use Rattle.gp_machine.specs.Conflicts.{Conflict, HaveOneBase, IsLeastConfl
 ghost use Rattle.gp_machine.specs.EngineLine.{Answers, FindsConflict, Follows, ShowsConflict};
 ghost use Rattle.gp_machine.specs.Entries.{Entry, Log, begin_version, committer_of, log_of, statement_count, version_of, versions_in};
 ghost use Rattle.gp_machine.specs.Event.{Line, after, conflict_of, line_event, published};
-ghost use Rattle.gp_machine.specs.HistorySpans.{as_of, next_written, span_after, span_count, spans_from, state_spans};
+ghost use Rattle.gp_machine.specs.HistorySpans.{as_of, next_written, spans_from, state_spans};
+ghost use Rattle.gp_machine.specs.SpanCounts.{span_after, span_count};
 ghost use Rattle.gp_machine.specs.Histories.{IsFirst, IsHistory};
-ghost use Rattle.gp_machine.specs.Limits.{ChecksTargets, Limits};
+ghost use Rattle.gp_machine.specs.Parameters.{Parameters};
+ghost use Rattle.gp_machine.specs.CheckedTargets.{ChecksTargets};
 ghost use Rattle.gp_machine.specs.Points.{IsAsked, at_point, held_at, run_stop};
 ghost use Rattle.gp_machine.specs.Publishing.{publish};
 ghost use Rattle.gp_machine.specs.Replacing.{AddsNoneOf, Replaces, rows_with};
@@ -41,18 +45,18 @@ ghost use Rattle.gp_machine.specs.Runs.{at_commit};
 ghost use Rattle.gp_machine.specs.State.{Active, State, start};
 ghost use Rattle.gp_machine.specs.StateReannotation.{AreEqualButForAnnotations, AreReannotated, IsReannotated, outcome_reannotated, state_reannotated};
 ghost use Rattle.gp_machine.specs.Unstopped.{IsUnstopped};
-ghost use Rattle.gp_machine.specs.Views.{HaveDifferentIdentities, IsView, IsViewOf, unwritten};
+ghost use Rattle.gp_machine.specs.SeenRows.{HaveDifferentIdentities, AreSeenRows, IsViewOf, unwritten};
 
 /// Every state that lines lead to is that of a history: its versions are what its commits published, a transaction commits once,
 /// and has read only older versions, no statement an older one than the statement before it; no version after the base of a row
 /// that a commit wrote, and before the commit, wrote the row too; and what each transaction reads is what its statements leave.
 pub fn reached_states_are_histories<M>()
-    ensures start { (kind : Annotations M) (limits : Limits) → IsReached kind limits start }
-    ensures event { (kind : Annotations M) (limits : Limits) (state : State M) (line : Line)
-        → IsReached kind limits state → IsReached kind limits
-        (line_event kind limits state line).0 }
-    ensures after { (kind : Annotations M) (limits : Limits) (lines : List Line)
-        → IsReached kind limits (after kind limits start lines) }
+    ensures start { (domain : Annotations M) (parameters : Parameters) → IsReached domain parameters start }
+    ensures event { (domain : Annotations M) (parameters : Parameters) (state : State M) (line : Line)
+        → IsReached domain parameters state → IsReached domain parameters
+        (line_event domain parameters state line).0 }
+    ensures after { (domain : Annotations M) (parameters : Parameters) (lines : List Line)
+        → IsReached domain parameters (after domain parameters start lines) }
 {}
 
 /// A running transaction keeps its invariant. It holds at its BEGIN, if the version has no row twice, none marked, and none
@@ -66,23 +70,23 @@ pub fn transactions_keep_their_invariant<M>()
         → ((table : ℕ) → AllByRecursion (λ row. row.mark ≡ false) (base table))
         → ((table : ℕ) → AllByRecursion (λ row. transaction_of row.identity ≢ t) (base table))
         → IsViewOf t zero base base [] }
-    ensures statement { (kind : Annotations M) (t k : ℕ) (statement : Statement)
+    ensures statement { (domain : Annotations M) (t k : ℕ) (statement : Statement)
         (base view : Database M) (written : List Written) → IsViewOf t k base view written
-        → IsViewOf t (suc k) base (step kind t (suc k) statement view)
-        (written ++ wrote kind t (suc k) statement view) }
+        → IsViewOf t (suc k) base (step domain t (suc k) statement view)
+        (written ++ wrote domain t (suc k) statement view) }
     ensures refresh { (t k : ℕ) (base view later : Database M) (written : List Written)
         → IsViewOf t k base view written
         → ((table : ℕ) → HaveDifferentIdentities (later table))
         → ((table : ℕ) → AllByRecursion (λ row. row.mark ≡ false) (later table))
         → ((table : ℕ) → AllByRecursion (λ row. transaction_of row.identity ≢ t) (later table))
         → IsViewOf t k later (merged later view written) written }
-    ensures reached { (kind : Annotations M) (limits : Limits) (state : State M)
-        → IsReached kind limits state → (session : ℕ) (active : Active M)
+    ensures reached { (domain : Annotations M) (parameters : Parameters) (state : State M)
+        → IsReached domain parameters state → (session : ℕ) (active : Active M)
         → state.active session ≡ Some active
         → IsViewOf active.transaction active.statements
         (state.committed active.version) active.seen.view (pairs active.seen.written) }
-    ensures bases { (kind : Annotations M) (limits : Limits) (state : State M)
-        → IsReached kind limits state → (session : ℕ) (active : Active M)
+    ensures bases { (domain : Annotations M) (parameters : Parameters) (state : State M)
+        → IsReached domain parameters state → (session : ℕ) (active : Active M)
         → state.active session ≡ Some active
         → AllByRecursion
         (λ (based : Based). (begin_version active.transaction state.entries ≤ based.base)
@@ -99,11 +103,11 @@ pub fn transactions_keep_their_invariant<M>()
 /// version that a commit makes (`commit`).
 pub fn publishing_replaces_the_written_rows<M>()
     ensures replaces { (among : Identity → Bool) (base view later : Database M) (table : ℕ)
-        → IsView among (base table) (view table)
+        → AreSeenRows among (base table) (view table)
         → AddsNoneOf among (base table) (later table)
         → Replaces among (later table) (view table) (publish base view later table) }
     ensures unmarked { (among : Identity → Bool) (base view later : Database M) (table : ℕ)
-        → IsView among (base table) (view table)
+        → AreSeenRows among (base table) (view table)
         → AddsNoneOf among (base table) (later table)
         → AllByRecursion (λ row. row.mark ≡ false) (later table)
         → cleared (publish base view later) table
@@ -116,8 +120,8 @@ pub fn publishing_replaces_the_written_rows<M>()
     ensures unchanged { (among : Identity → Bool) (base later : List (Annotated M))
         → ((id : Identity) → among id ≡ true → rows_with id later ≡ rows_with id base)
         → AddsNoneOf among base later }
-    ensures won { (kind : Annotations M) (limits : Limits) (state : State M)
-        → IsReached kind limits state
+    ensures won { (domain : Annotations M) (parameters : Parameters) (state : State M)
+        → IsReached domain parameters state
         → (active : Active M) → conflict_of state active ≡ None
         → (version : ℕ) → version ≤ versions_in state.entries
         → AllByRecursion (λ (based : Based). based.base ≤ version) active.seen.written
@@ -129,16 +133,16 @@ pub fn publishing_replaces_the_written_rows<M>()
 /// which committed as that version or an earlier one (`rows`). A transaction commits once: the version that it made is the one
 /// that it is the committer of (`once`).
 pub fn identities_begin_with_their_committers<M>()
-    ensures rows { (kind : Annotations M) (limits : Limits) (lines : List Line)
-        (version table : ℕ) → version ≤ versions_in (after kind limits start lines).entries
+    ensures rows { (domain : Annotations M) (parameters : Parameters) (lines : List Line)
+        (version table : ℕ) → version ≤ versions_in (after domain parameters start lines).entries
         → AllByRecursion
-        (λ row. CommittedBy (after kind limits start lines).entries version
+        (λ row. CommittedBy (after domain parameters start lines).entries version
         (transaction_of row.identity))
-        ((after kind limits start lines).committed version table) }
-    ensures once { (kind : Annotations M) (limits : Limits) (lines : List Line) (u : ℕ)
-        → u < versions_in (after kind limits start lines).entries
-        → version_of (committer_of (suc u) (after kind limits start lines).entries)
-        (after kind limits start lines).entries ≡ Some (suc u) }
+        ((after domain parameters start lines).committed version table) }
+    ensures once { (domain : Annotations M) (parameters : Parameters) (lines : List Line) (u : ℕ)
+        → u < versions_in (after domain parameters start lines).entries
+        → version_of (committer_of (suc u) (after domain parameters start lines).entries)
+        (after domain parameters start lines).entries ≡ Some (suc u) }
 {}
 
 /// An engine without annotations follows the history machine, if it keeps what represents the state, and answers each line
@@ -146,22 +150,22 @@ pub fn identities_begin_with_their_committers<M>()
 /// one of the history (`line`); the one that the spans show is (`shown`). A line that is not recorded leaves the engine unchanged.
 pub fn engines_follow_the_history()
     ensures start { Represents kept_start start }
-    ensures line { (limits : Limits) (line : Line) (old new : Kept) (answer : Reply)
+    ensures line { (parameters : Parameters) (line : Line) (old new : Kept) (answer : Reply)
         (conflict : Overlay → Option Conflict)
-        → ((lines : List Line) → Represents old (after plain limits start lines)
-        → FindsConflict old (after plain limits start lines) line.session conflict)
-        → Answers limits old line.number line.session new answer conflict
+        → ((lines : List Line) → Represents old (after plain parameters start lines)
+        → FindsConflict old (after plain parameters start lines) line.session conflict)
+        → Answers parameters old line.number line.session new answer conflict
         (old.sessions line.session) (action_of line.command)
-        → Follows limits old new line answer }
-    ensures shown { (limits : Limits) (line : Line) (old new : Kept) (answer : Reply)
+        → Follows parameters old new line answer }
+    ensures shown { (parameters : Parameters) (line : Line) (old new : Kept) (answer : Reply)
         (conflict : Overlay → Option Conflict)
         → ((overlay : Overlay) → old.sessions line.session ≡ Some overlay
         → ShowsConflict old overlay (conflict overlay))
-        → Answers limits old line.number line.session new answer conflict
+        → Answers parameters old line.number line.session new answer conflict
         (old.sessions line.session) (action_of line.command)
-        → Follows limits old new line answer }
-    ensures unchanged { (limits : Limits) (old new : Kept) (line : Line) (answer : Reply)
-        (conflict : Overlay → Option Conflict) → Answers limits old line.number line.session new
+        → Follows parameters old new line answer }
+    ensures unchanged { (parameters : Parameters) (old new : Kept) (line : Line) (answer : Reply)
+        (conflict : Overlay → Option Conflict) → Answers parameters old line.number line.session new
         answer conflict (old.sessions line.session) (action_of line.command)
         → is_recorded (action_of line.command) answer ≡ false → new ≡ old }
 {}
@@ -169,16 +173,16 @@ pub fn engines_follow_the_history()
 /// Annotations decide nothing: a homomorphism of annotations commutes with every line, which gets the same reply, and with all
 /// lines. So the rows of every version and of every view are those without annotations, and so are the spans.
 pub fn annotations_change_no_reply<M, N>()
-    ensures event { (kind : Annotations M) (other : Annotations N) (h : M → N)
-        → IsHomomorphism kind other h → (limits : Limits) (state : State M) (line : Line)
-        → line_event other limits (state_reannotated h state) line
-        ≡ outcome_reannotated h (line_event kind limits state line) }
-    ensures after { (kind : Annotations M) (other : Annotations N) (h : M → N)
-        → IsHomomorphism kind other h → (limits : Limits) (lines : List Line)
-        → after other limits start lines ≡ state_reannotated h (after kind limits start lines) }
-    ensures forgetting { (kind : Annotations M) (limits : Limits) (lines : List Line)
-        → after plain limits start lines
-        ≡ state_reannotated forgotten (after kind limits start lines) }
+    ensures event { (domain : Annotations M) (other : Annotations N) (h : M → N)
+        → IsHomomorphism domain other h → (parameters : Parameters) (state : State M) (line : Line)
+        → line_event other parameters (state_reannotated h state) line
+        ≡ outcome_reannotated h (line_event domain parameters state line) }
+    ensures after { (domain : Annotations M) (other : Annotations N) (h : M → N)
+        → IsHomomorphism domain other h → (parameters : Parameters) (lines : List Line)
+        → after other parameters start lines ≡ state_reannotated h (after domain parameters start lines) }
+    ensures forgetting { (domain : Annotations M) (parameters : Parameters) (lines : List Line)
+        → after plain parameters start lines
+        ≡ state_reannotated forgotten (after domain parameters start lines) }
     ensures spans { (h : M → N) (state : State M) (table : ℕ)
         → state_spans (state_reannotated h state) table ≡ state_spans state table }
 {}
@@ -189,41 +193,41 @@ pub fn annotations_change_no_reply<M, N>()
 /// that are equal but for annotations of any two kinds, with no map between them, those tables are equal but for annotations
 /// too (`rows`).
 pub fn annotations_change_no_row<M, N>()
-    ensures points { (kind : Annotations M) (other : Annotations N) (h : M → N)
-        → IsHomomorphism kind other h
+    ensures points { (domain : Annotations M) (other : Annotations N) (h : M → N)
+        → IsHomomorphism domain other h
         → (versions : Environment M) (others : Environment N) → AreReannotated h versions others
         → (entries : List Entry) (point : y.State) → IsReannotated h
-        (at_point kind entries point versions) (at_point other entries point others) }
-    ensures stops { (kind : Annotations M) (other : Annotations N) (h : M → N)
-        → IsHomomorphism kind other h
+        (at_point domain entries point versions) (at_point other entries point others) }
+    ensures stops { (domain : Annotations M) (other : Annotations N) (h : M → N)
+        → IsHomomorphism domain other h
         → (versions : Environment M) (others : Environment N) → AreReannotated h versions others
-        → (limits : Limits) (log : Log) (t k : ℕ)
-        → run_stop other limits log t k others ≡ run_stop kind limits log t k versions }
+        → (parameters : Parameters) (log : Log) (t k : ℕ)
+        → run_stop other parameters log t k others ≡ run_stop domain parameters log t k versions }
     ensures held { (h : M → N) (state : State M) (point : y.State)
         → IsReannotated h (held_at state point) (held_at (state_reannotated h state) point) }
-    ensures rows { (kind : Annotations M) (other : Annotations N)
+    ensures rows { (domain : Annotations M) (other : Annotations N)
         (versions : Environment M) (others : Environment N)
         → ((version : ℕ) → AreEqualButForAnnotations (versions version) (others version))
         → (entries : List Entry) (point : y.State) → AreEqualButForAnnotations
-        (at_point kind entries point versions) (at_point other entries point others) }
+        (at_point domain entries point versions) (at_point other entries point others) }
 {}
 
 /// The spans of a reached state hold the rows of every version, in the same order, and with the annotations of the version that
 /// they begin with they are the version. Spans of one row do not overlap, none is empty, and one that holds a version ends at
 /// the next version that wrote its row. A commit ends open spans and begins new ones.
 pub fn spans_hold_the_versions<M>()
-    ensures rows { (kind : Annotations M) (limits : Limits) (state : State M)
-        → IsReached kind limits state
+    ensures rows { (domain : Annotations M) (parameters : Parameters) (state : State M)
+        → IsReached domain parameters state
         → (version table : ℕ) → version ≤ versions_in state.entries
         → as_of plain (state_spans state) version table
         ≡ map (reannotated forgotten) (state.committed version table) }
-    ensures annotated { (kind : Annotations M) (limits : Limits) (state : State M)
-        → IsReached kind limits state
+    ensures annotated { (domain : Annotations M) (parameters : Parameters) (state : State M)
+        → IsReached domain parameters state
         → (version table : ℕ) → version ≤ versions_in state.entries
-        → annotated kind (state_spans state) state.committed version table
+        → annotated domain (state_spans state) state.committed version table
         ≡ state.committed version table }
-    ensures apart { (kind : Annotations M) (limits : Limits) (state : State M)
-        → IsReached kind limits state → (table : ℕ) → NoOverlap (state_spans state table) }
+    ensures apart { (domain : Annotations M) (parameters : Parameters) (state : State M)
+        → IsReached domain parameters state → (table : ℕ) → NoOverlap (state_spans state table) }
     ensures whole { (state : State M) (table : ℕ) → AreWhole (state_spans state table) }
     ensures below { (state : State M) (table : ℕ)
         → AreBelow (suc (versions_in state.entries)) (state_spans state table) }
@@ -244,13 +248,13 @@ pub fn spans_hold_the_versions<M>()
 /// A line that is not recorded leaves the state unchanged; a line that is recorded adds one entry to the log. All accepted
 /// lines are recorded, and of the refused ones a COMMIT that is lost, which ends its transaction.
 pub fn accepted_lines_are_recorded<M>()
-    ensures unchanged { (kind : Annotations M) (limits : Limits) (state : State M) (line : Line)
-        → is_recorded (action_of line.command) (line_event kind limits state line).1 ≡ false
-        → (line_event kind limits state line).0 ≡ state }
-    ensures recorded { (kind : Annotations M) (limits : Limits) (state : State M) (line : Line)
-        → is_recorded (action_of line.command) (line_event kind limits state line).1 ≡ true
+    ensures unchanged { (domain : Annotations M) (parameters : Parameters) (state : State M) (line : Line)
+        → is_recorded (action_of line.command) (line_event domain parameters state line).1 ≡ false
+        → (line_event domain parameters state line).0 ≡ state }
+    ensures recorded { (domain : Annotations M) (parameters : Parameters) (state : State M) (line : Line)
+        → is_recorded (action_of line.command) (line_event domain parameters state line).1 ≡ true
         → (entry : Entry)
-        × ((line_event kind limits state line).0.entries ≡ entry ∷ state.entries) }
+        × ((line_event domain parameters state line).0.entries ≡ entry ∷ state.entries) }
 {}
 
 /// A commit is lost exactly where a version after the base of a row wrote the row too. The conflict is the least such row, by
@@ -272,114 +276,114 @@ pub fn conflicts_are_least()
 /// same answer, with the same annotations, as on the database that the history held. The run of such a transaction passes no
 /// limit. Publishing by marks and absence, as a query does, is the commit itself.
 pub fn logs_and_spans_hold_the_history<M>()
-    ensures answers { (kind : Annotations M) (limits : Limits) (lines : List Line)
+    ensures answers { (domain : Annotations M) (parameters : Parameters) (lines : List Line)
         (spans : ℕ → List Span) → ((table : ℕ)
-        → IsPermutation (spans table) (state_spans (after kind limits start lines) table))
-        → (point : y.State) → IsAsked (after kind limits start lines).entries point
+        → IsPermutation (spans table) (state_spans (after domain parameters start lines) table))
+        → (point : y.State) → IsAsked (after domain parameters start lines).entries point
         → (query : Select) → IsPermutation
-        (answer kind query (at_point kind (after kind limits start lines).entries point
-        (annotated_versions kind (after kind limits start lines).entries spans)))
-        (answer kind query (held_at (after kind limits start lines) point)) }
-    ensures stops { (kind : Annotations M) (limits : Limits) (lines : List Line)
+        (answer domain query (at_point domain (after domain parameters start lines).entries point
+        (annotated_versions domain (after domain parameters start lines).entries spans)))
+        (answer domain query (held_at (after domain parameters start lines) point)) }
+    ensures stops { (domain : Annotations M) (parameters : Parameters) (lines : List Line)
         (spans : ℕ → List Span) → ((table : ℕ)
-        → IsPermutation (spans table) (state_spans (after kind limits start lines) table))
-        → (t k version : ℕ) → version_of t (after kind limits start lines).entries ≡ Some version
-        → k ≤ statement_count t (after kind limits start lines).entries
-        → run_stop kind limits (log_of (after kind limits start lines).entries) t k
-        (annotated_versions kind (after kind limits start lines).entries spans) ≡ None }
-    ensures consistent { (kind : Annotations M) (limits : Limits) (state : State M)
-        → IsReached kind limits state → (spans : ℕ → List Span)
+        → IsPermutation (spans table) (state_spans (after domain parameters start lines) table))
+        → (t k version : ℕ) → version_of t (after domain parameters start lines).entries ≡ Some version
+        → k ≤ statement_count t (after domain parameters start lines).entries
+        → run_stop domain parameters (log_of (after domain parameters start lines).entries) t k
+        (annotated_versions domain (after domain parameters start lines).entries spans) ≡ None }
+    ensures consistent { (domain : Annotations M) (parameters : Parameters) (state : State M)
+        → IsReached domain parameters state → (spans : ℕ → List Span)
         → ((table : ℕ) → IsPermutation (spans table) (state_spans state table))
         → (u table : ℕ) → u ≤ versions_in state.entries → IsPermutation
-        (identified (computed kind (log_of state.entries) spans u u table))
-        (identified (as_of kind spans u table)) }
-    ensures commits { (kind : Annotations M) (limits : Limits) (state : State M)
-        → IsReached kind limits state → (u : ℕ) → u < versions_in state.entries → (table : ℕ)
-        → cleared (at_commit kind (log_of state.entries)
+        (identified (computed domain (log_of state.entries) spans u u table))
+        (identified (as_of domain spans u table)) }
+    ensures commits { (domain : Annotations M) (parameters : Parameters) (state : State M)
+        → IsReached domain parameters state → (u : ℕ) → u < versions_in state.entries → (table : ℕ)
+        → cleared (at_commit domain (log_of state.entries)
         (committer_of (suc u) state.entries) u state.committed) table
         ≡ state.committed (suc u) table }
 {}
 
 /// Without annotations, the rows of the spans do, and no version need be computed.
 pub fn spans_answer_without_annotations()
-    ensures answers { (limits : Limits) (lines : List Line) (spans : ℕ → List Span) → ((table : ℕ)
-        → IsPermutation (spans table) (state_spans (after plain limits start lines) table))
-        → (point : y.State) → IsAsked (after plain limits start lines).entries point
+    ensures answers { (parameters : Parameters) (lines : List Line) (spans : ℕ → List Span) → ((table : ℕ)
+        → IsPermutation (spans table) (state_spans (after plain parameters start lines) table))
+        → (point : y.State) → IsAsked (after plain parameters start lines).entries point
         → (query : Select) → IsPermutation
         (answer plain query
-        (at_point plain (after plain limits start lines).entries point (as_of plain spans)))
-        (answer plain query (held_at (after plain limits start lines) point)) }
+        (at_point plain (after plain parameters start lines).entries point (as_of plain spans)))
+        (answer plain query (held_at (after plain parameters start lines) point)) }
 {}
 
 /// No count passes its limit, and so the log has few lines.
 pub fn counts_are_within_their_limits<M>()
-    ensures within { (kind : Annotations M) (limits : Limits) (lines : List Line)
-        → CountsAreWithin limits (after kind limits start lines) }
+    ensures within { (domain : Annotations M) (parameters : Parameters) (lines : List Line)
+        → CountsAreWithin parameters (after domain parameters start lines) }
 {}
 
 /// The commits of a history publish as many rows as it has spans, if the check passes no statement that writes a table that is
 /// not there. The spans are those of the tables of the catalogue.
 pub fn commits_publish_the_spans<M>()
-    ensures count { (kind : Annotations M) (limits : Limits) → ChecksTargets limits
-        → (lines : List Line) → (after kind limits start lines).rows
-        ≡ span_count (after kind limits start lines)
-        (length (after kind limits start lines).catalogue) }
-    ensures beyond { (kind : Annotations M) (limits : Limits) → ChecksTargets limits
+    ensures count { (domain : Annotations M) (parameters : Parameters) → ChecksTargets parameters
+        → (lines : List Line) → (after domain parameters start lines).rows
+        ≡ span_count (after domain parameters start lines)
+        (length (after domain parameters start lines).catalogue) }
+    ensures beyond { (domain : Annotations M) (parameters : Parameters) → ChecksTargets parameters
         → (lines : List Line) (place : ℕ)
-        → length (after kind limits start lines).catalogue ≤ place
-        → state_spans (after kind limits start lines) place ≡ [] }
+        → length (after domain parameters start lines).catalogue ≤ place
+        → state_spans (after domain parameters start lines) place ≡ [] }
 {}
 
 /// Every question is answered from the log and the spans as the history would answer it: with the same refusal, or with the same
 /// elements in any order. No run stops, and no computed version differs from the one of the spans, whatever test of equal
 /// tables is used, if it passes tables with the same rows in any order.
 pub fn questions_are_answered_by_the_history<M>()
-    ensures annotated { (kind : Annotations M) (limits : Limits) (lines : List Line)
+    ensures annotated { (domain : Annotations M) (parameters : Parameters) (lines : List Line)
         (spans : ℕ → List Span) → ((table : ℕ)
-        → IsPermutation (spans table) (state_spans (after kind limits start lines) table))
+        → IsPermutation (spans table) (state_spans (after domain parameters start lines) table))
         → (agree : List (Annotated M) → List (Annotated M) → Bool)
         → ((rows others : List (Annotated M))
         → IsPermutation (identified rows) (identified others) → agree rows others ≡ true)
         → (point : y.State) (query : Select) → AreAlike
-        (annotated_answer kind limits agree (after kind limits start lines).catalogue
-        (after kind limits start lines).entries spans point query)
-        (held_answer kind limits (after kind limits start lines) point query) }
-    ensures rows { (limits : Limits) (lines : List Line) (spans : ℕ → List Span) → ((table : ℕ)
-        → IsPermutation (spans table) (state_spans (after plain limits start lines) table))
+        (annotated_answer domain parameters agree (after domain parameters start lines).catalogue
+        (after domain parameters start lines).entries spans point query)
+        (held_answer domain parameters (after domain parameters start lines) point query) }
+    ensures rows { (parameters : Parameters) (lines : List Line) (spans : ℕ → List Span) → ((table : ℕ)
+        → IsPermutation (spans table) (state_spans (after plain parameters start lines) table))
         → (point : y.State) (query : Select) → AreAlike
-        (rows_answer limits (after plain limits start lines).entries spans point query)
-        (held_answer plain limits (after plain limits start lines) point query) }
+        (rows_answer parameters (after plain parameters start lines).entries spans point query)
+        (held_answer plain parameters (after plain parameters start lines) point query) }
 {}
 
 /// The commits of a history, made again from its log alone, are that history: none stops, and the row versions are its own
 /// (`unstopped`, `spans`). Commits made again from any log that keeps its sessions are a history of their own, up to the first
 /// stop (`history`).
 pub fn histories_are_made_again<M>()
-    ensures unstopped { (kind : Annotations M) (limits : Limits) → ChecksTargets limits
-        → (lines : List Line) → replay_stop kind (log_of (after kind limits start lines).entries) limits
-        (length (after kind limits start lines).catalogue)
-        (versions_in (after kind limits start lines).entries) ≡ None }
-    ensures spans { (kind : Annotations M) (limits : Limits) → ChecksTargets limits
+    ensures unstopped { (domain : Annotations M) (parameters : Parameters) → ChecksTargets parameters
+        → (lines : List Line) → replay_stop domain (log_of (after domain parameters start lines).entries) parameters
+        (length (after domain parameters start lines).catalogue)
+        (versions_in (after domain parameters start lines).entries) ≡ None }
+    ensures spans { (domain : Annotations M) (parameters : Parameters) → ChecksTargets parameters
         → (lines : List Line) (place : ℕ)
-        → replayed_spans kind (log_of (after kind limits start lines).entries)
-        (length (after kind limits start lines).catalogue)
-        (versions_in (after kind limits start lines).entries) place
-        ≡ state_spans (after kind limits start lines) place }
-    ensures history { (kind : Annotations M) (limits : Limits) (log : Log) (tables u : ℕ)
-        → CommitsInOrder log → u ≤ log.versions → replay_stop kind log limits tables u ≡ None
-        → IsHistory kind (upto_version u log)
-        (replayed kind log tables u).committed (replayed kind log tables u).written }
+        → replayed_spans domain (log_of (after domain parameters start lines).entries)
+        (length (after domain parameters start lines).catalogue)
+        (versions_in (after domain parameters start lines).entries) place
+        ≡ state_spans (after domain parameters start lines) place }
+    ensures history { (domain : Annotations M) (parameters : Parameters) (log : Log) (tables u : ℕ)
+        → CommitsInOrder log → u ≤ log.versions → replay_stop domain log parameters tables u ≡ None
+        → IsHistory domain (upto_version u log)
+        (replayed domain log tables u).committed (replayed domain log tables u).written }
 {}
 
 /// No transaction that made a version passes a limit: neither in a state that lines lead to (`reached`), nor in the one that the
 /// commits of a log lead to, made again, if the log keeps its sessions and none of them stops (`replayed`).
 pub fn histories_do_not_stop<M>()
-    ensures reached { (kind : Annotations M) (limits : Limits) (lines : List Line)
-        → IsUnstopped kind limits (after kind limits start lines) }
-    ensures replayed { (kind : Annotations M) (limits : Limits) (catalogue : List Table)
+    ensures reached { (domain : Annotations M) (parameters : Parameters) (lines : List Line)
+        → IsUnstopped domain parameters (after domain parameters start lines) }
+    ensures replayed { (domain : Annotations M) (parameters : Parameters) (catalogue : List Table)
         (entries : List Entry) → CommitsInOrder (log_of entries)
-        → replay_stop kind (log_of entries) limits (length catalogue) (versions_in entries) ≡ None
-        → IsUnstopped kind limits (replayed_state kind catalogue entries) }
+        → replay_stop domain (log_of entries) parameters (length catalogue) (versions_in entries) ≡ None
+        → IsUnstopped domain parameters (replayed_state domain catalogue entries) }
 {}
 
 /// The log and the spans of a history in which no transaction stops, in whatever order, hold the history, and every question is
@@ -387,40 +391,40 @@ pub fn histories_do_not_stop<M>()
 /// refusal (`annotated`, `rows`). So it is for each state that lines lead to, and for commits made again
 /// ([`histories_do_not_stop`]).
 pub fn unstopped_histories_answer_their_questions<M>()
-    ensures elements { (kind : Annotations M) (limits : Limits) (state : State M)
-        → IsUnstopped kind limits state → (spans : ℕ → List Span)
+    ensures elements { (domain : Annotations M) (parameters : Parameters) (state : State M)
+        → IsUnstopped domain parameters state → (spans : ℕ → List Span)
         → ((table : ℕ) → IsPermutation (spans table) (state_spans state table))
         → (point : y.State) → IsAsked state.entries point → (query : Select) → IsPermutation
-        (answer kind query (at_point kind state.entries point
-        (annotated_versions kind state.entries spans)))
-        (answer kind query (held_at state point)) }
-    ensures annotated { (kind : Annotations M) (limits : Limits) (state : State M)
-        → IsUnstopped kind limits state → (spans : ℕ → List Span)
+        (answer domain query (at_point domain state.entries point
+        (annotated_versions domain state.entries spans)))
+        (answer domain query (held_at state point)) }
+    ensures annotated { (domain : Annotations M) (parameters : Parameters) (state : State M)
+        → IsUnstopped domain parameters state → (spans : ℕ → List Span)
         → ((table : ℕ) → IsPermutation (spans table) (state_spans state table))
         → (agree : List (Annotated M) → List (Annotated M) → Bool)
         → ((rows others : List (Annotated M))
         → IsPermutation (identified rows) (identified others) → agree rows others ≡ true)
         → (point : y.State) (query : Select) → AreAlike
-        (annotated_answer kind limits agree state.catalogue state.entries spans point query)
-        (held_answer kind limits state point query) }
-    ensures rows { (limits : Limits) (state : State (Unit {0})) → IsUnstopped plain limits state
+        (annotated_answer domain parameters agree state.catalogue state.entries spans point query)
+        (held_answer domain parameters state point query) }
+    ensures rows { (parameters : Parameters) (state : State (Unit {0})) → IsUnstopped plain parameters state
         → (spans : ℕ → List Span)
         → ((table : ℕ) → IsPermutation (spans table) (state_spans state table))
         → (point : y.State) (query : Select) → AreAlike
-        (rows_answer limits state.entries spans point query)
-        (held_answer plain limits state point query) }
+        (rows_answer parameters state.entries spans point query)
+        (held_answer plain parameters state point query) }
 {}
 
 /// Annotations decide nothing where commits are made again: a homomorphism of annotations changes neither the first stop (`stops`)
 /// nor the spans (`spans`), and takes a history in which no transaction stops to another one (`unstopped`).
 pub fn annotations_change_no_replay<M, N>()
-    ensures stops { (kind : Annotations M) (other : Annotations N) (h : M → N)
-        → IsHomomorphism kind other h → (limits : Limits) (log : Log) (tables u : ℕ)
-        → replay_stop other log limits tables u ≡ replay_stop kind log limits tables u }
-    ensures spans { (kind : Annotations M) (other : Annotations N) (h : M → N)
-        → IsHomomorphism kind other h → (log : Log) (tables u place : ℕ)
-        → replayed_spans other log tables u place ≡ replayed_spans kind log tables u place }
-    ensures unstopped { (kind : Annotations M) (other : Annotations N) (h : M → N)
-        → IsHomomorphism kind other h → (limits : Limits) (state : State M)
-        → IsUnstopped kind limits state → IsUnstopped other limits (state_reannotated h state) }
+    ensures stops { (domain : Annotations M) (other : Annotations N) (h : M → N)
+        → IsHomomorphism domain other h → (parameters : Parameters) (log : Log) (tables u : ℕ)
+        → replay_stop other log parameters tables u ≡ replay_stop domain log parameters tables u }
+    ensures spans { (domain : Annotations M) (other : Annotations N) (h : M → N)
+        → IsHomomorphism domain other h → (log : Log) (tables u place : ℕ)
+        → replayed_spans other log tables u place ≡ replayed_spans domain log tables u place }
+    ensures unstopped { (domain : Annotations M) (other : Annotations N) (h : M → N)
+        → IsHomomorphism domain other h → (parameters : Parameters) (state : State M)
+        → IsUnstopped domain parameters state → IsUnstopped other parameters (state_reannotated h state) }
 {}

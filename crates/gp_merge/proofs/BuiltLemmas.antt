@@ -1,19 +1,20 @@
 -- A merged program is well built.
-use Rattle.std.proofs.Common.{◌≡◌, ℕ, zero, suc, ◌<◌, Bool, true, false, cond, List, [], ◌∷◌, refl, sym, ap, ◌∙◌, subst, arith, map}
+use Rattle.std.proofs.Common.{◌≡◌, ℕ, zero, suc, ◌<◌, Bool, true, false, cond, List, [], ◌∷◌, refl, sym, ap, ◌∙◌, subst, map}
 use Rattle.std.specs.Prelude.{◌||◌, ◌&&◌, ◌==◌, not, nat_lt, nat_le}
 use Rattle.std.specs.List.{list_all, list_any}
-use Rattle.std.proofs.lemmas.Bool.{and_parts, false≢true}
-use Rattle.std.proofs.lemmas.Bool.Decides.{nat_tests}
+use Rattle.std.proofs.lemmas.Bool.{and_parts, false≢true, or_right}
 use Rattle.gp_expr.specs.Expressions as e
-use Rattle.gp_expr.specs.Expressions.{Expr, Cond, cond_is_simple}
+use Rattle.gp_expr.specs.Expressions.{Expr, Cond}
+use Rattle.gp_expr.specs.ExpressionForms.{cond_is_simple}
 use Rattle.gp_expr.specs.Substitution.{substituted_each}
 use Rattle.gp_algebra.specs.Plain.{Plain, scan, step, select, project, product, union, given, publish, PlainStep, PlainProgram}
-use Rattle.gp_algebra.specs.Stops.{is_insert}
+use Rattle.gp_algebra.specs.Plain.{is_insert}
 use Rattle.gp_algebra.specs.WellBuilt.{makes_no_identity, may_be_identity, is_among, is_above, query_is_built, rows_are_built, step_is_built, steps_are_built, numbers_after, is_well_built}
 use Rattle.gp_merge.specs.Merging.{inlined, step_inlined, program_inlined, stays, settled, tests_times, total_size, is_small, selected, projected, rebuilt, step_rebuilt, merged}
 use Rattle.gp_merge.specs.declared.limit.TheConstants.{MAX_PROJECTION_NODES}
 use Rattle.gp_merge.proofs.ExpressionLemmas.{both, none_may_be, each_none_stays, each_may_stay}
 use Rattle.gp_merge.proofs.NormalLemmas.{either_false, inlined_insert, rebuilt_insert}
+use Rattle.gp_base.proofs.SmallLemmas.{eq_turned}
 
 -- ---- queries
 
@@ -67,10 +68,6 @@ query_wider numbers more wider (publish at b m l) built =
 
 -- ---- a step in the place of its use
 
-right_true : (a b : Bool) → b ≡ true → (a || b) ≡ true
-right_true true b e = refl
-right_true false b e = e
-
 module _ (j : ℕ) (own : Plain) where
   -- the second numbers are the first but this one
   pub record AreBut (numbers others : List ℕ) : Type 0 where
@@ -82,7 +79,7 @@ module _ (j : ℕ) (own : Plain) where
   but_more numbers others n but = record {
     among = λ i is other. more i (n == i) is other;
     above = λ k so. let p = and_parts (nat_lt n k) (is_above numbers k) so in both p.0 (but.above k p.1);
-    own_is = query_wider others (n ∷ others) (λ i is. right_true (n == i) (is_among others i) is) own but.own_is;
+    own_is = query_wider others (n ∷ others) (λ i is. or_right (n == i) (is_among others i) is) own but.own_is;
   }
     where
       more : (i : ℕ) (b : Bool) → (b || is_among numbers i) ≡ true → (i == j) ≡ false → (b || is_among others i) ≡ true
@@ -138,9 +135,6 @@ module _ (j : ℕ) (own : Plain) where
 
 -- ---- settled programs
 
-other_way : (i j : ℕ) → (i == j) ≡ false → (j == i) ≡ false
-other_way i j e = grind (arith, nat_tests)
-
 abbrev pub AreBuilt : List ℕ → PlainProgram → Type 0
 AreBuilt numbers program = (steps_are_built numbers program.steps ≡ true) × (query_is_built (numbers_after numbers program.steps) program.last ≡ true)
 
@@ -153,7 +147,7 @@ settled_built numbers (s ∷ steps) last built last_built =
   where
     but : step_is_built numbers s.query ≡ true → is_insert s.query ≡ false → AreBut s.j s.query (s.j ∷ numbers) numbers
     but own none = record {
-      among = λ i is other. let there : (s.j == i) ≡ false = other_way i s.j other in subst (λ b. (b || is_among numbers i) ≡ true) there is;
+      among = λ i is other. let there : (s.j == i) ≡ false = eq_turned i s.j other in subst (λ b. (b || is_among numbers i) ≡ true) there is;
       above = λ n so. (and_parts (nat_lt s.j n) (is_above numbers n) so).1;
       own_is = step_query numbers s.query none own;
     }

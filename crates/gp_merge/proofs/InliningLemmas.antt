@@ -7,7 +7,9 @@ use Rattle.gp_expr.specs.Values.{passes}
 use Rattle.gp_algebra.specs.Answers.{values}
 use Rattle.gp_algebra.specs.Plain.{Plain, scan, step, select, project, product, union, given, publish, PlainStep, PlainProgram, PlainEnvironment, StepRows, meaning, steps_meaning, program_meaning, with_step, no_steps, published}
 use Rattle.gp_merge.specs.Merging.{inlined, step_inlined, program_inlined, stays, settled_before, settled}
-use Rattle.gp_merge.proofs.Orders.{equal_from, unequal, unequal_back, IsBelow, AreAbove, AreOrdered}
+use Rattle.gp_merge.proofs.Orders.{unequal_back, IsBelow, AreAbove, AreOrdered}
+use Rattle.gp_base.proofs.SmallLemmas.{not_eq}
+use Rattle.std.proofs.lemmas.Bool.{eqb-true}
 
 module _ (env : PlainEnvironment) where
   -- a query with another in the place of a step means what it means where the step has these rows
@@ -37,12 +39,12 @@ module _ (env : PlainEnvironment) where
   below_is n f g e (publish at b m a) l = λ i. published at (below_is n f g e b l.0 i) (below_is n f g e m l.1 i) (below_is n f g e a l.2 i)
 
   pub other_value : (j i : ℕ) (x : List (List Cell)) (f : ℕ → List (List Cell)) → i < j → with_step j x f i ≡ f i
-  other_value j i x f l = ap (λ b. cond b x (f i)) (unequal i j l)
+  other_value j i x f l = ap (λ b. cond b x (f i)) (not_eq i j l)
 
   pub swapped_values : (j k : ℕ) (x y : List (List Cell)) (f : ℕ → List (List Cell)) → j < k → (n : ℕ) → with_step k y (with_step j x f) n ≡ with_step j x (with_step k y f) n
   swapped_values j k x y f l n =
       elim (n == k) as (λ b. (n == k) ≡ b → cond b y (cond (n == j) x (f n)) ≡ cond (n == j) x (cond b y (f n))) [
-        | true ↦ λ e. ap (λ b. cond b x y) (sym (let is : n ≡ k = equal_from n k e in not_at n is))
+        | true ↦ λ e. ap (λ b. cond b x y) (sym (let is : n ≡ k = eqb-true n k e in not_at n is))
         | false ↦ λ e. refl
       ] refl
     where

@@ -1,15 +1,16 @@
 -- A merged program is normal.
 use Rattle.std.proofs.Common.{◌≡◌, ℕ, zero, suc, ◌+◌, ◌<◌, Bool, true, false, cond, List, [], ◌∷◌, ◌++◌, length, refl, sym, ap, ◌∙◌, subst, arith, map}
 use Rattle.std.specs.Prelude.{◌||◌, ◌&&◌, not, ◌==◌, nat_lt}
-use Rattle.std.proofs.lemmas.Bool.{and_parts, false≢true}
+use Rattle.std.proofs.lemmas.Bool.{and_parts, false≢true, eqb-true}
 use Rattle.gp_expr.specs.Expressions.{Expr, Cond}
 use Rattle.gp_expr.specs.Substitution.{substituted_each}
 use Rattle.gp_algebra.specs.Plain.{Plain, scan, step, select, project, product, union, given, publish, PlainStep, PlainProgram, PlainEnvironment}
-use Rattle.gp_algebra.specs.Stops.{is_insert}
+use Rattle.gp_algebra.specs.Plain.{is_insert}
 use Rattle.gp_merge.specs.Merging.{uses, program_uses, inlined, step_inlined, program_inlined, stays, settled, is_small, selected, projected, rebuilt, step_rebuilt, merged}
 use Rattle.gp_merge.specs.Normal.{is_selection, can_be_one, is_tight, are_normal, is_normal}
-use Rattle.gp_merge.proofs.Orders.{equal_from, unequal, IsBelow, AreAbove, AreOrdered}
+use Rattle.gp_merge.proofs.Orders.{IsBelow, AreAbove, AreOrdered}
 use Rattle.gp_merge.proofs.InliningLemmas.{above_settled}
+use Rattle.gp_base.proofs.SmallLemmas.{not_eq}
 
 -- ---- a merged program is normal
 
@@ -116,7 +117,7 @@ rebuilt_normal (s ∷ steps) last e =
 
 pub unused_below : (n j : ℕ) (query : Plain) → n < suc j → IsBelow n query → uses j query ≡ 0
 unused_below n j (scan table version) l b = refl
-unused_below n j (step i) l b = ap (λ c. cond c 1 0) (unequal i j (omega arith))
+unused_below n j (step i) l b = ap (λ c. cond c 1 0) (not_eq i j (omega arith))
 unused_below n j (select query c) l b = unused_below n j query l b
 unused_below n j (project query exprs) l b = unused_below n j query l b
 unused_below n j (product x y) l b = λ i. unused_below n j x l b.0 i + unused_below n j y l b.1 i
@@ -130,7 +131,7 @@ inlined_uses : (j k : ℕ) (own : Plain) → j < k → IsBelow j own → (query 
 inlined_uses j k own l b (scan table version) = refl
 inlined_uses j k own l b (step i) =
     elim (i == j) as (λ c. (i == j) ≡ c → uses k (cond c own (step i)) ≡ cond (i == k) 1 0) [
-      | true ↦ λ e. unused_below j k own (omega arith) b ∙ ap (λ c. cond c 1 0) (sym (unequal i k (let is : i ≡ j = equal_from i j e in omega arith)))
+      | true ↦ λ e. unused_below j k own (omega arith) b ∙ ap (λ c. cond c 1 0) (sym (not_eq i k (let is : i ≡ j = eqb-true i j e in omega arith)))
       | false ↦ λ e. refl
     ] refl
 inlined_uses j k own l b (select query c) = inlined_uses j k own l b query

@@ -1,16 +1,16 @@
 -- What the code plans and builds is the merged program.
 use Rattle.std.proofs.Common.{◌≡◌, ℕ, zero, suc, ◌+◌, ◌-◌, ◌*◌, ◌<◌, ◌≤◌, Bool, true, false, cond, List, [], ◌∷◌, ◌++◌, length, get_or, drop, drop-cons, reverse, refl, sym, ap, ◌∙◌, subst, arith, map}
 use Rattle.std.specs.Prelude.{◌||◌, ◌==◌, nat_lt}
-use Rattle.std.proofs.lemmas.Bool.{false≢true}
+use Rattle.std.proofs.lemmas.Bool.{false≢true, eqb-true}
 use Rattle.std.proofs.lemmas.List.{reverse-append}
 use Rattle.std.proofs.lemmas.Bool.Decides.{nat_tests}
 use Rattle.gp_algebra.specs.Plain.{Plain, scan, step, select, project, product, union, given, publish, PlainStep, PlainProgram}
-use Rattle.gp_algebra.specs.Stops.{is_insert}
+use Rattle.gp_algebra.specs.Plain.{is_insert}
 use Rattle.gp_algebra.specs.declared.plain.PStep.{PStep}
 use Rattle.gp_algebra.specs.PlainViews.{step_view}
 use Rattle.gp_merge.specs.Merging.{uses, program_uses, inlined, step_inlined, program_inlined, stays, settled_before, settled, selected, projected, rebuilt, step_rebuilt, program_rebuilt, merged}
 use Rattle.gp_merge.specs.Planning.{Plan, no_steps_planned, steps_uses, plan_uses, plan_before, planned_before, planned_onto, built_over, source_of, built, step_built, program_built}
-use Rattle.gp_merge.proofs.Orders.{equal_from, unequal, unequal_back, IsBelow, AreAbove, AreOrdered}
+use Rattle.gp_merge.proofs.Orders.{unequal_back, IsBelow, AreAbove, AreOrdered}
 use Rattle.gp_merge.proofs.NormalLemmas.{unused_below}
 
 -- ---- queries that are built once
@@ -96,7 +96,7 @@ inlined_uses i j own l (scan table version) = omega arith
 inlined_uses i j own l (step k) = go (k == i) refl
   where
     go : (b : Bool) → (k == i) ≡ b → uses j (cond b own (step k)) ≡ count_of (k == j) + count_of b * uses j own
-    go true is = let other : (k == j) ≡ false = subst (λ n. (n == j) ≡ false) (sym (equal_from k i is)) (unequal_back j i l) in
+    go true is = let other : (k == j) ≡ false = subst (λ n. (n == j) ≡ false) (sym (eqb-true k i is)) (unequal_back j i l) in
         let one : uses j own ≡ 0 + 1 * uses j own = omega arith in one ∙ ap (λ b. count_of b + 1 * uses j own) (sym other)
     go false is = omega arith
 inlined_uses i j own l (select query c) = inlined_uses i j own l query

@@ -2,20 +2,22 @@
 use Rattle.std.proofs.Common.{◌≡◌, ℕ, zero, suc, ◌+◌, ◌<◌, Bool, true, false, cond, List, [], ◌∷◌, ◌++◌, length, refl, sym, ap, ◌∙◌, subst, arith, map}
 use Rattle.std.specs.Prelude.{◌||◌, ◌==◌, nat_lt, Option, Some, None}
 use Rattle.std.specs.List.{list_any}
-use Rattle.gp_expr.specs.Values.{is_large}
+use Rattle.gp_expr.specs.LargeValues.{is_large}
 use Rattle.gp_base.specs.declared.cell.Cell.{Cell}
 use Rattle.gp_expr.specs.Values.{passes}
 use Rattle.gp_algebra.specs.Answers.{values}
 use Rattle.gp_algebra.specs.Plain.{Plain, scan, step, select, project, product, union, given, publish, PlainStep, PlainProgram, PlainEnvironment, StepRows, meaning, steps_meaning, program_meaning, with_step, no_steps, published}
 use Rattle.gp_algebra.specs.Stops as stops
-use Rattle.gp_algebra.specs.Stops.{Stop, is_insert, first_stop, steps_stop, program_stop}
+use Rattle.gp_algebra.specs.Stops.{Stop, first_stop, steps_stop, program_stop}
+use Rattle.gp_algebra.specs.Plain.{is_insert}
 use Rattle.gp_merge.specs.Merging.{inlined, step_inlined, program_inlined, stays, settled, rebuilt, step_rebuilt, merged, insert_numbers}
 use Rattle.gp_algebra.specs.WellBuilt.{is_among}
-use Rattle.std.proofs.lemmas.Bool.{false≢true}
-use Rattle.gp_merge.proofs.Orders.{equal_from, unequal, unequal_back, IsBelow, AreAbove, AreOrdered}
+use Rattle.std.proofs.lemmas.Bool.{false≢true, eqb-true}
+use Rattle.gp_merge.proofs.Orders.{unequal_back, IsBelow, AreAbove, AreOrdered}
 use Rattle.gp_merge.proofs.InliningLemmas.{inlined_is, below_is, other_value, swapped_values, inlined_steps, above_settled}
 use Rattle.gp_merge.proofs.RebuildingLemmas.{rebuilt_is, rebuilt_steps}
 use Rattle.gp_merge.proofs.NormalLemmas.{either_false, inlined_insert, rebuilt_insert}
+use Rattle.gp_base.proofs.SmallLemmas.{not_eq}
 
 -- ---- INSERT steps keep their numbers and their held
 
@@ -61,14 +63,14 @@ settled_values env n (s ∷ steps) last o only held =
 
 none_are : (n : ℕ) (steps : List PlainStep) → AreAbove n steps → OnlyInserts n steps
 none_are n [] above = tt
-none_are n (s ∷ steps) above = (λ e. unequal n s.j above.0, none_are n steps above.1)
+none_are n (s ∷ steps) above = (λ e. not_eq n s.j above.0, none_are n steps above.1)
 
 numbers_above : (n m : ℕ) (steps : List PlainStep) → AreAbove n steps → is_among (insert_numbers steps) m ≡ true → n < m
 numbers_above n m [] above among = absurd (false≢true among)
 numbers_above n m (s ∷ steps) above among = go (numbers_above n m steps above.1) (is_insert s.query) among
   where
     at : (is_among (insert_numbers steps) m ≡ true → n < m) → (b : Bool) → (s.j == m) ≡ b → (b || is_among (insert_numbers steps) m) ≡ true → n < m
-    at rest true is among = subst (λ k. n < k) (equal_from s.j m is) above.0
+    at rest true is among = subst (λ k. n < k) (eqb-true s.j m is) above.0
     at rest false is among = rest among
 
     go : (is_among (insert_numbers steps) m ≡ true → n < m) → (b : Bool) → is_among (cond b (s.j ∷ insert_numbers steps) (insert_numbers steps)) m ≡ true → n < m
@@ -81,7 +83,7 @@ only_inserts n [] o among = tt
 only_inserts n (s ∷ steps) o among = go (only_inserts n steps o.2) (is_insert s.query) refl among
   where
     at : (is_among (insert_numbers steps) n ≡ true → OnlyInserts n steps) → (b : Bool) → (s.j == n) ≡ b → is_insert s.query ≡ true → (b || is_among (insert_numbers steps) n) ≡ true → OnlyInserts n (s ∷ steps)
-    at rest true is insert among = (λ e. absurd (false≢true (sym e ∙ insert)), none_are n steps (subst (λ k. AreAbove k steps) (equal_from s.j n is) o.1))
+    at rest true is insert among = (λ e. absurd (false≢true (sym e ∙ insert)), none_are n steps (subst (λ k. AreAbove k steps) (eqb-true s.j n is) o.1))
     at rest false is insert among = (λ e. absurd (false≢true (sym e ∙ insert)), rest among)
 
     go : (is_among (insert_numbers steps) n ≡ true → OnlyInserts n steps) → (b : Bool) → is_insert s.query ≡ b

@@ -2,28 +2,24 @@
 use Rattle.std.proofs.Common.{◌≡◌, ℕ, Bool, true, false, List, [], ◌∷◌, ◌++◌, refl, sym, ap, ◌∙◌, subst, map, Option, Some, None}
 use Rattle.std.specs.List.{AllByRecursion, filter, flat_map}
 use Rattle.std.proofs.lemmas.List.{append-nil, append_assoc}
-use Rattle.std.proofs.lemmas.Grind.{flat_map-append}
 use Rattle.gp_base.specs.Identities.{Sources, no_sources, source}
 use Rattle.gp_base.specs.Annotated.{Annotations, Annotated, Database, Environment}
 use Rattle.gp_expr.specs.Expressions.{Cond}
 use Rattle.gp_algebra.specs.Statements.{Branch}
 use Rattle.gp_algebra.specs.Answers.{Element, choices, chosen, joined, passes_where, values}
-use Rattle.gp_algebra.specs.AnnotatedQueries.{Derived, Query, crossed, joined_sources, meaning, product, projected, scanned}
-use Rattle.gp_algebra.proofs.Lists.{map-map, map_agree, filter-map, flat_map-map, map-flat_map, flat_map_agree}
+use Rattle.gp_algebra.specs.AnnotatedQueries.{Query, product}
+use Rattle.gp_algebra.specs.AnnotatedMeaning.{Derived, crossed, joined_sources, meaning, projected, scanned}
 use Rattle.gp_rewrite.specs.Meaning.{IsMonoid, StandFor, of_element, unmarked}
 use Rattle.gp_rewrite.specs.Rewriting.{branch_of, product_of, product_onto, selected_by}
-use Rattle.gp_rewrite.proofs.Each.{each_append, each_filter, each_made, each_map}
+use Rattle.gp_rewrite.proofs.Each.{each_filter, each_made}
 use Rattle.gp_rewrite.proofs.FitLemmas.{IsFit}
+use Rattle.gp_base.proofs.SmallLemmas.{each_append, each_map, filter-map, flat_map-flat_map, flat_map-map, flat_map_agree, map-flat_map, map-map, map_agree}
 
 -- ---- lists and sources
 
 filter_all : {X : Type 0} (xs : List X) → filter (λ x. true) xs ≡ xs
 filter_all [] = refl
 filter_all (x ∷ xs) = ap (λ ys. x ∷ ys) (filter_all xs)
-
-flat_map-flat_map : {X Y Z : Type 0} (f : Y → List Z) (g : X → List Y) (xs : List X) → flat_map f (flat_map g xs) ≡ flat_map (λ x. flat_map f (g x)) xs
-flat_map-flat_map f g [] = refl
-flat_map-flat_map f g (x ∷ xs) = flat_map-append f (g x) (flat_map g xs) ∙ ap (λ ys. flat_map f (g x) ++ ys) (flat_map-flat_map f g xs)
 
 flat_map-single : {X Y : Type 0} (f : X → Y) (xs : List X) → flat_map (λ x. f x ∷ []) xs ≡ map f xs
 flat_map-single f [] = refl
@@ -39,37 +35,37 @@ joined-joined (source id a) b c = ap (source id) (joined-joined a b c)
 
 -- ---- the number of a branch
 
-module _ {M : Type 0} (kind : Annotations M) where
-  choices_number : (number : ℕ) (tables : List ℕ) (db : Database M) → AllByRecursion (λ e. e.branch ≡ number) (choices kind number tables db)
+module _ {M : Type 0} (domain : Annotations M) where
+  choices_number : (number : ℕ) (tables : List ℕ) (db : Database M) → AllByRecursion (λ e. e.branch ≡ number) (choices domain number tables db)
   choices_number number [] db = (refl, tt)
   choices_number number (table ∷ tables) db = go (db table)
     where
-      go : (rows : List (Annotated M)) → AllByRecursion (λ e. e.branch ≡ number) (flat_map (λ row. map (joined kind number row) (choices kind number tables db)) rows)
+      go : (rows : List (Annotated M)) → AllByRecursion (λ e. e.branch ≡ number) (flat_map (λ row. map (joined domain number row) (choices domain number tables db)) rows)
       go [] = tt
-      go (row ∷ rows) = each_append _ (map (joined kind number row) (choices kind number tables db)) (flat_map (λ row. map (joined kind number row) (choices kind number tables db)) rows)
-          (each_made _ (joined kind number row) (λ c. refl) (choices kind number tables db)) (go rows)
+      go (row ∷ rows) = each_append _ (map (joined domain number row) (choices domain number tables db)) (flat_map (λ row. map (joined domain number row) (choices domain number tables db)) rows)
+          (each_made _ (joined domain number row) (λ c. refl) (choices domain number tables db)) (go rows)
 
-  pub chosen_number : (number : ℕ) (branch : Branch) (db : Database M) → AllByRecursion (λ e. e.branch ≡ number) (chosen kind number branch db)
+  pub chosen_number : (number : ℕ) (branch : Branch) (db : Database M) → AllByRecursion (λ e. e.branch ≡ number) (chosen domain number branch db)
   chosen_number number branch db =
-      each_map _ (λ e. e.branch ≡ number) _ (λ e g. g) _ (each_filter (λ (e : Element M). e.branch ≡ number) (λ e. passes_where branch.cond e.cells) (choices kind number branch.from db) (choices_number number branch.from db))
+      each_map _ (λ e. e.branch ≡ number) _ (λ e g. g) _ (each_filter (λ (e : Element M). e.branch ≡ number) (λ e. passes_where branch.cond e.cells) (choices domain number branch.from db) (choices_number number branch.from db))
 
 -- ---- branches
 
-module _ {M : Type 0} (kind : Annotations M) (monoid : IsMonoid kind) (steps : ℕ → List (Derived M)) (env : Environment M) (tables : ℕ → Query) (db : Database M) (are : StandFor kind steps env tables db) where
+module _ {M : Type 0} (domain : Annotations M) (monoid : IsMonoid domain) (steps : ℕ → List (Derived M)) (env : Environment M) (tables : ℕ → Query) (db : Database M) (are : StandFor domain steps env tables db) where
   -- a row before the rest of a choice
   abbrev before : Derived M → Element M → Derived M
-  before row e = record { sources = joined_sources row.sources e.sources; cells = row.cells ++ e.cells; mark = false; annotation = kind.times row.annotation e.annotation }
+  before row e = record { sources = joined_sources row.sources e.sources; cells = row.cells ++ e.cells; mark = false; annotation = domain.times row.annotation e.annotation }
 
-  onto_is : (number : ℕ) (others : List ℕ) (query : Query) → map unmarked (meaning kind steps env (product_onto tables query others)) ≡ flat_map (λ row. map (before row) (choices kind number others db)) (meaning kind steps env query)
+  onto_is : (number : ℕ) (others : List ℕ) (query : Query) → map unmarked (meaning domain steps env (product_onto tables query others)) ≡ flat_map (λ row. map (before row) (choices domain number others db)) (meaning domain steps env query)
   onto_is number [] query =
-      map_agree _ _ (λ (row : Derived M). λ i. record { sources = sym (joined-none row.sources) i; cells = sym (append-nil row.cells) i; mark = false; annotation = sym (monoid.right_one row.annotation) i }) (meaning kind steps env query)
-      ∙ sym (flat_map-single _ (meaning kind steps env query))
+      map_agree _ _ (λ (row : Derived M). λ i. record { sources = sym (joined-none row.sources) i; cells = sym (append-nil row.cells) i; mark = false; annotation = sym (monoid.right_one row.annotation) i }) (meaning domain steps env query)
+      ∙ sym (flat_map-single _ (meaning domain steps env query))
   onto_is number (table ∷ others) query =
       onto_is number others (product query (tables table))
-      ∙ flat_map-flat_map _ _ (meaning kind steps env query)
-      ∙ flat_map_agree _ _ each (meaning kind steps env query)
+      ∙ flat_map-flat_map _ _ (meaning domain steps env query)
+      ∙ flat_map_agree _ _ each (meaning domain steps env query)
     where
-      assoc : (row : Derived M) (r : Annotated M) (e : Element M) → before (crossed kind row (scanned kind r)) e ≡ before row (joined kind number r e)
+      assoc : (row : Derived M) (r : Annotated M) (e : Element M) → before (crossed domain row (scanned domain r)) e ≡ before row (joined domain number r e)
       assoc row r e = λ i. record {
         sources = joined-joined row.sources (source r.identity no_sources) e.sources i;
         cells = append_assoc row.cells r.cells e.cells i;
@@ -77,43 +73,43 @@ module _ {M : Type 0} (kind : Annotations M) (monoid : IsMonoid kind) (steps : �
         annotation = monoid.associative row.annotation r.annotation e.annotation i;
       }
 
-      each : (row : Derived M) → flat_map (λ x. map (before x) (choices kind number others db)) (map (crossed kind row) (meaning kind steps env (tables table)))
-          ≡ map (before row) (flat_map (λ r. map (joined kind number r) (choices kind number others db)) (db table))
+      each : (row : Derived M) → flat_map (λ x. map (before x) (choices domain number others db)) (map (crossed domain row) (meaning domain steps env (tables table)))
+          ≡ map (before row) (flat_map (λ r. map (joined domain number r) (choices domain number others db)) (db table))
       each row =
-          ap (λ rows. flat_map (λ x. map (before x) (choices kind number others db)) (map (crossed kind row) rows)) (are table)
-          ∙ ap (flat_map (λ x. map (before x) (choices kind number others db))) (map-map (crossed kind row) (scanned kind) (db table))
+          ap (λ rows. flat_map (λ x. map (before x) (choices domain number others db)) (map (crossed domain row) rows)) (are table)
+          ∙ ap (flat_map (λ x. map (before x) (choices domain number others db))) (map-map (crossed domain row) (scanned domain) (db table))
           ∙ flat_map-map _ _ (db table)
-          ∙ flat_map_agree _ _ (λ r. map_agree _ _ (assoc row r) (choices kind number others db) ∙ sym (map-map (before row) (joined kind number r) (choices kind number others db))) (db table)
+          ∙ flat_map_agree _ _ (λ r. map_agree _ _ (assoc row r) (choices domain number others db) ∙ sym (map-map (before row) (joined domain number r) (choices domain number others db))) (db table)
           ∙ sym (map-flat_map (before row) _ (db table))
 
-  product_is : (number table : ℕ) (others : List ℕ) → map unmarked (meaning kind steps env (product_of tables (table ∷ others))) ≡ map of_element (choices kind number (table ∷ others) db)
+  product_is : (number table : ℕ) (others : List ℕ) → map unmarked (meaning domain steps env (product_of tables (table ∷ others))) ≡ map of_element (choices domain number (table ∷ others) db)
   product_is number table others =
-      onto_is number others (tables table) ∙ ap (flat_map (λ row. map (before row) (choices kind number others db))) (are table) ∙ flat_map-map _ (scanned kind) (db table)
-      ∙ flat_map_agree _ _ (λ r. sym (map-map of_element (joined kind number r) (choices kind number others db))) (db table) ∙ sym (map-flat_map of_element _ (db table))
+      onto_is number others (tables table) ∙ ap (flat_map (λ row. map (before row) (choices domain number others db))) (are table) ∙ flat_map-map _ (scanned domain) (db table)
+      ∙ flat_map_agree _ _ (λ r. sym (map-map of_element (joined domain number r) (choices domain number others db))) (db table) ∙ sym (map-flat_map of_element _ (db table))
 
-  pub branch_is : (number width : ℕ) (branch : Branch) → IsFit width branch → map unmarked (meaning kind steps env (branch_of tables branch)) ≡ map of_element (chosen kind number branch db)
+  pub branch_is : (number width : ℕ) (branch : Branch) → IsFit width branch → map unmarked (meaning domain steps env (branch_of tables branch)) ≡ map of_element (chosen domain number branch db)
   branch_is number width branch fit =
-      ap (λ rows. map unmarked (map (projected kind branch.items None) rows)) (selected_rows branch.cond)
-      ∙ map-map unmarked (projected kind branch.items None) (filter test rows)
+      ap (λ rows. map unmarked (map (projected domain branch.items None) rows)) (selected_rows branch.cond)
+      ∙ map-map unmarked (projected domain branch.items None) (filter test rows)
       ∙ sym (map-map valued unmarked (filter test rows))
       ∙ ap (map valued) (sym (filter-map test unmarked rows))
       ∙ ap (λ rows. map valued (filter test rows)) items
-      ∙ ap (map valued) (filter-map test of_element (choices kind number branch.from db))
-      ∙ map-map valued of_element (filter (λ (e : Element M). passes_where branch.cond e.cells) (choices kind number branch.from db))
-      ∙ sym (map-map of_element _ (filter (λ (e : Element M). passes_where branch.cond e.cells) (choices kind number branch.from db)))
+      ∙ ap (map valued) (filter-map test of_element (choices domain number branch.from db))
+      ∙ map-map valued of_element (filter (λ (e : Element M). passes_where branch.cond e.cells) (choices domain number branch.from db))
+      ∙ sym (map-map of_element _ (filter (λ (e : Element M). passes_where branch.cond e.cells) (choices domain number branch.from db)))
     where
       test : Derived M → Bool
       test row = passes_where branch.cond row.cells
 
       rows : List (Derived M)
-      rows = meaning kind steps env (product_of tables branch.from)
+      rows = meaning domain steps env (product_of tables branch.from)
 
-      selected_rows : (o : Option Cond) → meaning kind steps env (selected_by o (product_of tables branch.from)) ≡ filter (λ (row : Derived M). passes_where o row.cells) (meaning kind steps env (product_of tables branch.from))
-      selected_rows None = sym (filter_all (meaning kind steps env (product_of tables branch.from)))
+      selected_rows : (o : Option Cond) → meaning domain steps env (selected_by o (product_of tables branch.from)) ≡ filter (λ (row : Derived M). passes_where o row.cells) (meaning domain steps env (product_of tables branch.from))
+      selected_rows None = sym (filter_all (meaning domain steps env (product_of tables branch.from)))
       selected_rows (Some c) = refl
 
       valued : Derived M → Derived M
       valued row = record row { cells = values branch.items row.cells }
 
-      items : map unmarked rows ≡ map of_element (choices kind number branch.from db)
-      items = subst (λ from. map unmarked (meaning kind steps env (product_of tables from)) ≡ map of_element (choices kind number from db)) (sym fit.from) (product_is number fit.first fit.others)
+      items : map unmarked rows ≡ map of_element (choices domain number branch.from db)
+      items = subst (λ from. map unmarked (meaning domain steps env (product_of tables from)) ≡ map of_element (choices domain number from db)) (sym fit.from) (product_is number fit.first fit.others)

@@ -1,21 +1,20 @@
 -- What it says that a statement or a query fits a catalogue: its branches have tables and are as wide as the rows that they give, the rows of a VALUES list
 -- are as wide as their table, and every expression is simple.
-use Rattle.std.proofs.Common.{◌≡◌, ℕ, Bool, true, List, [], ◌∷◌, length, refl, arith, Option, Some, None}
+use Rattle.std.proofs.Common.{◌≡◌, ℕ, Bool, true, List, [], ◌∷◌, length, refl, Option, Some, None}
 use Rattle.std.specs.Prelude.{◌&&◌, ◌==◌, ◌^◌, nat_lt}
 use Rattle.std.specs.List.{AllByRecursion, list_all}
-use Rattle.std.proofs.lemmas.Bool.{false≢true}
-use Rattle.std.proofs.lemmas.Bool.Decides.{nat_tests}
+use Rattle.std.proofs.lemmas.Bool.{false≢true, eqb-true}
 use Rattle.gp_base.specs.declared.cell.Cell.{Cell}
 use Rattle.gp_base.specs.declared.table.Table.{Table}
-use Rattle.gp_base.specs.Cells.{is_user_cell}
-use Rattle.gp_expr.specs.Expressions.{Expr, Cond, is_simple, cond_is_simple, all_leaves, cond_all_leaves}
+use Rattle.gp_base.specs.UserCells.{is_user_cell}
+use Rattle.gp_expr.specs.Expressions.{Expr, Cond}
+use Rattle.gp_expr.specs.ExpressionForms.{is_simple, cond_is_simple, all_leaves, cond_all_leaves}
 use Rattle.gp_algebra.specs.Statements.{SetExpr, Branch, Select, insert, insert_select, update, delete}
-use Rattle.gp_algebra.specs.Fitting.{is_countable, is_there, is_column, joined_width, width_of, expr_fits, cond_fits, optional_cond_fits, row_fits, set_fits, branch_fits, branches_fit, select_width, select_fits, statement_fits}
+use Rattle.gp_algebra.specs.Fitting.{is_countable, is_there, is_column, joined_width, expr_fits, cond_fits, optional_cond_fits, row_fits, set_fits, branch_fits, branches_fit, select_width, select_fits, statement_fits}
+use Rattle.gp_algebra.specs.Statements.{width_of}
 use Rattle.gp_algebra.specs.Simple.{where_is_simple}
-use Rattle.gp_rewrite.proofs.Each.{left_true, right_true, each_passes, all_weaker}
-
-eq_from : (a b : ℕ) → (a == b) ≡ true → a ≡ b
-eq_from a b e = grind (arith, nat_tests)
+use Rattle.gp_rewrite.proofs.Each.{each_passes}
+use Rattle.gp_base.proofs.SmallLemmas.{all_weaker, left_true, right_true}
 
 -- a branch that gives rows of this width
 pub record IsFit (width : ℕ) (branch : Branch) : Type 0 where
@@ -57,7 +56,7 @@ module _ (catalogue : List Table) where
         first = head.0;
         others = head.1;
         from = head.2;
-        items = eq_from (length branch.items) width (left_true (length branch.items == width) last alike);
+        items = eqb-true (length branch.items) width (left_true (length branch.items == width) last alike);
         simple = all_weaker (expr_fits inner) is_simple (expr_simple inner) branch.items (left_true items (optional_cond_fits inner branch.cond) ends);
         condition = where_simple inner branch.cond (right_true items (optional_cond_fits inner branch.cond) ends);
       }
@@ -82,7 +81,7 @@ module _ (catalogue : List Table) where
   pub given_are_wide : (table : ℕ) (rows : List (List Cell)) → statement_fits catalogue (insert table rows) ≡ true → AllByRecursion (λ row. length row ≡ width_of catalogue table) rows
   given_are_wide table rows fits =
       each_passes (λ row. length row ≡ width_of catalogue table) (row_fits (width_of catalogue table))
-      (λ row e. eq_from (length row) (width_of catalogue table) (left_true (length row == width_of catalogue table) (list_all is_user_cell row) e)) rows
+      (λ row e. eqb-true (length row) (width_of catalogue table) (left_true (length row == width_of catalogue table) (list_all is_user_cell row) e)) rows
       (right_true (is_countable rows) (list_all (row_fits (width_of catalogue table)) rows)
       (right_true (is_there catalogue table) (is_countable rows && list_all (row_fits (width_of catalogue table)) rows) fits))
 

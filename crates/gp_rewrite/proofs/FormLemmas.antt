@@ -4,19 +4,14 @@ use Rattle.std.specs.List.{AllByRecursion}
 use Rattle.gp_base.specs.declared.cell.Cell.{Cell}
 use Rattle.gp_base.specs.declared.table.Table.{Table}
 use Rattle.gp_expr.specs.Expressions.{Cond}
-use Rattle.gp_algebra.specs.Statements.{SetExpr, Branch, Select, Statement, insert, insert_select, update, delete, read}
-use Rattle.gp_algebra.specs.Fitting.{select_fits, select_width, statement_fits, width_of}
+use Rattle.gp_algebra.specs.Statements.{SetExpr, Branch, Select, Statement, insert, insert_select, update, delete, read, target, width_of}
+use Rattle.gp_algebra.specs.Fitting.{select_fits, select_width, statement_fits}
 use Rattle.gp_algebra.specs.AnnotatedQueries as q
 use Rattle.gp_algebra.specs.AnnotatedQueries.{Query}
 use Rattle.gp_algebra.specs.QueryForms.{AreNew, AreWide, IsAnswer, IsJoin, IsSomeTable, IsSource, IsStep, IsTable}
-use Rattle.gp_rewrite.specs.Rewriting.{branch_of, made_of, made_onto, product_of, product_onto, query_of, rewritten, selected_by, target, union_onto, updated_from}
+use Rattle.gp_rewrite.specs.Rewriting.{branch_of, made_of, made_onto, product_of, product_onto, query_of, rewritten, selected_by, union_onto, updated_from}
 use Rattle.gp_rewrite.proofs.FitLemmas.{AreFit, IsFit, given_are_wide, inserted_are_fit, select_is_fit}
-
-some_equal : (a b : ℕ) → Some a ≡ Some b → a ≡ b
-some_equal a b e = cc
-
-none_some : (n : ℕ) → None ≡ Some n → ⊥
-none_some n e = cc
+use Rattle.std.proofs.lemmas.Option.{none-some, same_Some}
 
 updated_long : (sets : List SetExpr) (c : Cond) (n more : ℕ) → length (updated_from sets c n more) ≡ more
 updated_long sets c n zero = refl
@@ -91,12 +86,12 @@ module _ (catalogue : List Table) (of_step : ℕ → ℕ) (tables : ℕ → Quer
   -- a rewritten statement is a step of the table that it writes
   pub rewritten_step : (t k table : ℕ) (statement : Statement) → statement_fits catalogue statement ≡ true → target statement ≡ Some table → IsOf t k statement table
   rewritten_step t k table (insert own rows) fits e =
-      subst (IsOf t k (insert own rows)) (some_equal own table e) (are own, rows_are_wide (width_of catalogue) of_step (width_of catalogue own) rows (given_are_wide catalogue own rows fits))
+      subst (IsOf t k (insert own rows)) (same_Some own table e) (are own, rows_are_wide (width_of catalogue) of_step (width_of catalogue own) rows (given_are_wide catalogue own rows fits))
   rewritten_step t k table (insert_select own select) fits e =
-      subst (IsOf t k (insert_select own select)) (some_equal own table e) (are own, made_new (width_of catalogue) of_step tables are t k own select (inserted_are_fit catalogue own select fits))
-  rewritten_step t k table (update own sets c) fits e = subst (IsOf t k (update own sets c)) (some_equal own table e) (are own, updated_long sets c 0 (width_of catalogue own))
-  rewritten_step t k table (delete own c) fits e = subst (IsOf t k (delete own c)) (some_equal own table e) (are own)
-  rewritten_step t k table (read select) fits e = absurd (none_some table e)
+      subst (IsOf t k (insert_select own select)) (same_Some own table e) (are own, made_new (width_of catalogue) of_step tables are t k own select (inserted_are_fit catalogue own select fits))
+  rewritten_step t k table (update own sets c) fits e = subst (IsOf t k (update own sets c)) (same_Some own table e) (are own, updated_long sets c 0 (width_of catalogue own))
+  rewritten_step t k table (delete own c) fits e = subst (IsOf t k (delete own c)) (same_Some own table e) (are own)
+  rewritten_step t k table (read select) fits e = absurd (none-some table e)
 
   -- a query is an answer
   pub query_answers : (select : Select) → select_fits catalogue select ≡ true → IsAnswer (width_of catalogue) of_step (query_of tables select)

@@ -1,6 +1,5 @@
 -- The items that a loop comes to: the query of a table, tables and branches that pass a test, and the columns of an UPDATE.
-use Rattle.std.proofs.Common.{◌≡◌, ◌<◌, ◌+◌, ◌-◌, ℕ, zero, suc, Bool, true, false, List, [], ◌∷◌, ◌++◌, length, map, get_or, refl, ap, sym, ◌∙◌, subst, append_assoc, arith}
-use Rattle.std.specs.Prelude.{◌&&◌}
+use Rattle.std.proofs.Common.{◌≡◌, ◌<◌, ◌+◌, ◌-◌, ℕ, zero, suc, Bool, true, List, [], ◌∷◌, ◌++◌, length, map, get_or, ap, sym, ◌∙◌, subst, append_assoc, arith}
 use Rattle.std.specs.List.{list_all}
 use Rattle.std.proofs.lemmas.List.{get_or-map, map-append}
 use Rattle.gp_expr.specs.Expressions as e
@@ -12,10 +11,7 @@ use Rattle.gp_algebra.specs.QueryViews.{annotated_view}
 use Rattle.gp_algebra.specs.Statements.{SetExpr}
 use Rattle.gp_algebra.specs.declared.annotated.AQuery.{AQuery}
 use Rattle.gp_rewrite.specs.Rewriting.{cased, query_at, updated_from}
-
-pub both_true : (a b : Bool) → (a && b) ≡ true → (a ≡ true) × (b ≡ true)
-both_true true b both = (refl, both)
-both_true false b both = absurd (cc)
+use Rattle.std.proofs.lemmas.Bool.{and_parts}
 
 -- the query of a table
 pub query_at_place : (tables : List AQuery) (i : ℕ) (query : AQuery) → i < length tables → query ≡ get_or tables i query → annotated_view query ≡ query_at (map annotated_view tables) i
@@ -23,8 +19,8 @@ query_at_place tables i query within is = ap annotated_view is ∙ sym (get_or-m
 
 passes_at : {X Y : Type 0} (p : Y → Bool) (f : X → Y) (xs : List X) (i : ℕ) (d : X) → i < length xs → list_all p (map f xs) ≡ true → p (f (get_or xs i d)) ≡ true
 passes_at p f [] i d within all = absurd (omega arith)
-passes_at p f (x ∷ xs) zero d within all = (both_true (p (f x)) (list_all p (map f xs)) all).0
-passes_at p f (x ∷ xs) (suc i) d within all = passes_at p f xs i d (omega arith) (both_true (p (f x)) (list_all p (map f xs)) all).1
+passes_at p f (x ∷ xs) zero d within all = (and_parts (p (f x)) (list_all p (map f xs)) all).0
+passes_at p f (x ∷ xs) (suc i) d within all = passes_at p f xs i d (omega arith) (and_parts (p (f x)) (list_all p (map f xs)) all).1
 
 -- an item of a list whose items all pass
 pub item_passes : {X Y : Type 0} (p : Y → Bool) (f : X → Y) (xs : List X) (i : ℕ) (x : X) → i < length xs → x ≡ get_or xs i x → list_all p (map f xs) ≡ true → p (f x) ≡ true

@@ -6,12 +6,12 @@ use Rattle.gp_algebra.specs.AnnotatedQueries as q
 use Rattle.gp_algebra.specs.AnnotatedQueries.{Query}
 use Rattle.gp_algebra.specs.QueryForms.{reads_only}
 use Rattle.gp_rewrite.specs.Rewriting.{branch_of, made_of, made_onto, product_of, product_onto, query_of, rewritten, selected_by, union_onto}
-use Rattle.gp_rewrite.proofs.Each.{both_true}
+use Rattle.std.proofs.lemmas.Bool.{and_from}
 
 module _ (earlier : List ℕ) (tables : ℕ → Query) (are : (table : ℕ) → reads_only earlier (tables table) ≡ true) where
   onto_reads : (others : List ℕ) (query : Query) → reads_only earlier query ≡ true → reads_only earlier (product_onto tables query others) ≡ true
   onto_reads [] query s = s
-  onto_reads (table ∷ others) query s = onto_reads others (q.product query (tables table)) (both_true (reads_only earlier query) (reads_only earlier (tables table)) s (are table))
+  onto_reads (table ∷ others) query s = onto_reads others (q.product query (tables table)) (and_from (reads_only earlier query) (reads_only earlier (tables table)) s (are table))
 
   product_reads : (from : List ℕ) → reads_only earlier (product_of tables from) ≡ true
   product_reads [] = refl
@@ -26,7 +26,7 @@ module _ (earlier : List ℕ) (tables : ℕ → Query) (are : (table : ℕ) → 
 
   union_reads : (branches : List Branch) (query : Query) → reads_only earlier query ≡ true → reads_only earlier (union_onto tables query branches) ≡ true
   union_reads [] query s = s
-  union_reads (branch ∷ branches) query s = union_reads branches (q.union query (branch_of tables branch)) (both_true (reads_only earlier query) (reads_only earlier (branch_of tables branch)) s (branch_reads branch))
+  union_reads (branch ∷ branches) query s = union_reads branches (q.union query (branch_of tables branch)) (and_from (reads_only earlier query) (reads_only earlier (branch_of tables branch)) s (branch_reads branch))
 
   pub query_reads : (select : Select) → reads_only earlier (query_of tables select) ≡ true
   query_reads [] = refl
@@ -35,15 +35,15 @@ module _ (earlier : List ℕ) (tables : ℕ → Query) (are : (table : ℕ) → 
   made_onto_reads : (t k b : ℕ) (branches : List Branch) (query : Query) → reads_only earlier query ≡ true → reads_only earlier (made_onto t k b tables query branches) ≡ true
   made_onto_reads t k b [] query s = s
   made_onto_reads t k b (branch ∷ branches) query s =
-      made_onto_reads t k (suc b) branches (q.union query (q.new_rows t k b (branch_of tables branch))) (both_true (reads_only earlier query) (reads_only earlier (branch_of tables branch)) s (branch_reads branch))
+      made_onto_reads t k (suc b) branches (q.union query (q.new_rows t k b (branch_of tables branch))) (and_from (reads_only earlier query) (reads_only earlier (branch_of tables branch)) s (branch_reads branch))
 
   made_reads : (t k : ℕ) (select : Select) → reads_only earlier (made_of t k tables select) ≡ true
   made_reads t k [] = refl
   made_reads t k (branch ∷ branches) = made_onto_reads t k 2 branches (q.new_rows t k 1 (branch_of tables branch)) (branch_reads branch)
 
   pub rewritten_reads : (columns : ℕ → ℕ) (t k : ℕ) (statement : Statement) → reads_only earlier (rewritten columns t k statement tables) ≡ true
-  rewritten_reads columns t k (insert own rows) = both_true (reads_only earlier (tables own)) true (are own) refl
-  rewritten_reads columns t k (insert_select own select) = both_true (reads_only earlier (tables own)) (reads_only earlier (made_of t k tables select)) (are own) (made_reads t k select)
+  rewritten_reads columns t k (insert own rows) = and_from (reads_only earlier (tables own)) true (are own) refl
+  rewritten_reads columns t k (insert_select own select) = and_from (reads_only earlier (tables own)) (reads_only earlier (made_of t k tables select)) (are own) (made_reads t k select)
   rewritten_reads columns t k (update own sets c) = are own
   rewritten_reads columns t k (delete own c) = are own
   rewritten_reads columns t k (read select) = refl

@@ -12,7 +12,8 @@ use Rattle.gp_expr.specs.Expressions.{Expr, Cond, col, is_true}
 use Rattle.gp_expr.specs.Values.{column, holds, tested, truth, value, passes}
 use Rattle.gp_algebra.specs.Answers.{values}
 use Rattle.gp_algebra.specs.Effects.{assigned, assigned_from, changed, set_for, set_or}
-use Rattle.gp_algebra.specs.AnnotatedQueries.{Derived, Query, meaning, projected, scanned}
+use Rattle.gp_algebra.specs.AnnotatedQueries.{Query}
+use Rattle.gp_algebra.specs.AnnotatedMeaning.{Derived, meaning, projected, scanned}
 use Rattle.gp_algebra.specs.Statements.{SetExpr}
 use Rattle.gp_rewrite.specs.Rewriting.{cased, updated_from, update_query, delete_query}
 
@@ -73,44 +74,44 @@ not_true_is c row = go (holds (truth c row))
 
 -- ---- the rows of a changed table
 
-module _ {M : Type 0} (kind : Annotations M) where
+module _ {M : Type 0} (domain : Annotations M) where
   changed_is : (t k w : ℕ) (sets : List SetExpr) (c : Cond) (row : Annotated M) → length row.cells ≡ w →
-      projected kind (updated_from sets c 0 w) (Some (record { cond = c; token = Updated t k })) (scanned kind row) ≡ scanned kind (changed kind t k sets c row)
+      projected domain (updated_from sets c 0 w) (Some (record { cond = c; token = Updated t k })) (scanned domain row) ≡ scanned domain (changed domain t k sets c row)
   changed_is t k w sets c row e =
-      ap (λ w. projected kind (updated_from sets c 0 w) (Some (record { cond = c; token = Updated t k })) (scanned kind row)) (sym e)
-      ∙ ap (λ cells. cond (passes c row.cells) (written cells) (record (scanned kind row) { cells = cells })) (updated_are sets c row.cells)
+      ap (λ w. projected domain (updated_from sets c 0 w) (Some (record { cond = c; token = Updated t k })) (scanned domain row)) (sym e)
+      ∙ ap (λ cells. cond (passes c row.cells) (written cells) (record (scanned domain row) { cells = cells })) (updated_are sets c row.cells)
       ∙ go (passes c row.cells)
     where
       written : List Cell → Derived M
-      written cells = record { sources = (scanned kind row).sources; cells = cells; mark = true; annotation = kind.times row.annotation (kind.token (Updated t k)) }
+      written cells = record { sources = (scanned domain row).sources; cells = cells; mark = true; annotation = domain.times row.annotation (domain.token (Updated t k)) }
 
-      go : (b : Bool) → cond b (written (cond b (assigned sets row.cells) row.cells)) (record (scanned kind row) { cells = cond b (assigned sets row.cells) row.cells })
-          ≡ scanned kind (cond b (record { identity = row.identity; cells = assigned sets row.cells; mark = true; annotation = kind.times row.annotation (kind.token (Updated t k)) }) row)
+      go : (b : Bool) → cond b (written (cond b (assigned sets row.cells) row.cells)) (record (scanned domain row) { cells = cond b (assigned sets row.cells) row.cells })
+          ≡ scanned domain (cond b (record { identity = row.identity; cells = assigned sets row.cells; mark = true; annotation = domain.times row.annotation (domain.token (Updated t k)) }) row)
       go true = refl
       go false = refl
 
   changed_rows : (t k w : ℕ) (sets : List SetExpr) (c : Cond) (rows : List (Annotated M)) → AllByRecursion (λ row. length row.cells ≡ w) rows →
-      map (projected kind (updated_from sets c 0 w) (Some (record { cond = c; token = Updated t k }))) (map (scanned kind) rows) ≡ map (scanned kind) (map (changed kind t k sets c) rows)
+      map (projected domain (updated_from sets c 0 w) (Some (record { cond = c; token = Updated t k }))) (map (scanned domain) rows) ≡ map (scanned domain) (map (changed domain t k sets c) rows)
   changed_rows t k w sets c [] a = refl
   changed_rows t k w sets c (row ∷ rows) a = λ i. changed_is t k w sets c row a.0 i ∷ changed_rows t k w sets c rows a.1 i
 
   -- over a query that gives a table's rows, all of this width
   pub update_query_is : (steps : ℕ → List (Derived M)) (env : Environment M) (width t k : ℕ) (sets : List SetExpr) (c : Cond) (query : Query) (rows : List (Annotated M)) →
-      meaning kind steps env query ≡ map (scanned kind) rows → AllByRecursion (λ row. length row.cells ≡ width) rows →
-      meaning kind steps env (update_query width t k sets c query) ≡ map (scanned kind) (map (changed kind t k sets c) rows)
+      meaning domain steps env query ≡ map (scanned domain) rows → AllByRecursion (λ row. length row.cells ≡ width) rows →
+      meaning domain steps env (update_query width t k sets c query) ≡ map (scanned domain) (map (changed domain t k sets c) rows)
   update_query_is steps env width t k sets c query rows are wide =
-      ap (map (projected kind (updated_from sets c 0 width) (Some (record { cond = c; token = Updated t k })))) are ∙ changed_rows t k width sets c rows wide
+      ap (map (projected domain (updated_from sets c 0 width) (Some (record { cond = c; token = Updated t k })))) are ∙ changed_rows t k width sets c rows wide
 
   pub delete_query_is : (steps : ℕ → List (Derived M)) (env : Environment M) (c : Cond) (query : Query) (rows : List (Annotated M)) →
-      meaning kind steps env query ≡ map (scanned kind) rows → meaning kind steps env (delete_query c query) ≡ map (scanned kind) (filter (λ row. not (passes c row.cells)) rows)
+      meaning domain steps env query ≡ map (scanned domain) rows → meaning domain steps env (delete_query c query) ≡ map (scanned domain) (filter (λ row. not (passes c row.cells)) rows)
   delete_query_is steps env c query rows are = ap (filter (λ (row : Derived M). passes (is_true c false) row.cells)) are ∙ go rows
     where
-      kept : (row : Annotated M) (rest : List (Annotated M)) (b d : Bool) → b ≡ d → cond b (scanned kind row ∷ map (scanned kind) rest) (map (scanned kind) rest) ≡ map (scanned kind) (cond d (row ∷ rest) rest)
-      kept row rest true d e = ap (λ d. map (scanned kind) (cond d (row ∷ rest) rest)) e
-      kept row rest false d e = ap (λ d. map (scanned kind) (cond d (row ∷ rest) rest)) e
+      kept : (row : Annotated M) (rest : List (Annotated M)) (b d : Bool) → b ≡ d → cond b (scanned domain row ∷ map (scanned domain) rest) (map (scanned domain) rest) ≡ map (scanned domain) (cond d (row ∷ rest) rest)
+      kept row rest true d e = ap (λ d. map (scanned domain) (cond d (row ∷ rest) rest)) e
+      kept row rest false d e = ap (λ d. map (scanned domain) (cond d (row ∷ rest) rest)) e
 
-      go : (rows : List (Annotated M)) → filter (λ (row : Derived M). passes (is_true c false) row.cells) (map (scanned kind) rows) ≡ map (scanned kind) (filter (λ row. not (passes c row.cells)) rows)
+      go : (rows : List (Annotated M)) → filter (λ (row : Derived M). passes (is_true c false) row.cells) (map (scanned domain) rows) ≡ map (scanned domain) (filter (λ row. not (passes c row.cells)) rows)
       go [] = refl
       go (row ∷ rows) =
-          ap (λ rest. cond (passes (is_true c false) row.cells) (scanned kind row ∷ rest) rest) (go rows)
+          ap (λ rest. cond (passes (is_true c false) row.cells) (scanned domain row ∷ rest) rest) (go rows)
           ∙ kept row (filter (λ row. not (passes c row.cells)) rows) (passes (is_true c false) row.cells) (not (passes c row.cells)) (not_true_is c row.cells)

@@ -3,13 +3,14 @@ use Rattle.std.specs.Prelude.{◌≡◌, ℕ, Bool, false, List, length, map, na
 use Rattle.std.specs.List.{AllByRecursion, list_all}
 use Rattle.gp_base.specs.Annotated.{Annotations, Database, Environment}
 use Rattle.gp_algebra.specs.Answers.{Element}
-use Rattle.gp_algebra.specs.AnnotatedQueries.{Derived, Query, scanned, meaning}
+use Rattle.gp_algebra.specs.AnnotatedQueries.{Query}
+use Rattle.gp_algebra.specs.AnnotatedMeaning.{Derived, scanned, meaning}
 use Rattle.gp_algebra.specs.Statements.{Branch, Select}
 
 -- products of annotations need no brackets, and one changes nothing
-pub record IsMonoid {M : Type 0} (kind : Annotations M) : Type 0 where
-  pub right_one : (a : M) → kind.times a kind.one ≡ a
-  pub associative : (a b c : M) → kind.times (kind.times a b) c ≡ kind.times a (kind.times b c)
+pub record IsMonoid {M : Type 0} (domain : Annotations M) : Type 0 where
+  pub right_one : (a : M) → domain.times a domain.one ≡ a
+  pub associative : (a b c : M) → domain.times (domain.times a b) c ≡ domain.times a (domain.times b c)
 
 -- every row is as wide as its table
 abbrev pub AreAsWide : {M : Type 0} → (ℕ → ℕ) → Database M → Type 0
@@ -17,7 +18,7 @@ AreAsWide columns db = (table : ℕ) → AllByRecursion (λ row. length row.cell
 
 -- each query gives the rows of its table, in the same order
 abbrev pub StandFor : {M : Type 0} → Annotations M → (ℕ → List (Derived M)) → Environment M → (ℕ → Query) → Database M → Type 0
-StandFor kind steps env tables db = (table : ℕ) → meaning kind steps env (tables table) ≡ map (scanned kind) (db table)
+StandFor domain steps env tables db = (table : ℕ) → meaning domain steps env (tables table) ≡ map (scanned domain) (db table)
 
 -- a row without its mark, which says nothing in an answer
 abbrev pub unmarked : {M : Type 0} → Derived M → Derived M

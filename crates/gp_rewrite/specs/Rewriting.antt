@@ -6,7 +6,7 @@ use Rattle.std.specs.Option.{option_map}
 use Rattle.gp_base.specs.declared.token.Token.TheVariants.{Updated}
 use Rattle.gp_expr.specs.Expressions.{Expr, Cond, col, case, is_true}
 use Rattle.gp_algebra.specs.Statements as s
-use Rattle.gp_algebra.specs.Statements.{SetExpr, Branch, Select, Statement}
+use Rattle.gp_algebra.specs.Statements.{SetExpr, Branch, Select, Statement, target}
 use Rattle.gp_algebra.specs.Effects.{set_for}
 use Rattle.gp_algebra.specs.AnnotatedQueries as q
 use Rattle.gp_algebra.specs.AnnotatedQueries.{Query}
@@ -71,14 +71,6 @@ made_of t k tables [] = q.scan zero zero
 made_of t k tables (branch ∷ others) = made_onto t k 2 tables (q.new_rows t k 1 (branch_of tables branch)) others
 
 -- ---- statements
-
--- the table that a statement writes
-abbrev pub target : Statement → Option ℕ
-target (s.insert table rows) = Some table
-target (s.insert_select table select) = Some table
-target (s.update table sets c) = Some table
-target (s.delete table c) = Some table
-target (s.read select) = None
 
 -- the new contents of its table, given the number of columns of each table; a SELECT writes none
 abbrev pub rewritten : (ℕ → ℕ) → ℕ → ℕ → Statement → (ℕ → Query) → Query

@@ -4,37 +4,39 @@
 ghost use Rattle.std.specs.Prelude.{◌≡◌, ◌<◌, ℕ, true, List, Some, map};
 ghost use Rattle.gp_base.specs.declared.table.Table.{Table};
 ghost use Rattle.gp_base.specs.Annotated.{Annotations, Database, Environment};
-ghost use Rattle.gp_algebra.specs.AnnotatedQueries.{Derived, Query, meaning, scanned};
+ghost use Rattle.gp_algebra.specs.AnnotatedQueries.{Query};
+ghost use Rattle.gp_algebra.specs.AnnotatedMeaning.{Derived, meaning, scanned};
 ghost use Rattle.gp_algebra.specs.Answers.{answer};
 ghost use Rattle.gp_algebra.specs.Effects.{step};
-ghost use Rattle.gp_algebra.specs.Fitting.{select_fits, statement_fits, width_of};
+ghost use Rattle.gp_algebra.specs.Fitting.{select_fits, statement_fits};
+ghost use Rattle.gp_algebra.specs.Statements.{width_of};
 ghost use Rattle.gp_algebra.specs.QueryForms.{IsAnswer, IsStep, IsTable, is_sound, reads_only};
-ghost use Rattle.gp_algebra.specs.Statements.{Select, Statement};
+ghost use Rattle.gp_algebra.specs.Statements.{Select, Statement, target};
 ghost use Rattle.gp_rewrite.specs.Meaning.{AreAsWide, IsMonoid, StandFor, of_element, unmarked};
-ghost use Rattle.gp_rewrite.specs.Rewriting.{query_of, rewritten, target};
+ghost use Rattle.gp_rewrite.specs.Rewriting.{query_of, rewritten};
 
 /// Reenactment of one statement, for the annotations of any monoid. Where the queries of the tables give the rows of a
 /// database, the query of a statement gives the rows that the statement leaves in the table that it writes, in the same
 /// order, with their identities, marks and annotations; and the query of a SELECT gives its answer, but for marks. The
 /// statement and the query fit the catalogue, and the rows are as wide as their tables, which a statement keeps.
 pub fn rewritten_statements_mean_the_statements<M>()
-    ensures statements { (kind : Annotations M) → IsMonoid kind → (catalogue : List Table)
+    ensures statements { (domain : Annotations M) → IsMonoid domain → (catalogue : List Table)
         (t k table : ℕ) (statement : Statement)
         → statement_fits catalogue statement ≡ true → target statement ≡ Some table
         → (steps : ℕ → List (Derived M)) (env : Environment M) (tables : ℕ → Query)
-        (db : Database M) → AreAsWide (width_of catalogue) db → StandFor kind steps env tables db
-        → meaning kind steps env (rewritten (width_of catalogue) t k statement tables)
-        ≡ map (scanned kind) (step kind t k statement db table) }
-    ensures widths { (kind : Annotations M) (catalogue : List Table) (t k : ℕ)
+        (db : Database M) → AreAsWide (width_of catalogue) db → StandFor domain steps env tables db
+        → meaning domain steps env (rewritten (width_of catalogue) t k statement tables)
+        ≡ map (scanned domain) (step domain t k statement db table) }
+    ensures widths { (domain : Annotations M) (catalogue : List Table) (t k : ℕ)
         (statement : Statement) → statement_fits catalogue statement ≡ true
         → (db : Database M) → AreAsWide (width_of catalogue) db
-        → AreAsWide (width_of catalogue) (step kind t k statement db) }
-    ensures queries { (kind : Annotations M) → IsMonoid kind → (catalogue : List Table)
+        → AreAsWide (width_of catalogue) (step domain t k statement db) }
+    ensures queries { (domain : Annotations M) → IsMonoid domain → (catalogue : List Table)
         (select : Select) → select_fits catalogue select ≡ true
         → (steps : ℕ → List (Derived M)) (env : Environment M) (tables : ℕ → Query)
-        (db : Database M) → StandFor kind steps env tables db
-        → map unmarked (meaning kind steps env (query_of tables select))
-        ≡ map of_element (answer kind select db) }
+        (db : Database M) → StandFor domain steps env tables db
+        → map unmarked (meaning domain steps env (query_of tables select))
+        ≡ map of_element (answer domain select db) }
 {}
 
 /// Queries of statements and of SELECTs have the forms that a program needs, if the queries of the tables have theirs, and

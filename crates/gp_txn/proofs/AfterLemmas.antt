@@ -2,13 +2,14 @@
 use Rattle.std.proofs.Common.{◌≡◌, ◌≢◌, ℕ, zero, suc, ◌+◌, ◌≤◌, Bool, true, false, not, ◌||◌, List, [], ◌∷◌, ◌++◌, map, length, Option, Some, None, refl, ap, sym, ◌∙◌, subst, arith, inl, inr}
 use Rattle.std.specs.List.{filter, filter_map, cons_option, AllByRecursion}
 use Rattle.std.specs.Option.{is_none, is_some, option_map}
-use Rattle.std.proofs.lemmas.Bool.{cases_lt, false≢true}
+use Rattle.std.proofs.lemmas.Bool.{cases_lt, false≢true, or_left}
 use Rattle.std.proofs.lemmas.List.Folds.{list_any-append}
 use Rattle.std.proofs.Math.ListN.{get_or-eq_default}
 use Rattle.gp_base.specs.declared.cell.Cell.{Cell}
 use Rattle.gp_base.specs.declared.stored.Stored.{Stored}
 use Rattle.gp_base.specs.Annotated.{plain}
-use Rattle.gp_base.specs.Identities.{Identity, same_identity, transaction_of}
+use Rattle.gp_base.specs.Identities.{Identity, same_identity}
+use Rattle.gp_base.specs.IdentityParts.{transaction_of}
 use Rattle.gp_versions.specs.declared.span.Span.{Span}
 use Rattle.gp_versions.specs.declared.span.Write.{Write}
 use Rattle.gp_versions.specs.Commits.{after_commit, begun, ended, is_written, live_rows}
@@ -24,10 +25,11 @@ use Rattle.gp_txn.specs.Overlay.{PlainRow, carried_row, carried_write, own_row, 
 use Rattle.gp_txn.specs.Prepared.{AreWritesOf}
 use Rattle.gp_txn.specs.Transactions.{AreOthers, AreThere, HoldsOthers, HoldsOwn, HoldsThere, Writes, base_at, database_below, has_span, no_table, table_at, view_at, writes_at}
 use Rattle.gp_txn.proofs.CommitLemmas.{AreMadeBy, inserted-own, slots-all, writes-own}
-use Rattle.gp_txn.proofs.CountLemmas.{count-after, length-map}
+use Rattle.gp_txn.proofs.CountLemmas.{count-after}
 use Rattle.gp_txn.proofs.PairLemmas.{all-weaker}
 use Rattle.gp_txn.proofs.RebaseLemmas.{view-nowhere}
 use Rattle.gp_txn.proofs.VersionLemmas.{live-view, unwritten-none}
+use Rattle.gp_base.proofs.SmallLemmas.{length-map}
 
 -- ---- what a transaction commits to a table
 
@@ -181,14 +183,10 @@ module _ (version : ℕ) (writes : List Write) where
   span-ended [] id = refl
   span-ended (span ∷ spans) id = (λ i. same_identity (ended_id version writes span i) id || span-ended spans id i)
 
-  or-left : (a b : Bool) → a ≡ true → (a || b) ≡ true
-  or-left true b is = refl
-  or-left false b is = absurd (cc)
-
   span-after : (spans : List Span) (id : Identity) → has_span spans id ≡ true → has_span (after_commit version writes spans) id ≡ true
   span-after spans id is =
       list_any-append (λ (span : Span). same_identity span.id id) (map (ended version writes) spans) (filter_map (begun version) writes)
-      ∙ or-left (has_span (map (ended version writes) spans) id) (has_span (filter_map (begun version) writes) id) (span-ended spans id ∙ is)
+      ∙ or_left (has_span (map (ended version writes) spans) id) (has_span (filter_map (begun version) writes) id) (span-ended spans id ∙ is)
 
   there-spans : (spans : List Span) (carried : List Carried) → AreThere spans carried → AreThere (after_commit version writes spans) carried
   there-spans spans carried there = all-weaker (λ (row : Carried). has_span spans row.id ≡ true) (λ (row : Carried). has_span (after_commit version writes spans) row.id ≡ true) (λ row is. span-after spans row.id is) carried there

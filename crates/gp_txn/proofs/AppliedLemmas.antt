@@ -6,13 +6,15 @@ use Rattle.std.proofs.lemmas.List.{length-append, get_or-set_same, get_or-set_ot
 use Rattle.gp_base.specs.declared.cell.Cell.{Cell}
 use Rattle.gp_base.specs.declared.stored.Stored.{Stored}
 use Rattle.gp_base.specs.Annotated.{plain, Database}
-use Rattle.gp_base.specs.Identities.{Identity, transaction_of}
+use Rattle.gp_base.specs.Identities.{Identity}
+use Rattle.gp_base.specs.IdentityParts.{transaction_of}
 use Rattle.gp_algebra.specs.Answers.{answer}
 use Rattle.gp_algebra.specs.Statements.{Select, Statement, insert, insert_select}
 use Rattle.gp_algebra.specs.Effects.{Written, given_from, made, step, wrote, with_rows, written_in}
-use Rattle.gp_exec.specs.declared.limit.TheConstants.{MAX_TABLE_ROWS}
+use Rattle.gp_base.specs.declared.limit.TheConstants.{MAX_TABLE_ROWS}
 use Rattle.gp_versions.specs.declared.span.Span.{Span}
-use Rattle.gp_versions.specs.Spans.{NoOverlap, Versions, rows_at}
+use Rattle.gp_versions.specs.Spans.{Versions, rows_at}
+use Rattle.gp_versions.specs.TableSpans.{NoOverlap}
 use Rattle.gp_txn.specs.declared.carried.Carried.{Carried}
 use Rattle.gp_txn.specs.declared.overlay.TableWrites.{TableWrites}
 use Rattle.gp_txn.specs.Changes.{Change, update, delete, statement_at, rows_after, touched}

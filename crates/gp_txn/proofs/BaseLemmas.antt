@@ -2,10 +2,11 @@
 use Rattle.std.proofs.Common.{◌≡◌, ◌≢◌, ℕ, Bool, true, false, cond, not, ◌||◌, List, [], ◌∷◌, ◌++◌, map, drop, Option, Some, None, refl, ap, sym, ◌∙◌, subst}
 use Rattle.std.specs.List.{cons_option, filter_map, AllByRecursion}
 use Rattle.std.specs.Option.{is_none}
-use Rattle.std.proofs.lemmas.Bool.{false≢true, or_from, or_parts}
+use Rattle.std.proofs.lemmas.Bool.{false≢true, or_from, or_parts, not-true}
 use Rattle.std.proofs.lemmas.List.Folds.{list_any-append}
 use Rattle.gp_base.specs.declared.cell.Cell.{Cell}
-use Rattle.gp_base.specs.Identities.{Identity, same_identity, transaction_of}
+use Rattle.gp_base.specs.Identities.{Identity, same_identity}
+use Rattle.gp_base.specs.IdentityParts.{transaction_of}
 use Rattle.gp_expr.specs.Values.{passes}
 use Rattle.gp_versions.specs.declared.span.Write.{Write}
 use Rattle.gp_versions.specs.Commits.{is_written}
@@ -20,7 +21,8 @@ use Rattle.gp_txn.specs.Overlay.{PlainRow, base_writes, carried_row, carried_wri
 use Rattle.gp_txn.specs.Slots.{changed_carried, changed_slots, changed_table}
 use Rattle.gp_txn.proofs.CommitLemmas.{AreMadeBy, carried-written, own-unwritten}
 use Rattle.gp_txn.proofs.OverlayLemmas.{slotted-same}
-use Rattle.gp_txn.proofs.WrittenLemmas.{all-touched, has_identity, or-nothing, own-rows, own-identity, touched-append, written-changed}
+use Rattle.gp_txn.proofs.WrittenLemmas.{all-touched, has_identity, own-rows, own-identity, touched-append, written-changed}
+use Rattle.gp_base.proofs.SmallLemmas.{or_nothing}
 
 -- ---- rows that are carried over
 
@@ -95,7 +97,7 @@ table-written writes base t id other made =
     ∙ ap (λ b. is_written list id || b)
     (list_any-append (λ (write : Write). same_identity write.id id) rows own
     ∙ (λ i. carried-written writes.carried id i || own-unwritten t id writes.own other made i)
-    ∙ or-nothing (is_carried writes.carried id))
+    ∙ or_nothing (is_carried writes.carried id))
 
 -- ---- UPDATE and DELETE
 
@@ -137,11 +139,7 @@ view-touched t change writes base id other made =
     ∙ ap (λ b. has_identity (touched change slots) id || b)
     (touched-append change rows own id
     ∙ ap (λ b. has_identity (touched change rows) id || b) (own-identity t (touched change own) id other (all-touched (λ (row : PlainRow). transaction_of row.identity ≡ t) change own (own-rows t writes.own made)))
-    ∙ or-nothing (has_identity (touched change rows) id))
-
-not-true : (b : Bool) → not b ≡ true → b ≡ false
-not-true true is = absurd (cc)
-not-true false is = refl
+    ∙ or_nothing (has_identity (touched change rows) id))
 
 base-new : (version : ℕ) (old new rows : Bool) → rows ≡ false → base_after version (old || new) None ≡ base_after version (new || rows) (base_after version old None)
 base-new version true true rows none = refl

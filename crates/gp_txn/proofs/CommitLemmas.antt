@@ -6,11 +6,13 @@ use Rattle.std.proofs.lemmas.Bool.{or_from, or_parts, false_from_ne_true}
 use Rattle.std.proofs.lemmas.List.{append_assoc, drop-drop, map-append}
 use Rattle.gp_base.specs.declared.stored.Stored.{Stored}
 use Rattle.gp_base.specs.Annotated.{Annotated, plain}
-use Rattle.gp_base.specs.Identities.{Identity, same_identity, transaction_of}
+use Rattle.gp_base.specs.Identities.{Identity, same_identity}
+use Rattle.gp_base.specs.IdentityParts.{transaction_of}
 use Rattle.gp_versions.specs.declared.span.Span.{Span}
 use Rattle.gp_versions.specs.declared.span.Write.{Write}
 use Rattle.gp_versions.specs.Commits.{AreDistinct, is_written}
-use Rattle.gp_versions.specs.Spans.{AreOfDifferentRows, NoOverlap, holds_at, row_of, spans_at}
+use Rattle.gp_versions.specs.Spans.{holds_at, row_of, spans_at}
+use Rattle.gp_versions.specs.TableSpans.{AreOfDifferentRows, NoOverlap}
 use Rattle.gp_versions.proofs.HeldLemmas.{held-differ}
 use Rattle.gp_versions.proofs.SameLemmas.{same-exact, same-sym}
 use Rattle.gp_txn.specs.declared.carried.Carried.{Carried}
@@ -21,8 +23,9 @@ use Rattle.gp_txn.specs.Overlay.{base_writes, carried_write, has_slot, head_slot
 use Rattle.gp_txn.specs.Prepared.{AreInserted, AreWritesOf}
 use Rattle.gp_txn.specs.Rebasing.{carried_of, carried_over}
 use Rattle.gp_txn.specs.Transactions.{AreCarried, AreOthers, AreOwn, IsOwn, KeepsOwn}
-use Rattle.gp_txn.proofs.PairLemmas.{all-append, all-filter, all-map}
+use Rattle.gp_txn.proofs.PairLemmas.{all-filter, all-map}
 use Rattle.gp_txn.proofs.SlottedLemmas.{rows-held, rows-passed, rows-spans, slotted_at}
+use Rattle.gp_base.proofs.SmallLemmas.{each_append}
 
 -- ---- the loop over the spans of a table
 
@@ -166,7 +169,7 @@ slots-all P writes spans all =
 pub over-all : (P : Identity → Type 0) (writes : TableWrites) (spans : List Span) → AllByRecursion (λ (span : Span). P span.id) spans → AllByRecursion (λ (row : Carried). P row.id) writes.carried
     → AllByRecursion (λ (row : Carried). P row.id) (carried_over writes (rows_below writes spans))
 over-all P writes spans all mine =
-    all-append (λ (row : Carried). P row.id) (map (carried_of writes.version) (slot_writes writes (rows_below writes spans))) writes.carried
+    each_append (λ (row : Carried). P row.id) (map (carried_of writes.version) (slot_writes writes (rows_below writes spans))) writes.carried
     (all-map (carried_of writes.version) (λ (write : Write). P write.id) (λ (row : Carried). P row.id) (λ write this. this) (slot_writes writes (rows_below writes spans)) (slots-all P writes spans all)) mine
 
 -- a row that is carried over is not the transaction's own

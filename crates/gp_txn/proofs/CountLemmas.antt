@@ -10,19 +10,16 @@ use Rattle.gp_versions.specs.declared.span.Span.{Span}
 use Rattle.gp_versions.specs.declared.span.Write.{Write}
 use Rattle.gp_versions.specs.Commits.{after_commit, begun, ended, live_rows}
 use Rattle.gp_versions.specs.Spans.{Versions}
-use Rattle.gp_txn.specs.declared.counting.TheConstants.{MAX_SPANS}
+use Rattle.gp_base.specs.declared.limit.TheConstants.{MAX_SPANS}
 use Rattle.gp_txn.specs.Transactions.{table_at}
 use Rattle.gp_txn.specs.Counts.{count_spans, spans_after}
+use Rattle.gp_base.proofs.SmallLemmas.{length-map}
 
 -- ---- one table
 
 length-append : {X : Type 0} (xs ys : List X) → length (xs ++ ys) ≡ length xs + length ys
 length-append [] ys = omega arith
 length-append (x ∷ xs) ys = omega (arith, length-append xs ys)
-
-pub length-map : {X Y : Type 0} (f : X → Y) (xs : List X) → length (map f xs) ≡ length xs
-length-map f [] = refl
-length-map f (x ∷ xs) = ap suc (length-map f xs)
 
 begun-one : (version : ℕ) (id : Identity) (row : Option (List Cell)) (writes : List Write) → length (filter_map (begun version) writes) ≡ length (live_rows plain writes)
     → length (filter_map (begun version) (record { id = id; row = row } ∷ writes)) ≡ length (live_rows plain (record { id = id; row = row } ∷ writes))

@@ -5,7 +5,7 @@ use Rattle.std.specs.Option.{option_and_then, option_map}
 use Rattle.std.specs.Ordering.{is_gt, nat_cmp}
 use Rattle.std.specs.Cmp.{nat_cmp_is}
 use Rattle.std.specs.declared.cmp.Ordering.TheVariants.{Less}
-use Rattle.std.proofs.lemmas.Bool.{cases_lt, false≢true, false_from_ne_true}
+use Rattle.std.proofs.lemmas.Bool.{cases_lt, false≢true, false_from_ne_true, or_right}
 use Rattle.std.proofs.lemmas.Cmp.{nat_cmp_total, tied_itself}
 use Rattle.std.proofs.Math.ListN.{get_or-eq_default}
 use Rattle.gp_base.specs.Annotated.{plain}
@@ -13,7 +13,8 @@ use Rattle.gp_base.specs.Identities.{Identity, identity_cmp, same_identity}
 use Rattle.gp_versions.specs.declared.span.Span.{Span}
 use Rattle.gp_versions.specs.declared.span.Write.{Write}
 use Rattle.gp_versions.specs.Commits.{AreDistinct, is_written}
-use Rattle.gp_versions.specs.Spans.{AreWhole, NoOverlap, Versions, row_of, spans_at, written_after}
+use Rattle.gp_versions.specs.Spans.{Versions, row_of, spans_at}
+use Rattle.gp_versions.specs.TableSpans.{AreWhole, NoOverlap, written_after}
 use Rattle.gp_versions.proofs.HeldLemmas.{held-end}
 use Rattle.gp_versions.proofs.SameLemmas.{same-exact, same-itself}
 use Rattle.gp_txn.specs.declared.carried.Carried.{Carried}
@@ -30,10 +31,6 @@ use Rattle.gp_txn.proofs.BaseLemmas.{carried-none, written-uncarried}
 use Rattle.gp_txn.proofs.CommitLemmas.{carried-written}
 use Rattle.gp_txn.proofs.PairLemmas.{all-filter}
 use Rattle.gp_txn.proofs.SlottedLemmas.{rows-spans}
-
-or-true : (a b : Bool) → b ≡ true → (a || b) ≡ true
-or-true true b is = refl
-or-true false b is = is
 
 -- ---- one table, given the next version that wrote a row
 
@@ -79,12 +76,12 @@ module _ (next : Identity → Option ℕ) where
 
   late-here : (span : Span) (to : Option ℕ) (late : Late) (rest : List Late) (b : Bool) → to ≡ next span.id → (IsAmong late rest → (b ≡ true) × (next late.id ≡ Some late.version)) → IsAmong late (cons_option (late_at span to) rest)
       → ((same_identity span.id late.id || b) ≡ true) × (next late.id ≡ Some late.version)
-  late-here span None late rest b ends more among = (or-true (same_identity span.id late.id) b (more among).0, (more among).1)
+  late-here span None late rest b ends more among = (or_right (same_identity span.id late.id) b (more among).0, (more among).1)
   late-here span (Some version) late rest b ends more (inl is) =
       let ids : span.id ≡ late.id = ap (λ (x : Late). x.id) is in
       let versions : version ≡ late.version = ap (λ (x : Late). x.version) is in
       (subst (λ (x : Identity). (same_identity span.id x || b) ≡ true) ids (rw (same-itself span.id) refl), ap next (sym ids) ∙ sym ends ∙ ap Some versions)
-  late-here span (Some version) late rest b ends more (inr among) = (or-true (same_identity span.id late.id) b (more among).0, (more among).1)
+  late-here span (Some version) late rest b ends more (inr among) = (or_right (same_identity span.id late.id) b (more among).0, (more among).1)
 
   late-slot : (slot : Slot) (span : Span) (slots : List Slot) (spans : List Span) (late : Late) → span.to ≡ next span.id → (IsAmong late (slot_lates slots spans) → IsLate slots spans late) → IsAmong late (cons_option (late_of slot span) (slot_lates slots spans))
       → (is_written (cons_option (slot_write slot (row_of plain span)) (base_writes slots (map (row_of plain) spans))) late.id ≡ true) × (next late.id ≡ Some late.version)

@@ -6,10 +6,12 @@ use Rattle.std.proofs.lemmas.List.{map-append}
 use Rattle.gp_base.specs.declared.cell.Cell.{Cell}
 use Rattle.gp_base.specs.declared.stored.Stored.{Stored}
 use Rattle.gp_base.specs.Annotated.{plain}
-use Rattle.gp_base.specs.Identities.{Identity, same_identity, transaction_of, statement_of}
+use Rattle.gp_base.specs.Identities.{Identity, same_identity}
+use Rattle.gp_base.specs.IdentityParts.{transaction_of, statement_of}
 use Rattle.gp_versions.specs.declared.span.Span.{Span}
 use Rattle.gp_versions.specs.Commits.{AreDistinct, is_written}
-use Rattle.gp_versions.specs.Spans.{AreOfDifferentRows, NoOverlap, holds_at, row_of, rows_at, spans_at}
+use Rattle.gp_versions.specs.Spans.{holds_at, row_of, rows_at, spans_at}
+use Rattle.gp_versions.specs.TableSpans.{AreOfDifferentRows, NoOverlap}
 use Rattle.gp_versions.proofs.HeldLemmas.{held-differ}
 use Rattle.gp_versions.proofs.SameLemmas.{same-exact, same-itself}
 use Rattle.gp_txn.specs.declared.carried.Carried.{Carried}
@@ -23,8 +25,9 @@ use Rattle.gp_txn.specs.Inserting.{AreNew}
 use Rattle.gp_txn.specs.Slots.{changed_carried, changed_own, changed_table, effect, stored_after}
 use Rattle.gp_txn.proofs.BaseLemmas.{all-slotted}
 use Rattle.gp_txn.proofs.CommitLemmas.{carried-written}
-use Rattle.gp_txn.proofs.PairLemmas.{Pairwise, all-append, all-filter, all-map, all-weaker, pairwise-append, pairwise-filter}
+use Rattle.gp_txn.proofs.PairLemmas.{Pairwise, all-filter, all-map, all-weaker, pairwise-append, pairwise-filter}
 use Rattle.gp_txn.proofs.DistinctLemmas.{RowsDiffer, IsMade, IsEarlier, inserted-differ}
+use Rattle.gp_base.proofs.SmallLemmas.{each_append}
 
 true-false : true ≡ false → ⊥
 true-false same = absurd (cc)
@@ -127,7 +130,7 @@ own-earlier t last k own later all = all-map own_row (IsOwn t last) (IsEarlier p
 -- the new rows are the transaction's own, and others than those before
 pub own-inserted : (t last k : ℕ) (own new : List Stored) → last < k → AreOwn t last own → AreNew t k new → AreOwn t k (own ++ new)
 own-inserted t last k own new later mine made = (
-  all-append (IsOwn t k) own new (all-weaker (IsOwn t last) (IsOwn t k) (λ stored is. (is.0, omega (arith, later, is.1))) own mine.0)
+  each_append (IsOwn t k) own new (all-weaker (IsOwn t last) (IsOwn t k) (λ stored is. (is.0, omega (arith, later, is.1))) own mine.0)
       (all-weaker (λ (stored : Stored). (transaction_of stored.id ≡ t) × (statement_of stored.id ≡ k)) (IsOwn t k) (λ stored is. (is.0, omega (arith, is.1))) new made.0),
   rows-distinct (own ++ new)
       (rw (map-append own_row own new) (inserted-differ plain t k (map own_row own) (map own_row new) (distinct-rows own mine.1) (own-earlier t last k own later mine.0) (distinct-rows new made.1)
@@ -144,7 +147,7 @@ all-shown P Dropped row is = tt
 
 all-overlaid : (P : Identity → Type 0) (slots : List Slot) (base : List PlainRow) → AllByRecursion (λ (row : PlainRow). P row.identity) base → AllByRecursion (λ (row : PlainRow). P row.identity) (overlaid slots base)
 all-overlaid P slots [] all = tt
-all-overlaid P slots (row ∷ base) all = all-append (λ (seen : PlainRow). P seen.identity) (shown (head_slot slots) row) (overlaid (drop 1 slots) base) (all-shown P (head_slot slots) row all.0) (all-overlaid P (drop 1 slots) base all.1)
+all-overlaid P slots (row ∷ base) all = each_append (λ (seen : PlainRow). P seen.identity) (shown (head_slot slots) row) (overlaid (drop 1 slots) base) (all-shown P (head_slot slots) row all.0) (all-overlaid P (drop 1 slots) base all.1)
 
 shown-differ : (slot : Slot) (row : PlainRow) (others : List PlainRow) → AllByRecursion (λ (other : PlainRow). row.identity ≢ other.identity) others → Pairwise RowsDiffer others → Pairwise RowsDiffer (shown slot row ++ others)
 shown-differ Same row others apart differ = (apart, differ)
@@ -204,7 +207,7 @@ carried-differ (row ∷ rows) distinct =
 all-both : (slots rows own : List PlainRow) → AllByRecursion (λ row. AllByRecursion (RowsDiffer row) rows) slots → AllByRecursion (λ row. AllByRecursion (RowsDiffer row) own) slots
     → AllByRecursion (λ row. AllByRecursion (RowsDiffer row) (rows ++ own)) slots
 all-both [] rows own left right = tt
-all-both (row ∷ slots) rows own left right = (all-append (RowsDiffer row) rows own left.0 right.0, all-both slots rows own left.1 right.1)
+all-both (row ∷ slots) rows own left right = (each_append (RowsDiffer row) rows own left.0 right.0, all-both slots rows own left.1 right.1)
 
 -- a row with a slot is none of those that are carried over
 slot-apart : (carried : List Carried) (id : Identity) → is_carried carried id ≡ false → AllByRecursion (λ (row : Carried). id ≢ row.id) carried

@@ -1,15 +1,12 @@
 -- Lists of which each two items are in a relation.
 use Rattle.std.proofs.Common.{Bool, true, false, cond, List, [], ◌∷◌, ◌++◌, map}
 use Rattle.std.specs.List.{filter, AllByRecursion}
+use Rattle.gp_base.proofs.SmallLemmas.{each_append}
 
 -- each two are in the relation, in order
 abbrev pub Pairwise : {X : Type 0} → (X → X → Type 0) → List X → Type 0
 Pairwise R [] = Unit {0}
 Pairwise R (x ∷ xs) = AllByRecursion (R x) xs × Pairwise R xs
-
-pub all-append : {X : Type 0} (P : X → Type 0) (xs ys : List X) → AllByRecursion P xs → AllByRecursion P ys → AllByRecursion P (xs ++ ys)
-all-append P [] ys left right = right
-all-append P (x ∷ xs) ys left right = (left.0, all-append P xs ys left.1 right)
 
 pub all-filter : {X : Type 0} (P : X → Type 0) (p : X → Bool) (xs : List X) → AllByRecursion P xs → AllByRecursion P (filter p xs)
 all-filter P p [] all = tt
@@ -31,7 +28,7 @@ all-map f P Q keeps (x ∷ xs) all = (keeps x all.0, all-map f P Q keeps xs all.
 
 pub pairwise-append : {X : Type 0} (R : X → X → Type 0) (xs ys : List X) → Pairwise R xs → Pairwise R ys → AllByRecursion (λ x. AllByRecursion (R x) ys) xs → Pairwise R (xs ++ ys)
 pairwise-append R [] ys left right across = right
-pairwise-append R (x ∷ xs) ys left right across = (all-append (R x) xs ys left.0 across.0, pairwise-append R xs ys left.1 right across.1)
+pairwise-append R (x ∷ xs) ys left right across = (each_append (R x) xs ys left.0 across.0, pairwise-append R xs ys left.1 right across.1)
 
 pub pairwise-filter : {X : Type 0} (R : X → X → Type 0) (p : X → Bool) (xs : List X) → Pairwise R xs → Pairwise R (filter p xs)
 pairwise-filter R p [] all = tt

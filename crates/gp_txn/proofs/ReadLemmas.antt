@@ -3,16 +3,16 @@ use Rattle.std.proofs.Common.{◌≡◌, ℕ, suc, ◌+◌, ◌<◌, ◌==◌, B
 use Rattle.std.proofs.Math.ListN.{get_or-append}
 use Rattle.std.proofs.Math.Seq.{get_or-append_seam}
 use Rattle.std.specs.List.{filter, flat_map, list_all}
-use Rattle.std.proofs.lemmas.Bool.{and_parts, cases_lt, eq-eqb, eqb-true, ltb-true}
+use Rattle.std.proofs.lemmas.Bool.{and_parts, cases_lt, eq-eqb, eqb-true, ltb-true, or_left, or_right}
 use Rattle.gp_base.specs.declared.stored.Stored.{Stored}
 use Rattle.gp_base.specs.Annotated.{plain, Database}
 use Rattle.gp_algebra.specs.Statements.{Branch, Select}
 use Rattle.gp_algebra.specs.Answers.{Element, values, passes_where, joined, choices, chosen, answer_from, answer}
-use Rattle.gp_algebra.proofs.Lists.{flat_map-map}
 use Rattle.gp_exec.specs.Choosing.{row_view}
 use Rattle.gp_txn.specs.Applying.{reads_below}
 use Rattle.gp_txn.specs.Inserting.{names_table, reads_table}
 use Rattle.gp_txn.specs.Overlay.{PlainRow, stored_of}
+use Rattle.gp_base.proofs.SmallLemmas.{flat_map-map}
 
 -- ---- the answer
 
@@ -28,20 +28,12 @@ rows-agree b rest rows =
 named-first : (place : ℕ) (places : List ℕ) → names_table place (place ∷ places) ≡ true
 named-first place places = ap (λ b. b || names_table place places) (eq-eqb place place refl)
 
-or-right : (a b : Bool) → b ≡ true → (a || b) ≡ true
-or-right true b is = refl
-or-right false b is = is
-
-or-left : (a b : Bool) → a ≡ true → (a || b) ≡ true
-or-left true b is = refl
-or-left false b is = absurd (cc)
-
 choices-agree : (b : ℕ) (places : List ℕ) (db other : Database (Unit {0})) → Agree (λ p. names_table p places) db other → choices plain b places other ≡ choices plain b places db
 choices-agree b [] db other agree = refl
 choices-agree b (place ∷ places) db other agree =
     ap (λ rows. flat_map (λ row. map (joined plain b row) (choices plain b places other)) rows) (agree place (named-first place places))
     ∙ rows-agree b (choices plain b places other) (db place)
-    ∙ ap (λ (rest : List (Element (Unit {0}))). flat_map (λ row. map (joined plain b row) rest) (db place)) (choices-agree b places db other (λ p is. agree p (or-right (place == p) (names_table p places) is)))
+    ∙ ap (λ (rest : List (Element (Unit {0}))). flat_map (λ row. map (joined plain b row) rest) (db place)) (choices-agree b places db other (λ p is. agree p (or_right (place == p) (names_table p places) is)))
 
 chosen-agree : (b : ℕ) (branch : Branch) (db other : Database (Unit {0})) → Agree (λ p. names_table p branch.from) db other → chosen plain b branch other ≡ chosen plain b branch db
 chosen-agree b branch db other agree =
@@ -50,8 +42,8 @@ chosen-agree b branch db other agree =
 answer_from-agree : (b : ℕ) (select : Select) (db other : Database (Unit {0})) → Agree (λ p. reads_table p select) db other → answer_from plain b select other ≡ answer_from plain b select db
 answer_from-agree b [] db other agree = refl
 answer_from-agree b (branch ∷ select) db other agree =
-    let here = chosen-agree b branch db other (λ p is. agree p (or-left (names_table p branch.from) (reads_table p select) is)) in
-    let rest = answer_from-agree (suc b) select db other (λ p is. agree p (or-right (names_table p branch.from) (reads_table p select) is)) in
+    let here = chosen-agree b branch db other (λ p is. agree p (or_left (names_table p branch.from) (reads_table p select) is)) in
+    let rest = answer_from-agree (suc b) select db other (λ p is. agree p (or_right (names_table p branch.from) (reads_table p select) is)) in
     cc (here, rest)
 
 pub answer-agree : (select : Select) (db other : Database (Unit {0})) → Agree (λ p. reads_table p select) db other → answer plain select other ≡ answer plain select db

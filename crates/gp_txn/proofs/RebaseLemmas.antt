@@ -3,7 +3,7 @@
 use Rattle.std.proofs.Common.{◌≡◌, ℕ, Bool, true, false, cond, not, ◌||◌, ◌==◌, List, [], ◌∷◌, ◌++◌, map, drop, Option, Some, None, refl, ap, sym, ◌∙◌}
 use Rattle.std.specs.List.{cons_option, filter, filter_map, AllByRecursion}
 use Rattle.std.specs.Option.{is_none}
-use Rattle.std.proofs.lemmas.Bool.{eqb-true}
+use Rattle.std.proofs.lemmas.Bool.{eqb-true, or_right}
 use Rattle.std.proofs.lemmas.List.{append_assoc}
 use Rattle.std.proofs.lemmas.List.Elements.{filter-append, filter_map-append}
 use Rattle.std.proofs.lemmas.List.Folds.{list_any-append}
@@ -14,7 +14,8 @@ use Rattle.gp_base.specs.Identities.{Identity, same_identity}
 use Rattle.gp_versions.specs.declared.span.Span.{Span}
 use Rattle.gp_versions.specs.declared.span.Write.{Write}
 use Rattle.gp_versions.specs.Commits.{is_written}
-use Rattle.gp_versions.specs.Spans.{NoOverlap, row_of, rows_at, spans_at}
+use Rattle.gp_versions.specs.Spans.{row_of, rows_at, spans_at}
+use Rattle.gp_versions.specs.TableSpans.{NoOverlap}
 use Rattle.gp_versions.proofs.SameLemmas.{same-itself}
 use Rattle.gp_txn.specs.declared.carried.Carried.{Carried}
 use Rattle.gp_txn.specs.declared.overlay.Slot.{Slot}
@@ -27,10 +28,6 @@ use Rattle.gp_txn.specs.Transactions.{AreOthers, AreThere, KeepsOwn, has_span}
 use Rattle.gp_txn.proofs.BaseLemmas.{base-none, carried-none, written-uncarried}
 use Rattle.gp_txn.proofs.CommitLemmas.{carried-keeps, over-all}
 use Rattle.gp_txn.proofs.PairLemmas.{all-weaker}
-
-or-right : (a b : Bool) → b ≡ true → (a || b) ≡ true
-or-right true b is = refl
-or-right false b is = is
 
 -- ---- rows without slots
 
@@ -190,7 +187,7 @@ marks-at table spans version =
 
 there-more : (first : Span) (spans others : List Span) → AllByRecursion (λ (span : Span). has_span spans span.id ≡ true) others → AllByRecursion (λ (span : Span). has_span (first ∷ spans) span.id ≡ true) others
 there-more first spans others all =
-    all-weaker (λ (span : Span). has_span spans span.id ≡ true) (λ (span : Span). has_span (first ∷ spans) span.id ≡ true) (λ span is. or-right (same_identity first.id span.id) (has_span spans span.id) is) others all
+    all-weaker (λ (span : Span). has_span spans span.id ≡ true) (λ (span : Span). has_span (first ∷ spans) span.id ≡ true) (λ span is. or_right (same_identity first.id span.id) (has_span spans span.id) is) others all
 
 spans-there : (spans : List Span) → AllByRecursion (λ (span : Span). has_span spans span.id ≡ true) spans
 spans-there [] = tt

@@ -3,11 +3,11 @@ use Rattle.std.proofs.Common.{◌≡◌, ℕ, suc, ◌+◌, ◌<◌, Bool, true,
 use Rattle.std.specs.List.{filter}
 use Rattle.std.proofs.Math.Seq.{drop-cons}
 use Rattle.gp_base.specs.Annotated.{plain}
-use Rattle.gp_algebra.proofs.Lists.{filter-map}
 use Rattle.gp_versions.specs.declared.span.Span.{Span}
 use Rattle.gp_versions.specs.Spans.{holds_at, row_of, rows_at, spans_at}
 use Rattle.gp_txn.specs.declared.carried.Carried.{Carried}
 use Rattle.gp_txn.specs.Overlay.{PlainRow, has_slot, is_carried, slotted, slotted_spans}
+use Rattle.gp_base.proofs.SmallLemmas.{filter-map}
 
 pub split-at : (spans : List Span) (i : ℕ) (span : Span) → i < length spans → span ≡ get_or spans i span → drop i spans ≡ span ∷ drop (i + 1) spans
 split-at spans i span within at = rw add-one (drop-cons spans i span within ∙ ap (λ (s : Span). s ∷ drop (suc i) spans) (sym at))

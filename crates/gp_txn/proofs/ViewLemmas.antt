@@ -8,7 +8,6 @@ use Rattle.gp_base.specs.declared.stored.Stored.{Stored}
 use Rattle.gp_base.specs.Annotated.{plain}
 use Rattle.gp_expr.specs.Expressions.{Cond}
 use Rattle.gp_algebra.specs.Answers.{passes_where}
-use Rattle.gp_algebra.proofs.Lists.{filter-map}
 use Rattle.gp_versions.specs.declared.span.Span.{Span}
 use Rattle.gp_versions.specs.Spans.{row_of}
 use Rattle.gp_txn.specs.declared.carried.Carried.{Carried}
@@ -17,10 +16,10 @@ use Rattle.gp_txn.specs.declared.overlay.Slot.TheVariants.{Same, Put, Dropped}
 use Rattle.gp_txn.specs.declared.overlay.TableWrites.{TableWrites}
 use Rattle.gp_txn.specs.Overlay.{PlainRow, carried_row, has_slot, head_slot, shown, slotted, overlaid, own_row, stored_of, view_rows}
 use Rattle.gp_txn.specs.Slots.{shown_count}
-use Rattle.gp_txn.proofs.CountLemmas.{length-map}
 use Rattle.gp_txn.specs.Wanted.{wanted, wanted_own}
 use Rattle.gp_txn.proofs.OverlayLemmas.{filter_map-one}
 use Rattle.gp_txn.proofs.SlottedLemmas.{rows-held, rows-passed, slotted_at}
+use Rattle.gp_base.proofs.SmallLemmas.{filter-map, length-map}
 
 pub wanted-all : (rows : List PlainRow) → wanted None rows ≡ rows
 wanted-all [] = refl

@@ -4,7 +4,8 @@ use Rattle.std.specs.List.{filter, flat_map, list_all}
 use Rattle.std.proofs.lemmas.Bool.{and_parts}
 use Rattle.std.proofs.lemmas.List.{append-nil}
 use Rattle.gp_base.specs.Annotated.{plain, Database}
-use Rattle.gp_expr.specs.Expressions.{Cond, is_simple}
+use Rattle.gp_expr.specs.Expressions.{Cond}
+use Rattle.gp_expr.specs.ExpressionForms.{is_simple}
 use Rattle.gp_algebra.specs.Statements.{Branch, Select}
 use Rattle.gp_algebra.specs.Simple.{branch_is_simple, select_is_simple, where_is_simple}
 use Rattle.gp_algebra.specs.Answers.{Element, values, passes_where, joined, no_choice, answer}

@@ -6,7 +6,8 @@ use Rattle.std.proofs.lemmas.Bool.{eq-eqb, ne_eqb, or_from, false_from_ne_true}
 use Rattle.std.proofs.lemmas.List.Folds.{list_any-append}
 use Rattle.std.proofs.lemmas.List.Elements.{filter-append}
 use Rattle.gp_base.specs.declared.stored.Stored.{Stored}
-use Rattle.gp_base.specs.Identities.{Identity, same_identity, transaction_of}
+use Rattle.gp_base.specs.Identities.{Identity, same_identity}
+use Rattle.gp_base.specs.IdentityParts.{transaction_of}
 use Rattle.gp_expr.specs.Values.{passes}
 use Rattle.gp_algebra.specs.Effects.{assigned, written_in}
 use Rattle.gp_versions.specs.declared.span.Write.{Write}
@@ -113,10 +114,6 @@ pub all-touched : (P : PlainRow → Type 0) (change : Change) (rows : List Plain
 all-touched P change [] all = tt
 all-touched P change (row ∷ rows) all =
     elim (passes (cond_of change) row.cells) as (λ b. AllByRecursion P (cond b (row ∷ touched change rows) (touched change rows))) [ true ↦ (all.0, all-touched P change rows all.1) | false ↦ all-touched P change rows all.1 ]
-
-pub or-nothing : (b : Bool) → (b || false) ≡ b
-or-nothing true = refl
-or-nothing false = refl
 
 pub own-rows : (t : ℕ) (own : List Stored) → AllByRecursion (λ (stored : Stored). transaction_of stored.id ≡ t) own → AllByRecursion (λ (row : PlainRow). transaction_of row.identity ≡ t) (map own_row own)
 own-rows t [] all = tt

@@ -4,7 +4,7 @@ use Rattle.std.specs.List.{list_all}
 use Rattle.gp_base.specs.declared.cell.Cell.{Cell}
 use Rattle.gp_base.specs.declared.row_id.TheConstants.{MAX_NODES}
 use Rattle.gp_base.specs.Annotated.{plain}
-use Rattle.gp_expr.specs.Expressions.{is_simple, cond_is_simple}
+use Rattle.gp_expr.specs.ExpressionForms.{is_simple, cond_is_simple}
 use Rattle.gp_algebra.specs.Statements.{SetExpr, Branch, Select, Statement, insert, insert_select, update, delete, read}
 use Rattle.gp_algebra.specs.Simple.{select_is_simple}
 use Rattle.gp_algebra.specs.Effects.{wrote, is_over_rows, is_over_nodes}
@@ -12,7 +12,7 @@ use Rattle.gp_algebra.specs.Answers.{Element, cells_of}
 use Rattle.gp_exec.specs.declared.error.ChooseStop.{ChooseStop}
 use Rattle.gp_exec.specs.declared.error.ChooseStop.TheVariants.{TooMany}
 use Rattle.gp_exec.specs.declared.error.ChooseStop.TheVariants as choose
-use Rattle.gp_exec.specs.declared.limit.TheConstants.{MAX_TABLE_ROWS}
+use Rattle.gp_base.specs.declared.limit.TheConstants.{MAX_TABLE_ROWS}
 use Rattle.gp_versions.specs.Spans.{Versions}
 use Rattle.gp_txn.specs.declared.error.StmtStop.{StmtStop}
 use Rattle.gp_txn.specs.declared.error.StmtStop.TheVariants.{Rows, Ancestry, NoMemory}

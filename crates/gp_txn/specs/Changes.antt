@@ -2,7 +2,8 @@
 use Rattle.std.specs.Prelude.{ℕ, Bool, not, List, map, filter, ◌&&◌}
 use Rattle.std.specs.List.{list_all}
 use Rattle.gp_base.specs.Annotated.{Annotations, Annotated}
-use Rattle.gp_expr.specs.Expressions.{Cond, is_simple, cond_is_simple}
+use Rattle.gp_expr.specs.Expressions.{Cond}
+use Rattle.gp_expr.specs.ExpressionForms.{is_simple, cond_is_simple}
 use Rattle.gp_expr.specs.Values.{passes}
 use Rattle.gp_expr.specs.Views.{cond_view}
 use Rattle.gp_algebra.specs.Statements as s
@@ -37,10 +38,10 @@ abbrev pub change_is_simple : Change → Bool
 change_is_simple (update sets cond) = list_all set_is_simple sets && cond_is_simple cond
 change_is_simple (delete cond) = cond_is_simple cond
 
-module _ {M : Type 0} (a : Annotations M) where
+module _ {M : Type 0} (domain : Annotations M) where
   -- the rows of its table afterwards
   abbrev pub rows_after : ℕ → ℕ → Change → List (Annotated M) → List (Annotated M)
-  rows_after t k (update sets cond) rows = map (changed a t k sets cond) rows
+  rows_after t k (update sets cond) rows = map (changed domain t k sets cond) rows
   rows_after t k (delete cond) rows = filter (λ row. not (passes cond row.cells)) rows
 
 -- the rows that it writes

@@ -8,7 +8,7 @@ use Rattle.gp_versions.specs.Spans.{Versions}
 use Rattle.gp_txn.specs.declared.error.CommitStop.{CommitStop}
 use Rattle.gp_txn.specs.declared.error.CommitStop.TheVariants as stop
 use Rattle.gp_txn.specs.declared.conflict.Late.{Late}
-use Rattle.gp_txn.specs.declared.counting.TheConstants.{MAX_SPANS}
+use Rattle.gp_base.specs.declared.limit.TheConstants.{MAX_SPANS}
 use Rattle.gp_txn.specs.declared.overlay.TableWrites.{TableWrites}
 use Rattle.gp_txn.specs.Conflicts.{IsFirstConflict, lates_at}
 use Rattle.gp_txn.specs.Counts.{spans_after}

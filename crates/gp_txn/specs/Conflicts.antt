@@ -9,7 +9,8 @@ use Rattle.std.specs.declared.cmp.Ordering.{Ordering}
 use Rattle.gp_base.specs.Identities.{Identity, identity_cmp}
 use Rattle.gp_algebra.specs.Effects.{Written}
 use Rattle.gp_versions.specs.declared.span.Span.{Span}
-use Rattle.gp_versions.specs.Spans.{Versions, written_after}
+use Rattle.gp_versions.specs.Spans.{Versions}
+use Rattle.gp_versions.specs.TableSpans.{written_after}
 use Rattle.gp_txn.specs.declared.carried.Carried.{Carried}
 use Rattle.gp_txn.specs.declared.overlay.Slot.{Slot}
 use Rattle.gp_txn.specs.declared.overlay.Slot.TheVariants.{Same, Put, Dropped}

@@ -3,15 +3,17 @@ use Rattle.std.specs.Prelude.{◌≡◌, ℕ, ◌+◌, ◌==◌, Bool, true, fal
 use Rattle.std.specs.List.{AllByRecursion, list_any}
 use Rattle.gp_base.specs.declared.row_id.TheConstants.{MAX_NODES}
 use Rattle.gp_base.specs.declared.stored.Stored.{Stored}
-use Rattle.gp_base.specs.Identities.{nodes, transaction_of, statement_of}
+use Rattle.gp_base.specs.Identities.{nodes}
+use Rattle.gp_base.specs.IdentityParts.{transaction_of, statement_of}
 use Rattle.gp_algebra.specs.Statements.{Branch, Select}
-use Rattle.gp_exec.specs.declared.limit.TheConstants.{MAX_TABLE_ROWS}
+use Rattle.gp_base.specs.declared.limit.TheConstants.{MAX_TABLE_ROWS}
 use Rattle.gp_txn.specs.declared.error.StmtStop.{StmtStop}
 use Rattle.gp_txn.specs.declared.error.StmtStop.TheVariants.{Rows, Ancestry, NoMemory}
 use Rattle.gp_txn.specs.Overlay.{PlainRow, own_row, own_write}
 use Rattle.gp_txn.specs.Transactions.{table_at}
 use Rattle.gp_versions.specs.Commits.{AreDistinct}
-use Rattle.gp_versions.specs.Spans.{NoOverlap, Versions}
+use Rattle.gp_versions.specs.Spans.{Versions}
+use Rattle.gp_versions.specs.TableSpans.{NoOverlap}
 
 abbrev pub are_large : List PlainRow → Bool
 are_large rows = list_any (λ (row : PlainRow). nat_lt MAX_NODES (nodes row.identity)) rows

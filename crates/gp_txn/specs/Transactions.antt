@@ -4,7 +4,8 @@ use Rattle.std.specs.Prelude.{◌≡◌, ◌≢◌, ◌⊎◌, ℕ, ◌≤◌, B
 use Rattle.std.specs.List.{AllByRecursion, list_any}
 use Rattle.gp_base.specs.declared.stored.Stored.{Stored}
 use Rattle.gp_base.specs.Annotated.{Database, plain}
-use Rattle.gp_base.specs.Identities.{Identity, same_identity, transaction_of, statement_of}
+use Rattle.gp_base.specs.Identities.{Identity, same_identity}
+use Rattle.gp_base.specs.IdentityParts.{transaction_of, statement_of}
 use Rattle.gp_algebra.specs.Statements.{Statement}
 use Rattle.gp_algebra.specs.Effects.{Written, step, wrote}
 use Rattle.gp_txn.specs.declared.carried.Carried.{Carried}

@@ -11,10 +11,10 @@ ghost use Rattle.gp_txn.specs.Transactions.{AreOthers, AreOwn, HoldsOwn, IsUnwri
 ghost use Rattle.gp_txn.specs.Wanted.{wanted};
 ghost use Rattle.gp_expr.specs.Views.{cond_view};
 ghost use Rattle.gp_algebra.specs.Simple.{where_is_simple};
-ghost use Rattle.gp_versions.specs.Spans.{NoOverlap};
+ghost use Rattle.gp_versions.specs.TableSpans.{NoOverlap};
 
 use crate::overlay::TableWrites;
-use crate::rebasing::{append_own, count_at, view_at, writes_for};
+use crate::rebase::{append_own, count_at, view_at, writes_for};
 use gp_base::{MAX_TABLES, NoMemory, Sequence, Stored};
 use gp_expr::Cond;
 use gp_versions::{Span, VersionTable};

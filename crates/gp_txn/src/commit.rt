@@ -4,17 +4,17 @@ ghost use Rattle.std.specs.Prelude.{◌≡◌, ℕ, ◌<◌, ◌≤◌, IfErr, I
 ghost use Rattle.gp_base.specs.declared.catalog.TheConstants.{MAX_TABLES};
 ghost use Rattle.gp_txn.specs.Committing.{Commits, HasCause, commit_of, spans_left};
 ghost use Rattle.gp_txn.specs.Conflicts.{IsFirstConflict, lates_at};
-ghost use Rattle.gp_txn.specs.declared.counting.TheConstants.{MAX_SPANS};
+ghost use Rattle.gp_base.specs.declared.limit.TheConstants.{MAX_SPANS};
 ghost use Rattle.gp_txn.specs.Prepared.{AreWritesOf, IsReady, prepared_at};
 ghost use Rattle.gp_txn.specs.Transactions.{AreOthers, HoldsOthers, table_at, writes_at};
 ghost use Rattle.gp_versions.specs.Commits.{AreBelow, AreDistinct, after_commit};
 
 use crate::active::Active;
 use crate::conflict::{Conflict, first_conflict};
-use crate::counting::is_full;
 use crate::error::CommitStop;
 use crate::overlay::TableWrites;
-use crate::publishing::{prepare, publish, reserve_all};
+use crate::publication::{prepare, publish, reserve_all};
+use crate::span_count::is_full;
 use gp_base::NoMemory;
 use gp_versions::{VersionTable, Writes};
 use std::alloc::Global;

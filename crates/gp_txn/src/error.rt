@@ -8,7 +8,7 @@ use gp_exec::ChooseStop;
 /// Why a statement is not applied.
 #[derive(Drop)]
 pub enum StmtStop {
-    /// An INSERT would leave more than [`MAX_TABLE_ROWS`](gp_exec::MAX_TABLE_ROWS) rows in its table.
+    /// An INSERT would leave more than [`MAX_TABLE_ROWS`](gp_base::MAX_TABLE_ROWS) rows in its table.
     Rows,
     /// An INSERT would make an identity of more than [`MAX_NODES`](gp_base::MAX_NODES) nodes.
     Ancestry,
@@ -52,7 +52,7 @@ pub enum CommitStop {
         /// The identity of the row, the least one of the table.
         id: RowId,
     },
-    /// There would be more than [`MAX_SPANS`](crate::MAX_SPANS) spans.
+    /// There would be more than [`MAX_SPANS`](gp_base::MAX_SPANS) spans.
     Full,
     /// Memory ran out.
     NoMemory,

@@ -8,7 +8,8 @@ ghost use Rattle.gp_txn.specs.Conflicts.{IsFirstConflict, IsLost, lates_at, next
 ghost use Rattle.gp_txn.specs.Overlay.{carried_write};
 ghost use Rattle.gp_txn.specs.Transactions.{table_at, writes_at};
 ghost use Rattle.gp_versions.specs.Commits.{AreDistinct};
-ghost use Rattle.gp_versions.specs.Spans.{AreWhole, NoOverlap, Versions};
+ghost use Rattle.gp_versions.specs.Spans.{Versions};
+ghost use Rattle.gp_versions.specs.TableSpans.{AreWhole, NoOverlap};
 
 /// The first committer of a row wins: a commit has a conflict exactly where a version above the base of a row that the
 /// transaction updated or deleted wrote the row. The conflict is the least such row, by table and then by identity, with the

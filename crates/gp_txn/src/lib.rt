@@ -13,11 +13,11 @@
 //! base, or there would be more than [`MAX_SPANS`] spans. [`the_first_committer_wins`] is a law of the definitions in
 //! `specs/`, which the contracts cite.
 //!
-//! Inside, `updating` is UPDATE and DELETE, and `assigning` the rows that an UPDATE makes; `inserting` makes the rows of an
-//! INSERT, and `applying` puts both behind one call. `viewing` makes the rows that a transaction sees over the version that
-//! its writes lie over, and `rebasing` moves the writes of a table to another version. `choosing` answers queries, and
-//! `reading` tells which tables and rows they want. Of a commit, `conflict` finds the row that it is lost by, `committing`
-//! copies the writes of a table, `counting` counts the spans that they leave, and `publishing` makes room for them and then
+//! Inside, `update` is UPDATE and DELETE, and `assignment` the rows that an UPDATE makes; `insert` makes the rows of an
+//! INSERT, and `statement` puts both behind one call. `snapshot` makes the rows that a transaction sees over the version that
+//! its writes lie over, and `rebase` moves the writes of a table to another version. `query` answers queries, and
+//! `reads` tells which tables and rows they want. Of a commit, `conflict` finds the row that it is lost by, `writes`
+//! copies the writes of a table, `span_count` counts the spans that they leave, and `publication` makes room for them and then
 //! the version.
 //!
 //! ```text
@@ -30,28 +30,27 @@
 #![tactic(auto)]
 
 mod active;
-mod applying;
-mod assigning;
+mod assignment;
 mod carried;
 mod change;
-mod choosing;
 mod commit;
-mod committing;
 mod conflict;
-mod counting;
 mod error;
-mod inserting;
+mod insert;
 mod laws;
 mod overlay;
-mod publishing;
-mod reading;
-mod rebasing;
-mod updating;
-mod viewing;
+mod publication;
+mod query;
+mod reads;
+mod rebase;
+mod snapshot;
+mod span_count;
+mod statement;
+mod update;
+mod writes;
 
 pub use active::Active;
 pub use carried::{Carried, CarriedRows};
-pub use counting::MAX_SPANS;
 pub use error::{CommitStop, StmtStop};
 pub use laws::the_first_committer_wins;
 pub use overlay::{Slot, TableWrites};

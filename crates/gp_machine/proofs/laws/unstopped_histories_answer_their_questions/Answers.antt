@@ -1,4 +1,4 @@
-use Rattle.gp_algebra.proofs.Permutations.{permuted, unpermuted}
+use Rattle.gp_base.proofs.Permutations.{permuted, unpermuted}
 use Rattle.gp_machine.proofs.HeldPoints.{simulated}
 use Rattle.gp_machine.proofs.QuestionLemmas.{annotated_alike, rows_alike}
 use Rattle.gp_machine.proofs.laws.unstopped_histories_answer_their_questions.Goals as goal

@@ -3,7 +3,7 @@ use Rattle.std.specs.Option.{option_map}
 use Rattle.gp_algebra.specs.Statements.{Statement}
 use Rattle.gp_machine.specs.Entries.{is_read_committed, statement_at, statement_version}
 use Rattle.gp_log.specs.Indexing.{known_of}
-use Rattle.gp_log.specs.LogFacts.{numbered}
+use Rattle.gp_log.specs.LogCounts.{numbered}
 use Rattle.gp_log.specs.Logs.{Logged, log_view}
 use Rattle.gp_log.specs.declared.index.Known.{Known}
 use Rattle.gp_log.proofs.VersionLemmas.{steady_read}

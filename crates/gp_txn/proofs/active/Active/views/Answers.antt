@@ -1,7 +1,7 @@
 use Rattle.std.proofs.Common.{◌≡◌, ◌+◌, [], ◌∷◌, true, map, ap, ◌∙◌}
 use Rattle.std.proofs.lemmas.List.{length-append}
 use Rattle.gp_algebra.specs.Views.{select_view}
-use Rattle.gp_versions.specs.Spans.{NoOverlap}
+use Rattle.gp_versions.specs.TableSpans.{NoOverlap}
 use Rattle.gp_txn.specs.Inserting.{reads_table}
 use Rattle.gp_txn.specs.Overlay.{stored_of}
 use Rattle.gp_txn.specs.Transactions.{table_at, view_at}

@@ -4,7 +4,7 @@ use Rattle.gp_txn.specs.Inserting.{reads_table}
 use Rattle.gp_txn.specs.Overlay.{stored_of}
 use Rattle.gp_txn.specs.Transactions.{table_at, view_at}
 use Rattle.gp_txn.specs.Wanted.{row_where, wanted}
-use Rattle.gp_versions.specs.Spans.{NoOverlap}
+use Rattle.gp_versions.specs.TableSpans.{NoOverlap}
 use Rattle.gp_txn.proofs.active.Active.views.Given as goal
 
 abbrev pub invariant-loop-place : goal.invariant-loop-place

@@ -1,0 +1,218 @@
+//! Statements of a running transaction. What can fail comes first, so that a statement that is refused changes nothing.
+
+ghost use Rattle.std.specs.Prelude.{◌≡◌, ◌<◌, ◌≤◌, ◌+◌, ◌++◌, ◌^◌, not, true, IfOk, MatchOption, length, map};
+ghost use Rattle.gp_base.specs.declared.catalog.TheConstants.{MAX_TABLES};
+ghost use Rattle.gp_base.specs.Annotated.{plain};
+ghost use Rattle.gp_algebra.specs.Answers.{answer};
+ghost use Rattle.gp_algebra.specs.Effects.{given_from, made};
+ghost use Rattle.gp_algebra.specs.Statements as s;
+ghost use Rattle.gp_algebra.specs.Views.{select_view, statement_view};
+ghost use Rattle.gp_base.specs.declared.limit.TheConstants.{MAX_TABLE_ROWS};
+ghost use Rattle.gp_txn.specs.Applying.{Applies, is_applicable, is_readable};
+ghost use Rattle.gp_txn.specs.Changes.{change_is_simple, change_view, statement_at};
+ghost use Rattle.gp_txn.specs.Inserting.{Prepares, are_many};
+ghost use Rattle.gp_txn.specs.Transactions.{AreOwn, HoldsOthers, view_at, writes_at};
+
+use crate::active::{Active, number, spans_of};
+use crate::change::Change;
+use crate::error::StmtStop;
+use crate::insert::{given_rows, made_rows};
+use crate::rebase::changed_at;
+use gp_algebra::{Select, Stmt};
+use gp_base::{MAX_TABLE_ROWS, NoMemory, Row, Sequence, Stored};
+use gp_versions::VersionTable;
+
+impl Active {
+    /// Applies an UPDATE or a DELETE.
+    fn change(
+        &mut self,
+        k: u32,
+        table: u32,
+        version: u32,
+        change: &Change<'_>,
+        versions: &[VersionTable],
+    ) -> Result<u32, StmtStop>
+        requires table { table < MAX_TABLES }
+        requires simple { change_is_simple (change_view change.now) ≡ true }
+        requires later { self.old.last < k }
+        requires others { HoldsOthers self.old.t versions.now }
+        ensures { Applies result k version (statement_at table (change_view change.now))
+            versions.now self.old self.new }
+    {
+        let writes = self.writes(table);
+        let spans = spans_of(versions, table);
+        let new = changed_at(self.alloc(), writes, spans, version, change)?;
+        let count = number(new.count)?;
+        self.put(k, table, new.made);
+        Ok(count)
+    }
+
+    /// How many more rows a table may have at a version, or None if it has too many.
+    fn room(
+        &self,
+        table: u32,
+        version: u32,
+        versions: &[VersionTable],
+    ) -> Result<Option<usize>, NoMemory>
+        requires { table < MAX_TABLES }
+        ensures { IfOk result (λ room. MatchOption room
+            (MAX_TABLE_ROWS < length (view_at self.now.tables versions.now version table))
+            (λ room. room + length (view_at self.now.tables versions.now version table)
+            ≡ MAX_TABLE_ROWS)) }
+    {
+        let count = self.count(table, version, versions)?;
+        Ok(MAX_TABLE_ROWS.checked_sub(count))
+    }
+
+    /// Whether a table has room for more rows at a version, this many.
+    fn has_room(
+        &self,
+        table: u32,
+        version: u32,
+        versions: &[VersionTable],
+        more: usize,
+    ) -> Result<bool, NoMemory>
+        requires { table < MAX_TABLES }
+        ensures { IfOk result (λ room. room ≡ not (are_many
+            (length (view_at self.now.tables versions.now version table)) more)) }
+    {
+        match self.room(table, version, versions)? {
+            Some(room) => Ok(more <= room),
+            None => Ok(false),
+        }
+    }
+
+    /// The rows that an INSERT with VALUES inserts.
+    fn given(
+        &self,
+        k: u32,
+        table: u32,
+        version: u32,
+        rows: &[Row],
+        versions: &[VersionTable],
+    ) -> Result<Sequence<Stored>, StmtStop>
+        requires table { table < MAX_TABLES }
+        requires few { length rows.now < 2 ^ 32 }
+        requires later { self.now.last < k }
+        ensures own { IfOk result
+            (λ new. AreOwn self.now.t k ((writes_at table self.now.tables).own ++ new)) }
+        ensures rows { Prepares result
+            (length (view_at self.now.tables versions.now version table))
+            (given_from plain self.now.t k 1 rows.now) }
+    {
+        let has_room = self.has_room(table, version, versions, rows.len())?;
+        if !has_room {
+            return Err(StmtStop::Rows);
+        }
+        Ok(given_rows(self.alloc(), self.t(), k, rows)?)
+    }
+
+    /// The rows that an INSERT with a query inserts.
+    fn made(
+        &self,
+        k: u32,
+        table: u32,
+        version: u32,
+        select: &Select,
+        versions: &[VersionTable],
+    ) -> Result<Sequence<Stored>, StmtStop>
+        requires table { table < MAX_TABLES }
+        requires few { length versions.now ≤ MAX_TABLES }
+        requires readable { is_readable (length versions.now) (select_view select.now) ≡ true }
+        requires later { self.now.last < k }
+        requires others { HoldsOthers self.now.t versions.now }
+        ensures own { IfOk result
+            (λ new. AreOwn self.now.t k ((writes_at table self.now.tables).own ++ new)) }
+        ensures rows { Prepares result
+            (length (view_at self.now.tables versions.now version table))
+            (map (made plain self.now.t k)
+            (answer plain (select_view select.now)
+            (view_at self.now.tables versions.now version))) }
+    {
+        let Some(room) = self.room(table, version, versions)? else {
+            return Err(StmtStop::Rows);
+        };
+        let chosen = self.chosen(select, version, versions, room)?;
+        made_rows(self.alloc(), self.t(), k, chosen)
+    }
+
+    /// Applies an INSERT with VALUES.
+    fn insert(
+        &mut self,
+        k: u32,
+        table: u32,
+        version: u32,
+        rows: &[Row],
+        versions: &[VersionTable],
+    ) -> Result<u32, StmtStop>
+        requires table { table < MAX_TABLES }
+        requires few { length rows.now < 2 ^ 32 }
+        requires later { self.old.last < k }
+        requires others { HoldsOthers self.old.t versions.now }
+        ensures { Applies result k version (s.insert table rows.now)
+            versions.now self.old self.new }
+    {
+        let new = self.given(k, table, version, rows, versions)?;
+        Ok(self.insert_rows(k, table, version, spans_of(versions, table), new)?)
+    }
+
+    /// Applies an INSERT with a query, which reads what the transaction saw before.
+    fn insert_select(
+        &mut self,
+        k: u32,
+        table: u32,
+        version: u32,
+        select: &Select,
+        versions: &[VersionTable],
+    ) -> Result<u32, StmtStop>
+        requires table { table < MAX_TABLES }
+        requires few { length versions.now ≤ MAX_TABLES }
+        requires readable { is_readable (length versions.now) (select_view select.now) ≡ true }
+        requires later { self.old.last < k }
+        requires others { HoldsOthers self.old.t versions.now }
+        ensures { Applies result k version (s.insert_select table (select_view select.now))
+            versions.now self.old self.new }
+    {
+        let new = self.made(k, table, version, select, versions)?;
+        Ok(self.insert_rows(k, table, version, spans_of(versions, table), new)?)
+    }
+
+    /// Applies statement k, an INSERT, an UPDATE or a DELETE that reads a version, and gives the number of rows that it writes.
+    /// The version is what [`Active::snapshot`] gives. A statement that is refused, or for which memory runs out, changes
+    /// nothing. `k` is above the numbers of the statements before it, no row of the versions is the transaction's own, and
+    /// the expressions are simple.
+    ///
+    /// An INSERT is refused if it would leave more than [`MAX_TABLE_ROWS`] rows in its table, also if it adds none, and
+    /// then if it would make an identity of more than [`MAX_NODES`](gp_base::MAX_NODES) nodes.
+    pub fn apply(
+        &mut self,
+        k: u32,
+        version: u32,
+        stmt: &Stmt,
+        versions: &[VersionTable],
+    ) -> Result<u32, StmtStop>
+        requires few { length versions.now ≤ MAX_TABLES }
+        requires applicable { is_applicable (length versions.now) (statement_view stmt.now) ≡ true }
+        requires later { self.old.last < k }
+        requires others { HoldsOthers self.old.t versions.now }
+        ensures { Applies result k version (statement_view stmt.now)
+            versions.now self.old self.new }
+    {
+        match stmt {
+            Stmt::Insert { table, rows } => {
+                self.insert(k, *table, version, rows.as_slice(), versions)
+            }
+            Stmt::InsertSelect { table, select } => {
+                self.insert_select(k, *table, version, select, versions)
+            }
+            Stmt::Update { table, sets, cond } => {
+                let change = Change::Update(sets.as_slice(), cond);
+                self.change(k, *table, version, &change, versions)
+            }
+            Stmt::Delete { table, cond } => {
+                self.change(k, *table, version, &Change::Delete(cond), versions)
+            }
+            Stmt::Read { .. } => unreachable!(),
+        }
+    }
+}

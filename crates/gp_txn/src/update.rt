@@ -1,0 +1,300 @@
+//! UPDATE and DELETE over the writes of a transaction. Both pass over the rows of a table once.
+
+ghost use Rattle.std.specs.Prelude.{◌≡◌, ◌≤◌, ◌++◌, ◌∷◌, [], length, true, map, drop, IfOk, OnOk};
+ghost use Rattle.std.specs.Option.{option_map, option_to_list};
+ghost use Rattle.gp_base.specs.Annotated.{plain};
+ghost use Rattle.gp_expr.specs.Values as v;
+ghost use Rattle.gp_versions.specs.Spans.{rows_at};
+ghost use Rattle.gp_txn.specs.Changes.{change_is_simple, change_view, cond_of};
+ghost use Rattle.std.specs.List.{filter_map};
+ghost use Rattle.gp_txn.specs.Overlay.{carried_row, head_slot, own_row, overlaid, rows_below, slotted, view_rows};
+ghost use Rattle.gp_txn.specs.Slots.{carried_after, cells_after, cells_for, changed_carried, changed_own, changed_slot, changed_slots, changed_table, count_touched, effect, is_touched, one_if, passes_seen, seen, slot_for, stored_after};
+
+use crate::assignment::assigned;
+use crate::carried::{Carried, CarriedRows, has_slot};
+use crate::change::Change;
+use crate::overlay::{Slot, TableWrites};
+use crate::snapshot::{copied_row, seen};
+use gp_base::{NoMemory, Row, Sequence, Stored};
+use gp_expr::truth;
+use gp_versions::Span;
+use std::alloc::Global;
+
+/// What a statement makes, and how many rows it writes there.
+#[derive(Drop)]
+pub struct Counted<T> {
+    /// What it makes.
+    pub made: T,
+    /// The number of rows.
+    pub count: usize,
+}
+
+/// Whether the statement writes a row of these cells.
+fn passes(change: &Change<'_>, row: &Row) -> bool
+    requires { change_is_simple (change_view change.now) ≡ true }
+    ensures { result ≡ v.passes (cond_of (change_view change.now)) row.now }
+{
+    match change {
+        Change::Update(_, cond) | Change::Delete(cond) => truth(cond, row).holds(),
+    }
+}
+
+/// A copy of a slot.
+fn copied(slots: &[Slot], place: usize) -> Result<Slot, NoMemory>
+    ensures { IfOk result (λ slot. slot ≡ head_slot (drop place slots.now)) }
+{
+    match slots.get(place) {
+        None | Some(Slot::Same) => Ok(Slot::Same),
+        Some(Slot::Put(cells)) => Ok(Slot::Put(cells.clone()?)),
+        Some(Slot::Dropped) => Ok(Slot::Dropped),
+    }
+}
+
+/// What the statement does to a row of these cells, which it writes.
+fn slot_for(alloc: Global, change: &Change<'_>, row: &Row) -> Result<Slot, NoMemory>
+    requires { change_is_simple (change_view change.now) ≡ true }
+    ensures { IfOk result (λ slot. slot ≡ slot_for (change_view change.now) row.now) }
+{
+    match change {
+        Change::Update(sets, _) => Ok(Slot::Put(assigned(alloc, sets, row)?)),
+        Change::Delete(_) => Ok(Slot::Dropped),
+    }
+}
+
+/// The slot of a row after the statement.
+fn changed_slot(
+    alloc: Global,
+    change: &Change<'_>,
+    slots: &[Slot],
+    place: usize,
+    row: &Row,
+) -> Result<Counted<Slot>, NoMemory>
+    requires { change_is_simple (change_view change.now) ≡ true }
+    ensures slot { IfOk result (λ new. new.made
+        ≡ changed_slot (change_view change.now) (head_slot (drop place slots.now)) row.now) }
+    ensures count { IfOk result (λ new. new.count
+        ≡ one_if (is_touched (change_view change.now) (head_slot (drop place slots.now)) row.now)) }
+{
+    match seen(slots, place, row) {
+        Some(cells) if passes(change, cells) => Ok(Counted {
+            made: slot_for(alloc, change, cells)?,
+            count: 1,
+        }),
+        _ => Ok(Counted {
+            made: copied(slots, place)?,
+            count: 0,
+        }),
+    }
+}
+
+/// The slots of the rows of version v after the statement.
+fn changed_slots(
+    alloc: Global,
+    change: &Change<'_>,
+    slots: &[Slot],
+    carried: &CarriedRows,
+    spans: &[Span],
+    v: u32,
+) -> Result<Counted<Sequence<Slot>>, NoMemory>
+    requires { change_is_simple (change_view change.now) ≡ true }
+    ensures slots { IfOk result (λ new. new.made
+        ≡ changed_slots (change_view change.now) slots.now
+        (slotted carried.now (rows_at plain v spans.now))) }
+    ensures count { IfOk result (λ new. new.count
+        ≡ count_touched (change_view change.now)
+        (overlaid slots.now (slotted carried.now (rows_at plain v spans.now)))) }
+    ensures few { IfOk result (λ new. new.count ≤ length spans.now) }
+{
+    let mut new = Sequence::new(alloc);
+    let mut count = 0usize;
+    let mut place = 0usize;
+    for span in spans {
+        if has_slot(carried, v, span) {
+            let slot = changed_slot(alloc, change, slots, place, &span.row)?;
+            count += slot.count;
+            new.push(slot.made)?;
+            place += 1;
+        }
+    }
+    Ok(Counted { made: new, count })
+}
+
+/// The cells of a row after the statement, which writes it.
+fn cells_for(alloc: Global, change: &Change<'_>, row: &Row) -> Result<Option<Row>, NoMemory>
+    requires { change_is_simple (change_view change.now) ≡ true }
+    ensures { IfOk result (λ new. new ≡ cells_for (change_view change.now) row.now) }
+{
+    match change {
+        Change::Update(sets, _) => Ok(Some(assigned(alloc, sets, row)?)),
+        Change::Delete(_) => Ok(None),
+    }
+}
+
+/// The cells after the statement of a row that was written over an earlier version, and whether the statement writes it.
+fn cells_after(
+    alloc: Global,
+    change: &Change<'_>,
+    row: &Option<Row>,
+) -> Result<Counted<Option<Row>>, NoMemory>
+    requires { change_is_simple (change_view change.now) ≡ true }
+    ensures row { IfOk result (λ new. new.made ≡ cells_after (change_view change.now) row.now) }
+    ensures count { IfOk result (λ new. new.count
+        ≡ one_if (passes_seen (change_view change.now) row.now)) }
+{
+    match row {
+        None => Ok(Counted {
+            made: None,
+            count: 0,
+        }),
+        Some(cells) if passes(change, cells) => Ok(Counted {
+            made: cells_for(alloc, change, cells)?,
+            count: 1,
+        }),
+        Some(cells) => Ok(Counted {
+            made: Some(cells.clone()?),
+            count: 0,
+        }),
+    }
+}
+
+/// Adds a row that was written over an earlier version, as it is after the statement. It keeps its base. Gives 1 if the
+/// statement writes it, else 0.
+fn push_carried(
+    alloc: Global,
+    new: &mut Vec<Carried>,
+    change: &Change<'_>,
+    carried: &Carried,
+) -> Result<usize, NoMemory>
+    requires { change_is_simple (change_view change.now) ≡ true }
+    ensures row { IfOk result (λ count. new.new.items ≡ new.old.items
+        ++ carried_after (change_view change.now) carried.now ∷ []) }
+    ensures count { IfOk result (λ count. count
+        ≡ one_if (passes_seen (change_view change.now) carried.now.row)) }
+{
+    let after = cells_after(alloc, change, &carried.row)?;
+    let id = carried.id.clone()?;
+    new.push(Carried {
+        id,
+        base: carried.base,
+        row: after.made,
+    })?;
+    Ok(after.count)
+}
+
+/// The rows that were written over earlier versions, after the statement.
+fn changed_carried(
+    alloc: Global,
+    change: &Change<'_>,
+    carried: &[Carried],
+) -> Result<Counted<Vec<Carried>>, NoMemory>
+    requires { change_is_simple (change_view change.now) ≡ true }
+    ensures rows { IfOk result (λ new. new.made.items
+        ≡ changed_carried (change_view change.now) carried.now) }
+    ensures count { IfOk result (λ new. new.count
+        ≡ count_touched (change_view change.now) (filter_map carried_row carried.now)) }
+    ensures few { IfOk result (λ new. new.count ≤ length carried.now) }
+{
+    let mut new = Vec::new(alloc);
+    let mut count = 0usize;
+    for row in carried {
+        count += push_carried(alloc, &mut new, change, row)?;
+    }
+    Ok(Counted { made: new, count })
+}
+
+/// An inserted row after the statement, which writes it.
+fn written_row(
+    alloc: Global,
+    change: &Change<'_>,
+    stored: &Stored,
+) -> Result<Option<Stored>, NoMemory>
+    requires { change_is_simple (change_view change.now) ≡ true }
+    ensures { IfOk result (λ new. new
+        ≡ stored_after (slot_for (change_view change.now) stored.now.row) stored.now) }
+{
+    match change {
+        Change::Update(sets, _) => Ok(Some(Stored {
+            id: stored.id.clone()?,
+            row: assigned(alloc, sets, &stored.row)?,
+        })),
+        Change::Delete(_) => Ok(None),
+    }
+}
+
+/// Adds an inserted row as it is after the statement. Gives 1 if the statement writes it, else 0.
+fn push_changed(
+    alloc: Global,
+    new: &mut Sequence<Stored>,
+    change: &Change<'_>,
+    stored: &Stored,
+) -> Result<usize, NoMemory>
+    requires { change_is_simple (change_view change.now) ≡ true }
+    ensures row { IfOk result (λ count. new.new ≡ new.old
+        ++ option_to_list (stored_after (effect (change_view change.now) stored.now.row) stored.now)) }
+    ensures count { IfOk result (λ count. count
+        ≡ one_if (v.passes (cond_of (change_view change.now)) stored.now.row)) }
+{
+    if !passes(change, &stored.row) {
+        new.push(copied_row(stored)?)?;
+        return Ok(0);
+    }
+    if let Some(stored) = written_row(alloc, change, stored)? {
+        new.push(stored)?;
+    }
+    Ok(1)
+}
+
+/// The inserted rows after the statement.
+fn changed_own(
+    alloc: Global,
+    change: &Change<'_>,
+    own: &[Stored],
+) -> Result<Counted<Sequence<Stored>>, NoMemory>
+    requires { change_is_simple (change_view change.now) ≡ true }
+    ensures own { IfOk result (λ new. new.made ≡ changed_own (change_view change.now) own.now) }
+    ensures count { IfOk result (λ new. new.count
+        ≡ count_touched (change_view change.now) (map own_row own.now)) }
+    ensures few { IfOk result (λ new. new.count ≤ length own.now) }
+{
+    let mut new = Sequence::new(alloc);
+    let mut count = 0usize;
+    for stored in own {
+        count += push_changed(alloc, &mut new, change, stored)?;
+    }
+    Ok(Counted { made: new, count })
+}
+
+/// The writes of a table after an UPDATE or a DELETE, over the rows of the version below them.
+pub fn changed(
+    alloc: Global,
+    writes: &TableWrites,
+    spans: &[Span],
+    change: &Change<'_>,
+) -> Result<Counted<TableWrites>, NoMemory>
+    requires { change_is_simple (change_view change.now) ≡ true }
+    ensures exact { IfOk result (λ new. new.made ≡ changed_table (change_view change.now)
+        writes.now (rows_below writes.now spans.now)) }
+    ensures count { IfOk result (λ new. new.count ≡ count_touched (change_view change.now)
+        (view_rows writes.now (rows_below writes.now spans.now))) }
+{
+    let version = writes.version;
+    let slots = changed_slots(
+        alloc,
+        change,
+        writes.slots.as_slice(),
+        &writes.carried,
+        spans,
+        version,
+    )?;
+    let carried = changed_carried(alloc, change, writes.carried.as_slice())?;
+    let own = changed_own(alloc, change, writes.own.as_slice())?;
+    Ok(Counted {
+        made: TableWrites {
+            version,
+            slots: slots.made,
+            carried: CarriedRows::from_vec(alloc, carried.made)?,
+            own: own.made,
+        },
+        count: slots.count + carried.count + own.count,
+    })
+}
