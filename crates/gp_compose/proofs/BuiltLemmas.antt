@@ -3,21 +3,22 @@ use Rattle.std.proofs.Common.{◌≡◌, ℕ, zero, suc, ◌+◌, ◌<◌, ◌�
 use Rattle.std.specs.Prelude.{◌-◌, ◌==◌}
 use Rattle.std.specs.List.{list_all}
 use Rattle.gp_base.specs.declared.table.Table.{Table}
-use Rattle.gp_algebra.specs.Statements.{Select, Statement}
-use Rattle.gp_algebra.specs.Fitting.{select_fits, statement_fits, width_of}
+use Rattle.gp_algebra.specs.Statements.{Select, Statement, target, width_of}
+use Rattle.gp_algebra.specs.Fitting.{select_fits, statement_fits}
 use Rattle.gp_algebra.specs.AnnotatedQueries as q
 use Rattle.gp_algebra.specs.AnnotatedQueries.{Query, QueryStep}
-use Rattle.gp_algebra.specs.QueryForms.{AreAfter, AreRising, AreSteps, HasSteps, IsTable, IsTableProgram, IsWellBuilt, is_sound, numbers_with, reads_only, step_table, steps_read}
+use Rattle.gp_algebra.specs.QueryForms.{AreAfter, AreRising, AreSteps, HasSteps, IsTable, IsTableProgram, IsWellBuilt, is_sound, numbers_with, reads_only, steps_read}
+use Rattle.gp_algebra.specs.AnnotatedQueries.{step_table}
 use Rattle.gp_algebra.specs.WellBuilt.{is_among}
 use Rattle.gp_machine.specs.Entries.{Log}
-use Rattle.gp_rewrite.specs.Rewriting.{query_of, rewritten, target}
-use Rattle.gp_rewrite.proofs.Each.{both_true}
+use Rattle.gp_rewrite.specs.Rewriting.{query_of, rewritten}
 use Rattle.gp_rewrite.proofs.FormLemmas.{query_answers, rewritten_step}
 use Rattle.gp_rewrite.proofs.ReadLemmas.{query_reads, rewritten_reads}
 use Rattle.gp_rewrite.proofs.SoundLemmas.{query_sound, rewritten_sound}
 use Rattle.gp_compose.specs.Composed.{after, as_of, commit, composed, current, current_before, is_target, last_write, moved, onto, published, published_table, step_of, steps_of, writes}
-use Rattle.gp_compose.proofs.ComposedLemmas.{eq_from, none_some, some_equal}
 use Rattle.gp_compose.proofs.StepLists.{AreWithin, Stands, here, read_append, rising_append, sound_append, stands_among, stands_behind, stands_front, stands_table, steps_append, within_append}
+use Rattle.std.proofs.lemmas.Option.{none-some, same_Some}
+use Rattle.std.proofs.lemmas.Bool.{and_from, eqb-true}
 
 plus_zero : (k : ℕ) → k + 0 ≡ k
 plus_zero k = omega arith
@@ -70,7 +71,7 @@ module _ (columns : ℕ → ℕ) (log : Log) (t : ℕ) where
 
   -- the step that wrote a table last is there
   composed_stands : (k table j : ℕ) → last_write log t k table ≡ Some j → Stands j table (composed columns log t k)
-  composed_stands zero table j e = absurd (none_some j e)
+  composed_stands zero table j e = absurd (none-some j e)
   composed_stands (suc k) table j e = one (log.statement t (suc k)) e (composed_stands k table j)
     where
       one : (o : Option Statement) → cond (writes o table) (Some (suc k)) (last_write log t k table) ≡ Some j → (last_write log t k table ≡ Some j → Stands j table (composed columns log t k)) →
@@ -82,9 +83,9 @@ module _ (columns : ℕ → ℕ) (log : Log) (t : ℕ) where
           two None e = stands_front j table (composed columns log t k) [] (before e)
           two (Some own) e =
               elim (table == own) as (λ b. (table == own) ≡ b → cond b (Some (suc k)) (last_write log t k table) ≡ Some j → Stands j table (composed columns log t k ++ (record { j = suc k; table = own; query = rewritten columns t (suc k) statement (current_before log t k) } ∷ []))) [
-                | true ↦ λ same e. let last : suc k ≡ j = some_equal (suc k) j e in
+                | true ↦ λ same e. let last : suc k ≡ j = same_Some (suc k) j e in
                     stands_behind k j table (composed columns log t k) (record { j = suc k; table = own; query = rewritten columns t (suc k) statement (current_before log t k) } ∷ []) (composed_within k) (omega arith)
-                    (here (record { j = suc k; table = own; query = rewritten columns t (suc k) statement (current_before log t k) }) [] last (sym (eq_from table own same)))
+                    (here (record { j = suc k; table = own; query = rewritten columns t (suc k) statement (current_before log t k) }) [] last (sym (eqb-true table own same)))
                 | false ↦ λ same e. stands_front j table (composed columns log t k) (record { j = suc k; table = own; query = rewritten columns t (suc k) statement (current_before log t k) } ∷ []) (before e)
               ] refl e
 
@@ -130,17 +131,17 @@ module _ (columns : ℕ → ℕ) (log : Log) (t : ℕ) where
       (λ j within e. stands_table (suc j) table (composed columns log t (k + more)) (stands_within (k + more) j table (omega arith) e))
 
   current_sound : (k table : ℕ) → is_sound (current log t k table) ≡ true
-  current_sound k table = current_has (λ query. is_sound query ≡ true) table k (λ v. refl) (λ old new query is. both_true (is_sound query) true is refl) (λ j within e. refl)
+  current_sound k table = current_has (λ query. is_sound query ≡ true) table k (λ v. refl) (λ old new query is. and_from (is_sound query) true is refl) (λ j within e. refl)
 
   before_sound : (k table : ℕ) → is_sound (current_before log t k table) ≡ true
-  before_sound k table = before_has (λ query. is_sound query ≡ true) table k (λ v. refl) (λ old new query is. both_true (is_sound query) true is refl) (λ j within e. refl)
+  before_sound k table = before_has (λ query. is_sound query ≡ true) table k (λ v. refl) (λ old new query is. and_from (is_sound query) true is refl) (λ j within e. refl)
 
   current_reads : (k table : ℕ) → reads_only (numbers_with [] (composed columns log t k)) (current log t k table) ≡ true
-  current_reads k table = current_has (λ query. reads_only (numbers_with [] (composed columns log t k)) query ≡ true) table k (λ v. refl) (λ old new query is. both_true (reads_only (numbers_with [] (composed columns log t k)) query) true is refl)
+  current_reads k table = current_has (λ query. reads_only (numbers_with [] (composed columns log t k)) query ≡ true) table k (λ v. refl) (λ old new query is. and_from (reads_only (numbers_with [] (composed columns log t k)) query) true is refl)
       (λ j within e. stands_among (suc j) table [] (composed columns log t k) (stands_within k j table within e))
 
   before_reads : (k table : ℕ) → reads_only (numbers_with [] (composed columns log t k)) (current_before log t k table) ≡ true
-  before_reads k table = before_has (λ query. reads_only (numbers_with [] (composed columns log t k)) query ≡ true) table k (λ v. refl) (λ old new query is. both_true (reads_only (numbers_with [] (composed columns log t k)) query) true is refl)
+  before_reads k table = before_has (λ query. reads_only (numbers_with [] (composed columns log t k)) query ≡ true) table k (λ v. refl) (λ old new query is. and_from (reads_only (numbers_with [] (composed columns log t k)) query) true is refl)
       (λ j within e. stands_among (suc j) table [] (composed columns log t k) (stands_within k j table within e))
 
   published_table_is : (before table : ℕ) → IsTable columns (step_table (composed columns log t (log.statement_count t))) table (published log t before table)
@@ -158,14 +159,14 @@ module _ (columns : ℕ → ℕ) (log : Log) (t : ℕ) where
     where
       go : (o : Option ℕ) → is_sound (onto (log.version t (log.statement_count t)) before table o (current log t (log.statement_count t) table)) ≡ true
       go None = refl
-      go (Some j) = both_true (is_sound (current log t (log.statement_count t) table)) true (current_sound (log.statement_count t) table) refl
+      go (Some j) = and_from (is_sound (current log t (log.statement_count t) table)) true (current_sound (log.statement_count t) table) refl
 
   published_reads : (before table : ℕ) → reads_only (numbers_with [] (composed columns log t (log.statement_count t))) (published log t before table) ≡ true
   published_reads before table = go (last_write log t (log.statement_count t) table)
     where
       go : (o : Option ℕ) → reads_only (numbers_with [] (composed columns log t (log.statement_count t))) (onto (log.version t (log.statement_count t)) before table o (current log t (log.statement_count t) table)) ≡ true
       go None = refl
-      go (Some j) = both_true (reads_only (numbers_with [] (composed columns log t (log.statement_count t))) (current log t (log.statement_count t) table)) true (current_reads (log.statement_count t) table) refl
+      go (Some j) = and_from (reads_only (numbers_with [] (composed columns log t (log.statement_count t))) (current log t (log.statement_count t) table)) true (current_reads (log.statement_count t) table) refl
 
   -- ---- what the steps read
 
@@ -176,7 +177,7 @@ module _ (columns : ℕ → ℕ) (log : Log) (t : ℕ) where
       go : (own : Option ℕ) → steps_read (numbers_with [] (composed columns log t k)) (steps_of columns t (suc k) (current_before log t k) statement own) ≡ true
       go None = refl
       go (Some own) =
-          both_true (reads_only (numbers_with [] (composed columns log t k)) (rewritten columns t (suc k) statement (current_before log t k))) true
+          and_from (reads_only (numbers_with [] (composed columns log t k)) (rewritten columns t (suc k) statement (current_before log t k))) true
           (rewritten_reads (numbers_with [] (composed columns log t k)) (current_before log t k) (before_reads k) columns t (suc k) statement) refl
 
   composed_reads : (k : ℕ) → steps_read [] (composed columns log t k) ≡ true
@@ -220,7 +221,7 @@ module _ (catalogue : List Table) (log : Log) (t : ℕ) (some_transaction : 0 < 
           two : (own : Option ℕ) → list_all (λ (step : QueryStep). is_sound step.query) (steps_of (width_of catalogue) t (suc k) (current_before log t k) statement own) ≡ true
           two None = refl
           two (Some own) =
-              both_true (is_sound (rewritten (width_of catalogue) t (suc k) statement (current_before log t k))) true
+              and_from (is_sound (rewritten (width_of catalogue) t (suc k) statement (current_before log t k))) true
               (rewritten_sound (current_before log t k) (before_sound (width_of catalogue) log t k) t (suc k) some_transaction (omega arith) catalogue statement (fits k statement e)) refl
 
   -- ---- programs

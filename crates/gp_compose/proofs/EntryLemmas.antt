@@ -14,8 +14,9 @@ use Rattle.gp_log.specs.Logs.{entry_view, log_view, what_view}
 use Rattle.gp_log.specs.declared.entry.Entry.{Entry}
 use Rattle.gp_log.specs.declared.entry.What.{What}
 use Rattle.gp_log.specs.declared.entry.What.TheVariants as w
-use Rattle.gp_rewrite.proofs.PlaceLemmas.{both_true}
 use Rattle.gp_compose.specs.Composition.{own_fits, own_statement, ran_more}
+use Rattle.gp_base.proofs.SmallLemmas.{eq_itself}
+use Rattle.std.proofs.lemmas.Bool.{and_parts}
 
 -- the log up to a place, with the entry there
 pub log-more : (entries : List Entry) (place : ℕ) (entry : Entry) → slice_get entries place ≡ Some entry
@@ -80,9 +81,6 @@ found-behind t k (m.Ran line session command u statement ∷ newer) older most =
 found-behind t k (m.Committed line session u ∷ newer) older most = found-behind t k newer older most
 found-behind t k (m.Ended line session end u ∷ newer) older most = found-behind t k newer older most
 
-equal_here : (n : ℕ) → (n == n) ≡ true
-equal_here n = grind arith
-
 taken : (own same : Bool) (here statement : Statement) (found : Option Statement) → same ≡ true → cond own (Some here) None ≡ Some statement → cond (own && same) (Some here) found ≡ Some statement
 taken true true here statement found is e = e
 taken true false here statement found is e = absurd (cc)
@@ -94,7 +92,7 @@ found-here t (m.Created line session table) older statement is = absurd (cc)
 found-here t (m.Began line session u level) older statement is = absurd (cc)
 found-here t (m.Ran line session command u here) older statement is =
     taken (u == t) (suc (statement_count t older) == suc (statement_count t older)) here statement (statement_at t (suc (statement_count t older)) older)
-    (equal_here (suc (statement_count t older))) is
+    (eq_itself (suc (statement_count t older))) is
 found-here t (m.Committed line session u) older statement is = absurd (cc)
 found-here t (m.Ended line session end u) older statement is = absurd (cc)
 
@@ -119,7 +117,7 @@ fits-first : (tables : List Table) (t : ℕ) (entry : m.Entry) (older : List m.E
 fits-first tables t (m.Created line session table) older fit = refl
 fits-first tables t (m.Began line session u level) older fit = refl
 fits-first tables t (m.Ran line session command u statement) older fit =
-    fits-cond tables (u == t) statement (both_true (statement_fits tables statement) (statements_fit tables older) fit).0
+    fits-cond tables (u == t) statement (and_parts (statement_fits tables statement) (statements_fit tables older) fit).0
 fits-first tables t (m.Committed line session u) older fit = refl
 fits-first tables t (m.Ended line session end u) older fit = refl
 
@@ -128,7 +126,7 @@ fit-behind tables [] older fit = fit
 fit-behind tables (m.Created line session table ∷ newer) older fit = fit-behind tables newer older fit
 fit-behind tables (m.Began line session u level ∷ newer) older fit = fit-behind tables newer older fit
 fit-behind tables (m.Ran line session command u statement ∷ newer) older fit =
-    fit-behind tables newer older (both_true (statement_fits tables statement) (statements_fit tables (newer ++ older)) fit).1
+    fit-behind tables newer older (and_parts (statement_fits tables statement) (statements_fit tables (newer ++ older)) fit).1
 fit-behind tables (m.Committed line session u ∷ newer) older fit = fit-behind tables newer older fit
 fit-behind tables (m.Ended line session end u ∷ newer) older fit = fit-behind tables newer older fit
 

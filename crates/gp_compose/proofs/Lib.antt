@@ -2,7 +2,6 @@ pub mod Agreement
 pub mod BuiltLemmas
 pub mod ComposedLemmas
 pub mod EntryLemmas
-pub mod FittingLogs
 pub mod PartsLemmas
 pub mod ProgramLemmas
 pub mod PublishedLemmas

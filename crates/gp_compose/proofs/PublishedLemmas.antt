@@ -5,8 +5,9 @@ use Rattle.std.specs.List.{AllByRecursion, filter}
 use Rattle.gp_base.specs.declared.table.Table.{Table}
 use Rattle.gp_base.specs.Annotated.{Annotations, Annotated, Environment}
 use Rattle.gp_algebra.specs.Statements.{Statement}
-use Rattle.gp_algebra.specs.Fitting.{statement_fits, width_of}
-use Rattle.gp_algebra.specs.AnnotatedQueries.{Derived, meaning, scanned}
+use Rattle.gp_algebra.specs.Fitting.{statement_fits}
+use Rattle.gp_algebra.specs.Statements.{width_of}
+use Rattle.gp_algebra.specs.AnnotatedMeaning.{Derived, meaning, scanned}
 use Rattle.gp_machine.specs.Entries.{Log}
 use Rattle.gp_machine.specs.Publishing.{was_written}
 use Rattle.gp_machine.specs.Runs.{at_commit, run}
@@ -16,12 +17,12 @@ use Rattle.gp_compose.proofs.ComposedLemmas.{current_is, step_rows, untouched}
 use Rattle.gp_compose.proofs.PublishedLists.{nothing_published, publish_means}
 
 -- every row of every version is unmarked
-module _ {M : Type 0} (kind : Annotations M) (monoid : IsMonoid kind) (catalogue : List Table) (log : Log) (t : ℕ) (env : Environment M)
+module _ {M : Type 0} (domain : Annotations M) (monoid : IsMonoid domain) (catalogue : List Table) (log : Log) (t : ℕ) (env : Environment M)
     (wide : (version : ℕ) → AreAsWide (width_of catalogue) (env version))
     (fits : (k : ℕ) (statement : Statement) → log.statement t (suc k) ≡ Some statement → statement_fits catalogue statement ≡ true)
     (unmarked : (version table : ℕ) → AllByRecursion (λ row. row.mark ≡ false) (env version table)) where
   pub published_is : (before table : ℕ) →
-      meaning kind (step_rows kind (width_of catalogue) log t env (log.statement_count t)) env (published log t before table) ≡ map (scanned kind) (at_commit kind log t before env table)
+      meaning domain (step_rows domain (width_of catalogue) log t env (log.statement_count t)) env (published log t before table) ≡ map (scanned domain) (at_commit domain log t before env table)
   published_is before table = go (last_write log t count table) refl
     where
       count : ℕ
@@ -31,17 +32,17 @@ module _ {M : Type 0} (kind : Annotations M) (monoid : IsMonoid kind) (catalogue
       base = env (log.version t (log.statement_count t)) table
 
       mine : List (Annotated M)
-      mine = run kind log t (log.statement_count t) env table
+      mine = run domain log t (log.statement_count t) env table
 
       later : List (Annotated M)
       later = env before table
 
       steps : ℕ → List (Derived M)
-      steps = step_rows kind (width_of catalogue) log t env (log.statement_count t)
+      steps = step_rows domain (width_of catalogue) log t env (log.statement_count t)
 
       go : (o : Option ℕ) → last_write log t (log.statement_count t) table ≡ o
-          → meaning kind steps env (onto (log.version t (log.statement_count t)) before table o (current log t (log.statement_count t) table)) ≡ map (scanned kind) (at_commit kind log t before env table)
+          → meaning domain steps env (onto (log.version t (log.statement_count t)) before table o (current log t (log.statement_count t) table)) ≡ map (scanned domain) (at_commit domain log t before env table)
       go None e =
-          ap (map (scanned kind)) (sym (ap (λ mine. filter (λ row. not (was_written base mine row.identity)) later ++ filter (λ row. row.mark) mine) (untouched kind log t env unmarked (log.statement_count t) table e) ∙ nothing_published kind base later (unmarked (log.version t (log.statement_count t)) table)))
+          ap (map (scanned domain)) (sym (ap (λ mine. filter (λ row. not (was_written base mine row.identity)) later ++ filter (λ row. row.mark) mine) (untouched domain log t env unmarked (log.statement_count t) table e) ∙ nothing_published domain base later (unmarked (log.version t (log.statement_count t)) table)))
       go (Some j) e =
-          publish_means kind base mine later (meaning kind steps env (current log t (log.statement_count t) table)) (current_is kind monoid catalogue log t env wide fits unmarked (log.statement_count t) table)
+          publish_means domain base mine later (meaning domain steps env (current log t (log.statement_count t) table)) (current_is domain monoid catalogue log t env wide fits unmarked (log.statement_count t) table)

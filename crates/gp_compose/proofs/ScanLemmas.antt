@@ -5,7 +5,7 @@ use Rattle.std.specs.List.{AllByRecursion}
 use Rattle.gp_grammar.specs.Syntax as y
 use Rattle.gp_expr.specs.Expressions.{Cond}
 use Rattle.gp_algebra.specs.declared.plain.ScanAt.{ScanAt}
-use Rattle.gp_algebra.specs.Statements.{Branch, Select, Statement, insert, insert_select, update, delete, read}
+use Rattle.gp_algebra.specs.Statements.{Branch, Select, Statement, insert, insert_select, update, delete, read, target}
 use Rattle.gp_algebra.specs.AnnotatedQueries as q
 use Rattle.gp_algebra.specs.AnnotatedQueries.{Query, QueryStep}
 use Rattle.gp_algebra.specs.Scans.{annotated_program_scans, annotated_query_scans, annotated_steps_scans}
@@ -15,9 +15,9 @@ use Rattle.gp_machine.specs.Questions.{log_refusal, needed_version}
 use Rattle.gp_machine.proofs.AskedLemmas.{asked}
 use Rattle.gp_log.specs.Sessions.{KeepsSessions}
 use Rattle.gp_log.proofs.KeptSessions.{read_before, rising}
-use Rattle.gp_rewrite.specs.Rewriting.{branch_of, made_of, made_onto, product_of, product_onto, query_of, rewritten, selected_by, target, union_onto}
-use Rattle.gp_rewrite.proofs.Each.{each_append}
+use Rattle.gp_rewrite.specs.Rewriting.{branch_of, made_of, made_onto, product_of, product_onto, query_of, rewritten, selected_by, union_onto}
 use Rattle.gp_compose.specs.Composed.{composed, current, current_before, last_write, moved, onto, program_at, published, step_of, steps_of, writes}
+use Rattle.gp_base.proofs.SmallLemmas.{each_append}
 
 -- ---- versions up to one
 

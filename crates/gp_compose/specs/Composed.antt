@@ -3,12 +3,12 @@
 -- before, PUBLISH moves what the transaction wrote onto it. What a COMMIT published is PUBLISH onto the version before the commit.
 use Rattle.std.specs.Prelude.{ℕ, zero, suc, ◌==◌, Bool, false, List, [], ◌∷◌, ◌++◌, Option, Some, None, if◌then◌else◌}
 use Rattle.gp_grammar.specs.Syntax as y
-use Rattle.gp_algebra.specs.Statements.{Statement, Select}
+use Rattle.gp_algebra.specs.Statements.{Statement, Select, target}
 use Rattle.gp_algebra.specs.AnnotatedQueries as q
 use Rattle.gp_algebra.specs.AnnotatedQueries.{Query, QueryStep, Program}
 use Rattle.gp_machine.specs.Entries.{Entry, Log, log_of, version_of}
 use Rattle.gp_machine.specs.Points.{version_before}
-use Rattle.gp_rewrite.specs.Rewriting.{target, rewritten, query_of}
+use Rattle.gp_rewrite.specs.Rewriting.{rewritten, query_of}
 
 -- ---- which statement wrote a table last
 

@@ -2,11 +2,14 @@
 use Rattle.std.specs.Prelude.{◌≡◌, ℕ, suc, ◌<◌, ◌==◌, Bool, true, List, [], ◌∷◌, ◌++◌, length, slice_set, get_or, Option, Some, None, if◌then◌else◌}
 use Rattle.std.specs.Option.{option_map}
 use Rattle.gp_base.specs.declared.table.Table.{Table}
-use Rattle.gp_algebra.specs.Statements.{Statement}
+use Rattle.gp_algebra.specs.Statements.{Statement, target, width_of}
 use Rattle.gp_algebra.specs.Fitting.{statement_fits}
 use Rattle.gp_algebra.specs.AnnotatedQueries.{Query, QueryStep}
-use Rattle.gp_machine.specs.Entries.{Entry, Created, Began, Ran, Committed, Ended, Log}
-use Rattle.gp_rewrite.specs.Rewriting.{query_at, rewritten, target}
+use Rattle.gp_machine.specs.Entries.{Entry, Created, Began, Ran, Committed, Ended, Log, log_of}
+use Rattle.gp_log.specs.Contents.{entries, tables}
+use Rattle.gp_log.specs.Logs.{Logged, entry_view}
+use Rattle.gp_log.specs.declared.entry.Entry as code
+use Rattle.gp_rewrite.specs.Rewriting.{query_at, rewritten}
 use Rattle.gp_compose.specs.Composed.{composed, current, current_before, last_write}
 
 -- the statement of an entry, if it is one of the transaction
@@ -16,6 +19,10 @@ own_statement t (Began line session u level) = None
 own_statement t (Ran line session command u statement) = if u == t then Some statement else None
 own_statement t (Committed line session u) = None
 own_statement t (Ended line session end u) = None
+
+-- the same of an entry of the code
+abbrev pub own_in : ℕ → code.Entry → Option Statement
+own_in t entry = own_statement t (entry_view entry)
 
 abbrev pub own_fits : List Table → Option Statement → Bool
 own_fits tables None = true
@@ -61,6 +68,10 @@ pub record AreParts (columns : ℕ → ℕ) (log : Log) (t k count read : ℕ) (
 -- after the last of them
 abbrev pub IsComposed : (ℕ → ℕ) → Log → ℕ → ℕ → ℕ → Parts → Type 0
 IsComposed columns log t k count parts = AreParts columns log t k count (log.version t k) (current log t k) parts
+
+-- the same, over the tables of a log of the code
+abbrev pub IsComposedIn : Logged → ℕ → ℕ → Parts → Type 0
+IsComposedIn log t k parts = IsComposed (width_of (tables log)) (log_of (entries log)) t k (length (tables log)) parts
 
 -- before the next one
 abbrev pub IsMoved : (ℕ → ℕ) → Log → ℕ → ℕ → ℕ → Parts → Type 0

@@ -1,28 +1,28 @@
 //! Laws of composed programs. Each function does nothing: its postconditions are the laws. A law with a type parameter holds
 //! for annotations of every type, as monomials, or nothing at all.
 
-ghost use Rattle.std.specs.Prelude.{◌≡◌, ◌<◌, ◌≤◌, ℕ, true, false, Contains, List, Some, None, map};
-ghost use Rattle.std.specs.List.{AllByRecursion};
+ghost use Rattle.std.specs.Prelude.{◌≡◌, ◌<◌, ◌≤◌, ℕ, true, Contains, List, Some, None, map};
 ghost use Rattle.gp_base.specs.declared.table.Table.{Table};
 ghost use Rattle.gp_base.specs.Annotated.{Annotations, Environment};
 ghost use Rattle.gp_grammar.specs.Syntax as y;
 ghost use Rattle.gp_algebra.specs.declared.plain.ScanAt.{ScanAt};
-ghost use Rattle.gp_algebra.specs.AnnotatedQueries.{program_meaning, scanned, steps_meaning};
+ghost use Rattle.gp_algebra.specs.AnnotatedMeaning.{program_meaning, scanned, steps_meaning};
 ghost use Rattle.gp_algebra.specs.Answers.{answer};
-ghost use Rattle.gp_algebra.specs.Fitting.{select_fits, width_of};
+ghost use Rattle.gp_algebra.specs.Fitting.{select_fits};
+ghost use Rattle.gp_algebra.specs.Statements.{width_of};
 ghost use Rattle.gp_algebra.specs.Plain.{no_steps};
 ghost use Rattle.gp_algebra.specs.QueryForms.{IsTableProgram, IsWellBuilt};
 ghost use Rattle.gp_algebra.specs.Scans.{annotated_program_scans};
-ghost use Rattle.gp_algebra.specs.Statements.{Select, Statement};
+ghost use Rattle.gp_algebra.specs.Statements.{Select, Statement, target};
 ghost use Rattle.gp_machine.specs.Entries.{Entry, log_of, statement_at};
 ghost use Rattle.gp_machine.specs.Points.{at_point};
 ghost use Rattle.gp_machine.specs.Questions.{log_refusal, needed_version};
 ghost use Rattle.gp_machine.specs.Runs.{at_commit, run};
 ghost use Rattle.gp_log.specs.LogFitting.{statements_fit};
 ghost use Rattle.gp_log.specs.Sessions.{KeepsSessions};
-ghost use Rattle.gp_rewrite.specs.Meaning.{AreAsWide, IsMonoid, of_element, unmarked};
-ghost use Rattle.gp_rewrite.specs.Rewriting.{target};
+ghost use Rattle.gp_rewrite.specs.Meaning.{IsMonoid, of_element, unmarked};
 ghost use Rattle.gp_compose.specs.Composed.{composed, program_at, published_table};
+ghost use Rattle.gp_compose.specs.Versions.{AreVersions};
 
 /// Reenactment of a transaction, for the annotations of any monoid and over any versions whose rows are unmarked and as wide
 /// as their tables: the program of a state gives the answer in that state, but for marks; the program of a published table
@@ -30,33 +30,26 @@ ghost use Rattle.gp_compose.specs.Composed.{composed, program_at, published_tabl
 /// it. All statements fit the catalogue, and so does the query. Versions have to be unmarked for the steps too: a table that a
 /// transaction has no statement on is scanned in a later version, and not published onto it.
 pub fn composed_programs_mean_the_states<M>()
-    ensures answers { (kind : Annotations M) → IsMonoid kind → (catalogue : List Table)
+    ensures answers { (domain : Annotations M) → IsMonoid domain → (catalogue : List Table)
         (entries : List Entry) → statements_fit catalogue entries ≡ true
-        → (env : Environment M)
-        → ((version : ℕ) → AreAsWide (width_of catalogue) (env version))
-        → ((version table : ℕ) → AllByRecursion (λ row. row.mark ≡ false) (env version table))
+        → (env : Environment M) → AreVersions catalogue env
         → (point : y.State) (select : Select) → select_fits catalogue select ≡ true
         → map unmarked
-        (program_meaning kind env (program_at (width_of catalogue) entries point select))
-        ≡ map of_element (answer kind select (at_point kind entries point env)) }
-    ensures tables { (kind : Annotations M) → IsMonoid kind → (catalogue : List Table)
+        (program_meaning domain env (program_at (width_of catalogue) entries point select))
+        ≡ map of_element (answer domain select (at_point domain entries point env)) }
+    ensures tables { (domain : Annotations M) → IsMonoid domain → (catalogue : List Table)
         (entries : List Entry) → statements_fit catalogue entries ≡ true
-        → (env : Environment M)
-        → ((version : ℕ) → AreAsWide (width_of catalogue) (env version))
-        → ((version table : ℕ) → AllByRecursion (λ row. row.mark ≡ false) (env version table))
-        → (t before table : ℕ)
-        → program_meaning kind env
+        → (env : Environment M) → AreVersions catalogue env
+        → (t before table : ℕ) → program_meaning domain env
         (published_table (width_of catalogue) (log_of entries) t before table)
-        ≡ map (scanned kind) (at_commit kind (log_of entries) t before env table) }
-    ensures steps { (kind : Annotations M) → IsMonoid kind → (catalogue : List Table)
+        ≡ map (scanned domain) (at_commit domain (log_of entries) t before env table) }
+    ensures steps { (domain : Annotations M) → IsMonoid domain → (catalogue : List Table)
         (entries : List Entry) → statements_fit catalogue entries ≡ true
-        → (env : Environment M)
-        → ((version : ℕ) → AreAsWide (width_of catalogue) (env version))
-        → ((version table : ℕ) → AllByRecursion (λ row. row.mark ≡ false) (env version table))
+        → (env : Environment M) → AreVersions catalogue env
         → (t k j table : ℕ) (statement : Statement) → j ≤ k
         → statement_at t j entries ≡ Some statement → target statement ≡ Some table
-        → steps_meaning kind env (composed (width_of catalogue) (log_of entries) t k) no_steps j
-        ≡ map (scanned kind) (run kind (log_of entries) t j env table) }
+        → steps_meaning domain env (composed (width_of catalogue) (log_of entries) t k) no_steps j
+        ≡ map (scanned domain) (run domain (log_of entries) t j env table) }
 {}
 
 /// The program of a state is well built, if the transaction that the state names is numbered from 1, as every transaction

@@ -11,23 +11,24 @@ use Rattle.gp_base.specs.declared.table.Table.{Table}
 use Rattle.gp_grammar.specs.Syntax as y
 use Rattle.gp_algebra.specs.AnnotatedQueries as q
 use Rattle.gp_algebra.specs.AnnotatedQueries.{Query, QueryStep, Program}
-use Rattle.gp_algebra.specs.Fitting.{is_there, select_fits, statement_fits, width_of}
-use Rattle.gp_algebra.specs.Statements.{Select, Statement}
+use Rattle.gp_algebra.specs.Fitting.{is_there, select_fits, statement_fits}
+use Rattle.gp_algebra.specs.Statements.{Select, Statement, target, width_of}
 use Rattle.gp_machine.specs.Entries.{Entry, Log, log_of, version_of, fate_of, transactions_in}
 use Rattle.gp_machine.specs.Points.{version_before}
 use Rattle.gp_machine.specs.Questions.{log_refusal, statement_refusal, transaction_refusal}
 use Rattle.gp_log.specs.LogFitting.{statements_fit}
 use Rattle.gp_log.specs.LogFacts.{tables_in}
-use Rattle.gp_rewrite.specs.Rewriting.{rewritten, target}
+use Rattle.gp_rewrite.specs.Rewriting.{rewritten}
 use Rattle.gp_compose.specs.Composed.{after, as_of, commit, composed, current, current_before, last_write, moved, onto, program_at, published, step_of, steps_of, writes}
-use Rattle.gp_compose.proofs.FittingLogs.{statement_at_fits}
+use Rattle.gp_log.proofs.FittingLogs.{statement_at_fits}
 use Rattle.gp_plantext.specs.Spellable.{table_is_spellable}
-use Rattle.gp_reenact.specs.Reenacting.{merged_at}
+use Rattle.gp_reenact.specs.Programs.{merged_at}
 use Rattle.gp_prov.specs.ToPlain.{plain_program}
 use Rattle.gp_explain.specs.Shapes.{annotated_is_shaped, annotated_step_is_shaped, has_tables, is_shaped}
 use Rattle.gp_explain.proofs.MergedShapes.{merged_shaped}
 use Rattle.gp_explain.proofs.PlainShapes.{all_joined, program_shaped}
 use Rattle.gp_explain.proofs.RewrittenShapes.{query_shaped, rewritten_shaped, target_there}
+use Rattle.gp_base.proofs.SmallLemmas.{some_none}
 
 module _ (catalogue : List Table) (named : (table : ℕ) → is_there catalogue table ≡ true → table_is_spellable catalogue table ≡ true) where
   abbrev AreShaped : (ℕ → Query) → Type 0
@@ -126,9 +127,6 @@ module _ (catalogue : List Table) (named : (table : ℕ) → is_there catalogue 
   known_counts : (entries : List Entry) (t : ℕ) → transaction_refusal t entries ≡ None → 0 < t
   known_counts entries t e = go (nat_lt 0 t) refl e
     where
-      some_none : (refusal : Refusal) → Some refusal ≡ None → ⊥
-      some_none refusal e = cc
-
       above : (t : ℕ) → nat_lt 0 t ≡ true → 0 < t
       above t e = grind (arith, nat_tests)
 
@@ -143,9 +141,6 @@ module _ (catalogue : List Table) (named : (table : ℕ) → is_there catalogue 
     point_shaped (y.after t k) e =
         after_shaped (log_of entries) t (known_counts entries t (first (transaction_refusal t entries) e)) (λ k statement e. statement_at_fits catalogue entries fit t (suc k) statement e) prov k select fitting
       where
-        some_none : (refusal : Refusal) → Some refusal ≡ None → ⊥
-        some_none refusal e = cc
-
         first : (o : Option Refusal) → option_or o (statement_refusal t k entries) ≡ None → o ≡ None
         first None e = refl
         first (Some refusal) e = absurd (some_none refusal e)

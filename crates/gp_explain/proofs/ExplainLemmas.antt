@@ -4,17 +4,17 @@ use Rattle.std.specs.Prelude.{IfOk}
 use Rattle.gp_base.specs.declared.refusal.Refusal.{Refusal}
 use Rattle.gp_base.specs.declared.table.Table.{Table}
 use Rattle.gp_algebra.specs.Plain.{PlainProgram}
-use Rattle.gp_plantext.specs.Outcomes.{Spells}
+use Rattle.gp_plantext.specs.Spelling.{Spells}
 use Rattle.gp_reenact.specs.declared.error.ReenactStop.{ReenactStop}
 use Rattle.gp_explain.specs.Explaining.{ExplainsBy}
 
 module _ {X : Type 0} (view : X → List ℕ) where
-  pub explains_by : (result : Result X ReenactStop) (due : Option Refusal) (tables : List Table) (program merged : PlainProgram) → due ≡ None → program ≡ merged
-      → ExplainsBy view result None tables program → ExplainsBy view result due tables merged
-  explains_by result due tables program merged none same by =
+  pub explains_by : (result : Result X ReenactStop) (expected : Option Refusal) (tables : List Table) (program merged : PlainProgram) → expected ≡ None → program ≡ merged
+      → ExplainsBy view result None tables program → ExplainsBy view result expected tables merged
+  explains_by result expected tables program merged none same by =
       subst (λ (d : Option Refusal). ExplainsBy view result d tables merged) (sym none) (subst (λ (p : PlainProgram). ExplainsBy view result None tables p) same by)
 
-  pub explains_what : (P : List ℕ → Type 0) (result : Result X ReenactStop) (due : Option Refusal) (tables : List Table) (program : PlainProgram)
-      → ((text : List ℕ) → Spells tables program text → P text) → ExplainsBy view result due tables program → IfOk result (λ x. P (view x))
-  explains_what P (Ok x) due tables program holds by = holds (view x) by.1
-  explains_what P (Err stop) due tables program holds by = tt
+  pub explains_what : (P : List ℕ → Type 0) (result : Result X ReenactStop) (expected : Option Refusal) (tables : List Table) (program : PlainProgram)
+      → ((text : List ℕ) → Spells tables program text → P text) → ExplainsBy view result expected tables program → IfOk result (λ x. P (view x))
+  explains_what P (Ok x) expected tables program holds by = holds (view x) by.1
+  explains_what P (Err stop) expected tables program holds by = tt

@@ -1,23 +1,20 @@
 -- A text that ends in a line feed is its lines.
-use Rattle.std.proofs.Common.{◌≡◌, ℕ, Bool, true, false, cond, List, [], ◌∷◌, ◌++◌, refl, sym, ap, ◌∙◌, append_assoc, arith}
+use Rattle.std.proofs.Common.{◌≡◌, ℕ, Bool, true, false, cond, List, [], ◌∷◌, ◌++◌, refl, sym, ap, ◌∙◌, append_assoc}
 use Rattle.std.specs.Prelude.{◌==◌, not, codes}
 use Rattle.std.specs.List.{flat_map, list_all}
-use Rattle.std.proofs.lemmas.Bool.{and_from}
-use Rattle.std.proofs.lemmas.Bool.Decides.{nat_tests}
+use Rattle.std.proofs.lemmas.Bool.{and_from, eqb-true}
 use Rattle.std.proofs.lemmas.List.Folds.{list_all-append}
 use Rattle.gp_base.specs.declared.table.Table.{Table}
 use Rattle.gp_algebra.specs.Plain.{PlainProgram}
-use Rattle.gp_plantext.specs.Outcomes.{Spells}
+use Rattle.gp_plantext.specs.Spelling.{Spells}
 use Rattle.gp_plantext.specs.Spelling.{last_text, line_feed, program_text, query_text, step_text}
-use Rattle.gp_explain.specs.ExplainedLines.{AreLines, is_line, lines_from, lines_of}
+use Rattle.gp_explain.specs.ExplainedLines.{lines_from, lines_of}
+use Rattle.gp_explain.specs.LineTexts.{AreLines, is_line}
 
 -- whether nothing is behind the last line feed, given whether nothing is before the text
 abbrev ends : Bool → List ℕ → Bool
 ends done [] = done
 ends done (byte ∷ bytes) = ends (byte == 10) bytes
-
-eq_from : (a b : ℕ) → (a == b) ≡ true → a ≡ b
-eq_from a b e = grind (arith, nat_tests)
 
 true_false : true ≡ false → ⊥
 true_false e = cc
@@ -32,7 +29,7 @@ lines_join line (byte ∷ bytes) done empty so =
         → ((byte == 10) ≡ false → flat_map (λ line. line ++ 10 ∷ []) (lines_from (line ++ byte ∷ []) bytes) ≡ (line ++ byte ∷ []) ++ bytes)
         → flat_map (λ line. line ++ 10 ∷ []) (cond b (line ∷ lines_from [] bytes) (lines_from (line ++ byte ∷ []) bytes)) ≡ line ++ byte ∷ bytes
     go true is next same =
-        ap (λ rest. (line ++ 10 ∷ []) ++ rest) next ∙ append_assoc line (10 ∷ []) bytes ∙ ap (λ b. line ++ b ∷ bytes) (sym (eq_from byte 10 is))
+        ap (λ rest. (line ++ 10 ∷ []) ++ rest) next ∙ append_assoc line (10 ∷ []) bytes ∙ ap (λ b. line ++ b ∷ bytes) (sym (eqb-true byte 10 is))
     go false is next same = same is ∙ append_assoc line (byte ∷ []) bytes
 
 lines_alone : (line text : List ℕ) → is_line line ≡ true → list_all is_line (lines_from line text) ≡ true

@@ -7,12 +7,13 @@ use Rattle.gp_base.specs.Tokens.{Monomial}
 use Rattle.gp_base.proofs.ProductLaws.{times-associative, times-one}
 use Rattle.gp_grammar.specs.Syntax as y
 use Rattle.gp_algebra.specs.AnnotatedQueries as q
-use Rattle.gp_algebra.specs.AnnotatedQueries.{Derived}
+use Rattle.gp_algebra.specs.AnnotatedMeaning as qm
+use Rattle.gp_algebra.specs.AnnotatedMeaning.{Derived}
 use Rattle.gp_algebra.specs.Answers.{Element, answer}
-use Rattle.gp_algebra.specs.Fitting.{select_fits, width_of}
+use Rattle.gp_algebra.specs.Fitting.{select_fits}
+use Rattle.gp_algebra.specs.Statements.{width_of}
 use Rattle.gp_algebra.specs.Plain.{PlainProgram, program_meaning}
 use Rattle.gp_algebra.specs.Statements.{Select}
-use Rattle.gp_algebra.proofs.Lists.{map-map}
 use Rattle.gp_machine.specs.Entries.{Entry}
 use Rattle.gp_machine.specs.Points.{at_point}
 use Rattle.gp_machine.specs.Questions.{log_refusal}
@@ -22,16 +23,18 @@ use Rattle.gp_merge.specs.Normal.{is_normal}
 use Rattle.gp_merge.proofs.NormalLemmas.{merged_normal}
 use Rattle.gp_merge.proofs.Orders.{program_ordered}
 use Rattle.gp_merge.proofs.RebuildingLemmas.{merged_is}
-use Rattle.gp_plantext.specs.Outcomes.{Spells}
+use Rattle.gp_plantext.specs.Spelling.{Spells}
 use Rattle.gp_prov.specs.Encoding.{encoded, noted}
 use Rattle.gp_prov.specs.ToPlain.{plain_program}
 use Rattle.gp_prov.proofs.MeaningLemmas.{answers_are}
-use Rattle.gp_reenact.specs.Reenacting.{merged_at}
+use Rattle.gp_reenact.specs.Programs.{merged_at}
 use Rattle.gp_reenact.proofs.ReplayLemmas.{plain_is_built}
 use Rattle.gp_rewrite.specs.Meaning.{IsMonoid, of_element, unmarked}
 use Rattle.gp_compose.specs.Composed.{program_at}
 use Rattle.gp_compose.proofs.ProgramLemmas.{asked_program_is_built, program_is}
-use Rattle.gp_explain.specs.Explained.{AreVersions, answer_row, Explains}
+use Rattle.gp_compose.specs.Versions.{AreVersions}
+use Rattle.gp_explain.specs.Explained.{answer_row, Explains}
+use Rattle.gp_base.proofs.SmallLemmas.{map-map}
 
 monoid : IsMonoid monomials
 monoid = record { right_one = times-one; associative = times-associative }
@@ -59,7 +62,7 @@ module _ (entries : List Entry) (select : Select) (fit : statements_fit (tables_
   merged_means env versions =
       merged_is (encoded prov env) whole (program_ordered whole (plain_is_built entries select fit fits point known prov))
       ∙ answers_are columns prov env versions.wide composed (asked_program_is_built (tables_in entries) entries fit point known select fits)
-      ∙ rows_out prov (q.program_meaning monomials env composed) (answer monomials select (at_point monomials entries point env))
+      ∙ rows_out prov (qm.program_meaning monomials env composed) (answer monomials select (at_point monomials entries point env))
       (program_is monomials monoid (tables_in entries) entries fit env versions.wide versions.unmarked point select fits)
 
   pub merged_is_normal : is_normal (merged_at prov entries point select) ≡ true

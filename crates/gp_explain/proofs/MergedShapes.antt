@@ -10,7 +10,8 @@ use Rattle.gp_algebra.specs.Plain.{Plain, scan, step, select, project, product, 
 use Rattle.gp_merge.specs.Merging.{inlined, program_inlined, stays, settled, is_small, selected, projected, rebuilt, merged}
 use Rattle.gp_plantext.specs.Spellable.{has_item, table_is_spellable}
 use Rattle.gp_explain.specs.Shapes.{expr_is_shaped, cond_is_shaped, query_is_shaped, step_is_shaped, is_shaped}
-use Rattle.gp_explain.proofs.PlainShapes.{both_follow, each_stays, same_items}
+use Rattle.gp_explain.proofs.PlainShapes.{each_stays, same_items}
+use Rattle.gp_base.proofs.SmallLemmas.{both_follow}
 
 both : {a b : Bool} → a ≡ true → b ≡ true → (a && b) ≡ true
 both {a = a} {b = b} x y = and_from a b x y

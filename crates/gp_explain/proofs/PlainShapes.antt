@@ -18,16 +18,14 @@ use Rattle.gp_algebra.specs.AnnotatedQueries as q
 use Rattle.gp_algebra.specs.AnnotatedQueries.{Change, Query, QueryStep, Program}
 use Rattle.gp_algebra.specs.Effects.{given_from}
 use Rattle.gp_algebra.specs.Plain as p
-use Rattle.gp_algebra.specs.QueryForms.{step_table}
+use Rattle.gp_algebra.specs.AnnotatedQueries.{step_table}
 use Rattle.gp_plantext.specs.Spellable.{has_item, has_part, table_is_spellable}
 use Rattle.gp_prov.specs.Encoding.{encoded_row, noted}
 use Rattle.gp_prov.specs.ToPlain.{columns_from, system_width, users_from, identities_from, times_from, product_of, changed_columns, new_columns, answer_columns, widths_of, plain, plain_last, plain_step, plain_program}
-use Rattle.gp_rewrite.proofs.Each.{left_true, right_true}
 use Rattle.gp_explain.specs.Shapes.{cell_is_shaped, expr_is_shaped, cond_is_shaped, parts_are_shaped, row_is_shaped, query_is_shaped, step_is_shaped, is_shaped, has_tables, has_sources, change_is_shaped, annotated_is_shaped, annotated_step_is_shaped}
+use Rattle.gp_base.proofs.SmallLemmas.{both_follow, left_true, right_true}
 
 -- one test follows from another, for both parts
-pub both_follow : (a b x y : Bool) → (a ≡ true → x ≡ true) → (b ≡ true → y ≡ true) → (a && b) ≡ true → (x && y) ≡ true
-both_follow a b x y first second so = and_from x y (first (left_true a b so)) (second (right_true a b so))
 
 pub all_joined : {X : Type 0} (f : X → Bool) (xs ys : List X) → list_all f xs ≡ true → list_all f ys ≡ true → list_all f (xs ++ ys) ≡ true
 all_joined f xs ys all others = list_all-append f xs ys ∙ and_from (list_all f xs) (list_all f ys) all others

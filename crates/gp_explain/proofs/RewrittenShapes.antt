@@ -6,18 +6,20 @@ use Rattle.std.proofs.lemmas.Bool.{false≢true, and_from}
 use Rattle.std.proofs.lemmas.Bool.Decides.{nat_tests}
 use Rattle.gp_base.specs.declared.cell.Cell.{Cell}
 use Rattle.gp_base.specs.declared.table.Table.{Table}
-use Rattle.gp_base.specs.Cells.{is_user_cell}
+use Rattle.gp_base.specs.UserCells.{is_user_cell}
 use Rattle.gp_expr.specs.Expressions.{Expr, Cond}
-use Rattle.gp_algebra.specs.Statements.{SetExpr, Branch, Select, Statement, insert, insert_select, update, delete, read}
+use Rattle.gp_algebra.specs.Statements.{SetExpr, Branch, Select, Statement, insert, insert_select, update, delete, read, target}
 use Rattle.gp_algebra.specs.Effects.{set_for}
-use Rattle.gp_algebra.specs.Fitting.{is_countable, is_there, is_column, joined_width, width_of, expr_fits, cond_fits, optional_cond_fits, row_fits, set_fits, branch_fits, branches_fit, select_width, select_fits, statement_fits}
+use Rattle.gp_algebra.specs.Fitting.{is_countable, is_there, is_column, joined_width, expr_fits, cond_fits, optional_cond_fits, row_fits, set_fits, branch_fits, branches_fit, select_width, select_fits, statement_fits}
+use Rattle.gp_algebra.specs.Statements.{width_of}
 use Rattle.gp_algebra.specs.AnnotatedQueries as q
 use Rattle.gp_algebra.specs.AnnotatedQueries.{Query}
 use Rattle.gp_plantext.specs.Spellable.{has_item}
-use Rattle.gp_rewrite.specs.Rewriting.{branch_of, cased, made_of, made_onto, product_of, product_onto, query_of, rewritten, selected_by, target, union_onto, updated_from}
-use Rattle.gp_rewrite.proofs.Each.{left_true, right_true, all_weaker}
+use Rattle.gp_rewrite.specs.Rewriting.{branch_of, cased, made_of, made_onto, product_of, product_onto, query_of, rewritten, selected_by, union_onto, updated_from}
 use Rattle.gp_explain.specs.Shapes.{cell_is_shaped, expr_is_shaped, cond_is_shaped, annotated_is_shaped, has_tables, has_sources}
 use Rattle.gp_explain.proofs.FittingShapes.{user_cells, fit_shaped, fit_cond_shaped}
+use Rattle.gp_base.proofs.SmallLemmas.{all_weaker, left_true, right_true}
+use Rattle.std.proofs.lemmas.Option.{none-some}
 
 some_item : {X : Type 0} (xs : List X) → nat_lt 0 (length xs) ≡ true → has_item xs ≡ true
 some_item [] so = so
@@ -150,9 +152,6 @@ module _ (catalogue : List Table) (tables : ℕ → Query) (are : (table : ℕ) 
     rows_shaped width rows fit =
         all_weaker (row_fits width) (list_all cell_is_shaped) (λ row e. user_cells row (right_true (length row == width) (list_all is_user_cell row) e)) rows fit
 
-    none_some : {X : Type 0} (x : X) → None ≡ Some x → ⊥
-    none_some x e = cc
-
     -- the query of a step; a SELECT makes none
     pub rewritten_shaped : (own : ℕ) (statement : Statement) → target statement ≡ Some own → statement_fits catalogue statement ≡ true
         → shaped (rewritten (width_of catalogue) t k statement tables) ≡ true
@@ -180,7 +179,7 @@ module _ (catalogue : List Table) (tables : ℕ → Query) (are : (table : ℕ) 
         let width = width_of catalogue table in
         and_from (shaped (tables table)) (cond_is_shaped c) (are table (left_true (is_there catalogue table) (cond_fits width c) fits))
         (fit_cond_shaped width c (right_true (is_there catalogue table) (cond_fits width c) fits))
-    rewritten_shaped own (read select) is fits = absurd (none_some own is)
+    rewritten_shaped own (read select) is fits = absurd (none-some own is)
 
 -- a statement writes a table of the catalogue
 pub target_there : (catalogue : List Table) (own : ℕ) (statement : Statement) → target statement ≡ Some own → statement_fits catalogue statement ≡ true → is_there catalogue own ≡ true
@@ -193,7 +192,4 @@ target_there catalogue own (update table sets c) is fits =
     subst (λ n. is_there catalogue n ≡ true) e (left_true (is_there catalogue table) (list_all (set_fits (width_of catalogue table)) sets && cond_fits (width_of catalogue table) c) fits)
 target_there catalogue own (delete table c) is fits =
     let e : table ≡ own = cc in subst (λ n. is_there catalogue n ≡ true) e (left_true (is_there catalogue table) (cond_fits (width_of catalogue table) c) fits)
-target_there catalogue own (read select) is fits = absurd (nothing own is)
-  where
-    nothing : (n : ℕ) → None ≡ Some n → ⊥
-    nothing n e = cc
+target_there catalogue own (read select) is fits = absurd (none-some own is)

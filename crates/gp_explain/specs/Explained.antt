@@ -1,29 +1,22 @@
 -- Part of the statement: what the text of an explained query says. It is the text of one program, in normal form. On every database of past versions, also
 -- one that no history has, the program gives the rows of the query over the state that the statements of the transaction lead to there, each as often,
 -- and with provenance each with its monomial.
-use Rattle.std.specs.Prelude.{◌≡◌, ℕ, Bool, true, false, List, ◌++◌, length, map}
-use Rattle.std.specs.List.{AllByRecursion}
+use Rattle.std.specs.Prelude.{◌≡◌, ℕ, Bool, true, List, ◌++◌, map}
 use Rattle.gp_base.specs.declared.cell.Cell.{Cell}
 use Rattle.gp_base.specs.declared.cell.Cell.TheVariants as cell
-use Rattle.gp_base.specs.declared.table.Table.{Table}
-use Rattle.gp_base.specs.Annotated.{Annotated, Environment, monomials}
+use Rattle.gp_base.specs.Annotated.{Environment, monomials}
 use Rattle.gp_base.specs.Tokens.{Monomial}
 use Rattle.gp_grammar.specs.Syntax as y
 use Rattle.gp_algebra.specs.Answers.{Element, answer}
-use Rattle.gp_algebra.specs.Fitting.{width_of}
-use Rattle.gp_algebra.specs.Plain.{PlainProgram, program_meaning}
 use Rattle.gp_algebra.specs.Statements.{Select}
+use Rattle.gp_algebra.specs.Plain.{PlainProgram, program_meaning}
 use Rattle.gp_machine.specs.Entries.{Entry}
 use Rattle.gp_machine.specs.Points.{at_point}
+use Rattle.gp_compose.specs.Versions.{AreVersions}
 use Rattle.gp_merge.specs.Normal.{is_normal}
-use Rattle.gp_plantext.specs.Outcomes.{Spells}
+use Rattle.gp_plantext.specs.Spelling.{Spells}
 use Rattle.gp_prov.specs.Encoding.{encoded, noted}
 use Rattle.gp_log.specs.LogFacts.{tables_in}
-
--- versions of a database: rows are as wide as their tables, and no transaction has marked them
-pub record AreVersions (tables : List Table) (env : Environment Monomial) : Type 0 where
-  pub wide : (version table : ℕ) → AllByRecursion (λ (row : Annotated Monomial). length row.cells ≡ width_of tables table) (env version table)
-  pub unmarked : (version table : ℕ) → AllByRecursion (λ (row : Annotated Monomial). row.mark ≡ false) (env version table)
 
 -- a row of the answer, with its monomial behind it if there is provenance
 abbrev pub answer_row : Bool → Element Monomial → List Cell

@@ -4,11 +4,11 @@ use Rattle.std.specs.Prelude.{◌≡◌, ℕ, List, Option, Some, None, Result, 
 use Rattle.gp_base.specs.declared.refusal.Refusal.{Refusal}
 use Rattle.gp_base.specs.declared.table.Table.{Table}
 use Rattle.gp_algebra.specs.Plain.{PlainProgram}
-use Rattle.gp_plantext.specs.Outcomes.{Spells}
+use Rattle.gp_plantext.specs.Spelling.{Spells}
 use Rattle.gp_reenact.specs.declared.error.ReenactStop.{ReenactStop}
 use Rattle.gp_reenact.specs.declared.error.ReenactStop.TheVariants.{Refused, NoMemory}
 
 abbrev pub ExplainsBy : {X : Type 0} → (X → List ℕ) → Result X ReenactStop → Option Refusal → List Table → PlainProgram → Type 0
-ExplainsBy view (Ok text) due tables program = (due ≡ None) × Spells tables program (view text)
-ExplainsBy view (Err (Refused refusal)) due tables program = due ≡ Some refusal
-ExplainsBy view (Err NoMemory) due tables program = Unit {0}
+ExplainsBy view (Ok text) expected tables program = (expected ≡ None) × Spells tables program (view text)
+ExplainsBy view (Err (Refused refusal)) expected tables program = expected ≡ Some refusal
+ExplainsBy view (Err NoMemory) expected tables program = Unit {0}

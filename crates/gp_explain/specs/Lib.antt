@@ -3,3 +3,4 @@ pub mod ExplainedLines
 pub mod Explaining
 pub mod Numbers
 pub mod Shapes
+pub mod LineTexts

@@ -1,7 +1,7 @@
 -- Machinery: programs whose numbers are in the ranges of their types, as they are in every program of the code.
 use Rattle.std.specs.Prelude.{ℕ, ◌≤◌}
 use Rattle.std.specs.List.{AllByRecursion}
-use Rattle.gp_base.specs.Cells.{IsInRange, AreInRange}
+use Rattle.gp_base.specs.CellForms.{IsInRange, AreInRange}
 use Rattle.gp_expr.specs.Expressions as e
 use Rattle.gp_expr.specs.Expressions.{Expr, Cond, Parts}
 use Rattle.gp_algebra.specs.Plain as p

@@ -8,11 +8,12 @@ ghost use Rattle.gp_machine.specs.Entries.{Entry};
 ghost use Rattle.gp_machine.specs.Questions.{log_refusal};
 ghost use Rattle.gp_log.specs.LogFacts.{tables_in};
 ghost use Rattle.gp_log.specs.LogFitting.{statements_fit};
-ghost use Rattle.gp_plantext.specs.Outcomes.{Spells};
+ghost use Rattle.gp_plantext.specs.Spelling.{Spells};
 ghost use Rattle.gp_plantext.specs.Spellable.{is_spellable};
-ghost use Rattle.gp_reenact.specs.Reenacting.{merged_at};
+ghost use Rattle.gp_reenact.specs.Programs.{merged_at};
 ghost use Rattle.gp_explain.specs.Explained.{Explains};
-ghost use Rattle.gp_explain.specs.ExplainedLines.{AreLines, lines_of};
+ghost use Rattle.gp_explain.specs.ExplainedLines.{lines_of};
+ghost use Rattle.gp_explain.specs.LineTexts.{AreLines};
 ghost use Rattle.gp_explain.specs.Numbers.{ProgramInRange};
 ghost use Rattle.gp_explain.specs.Shapes.{AreNamed};
 

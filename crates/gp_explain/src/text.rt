@@ -1,15 +1,13 @@
 //! The text of the program of a state.
 
-ghost use Rattle.std.specs.Prelude.{◌≡◌, true, None, IfOk};
+ghost use Rattle.std.specs.Prelude.{None, IfOk};
 ghost use Rattle.gp_syntax.specs.Views.{state_view};
-ghost use Rattle.gp_algebra.specs.Fitting.{select_fits};
 ghost use Rattle.gp_algebra.specs.PlainViews.{program_view};
 ghost use Rattle.gp_algebra.specs.Views.{select_view};
-ghost use Rattle.gp_log.specs.LogFacts.{tables_in};
-ghost use Rattle.gp_log.specs.LogFitting.{statements_fit};
-ghost use Rattle.gp_log.specs.Logs.{log_view};
+ghost use Rattle.gp_compose.specs.Composing.{QueryFits};
+ghost use Rattle.gp_log.specs.Contents.{entries, tables};
 ghost use Rattle.gp_machine.specs.Questions.{log_refusal};
-ghost use Rattle.gp_reenact.specs.Reenacting.{merged_at};
+ghost use Rattle.gp_reenact.specs.Programs.{merged_at};
 ghost use Rattle.gp_explain.specs.Explained.{Explains};
 ghost use Rattle.gp_explain.specs.Explaining.{ExplainsBy};
 ghost use Rattle.gp_explain.specs.Shapes.{IsShaped};
@@ -25,9 +23,9 @@ use std::alloc::Global;
 
 /// The text of a program over the tables of a log.
 fn written(alloc: Global, log: &Log, program: &PProgram) -> Result<Vec<u8>, ReenactStop>
-    requires { IsShaped (tables_in (log_view log.now.entries)) (program_view program.now) }
+    requires { IsShaped (tables log.now) (program_view program.now) }
     ensures { ExplainsBy (λ text. text.items) result None
-        (tables_in (log_view log.now.entries)) (program_view program.now) }
+        (tables log.now) (program_view program.now) }
 {
     let catalog = log.catalog();
     tables_are_named(catalog);
@@ -46,15 +44,11 @@ pub fn explain(
     select: &Select,
     with_prov: bool,
 ) -> Result<Vec<u8>, ReenactStop>
-    requires fits { select_fits (tables_in (log_view log.now.entries))
-        (select_view select.now) ≡ true }
-    requires statements { statements_fit (tables_in (log_view log.now.entries))
-        (log_view log.now.entries) ≡ true }
+    requires { QueryFits log.now (select_view select.now) }
     ensures text { ExplainsBy (λ text. text.items) result
-        (log_refusal (log_view log.now.entries) (state_view state))
-        (tables_in (log_view log.now.entries))
-        (merged_at with_prov (log_view log.now.entries) (state_view state) (select_view select.now)) }
-    ensures meaning { IfOk result (λ text. Explains (log_view log.now.entries)
+        (log_refusal (entries log.now) (state_view state)) (tables log.now)
+        (merged_at with_prov (entries log.now) (state_view state) (select_view select.now)) }
+    ensures meaning { IfOk result (λ text. Explains (entries log.now)
         (state_view state) (select_view select.now) with_prov text.items) }
 {
     let program = planned(alloc, log, state, select, with_prov)?;

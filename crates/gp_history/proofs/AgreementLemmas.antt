@@ -6,7 +6,6 @@ use Rattle.std.specs.List.Sorted.{IsPermutation}
 use Rattle.std.specs.Ordering.{is_eq, ordering_then}
 use Rattle.std.specs.declared.cmp.Ordering.{Ordering}
 use Rattle.std.specs.declared.cmp.Ordering.TheVariants.{Less, Equal, Greater}
-use Rattle.std.proofs.lemmas.Bool.{false≢true}
 use Rattle.std.proofs.lemmas.Cmp.{lists_total, tied_itself}
 use Rattle.std.proofs.lemmas.List.Sorted.{IsPermutation-map, IsPermutation-sym, IsPermutation-trans}
 use Rattle.std.proofs.lemmas.Map.Lookups.{CmpEqualImpliesEq}
@@ -16,16 +15,11 @@ use Rattle.gp_base.specs.Annotated.{Annotated}
 use Rattle.gp_base.specs.Identities.{Identity, identity, no_sources}
 use Rattle.gp_base.specs.Order.{row_cmp, sorted_by}
 use Rattle.gp_base.specs.RowOrder.{exact_rows, row_cmp_total}
-use Rattle.gp_base.proofs.OrderLemmas.{rows_permuted, rows_sorted, sorted_rows_unique}
+use Rattle.gp_base.proofs.OrderLemmas.{rows_permuted, rows_sorted, sorted_rows_unique, equal_from_is_eq}
 use Rattle.gp_machine.specs.Annotating.{identified}
 use Rattle.gp_history.specs.Agreement.{agree, key_of, keys_agree}
 
 -- ---- keys
-
-pub equal_from : (o : Ordering) → is_eq o ≡ true → o ≡ Equal
-equal_from Less e = absurd (false≢true e)
-equal_from Equal e = refl
-equal_from Greater e = absurd (false≢true e)
 
 -- lists of different lengths differ
 pub lengths_differ : (xs ys : List (List Cell)) → length xs ≢ length ys → is_eq (slice_cmp row_cmp xs ys) ≡ false
@@ -45,8 +39,8 @@ same_order keys others moved =
     sorted_rows_unique others (sorted_by row_cmp keys) (IsPermutation-trans others keys (sorted_by row_cmp keys) (IsPermutation-sym keys others moved) (rows_permuted keys))
     (rows_sorted keys)
 
-pub keys_moved : (keys others due : List (List Cell)) → IsPermutation keys others → keys_agree keys due ≡ keys_agree others due
-keys_moved keys others due moved = ap (λ (sorted : List (List Cell)). is_eq (slice_cmp row_cmp sorted (sorted_by row_cmp due))) (same_order keys others moved)
+pub keys_moved : (keys others expected : List (List Cell)) → IsPermutation keys others → keys_agree keys expected ≡ keys_agree others expected
+keys_moved keys others expected moved = ap (λ (sorted : List (List Cell)). is_eq (slice_cmp row_cmp sorted (sorted_by row_cmp expected))) (same_order keys others moved)
 
 agree_itself : (keys : List (List Cell)) → keys_agree keys keys ≡ true
 agree_itself keys = ap is_eq (tied_itself (lists_total row_cmp_total) (sorted_by row_cmp keys))
@@ -60,7 +54,7 @@ exact_lists = slice_cmp-IsAntisymmetric exact_rows
 pub keys_from : (keys others : List (List Cell)) → keys_agree keys others ≡ true → IsPermutation keys others
 keys_from keys others same =
     let sorted : sorted_by row_cmp keys ≡ sorted_by row_cmp others =
-    exact_lists (sorted_by row_cmp keys) (sorted_by row_cmp others) (equal_from (slice_cmp row_cmp (sorted_by row_cmp keys) (sorted_by row_cmp others)) same) in
+    exact_lists (sorted_by row_cmp keys) (sorted_by row_cmp others) (equal_from_is_eq (slice_cmp row_cmp (sorted_by row_cmp keys) (sorted_by row_cmp others)) same) in
     IsPermutation-trans keys (sorted_by row_cmp keys) others (rows_permuted keys)
     (subst (λ (rows : List (List Cell)). IsPermutation rows others) (sym sorted) (IsPermutation-sym others (sorted_by row_cmp others) (rows_permuted others)))
 

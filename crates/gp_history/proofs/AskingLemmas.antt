@@ -10,9 +10,7 @@ use Rattle.gp_grammar.specs.Syntax as y
 use Rattle.gp_log.proofs.NumberingLemmas.{no-statement}
 use Rattle.gp_machine.specs.Entries.{Entry, statement_at, statement_count, statement_version}
 use Rattle.gp_machine.specs.Questions.{log_refusal, statement_refusal, transaction_refusal}
-
-some_none : (refusal : Refusal) → Some refusal ≡ None → ⊥
-some_none refusal e = cc
+use Rattle.gp_base.proofs.SmallLemmas.{some_none}
 
 last_none : (first last : Option Refusal) → option_or first last ≡ None → last ≡ None
 last_none None last e = e
@@ -51,7 +49,4 @@ has_read entries t k known none = known_there entries t k known (unmapped (state
   where
     unmapped : (found : Option Statement) → option_map (λ (statement : Statement). statement_version t k entries) found ≡ None → found ≡ None
     unmapped None e = refl
-    unmapped (Some statement) e = absurd (some_value (statement_version t k entries) e)
-      where
-        some_value : (version : ℕ) → Some version ≡ None → ⊥
-        some_value version e = cc
+    unmapped (Some statement) e = absurd (some_none (statement_version t k entries) e)

@@ -3,7 +3,7 @@ use Rattle.std.proofs.Common.{◌≡◌, ℕ, zero, suc, ◌<◌, true, false, L
 use Rattle.std.specs.BTreeMap.{BTreeMap}
 use Rattle.std.specs.List.{list_any}
 use Rattle.gp_algebra.specs.AnnotatedQueries as q
-use Rattle.gp_algebra.specs.Fitting.{width_of}
+use Rattle.gp_algebra.specs.Statements.{width_of}
 use Rattle.gp_base.specs.Annotated.{Annotated, Annotations}
 use Rattle.gp_base.specs.Identities.{Identity}
 use Rattle.gp_compose.specs.Composed.{published_table}
@@ -14,7 +14,8 @@ use Rattle.gp_machine.specs.Entries.{Entry, Log, log_of, versions_in}
 use Rattle.gp_machine.specs.Points.{version_before}
 use Rattle.gp_reenact.specs.Reenacting.{spans_of}
 use Rattle.gp_versions.specs.declared.span.Span.{Span}
-use Rattle.gp_versions.specs.Spans.{NoOverlap, Versions}
+use Rattle.gp_versions.specs.Spans.{Versions}
+use Rattle.gp_versions.specs.TableSpans.{NoOverlap}
 use Rattle.gp_history.specs.Changes.{ChangesTable, FindsRows, Publishes, is_scan, is_touched, maker, maker_program, stopped}
 use Rattle.gp_history.specs.Images.{IsImage}
 use Rattle.gp_history.specs.Sound.{IsSound}
@@ -37,7 +38,7 @@ module _ (entries : List Entry) (versions : List Versions) (sound : IsSound entr
   pub program_same : maker_program entries before table ≡ published_table columns (log_of entries) t before table
   program_same = ap (λ (o : Option ℕ). published_table columns (log_of entries) t (version_before o) table) (maker_version entries sound.sessions before within)
 
-module _ {M : Type 0} (kind : Annotations M) (image : IsImage kind) (entries : List Entry) (versions : List Versions) (sound : IsSound entries versions) (before : ℕ) (within : before < versions_in entries) (table : ℕ) where
+module _ {M : Type 0} (domain : Annotations M) (image : IsImage domain) (entries : List Entry) (versions : List Versions) (sound : IsSound entries versions) (before : ℕ) (within : before < versions_in entries) (table : ℕ) where
   abbrev spans : ℕ → List Span
   spans = spans_of versions
 
@@ -45,22 +46,22 @@ module _ {M : Type 0} (kind : Annotations M) (image : IsImage kind) (entries : L
   log = log_of entries
 
   -- a table that needs no look
-  pub kept_change : is_scan (maker_program entries before table).last ≡ true → list_any (is_touched (suc before)) (spans table) ≡ false → ChangesTable kind log spans before table (Ok None)
+  pub kept_change : is_scan (maker_program entries before table).last ≡ true → list_any (is_touched (suc before)) (spans table) ≡ false → ChangesTable domain log spans before table (Ok None)
   kept_change scans untouched = record {
     unwritten =
-        scan_is kind image entries spans sound.statements sound.spans before (t entries versions sound before within table) before table
+        scan_is domain image entries spans sound.statements sound.spans before (t entries versions sound before within table) before table
         (ap (λ (program : q.Program). is_scan program.last) (sym (program_same entries versions sound before within table)) ∙ scans);
     untouched = untouched;
   }
 
   -- the rows of its program, looked at
-  pub found_change : {X : Type 0} (view : X → List (Annotated M)) (found : X) → Publishes kind log spans before view table (Ok found) → NoOverlap (spans table)
-      → (result : Result (Option (BTreeMap Identity M)) HistoryStop) → FindsRows (view found) (spans table) (suc before) table result → ChangesTable kind log spans before table result
-  found_change view found ran apart result finds = rows_change kind entries spans before table apart (view found) ran.1 ran.0 result finds
+  pub found_change : {X : Type 0} (view : X → List (Annotated M)) (found : X) → Publishes domain log spans before view table (Ok found) → NoOverlap (spans table)
+      → (result : Result (Option (BTreeMap Identity M)) HistoryStop) → FindsRows (view found) (spans table) (suc before) table result → ChangesTable domain log spans before table result
+  found_change view found ran apart result finds = rows_change domain entries spans before table apart (view found) ran.1 ran.0 result finds
 
   -- its program stopped
-  pub stopped_change : {X : Type 0} (view : X → List (Annotated M)) (stop : ExecStop) → Publishes kind log spans before view table (Err stop)
-      → ChangesTable kind log spans before table (Err (stopped (maker log before) stop))
+  pub stopped_change : {X : Type 0} (view : X → List (Annotated M)) (stop : ExecStop) → Publishes domain log spans before view table (Err stop)
+      → ChangesTable domain log spans before table (Err (stopped (maker log before) stop))
   stopped_change view (exec.Rows j) ran = ran
   stopped_change view (exec.Ancestry j) ran = ran
   stopped_change view exec.Answer ran = absurd ran

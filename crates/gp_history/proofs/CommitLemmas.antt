@@ -7,9 +7,8 @@ use Rattle.std.specs.List.Sorted.{IsPermutation}
 use Rattle.std.specs.Option.{option_map, option_or}
 use Rattle.std.proofs.Math.Nat.{eq-or-lt_of_le}
 use Rattle.std.proofs.lemmas.List.Sorted.{IsPermutation-map, IsPermutation-refl}
-use Rattle.gp_algebra.proofs.Bags.{SameBag, any_same, first, mapped, none, swapped, through}
-use Rattle.gp_algebra.proofs.Lists.{any-map, map-map}
-use Rattle.gp_algebra.proofs.Permutations.{unpermuted}
+use Rattle.gp_base.proofs.Bags.{SameBag, any_same, first, mapped, none, swapped, through}
+use Rattle.gp_base.proofs.Permutations.{unpermuted}
 use Rattle.gp_algebra.specs.Stops.{Stop}
 use Rattle.gp_base.specs.declared.refusal.Refusal.{Refusal}
 use Rattle.gp_base.specs.declared.refusal.Refusal.TheVariants.{E24, E25, E26}
@@ -17,8 +16,8 @@ use Rattle.gp_base.specs.declared.table.Table.{Table}
 use Rattle.gp_base.specs.Annotated.{Annotated, Annotations, Database, plain}
 use Rattle.gp_base.specs.Identities.{Identity, identity_cmp, same_identity}
 use Rattle.gp_compose.specs.Composed.{last_write}
-use Rattle.gp_compose.proofs.FittingLogs.{statement_at_fits}
-use Rattle.gp_log.specs.Limits.{limits}
+use Rattle.gp_log.proofs.FittingLogs.{statement_at_fits}
+use Rattle.gp_log.specs.Parameters.{parameters}
 use Rattle.gp_log.specs.LogFacts.{tables_in}
 use Rattle.gp_log.specs.LogFitting.{SpansFit, statements_fit}
 use Rattle.gp_machine.specs.Annotating.{annotation_of, computed, identified}
@@ -27,13 +26,14 @@ use Rattle.gp_machine.specs.Entries.{Entry, Log, log_of}
 use Rattle.gp_machine.specs.Event.{name_at}
 use Rattle.gp_machine.specs.Points.{RunStop}
 use Rattle.gp_machine.specs.Questions.{annotation_stop, difference, stop_refusal}
-use Rattle.gp_machine.specs.Views.{AreDistinct, HaveDifferentIdentities}
-use Rattle.gp_machine.proofs.Distinct.{each_map, none_any, or_false}
+use Rattle.gp_machine.specs.SeenRows.{AreDistinct, HaveDifferentIdentities}
+use Rattle.gp_machine.proofs.Distinct.{none_any}
 use Rattle.gp_machine.proofs.Simulation.{annotation_same}
 use Rattle.gp_reenact.proofs.ReplayLemmas.{refusal_at, run_refused}
 use Rattle.gp_reenact.proofs.StopLemmas.{step_stop}
 use Rattle.gp_versions.specs.declared.span.Span.{Span}
-use Rattle.gp_versions.specs.Spans.{AreOfDifferentRows, NoOverlap, row_of, rows_at, spans_at}
+use Rattle.gp_versions.specs.Spans.{row_of, rows_at, spans_at}
+use Rattle.gp_versions.specs.TableSpans.{AreOfDifferentRows, NoOverlap}
 use Rattle.gp_versions.proofs.HeldLemmas.{held-differ}
 use Rattle.gp_versions.proofs.SameLemmas.{same-sym}
 use Rattle.gp_history.specs.declared.error.HistoryStop.{HistoryStop}
@@ -48,10 +48,9 @@ use Rattle.gp_history.proofs.AgreementLemmas.{agree_from, agree_is, keys_moved}
 use Rattle.gp_history.proofs.ImageLemmas.{kept_is}
 use Rattle.gp_history.proofs.NotedLemmas.{noted_is, written_is}
 use Rattle.gp_history.proofs.SpanLemmas.{untouched_spans}
-use Rattle.gp_history.proofs.TableLemmas.{both, never_stops}
-
-same_number : (n : ℕ) → (n == n) ≡ true
-same_number n = grind arith
+use Rattle.gp_history.proofs.TableLemmas.{never_stops}
+use Rattle.std.proofs.lemmas.Bool.{and_parts, or_parts}
+use Rattle.gp_base.proofs.SmallLemmas.{any-map, each_map, eq_itself, map-map}
 
 -- ---- identities that differ
 
@@ -66,7 +65,7 @@ distinct_bag : {xs ys : List Identity} → SameBag xs ys → AreDistinct same_id
 distinct_bag none d = d
 distinct_bag (first {x = x} s) d = (any_same (λ other. same_identity other x) s ∙ d.0, distinct_bag s d.1)
 distinct_bag (swapped {x = x} {y = y} {xs = xs}) d =
-    let parts = or_false (same_identity x y) (list_any (λ other. same_identity other y) xs) d.0 in
+    let parts = or_parts (same_identity x y) (list_any (λ other. same_identity other y) xs) d.0 in
     ((λ i. sym_same x y parts.0 i || d.1.0 i), (parts.1, d.1.1))
 distinct_bag (through s t) d = distinct_bag s (distinct_bag t d)
 
@@ -83,12 +82,12 @@ module _ {M : Type 0} where
   rows_differ (row ∷ rows) d = (sym (any-map (λ other. same_identity other row.identity) (λ row. row.identity) rows) ∙ d.0, rows_differ rows d.1)
 
 -- a version has no row twice
-held_differ : {M : Type 0} (kind : Annotations M) (spans : List Span) → AreOfDifferentRows spans → HaveDifferentIdentities (map (row_of kind) spans)
-held_differ kind [] d = tt
-held_differ kind (span ∷ spans) d = (
-  none_any (λ other. same_identity other.identity span.id) (map (row_of kind) spans)
-      (each_map (λ row. same_identity row.identity span.id ≡ false) (λ (other : Span). same_identity span.id other.id ≡ false) (row_of kind) (λ other not. sym_same span.id other.id not) spans d.0),
-  held_differ kind spans d.1,
+held_differ : {M : Type 0} (domain : Annotations M) (spans : List Span) → AreOfDifferentRows spans → HaveDifferentIdentities (map (row_of domain) spans)
+held_differ domain [] d = tt
+held_differ domain (span ∷ spans) d = (
+  none_any (λ other. same_identity other.identity span.id) (map (row_of domain) spans)
+      (each_map (λ row. same_identity row.identity span.id ≡ false) (λ (other : Span). same_identity span.id other.id ≡ false) (row_of domain) (λ other not. sym_same span.id other.id not) spans d.0),
+  held_differ domain spans d.1,
 )
 
 -- ---- marks do not matter
@@ -100,13 +99,13 @@ module _ {M : Type 0} (all : List (Annotated M)) where
   unmarked_identified : identified (map unmarked all) ≡ identified all
   unmarked_identified = map-map (λ row. (row.identity, row.cells)) unmarked all
 
-unmarked_annotation : {M : Type 0} (kind : Annotations M) (id : Identity) (all : List (Annotated M)) → annotation_of kind id (map unmarked all) ≡ annotation_of kind id all
-unmarked_annotation kind id [] = refl
-unmarked_annotation kind id (row ∷ all) = ap (cond (same_identity row.identity id) row.annotation) (unmarked_annotation kind id all)
+unmarked_annotation : {M : Type 0} (domain : Annotations M) (id : Identity) (all : List (Annotated M)) → annotation_of domain id (map unmarked all) ≡ annotation_of domain id all
+unmarked_annotation domain id [] = refl
+unmarked_annotation domain id (row ∷ all) = ap (cond (same_identity row.identity id) row.annotation) (unmarked_annotation domain id all)
 
 -- keys have no annotations
-keys_same : {M : Type 0} (kind : Annotations M) (version : ℕ) (spans : List Span) → keys_of version spans ≡ map key_of (rows_at kind version spans)
-keys_same kind version spans = map-map key_of (row_of plain) (spans_at version spans) ∙ sym (map-map key_of (row_of kind) (spans_at version spans))
+keys_same : {M : Type 0} (domain : Annotations M) (version : ℕ) (spans : List Span) → keys_of version spans ≡ map key_of (rows_at domain version spans)
+keys_same domain version spans = map-map key_of (row_of plain) (spans_at version spans) ∙ sym (map-map key_of (row_of domain) (spans_at version spans))
 
 -- ---- stops
 
@@ -115,17 +114,17 @@ stop_none None e = refl
 stop_none (Some stop) e = absurd (cc)
 
 -- the first table that differs
-difference_first : {M : Type 0} (kind : Annotations M) (catalogue : List Table) (version count n : ℕ) (db other : Database M) → count < n
-    → difference kind limits agree catalogue version count db other ≡ None → agree (db count) (other count) ≡ false
-    → difference kind limits agree catalogue version n db other ≡ Some (E24 version (name_at count catalogue))
-difference_first kind catalogue version count zero db other less same not = absurd (omega arith)
-difference_first kind catalogue version count (suc n) db other less same not =
-    by (eq-or-lt_of_le (omega arith)) (λ lower. difference_first kind catalogue version count n db other lower same not)
+difference_first : {M : Type 0} (domain : Annotations M) (catalogue : List Table) (version count n : ℕ) (db other : Database M) → count < n
+    → difference domain parameters agree catalogue version count db other ≡ None → agree (db count) (other count) ≡ false
+    → difference domain parameters agree catalogue version n db other ≡ Some (E24 version (name_at count catalogue))
+difference_first domain catalogue version count zero db other less same not = absurd (omega arith)
+difference_first domain catalogue version count (suc n) db other less same not =
+    by (eq-or-lt_of_le (omega arith)) (λ lower. difference_first domain catalogue version count n db other lower same not)
   where
-    by : (count ≡ n) ⊎ (count < n) → (count < n → difference kind limits agree catalogue version n db other ≡ Some (E24 version (name_at count catalogue)))
-        → difference kind limits agree catalogue version (suc n) db other ≡ Some (E24 version (name_at count catalogue))
+    by : (count ≡ n) ⊎ (count < n) → (count < n → difference domain parameters agree catalogue version n db other ≡ Some (E24 version (name_at count catalogue)))
+        → difference domain parameters agree catalogue version (suc n) db other ≡ Some (E24 version (name_at count catalogue))
     by (inl is) earlier =
-        subst (λ m. difference kind limits agree catalogue version (suc m) db other ≡ Some (E24 version (name_at count catalogue))) is
+        subst (λ m. difference domain parameters agree catalogue version (suc m) db other ≡ Some (E24 version (name_at count catalogue))) is
         (λ i. option_or (same i) (cond (not i) None (Some (E24 version (name_at count catalogue)))))
     by (inr lower) earlier = ap (λ o. option_or o (cond (agree (db n) (other n)) None (Some (E24 version (name_at n catalogue))))) (earlier lower)
 
@@ -145,76 +144,76 @@ pushed (z ∷ xs) x (suc k) (suc n) y count is = by (pushed xs x k n y (omega ar
 
 -- ---- one commit
 
-module _ {M : Type 0} (kind : Annotations M) (entries : List Entry) (spans : ℕ → List Span) (before : ℕ) where
+module _ {M : Type 0} (domain : Annotations M) (entries : List Entry) (spans : ℕ → List Span) (before : ℕ) where
   abbrev log : Log
   log = log_of entries
 
   -- computed rows, in any order, say what becomes of their table
-  pub rows_change : (table : ℕ) → NoOverlap (spans table) → (rows : List (Annotated M)) → IsPermutation rows (published kind log spans before table) → maker_stop kind log spans before ≡ None
-      → (result : Result (Option (BTreeMap Identity M)) HistoryStop) → FindsRows rows (spans table) (suc before) table result → ChangesTable kind log spans before table result
+  pub rows_change : (table : ℕ) → NoOverlap (spans table) → (rows : List (Annotated M)) → IsPermutation rows (published domain log spans before table) → maker_stop domain log spans before ≡ None
+      → (result : Result (Option (BTreeMap Identity M)) HistoryStop) → FindsRows rows (spans table) (suc before) table result → ChangesTable domain log spans before table result
   rows_change table apart rows moved no_stop result finds = by result finds
     where
-      bag : SameBag rows (published kind log spans before table)
-      bag = unpermuted rows (published kind log spans before table) moved
+      bag : SameBag rows (published domain log spans before table)
+      bag = unpermuted rows (published domain log spans before table) moved
 
-      keys : keys_agree (map key_of rows) (keys_of (suc before) (spans table)) ≡ agree (made kind log spans before table) (held kind log spans before table)
+      keys : keys_agree (map key_of rows) (keys_of (suc before) (spans table)) ≡ agree (made domain log spans before table) (held domain log spans before table)
       keys =
-          keys_moved (map key_of rows) (map key_of (published kind log spans before table)) (keys_of (suc before) (spans table)) (IsPermutation-map key_of rows (published kind log spans before table) moved)
-          ∙ (λ i. keys_agree (sym (unmarked_keys (published kind log spans before table)) i) (keys_same kind (suc before) (spans table) i))
+          keys_moved (map key_of rows) (map key_of (published domain log spans before table)) (keys_of (suc before) (spans table)) (IsPermutation-map key_of rows (published domain log spans before table) moved)
+          ∙ (λ i. keys_agree (sym (unmarked_keys (published domain log spans before table)) i) (keys_same domain (suc before) (spans table) i))
 
-      differ : agree (made kind log spans before table) (held kind log spans before table) ≡ true → HaveDifferentIdentities (published kind log spans before table)
+      differ : agree (made domain log spans before table) (held domain log spans before table) ≡ true → HaveDifferentIdentities (published domain log spans before table)
       differ same =
-          let bag : SameBag (identified (made kind log spans before table)) (identified (held kind log spans before table)) =
-          unpermuted (identified (made kind log spans before table)) (identified (held kind log spans before table)) (agree_is (made kind log spans before table) (held kind log spans before table) same) in
-          rows_differ (published kind log spans before table)
+          let bag : SameBag (identified (made domain log spans before table)) (identified (held domain log spans before table)) =
+          unpermuted (identified (made domain log spans before table)) (identified (held domain log spans before table)) (agree_is (made domain log spans before table) (held domain log spans before table) same) in
+          rows_differ (published domain log spans before table)
           (distinct_bag
-          (subst (λ (own : List Identity). SameBag own (ids (held kind log spans before table))) (map-map (λ p. p.0) (λ row. (row.identity, row.cells)) (map unmarked (published kind log spans before table)) ∙ map-map (λ row. row.identity) unmarked (published kind log spans before table))
-          (subst (λ (own : List Identity). SameBag (map (λ p. p.0) (identified (made kind log spans before table))) own) (map-map (λ p. p.0) (λ row. (row.identity, row.cells)) (held kind log spans before table))
+          (subst (λ (own : List Identity). SameBag own (ids (held domain log spans before table))) (map-map (λ p. p.0) (λ row. (row.identity, row.cells)) (map unmarked (published domain log spans before table)) ∙ map-map (λ row. row.identity) unmarked (published domain log spans before table))
+          (subst (λ (own : List Identity). SameBag (map (λ p. p.0) (identified (made domain log spans before table))) own) (map-map (λ p. p.0) (λ row. (row.identity, row.cells)) (held domain log spans before table))
           (mapped (λ p. p.0) bag)))
-          (ids_differ (held kind log spans before table) (held_differ kind (spans_at (suc before) (spans table)) (held-differ (suc before) (spans table) apart))))
+          (ids_differ (held domain log spans before table) (held_differ domain (spans_at (suc before) (spans table)) (held-differ (suc before) (spans table) apart))))
 
-      annotation_is : agree (made kind log spans before table) (held kind log spans before table) ≡ true → (id : Identity) → annotation_of kind id rows ≡ annotation_of kind id (made kind log spans before table)
-      annotation_is same id = annotation_same kind id rows (published kind log spans before table) bag (differ same) ∙ sym (unmarked_annotation kind id (published kind log spans before table))
+      annotation_is : agree (made domain log spans before table) (held domain log spans before table) ≡ true → (id : Identity) → annotation_of domain id rows ≡ annotation_of domain id (made domain log spans before table)
+      annotation_is same id = annotation_same domain id rows (published domain log spans before table) bag (differ same) ∙ sym (unmarked_annotation domain id (published domain log spans before table))
 
-      annotations : agree (made kind log spans before table) (held kind log spans before table) ≡ true → (id : Identity) → unwrap_or (first_noted id rows) kind.one ≡ annotation_of kind id (made kind log spans before table)
-      annotations same id = noted_is kind id rows ∙ annotation_is same id
+      annotations : agree (made domain log spans before table) (held domain log spans before table) ≡ true → (id : Identity) → unwrap_or (first_noted id rows) domain.one ≡ annotation_of domain id (made domain log spans before table)
+      annotations same id = noted_is domain id rows ∙ annotation_is same id
 
       -- of a row that the transaction wrote
-      written : agree (made kind log spans before table) (held kind log spans before table) ≡ true → (id : Identity) (annotation : M) → first_written id rows ≡ Some annotation
-          → annotation ≡ annotation_of kind id (made kind log spans before table)
+      written : agree (made domain log spans before table) (held domain log spans before table) ≡ true → (id : Identity) (annotation : M) → first_written id rows ≡ Some annotation
+          → annotation ≡ annotation_of domain id (made domain log spans before table)
       written same id annotation is =
-          sym (written_is kind id rows
-          (rows_differ rows (distinct_bag (mapped (λ (row : Annotated M). row.identity) bag) (ids_differ (published kind log spans before table) (differ same))))
+          sym (written_is domain id rows
+          (rows_differ rows (distinct_bag (mapped (λ (row : Annotated M). row.identity) bag) (ids_differ (published domain log spans before table) (differ same))))
           annotation is)
           ∙ annotation_is same id
 
-      noted_span : agree (made kind log spans before table) (held kind log spans before table) ≡ true → (notes : BTreeMap Identity M) → ((id : Identity) → get identity_cmp notes id ≡ first_written id rows)
-          → (span : Span) → is_noted (suc before) notes span ≡ true → (span.from == suc before) ≡ true → unwrap_or (get identity_cmp notes span.id) kind.one ≡ annotation_of kind span.id (made kind log spans before table)
+      noted_span : agree (made domain log spans before table) (held domain log spans before table) ≡ true → (notes : BTreeMap Identity M) → ((id : Identity) → get identity_cmp notes id ≡ first_written id rows)
+          → (span : Span) → is_noted (suc before) notes span ≡ true → (span.from == suc before) ≡ true → unwrap_or (get identity_cmp notes span.id) domain.one ≡ annotation_of domain span.id (made domain log spans before table)
       noted_span same notes finds span is begins =
           by_note (get identity_cmp notes span.id) (finds span.id) (sym (ap (λ b. cond b (is_some (get identity_cmp notes span.id)) true) begins) ∙ is)
         where
-          by_note : (o : Option M) → o ≡ first_written span.id rows → is_some o ≡ true → unwrap_or o kind.one ≡ annotation_of kind span.id (made kind log spans before table)
+          by_note : (o : Option M) → o ≡ first_written span.id rows → is_some o ≡ true → unwrap_or o domain.one ≡ annotation_of domain span.id (made domain log spans before table)
           by_note None at there = absurd (true≢false (sym there))
           by_note (Some annotation) at there = written same span.id annotation (sym at)
 
-      all_noted : agree (made kind log spans before table) (held kind log spans before table) ≡ true → (notes : BTreeMap Identity M) → ((id : Identity) → get identity_cmp notes id ≡ first_written id rows)
-          → (all : List Span) → are_noted (suc before) notes all ≡ true → Finds kind (suc before) notes all (made kind log spans before table)
+      all_noted : agree (made domain log spans before table) (held domain log spans before table) ≡ true → (notes : BTreeMap Identity M) → ((id : Identity) → get identity_cmp notes id ≡ first_written id rows)
+          → (all : List Span) → are_noted (suc before) notes all ≡ true → Finds domain (suc before) notes all (made domain log spans before table)
       all_noted same notes finds [] there = tt
       all_noted same notes finds (span ∷ all) there =
-          let parts = both (is_noted (suc before) notes span) (are_noted (suc before) notes all) there in
+          let parts = and_parts (is_noted (suc before) notes span) (are_noted (suc before) notes all) there in
           (λ begins. noted_span same notes finds span parts.0 begins, all_noted same notes finds all parts.1)
 
-      each_noted : agree (made kind log spans before table) (held kind log spans before table) ≡ true → (notes : BTreeMap Identity M) → ((id : Identity) → get identity_cmp notes id ≡ first_noted id rows)
-          → (all : List Span) → Finds kind (suc before) notes all (made kind log spans before table)
+      each_noted : agree (made domain log spans before table) (held domain log spans before table) ≡ true → (notes : BTreeMap Identity M) → ((id : Identity) → get identity_cmp notes id ≡ first_noted id rows)
+          → (all : List Span) → Finds domain (suc before) notes all (made domain log spans before table)
       each_noted same notes finds [] = tt
-      each_noted same notes finds (span ∷ all) = (λ begins. ap (λ o. unwrap_or o kind.one) (finds span.id) ∙ annotations same span.id, each_noted same notes finds all)
+      each_noted same notes finds (span ∷ all) = (λ begins. ap (λ o. unwrap_or o domain.one) (finds span.id) ∙ annotations same span.id, each_noted same notes finds all)
 
-      notes_are : agree (made kind log spans before table) (held kind log spans before table) ≡ true → (notes : BTreeMap Identity M) → AreNotes rows (spans table) (suc before) notes
-          → Finds kind (suc before) notes (spans table) (made kind log spans before table)
+      notes_are : agree (made domain log spans before table) (held domain log spans before table) ≡ true → (notes : BTreeMap Identity M) → AreNotes rows (spans table) (suc before) notes
+          → Finds domain (suc before) notes (spans table) (made domain log spans before table)
       notes_are same notes (inl every) = each_noted same notes every (spans table)
       notes_are same notes (inr some) = all_noted same notes some.0 (spans table) some.1
 
-      by : (result : Result (Option (BTreeMap Identity M)) HistoryStop) → FindsRows rows (spans table) (suc before) table result → ChangesTable kind log spans before table result
+      by : (result : Result (Option (BTreeMap Identity M)) HistoryStop) → FindsRows rows (spans table) (suc before) table result → ChangesTable domain log spans before table result
       by (Ok None) finds = absurd finds
       by (Ok (Some notes)) finds =
           let same = sym keys ∙ finds.0 in
@@ -225,43 +224,43 @@ module _ {M : Type 0} (kind : Annotations M) (entries : List Entry) (spans : ℕ
       by (Err NoMemory) finds = tt
 
   -- a program that stops, stops its commit
-  pub stops_change : (table : ℕ) (stop : Stop) → option_map step_stop (maker_stop kind log spans before) ≡ Some stop → option_map stop_refusal (maker_stop kind log spans before) ≡ Some (refusal_at (maker log before) stop)
+  pub stops_change : (table : ℕ) (stop : Stop) → option_map step_stop (maker_stop domain log spans before) ≡ Some stop → option_map stop_refusal (maker_stop domain log spans before) ≡ Some (refusal_at (maker log before) stop)
   stops_change table stop is =
-      run_refused kind limits log (maker log before) (past kind log spans before) (log.statement_count (maker log before)) ∙ ap (option_map (refusal_at (maker log before))) is
+      run_refused domain parameters log (maker log before) (past domain log spans before) (log.statement_count (maker log before)) ∙ ap (option_map (refusal_at (maker log before))) is
 
   -- ---- all tables
 
   abbrev differs : ℕ → Option Refusal
-  differs count = difference kind limits agree (tables_in entries) (suc before) count (made kind log spans before) (held kind log spans before)
+  differs count = difference domain parameters agree (tables_in entries) (suc before) count (made domain log spans before) (held domain log spans before)
 
   -- the first tables, this many, agree
   pub record Partly (count : ℕ) (changes : List (Option (BTreeMap Identity M))) : Type 0 where
     pub many : length changes ≡ count
-    pub each : (table : ℕ) (change : Option (BTreeMap Identity M)) → slice_get changes table ≡ Some change → IsChange kind log (maker log before) (suc before) table (spans table) (made kind log spans before table) change
+    pub each : (table : ℕ) (change : Option (BTreeMap Identity M)) → slice_get changes table ≡ Some change → IsChange domain log (maker log before) (suc before) table (spans table) (made domain log spans before table) change
     pub same : differs count ≡ None
-    pub stop : (maker_stop kind log spans before ≡ None) ⊎ ((table : ℕ) → table < count → last_write log (maker log before) (log.statement_count (maker log before)) table ≡ None)
+    pub stop : (maker_stop domain log spans before ≡ None) ⊎ ((table : ℕ) → table < count → last_write log (maker log before) (log.statement_count (maker log before)) table ≡ None)
 
   pub partly_none : Partly zero []
   partly_none = record { many = refl; each = λ table change is. absurd (cc); same = refl; stop = inr (λ table less. absurd (omega arith)) }
 
-  module _ (image : IsImage kind) (fit : statements_fit (tables_in entries) entries ≡ true) (spans_fit : SpansFit (tables_in entries) spans) where
+  module _ (image : IsImage domain) (fit : statements_fit (tables_in entries) entries ≡ true) (spans_fit : SpansFit (tables_in entries) spans) where
     -- a table that is kept agrees
-    kept_agrees : (table : ℕ) → IsKept log (maker log before) (suc before) table (spans table) → agree (made kind log spans before table) (held kind log spans before table) ≡ true
+    kept_agrees : (table : ℕ) → IsKept log (maker log before) (suc before) table (spans table) → agree (made domain log spans before table) (held domain log spans before table) ≡ true
     kept_agrees table kept =
-        agree_from (made kind log spans before table) (held kind log spans before table)
-        (subst (λ own. IsPermutation own (identified (held kind log spans before table))) (sym same) (IsPermutation-refl (identified (held kind log spans before table))))
+        agree_from (made domain log spans before table) (held domain log spans before table)
+        (subst (λ own. IsPermutation own (identified (held domain log spans before table))) (sym same) (IsPermutation-refl (identified (held domain log spans before table))))
       where
-        same : identified (made kind log spans before table) ≡ identified (held kind log spans before table)
+        same : identified (made domain log spans before table) ≡ identified (held domain log spans before table)
         same =
-            unmarked_identified (published kind log spans before table)
-            ∙ ap identified (kept_is kind image entries spans fit spans_fit before (maker log before) before table kept.unwritten)
+            unmarked_identified (published domain log spans before table)
+            ∙ ap identified (kept_is domain image entries spans fit spans_fit before (maker log before) before table kept.unwritten)
             ∙ map-map (λ row. (row.identity, row.cells)) _ (spans_at before (spans table))
             ∙ ap (map (λ (span : Span). (span.id, span.row))) (sym (untouched_spans before (spans table) kept.untouched))
-            ∙ sym (map-map (λ row. (row.identity, row.cells)) (row_of kind) (spans_at (suc before) (spans table)))
+            ∙ sym (map-map (λ row. (row.identity, row.cells)) (row_of domain) (spans_at (suc before) (spans table)))
 
     -- one more table
     pub partly_more : (count : ℕ) (changes : List (Option (BTreeMap Identity M))) (change : Option (BTreeMap Identity M)) → Partly count changes
-        → ChangesTable kind log spans before count (Ok change) → Partly (suc count) (changes ++ change ∷ [])
+        → ChangesTable domain log spans before count (Ok change) → Partly (suc count) (changes ++ change ∷ [])
     partly_more count changes change partly changed = record {
       many = omega (arith, length-append changes (change ∷ []), partly.many);
       each = λ table other is. each_more table other is (below_or_last table other is);
@@ -273,33 +272,33 @@ module _ {M : Type 0} (kind : Annotations M) (entries : List Entry) (spans : ℕ
             → (slice_get changes table ≡ Some other) ⊎ ((table ≡ count) × (change ≡ other))
         below_or_last table other is = pushed changes change table count other partly.many is
 
-        own : (change : Option (BTreeMap Identity M)) → ChangesTable kind log spans before count (Ok change)
-            → IsChange kind log (maker log before) (suc before) count (spans count) (made kind log spans before count) change
+        own : (change : Option (BTreeMap Identity M)) → ChangesTable domain log spans before count (Ok change)
+            → IsChange domain log (maker log before) (suc before) count (spans count) (made domain log spans before count) change
         own None changed = changed
         own (Some found) changed = changed.1.1
 
         each_more : (table : ℕ) (other : Option (BTreeMap Identity M)) → slice_get (changes ++ change ∷ []) table ≡ Some other
             → (slice_get changes table ≡ Some other) ⊎ ((table ≡ count) × (change ≡ other))
-            → IsChange kind log (maker log before) (suc before) table (spans table) (made kind log spans before table) other
+            → IsChange domain log (maker log before) (suc before) table (spans table) (made domain log spans before table) other
         each_more table other is (inl earlier) = partly.each table other earlier
         each_more table other is (inr last) =
-            subst (λ n. IsChange kind log (maker log before) (suc before) n (spans n) (made kind log spans before n) other) (sym last.0)
-            (subst (λ o. IsChange kind log (maker log before) (suc before) count (spans count) (made kind log spans before count) o) last.1 (own change changed))
+            subst (λ n. IsChange domain log (maker log before) (suc before) n (spans n) (made domain log spans before n) other) (sym last.0)
+            (subst (λ o. IsChange domain log (maker log before) (suc before) count (spans count) (made domain log spans before count) o) last.1 (own change changed))
 
-        agreed : agree (made kind log spans before count) (held kind log spans before count) ≡ true → differs (suc count) ≡ None
+        agreed : agree (made domain log spans before count) (held domain log spans before count) ≡ true → differs (suc count) ≡ None
         agreed same = λ i. option_or (partly.same i) (cond (same i) None (Some (E24 (suc before) (name_at count (tables_in entries)))))
 
-        by : (change : Option (BTreeMap Identity M)) → ChangesTable kind log spans before count (Ok change) → differs (suc count) ≡ None
+        by : (change : Option (BTreeMap Identity M)) → ChangesTable domain log spans before count (Ok change) → differs (suc count) ≡ None
         by None changed = agreed (kept_agrees count changed)
         by (Some found) changed = agreed changed.1.0
 
-        stopping : (change : Option (BTreeMap Identity M)) → ChangesTable kind log spans before count (Ok change)
-            → (maker_stop kind log spans before ≡ None) ⊎ ((table : ℕ) → table < suc count → last_write log (maker log before) (log.statement_count (maker log before)) table ≡ None)
+        stopping : (change : Option (BTreeMap Identity M)) → ChangesTable domain log spans before count (Ok change)
+            → (maker_stop domain log spans before ≡ None) ⊎ ((table : ℕ) → table < suc count → last_write log (maker log before) (log.statement_count (maker log before)) table ≡ None)
         stopping (Some found) changed = inl changed.0
         stopping None changed = earlier partly.stop
           where
-            earlier : (maker_stop kind log spans before ≡ None) ⊎ ((table : ℕ) → table < count → last_write log (maker log before) (log.statement_count (maker log before)) table ≡ None)
-                → (maker_stop kind log spans before ≡ None) ⊎ ((table : ℕ) → table < suc count → last_write log (maker log before) (log.statement_count (maker log before)) table ≡ None)
+            earlier : (maker_stop domain log spans before ≡ None) ⊎ ((table : ℕ) → table < count → last_write log (maker log before) (log.statement_count (maker log before)) table ≡ None)
+                → (maker_stop domain log spans before ≡ None) ⊎ ((table : ℕ) → table < suc count → last_write log (maker log before) (log.statement_count (maker log before)) table ≡ None)
             earlier (inl never) = inl never
             earlier (inr unwritten) = inr (λ table less. at table (eq-or-lt_of_le (omega arith)) unwritten)
               where
@@ -310,10 +309,10 @@ module _ {M : Type 0} (kind : Annotations M) (entries : List Entry) (spans : ℕ
 
     -- a stop of the next table is that of the commit
     pub partly_stop : {X : Type 0} (P : X → Type 0) (count : ℕ) (changes : List (Option (BTreeMap Identity M))) (stop : HistoryStop) → Partly count changes → count < length (tables_in entries)
-        → ChangesTable kind log spans before count (Err stop) → Annotates {X = X} P (tables_in entries) (Err stop) (commit_stop kind log spans before (tables_in entries))
+        → ChangesTable domain log spans before count (Err stop) → Annotates {X = X} P (tables_in entries) (Err stop) (commit_stop domain log spans before (tables_in entries))
     partly_stop P count changes (Inconsistent version table) partly less changed = (
       (λ i. option_or (option_map stop_refusal (changed.0 i))
-          (difference_first kind (tables_in entries) (suc before) count (length (tables_in entries)) (made kind log spans before) (held kind log spans before) less partly.same changed.1.0 i))
+          (difference_first domain (tables_in entries) (suc before) count (length (tables_in entries)) (made domain log spans before) (held domain log spans before) less partly.same changed.1.0 i))
           ∙ sym (λ i. Some (E24 (changed.1.1.0 i) (name_at (changed.1.1.1 i) (tables_in entries)))),
       subst (λ n. n < length (tables_in entries)) (sym changed.1.1.1) less,
     )
@@ -323,7 +322,7 @@ module _ {M : Type 0} (kind : Annotations M) (entries : List Entry) (spans : ℕ
 
     -- all tables
     pub partly_all : (count : ℕ) (changes : List (Option (BTreeMap Identity M))) → Partly count changes → count ≡ length (tables_in entries)
-        → (commit_stop kind log spans before (tables_in entries) ≡ None) × AreChanges kind log spans before (length (tables_in entries)) changes
+        → (commit_stop domain log spans before (tables_in entries) ≡ None) × AreChanges domain log spans before (length (tables_in entries)) changes
     partly_all count changes partly is = (
       (λ i. option_or (option_map stop_refusal (stop partly.stop i)) (same i)),
       record { many = partly.many ∙ is; each = partly.each },
@@ -332,39 +331,39 @@ module _ {M : Type 0} (kind : Annotations M) (entries : List Entry) (spans : ℕ
         same : differs (length (tables_in entries)) ≡ None
         same = subst (λ n. differs n ≡ None) is partly.same
 
-        stop : (maker_stop kind log spans before ≡ None) ⊎ ((table : ℕ) → table < count → last_write log (maker log before) (log.statement_count (maker log before)) table ≡ None) → maker_stop kind log spans before ≡ None
+        stop : (maker_stop domain log spans before ≡ None) ⊎ ((table : ℕ) → table < count → last_write log (maker log before) (log.statement_count (maker log before)) table ≡ None) → maker_stop domain log spans before ≡ None
         stop (inl never) = never
         stop (inr unwritten) =
-            never_stops kind (tables_in entries) log (maker log before) (past kind log spans before)
+            never_stops domain (tables_in entries) log (maker log before) (past domain log spans before)
             (λ k statement e. statement_at_fits (tables_in entries) entries fit (maker log before) k statement e) (log.statement_count (maker log before))
             (λ table less. unwritten table (omega arith))
 
 -- ---- commit by commit
 
-module _ {M : Type 0} (kind : Annotations M) (catalogue : List Table) (log : Log) (spans : ℕ → List Span) where
+module _ {M : Type 0} (domain : Annotations M) (catalogue : List Table) (log : Log) (spans : ℕ → List Span) where
   abbrev stop_upto : ℕ → Option Refusal
-  stop_upto u = annotation_stop kind limits agree catalogue log spans u
+  stop_upto u = annotation_stop domain parameters agree catalogue log spans u
 
-  stop_more : (u : ℕ) → stop_upto (suc u) ≡ option_or (stop_upto u) (commit_stop kind log spans u catalogue)
+  stop_more : (u : ℕ) → stop_upto (suc u) ≡ option_or (stop_upto u) (commit_stop domain log spans u catalogue)
   stop_more u =
-      ap (λ (db : Database M). option_or (stop_upto u) (option_or (option_map stop_refusal (maker_stop kind log spans u)) (difference kind limits agree catalogue (suc u) (length catalogue) db (held kind log spans u))))
-      (ap (λ b. cond b (made kind log spans u) (computed kind log spans u (suc u))) (same_number (suc u)))
+      ap (λ (db : Database M). option_or (stop_upto u) (option_or (option_map stop_refusal (maker_stop domain log spans u)) (difference domain parameters agree catalogue (suc u) (length catalogue) db (held domain log spans u))))
+      (ap (λ b. cond b (made domain log spans u) (computed domain log spans u (suc u))) (eq_itself (suc u)))
 
   -- no stop up to the next version
-  pub stop_none_more : (u : ℕ) → stop_upto u ≡ None → commit_stop kind log spans u catalogue ≡ None → stop_upto (suc u) ≡ None
+  pub stop_none_more : (u : ℕ) → stop_upto u ≡ None → commit_stop domain log spans u catalogue ≡ None → stop_upto (suc u) ≡ None
   stop_none_more u before now = stop_more u ∙ (λ i. option_or (before i) (now i))
 
   -- the first stop
-  stop_first : (u v : ℕ) (refusal : Refusal) → suc u ≤ v → stop_upto u ≡ None → commit_stop kind log spans u catalogue ≡ Some refusal → stop_upto v ≡ Some refusal
+  stop_first : (u v : ℕ) (refusal : Refusal) → suc u ≤ v → stop_upto u ≡ None → commit_stop domain log spans u catalogue ≡ Some refusal → stop_upto v ≡ Some refusal
   stop_first u zero refusal less before now = absurd (omega arith)
   stop_first u (suc v) refusal less before now = by (eq-or-lt_of_le (omega arith)) (λ lower. stop_first u v refusal lower before now)
     where
       by : (u ≡ v) ⊎ (u < v) → (suc u ≤ v → stop_upto v ≡ Some refusal) → stop_upto (suc v) ≡ Some refusal
       by (inl is) earlier = subst (λ n. stop_upto (suc n) ≡ Some refusal) is (stop_more u ∙ (λ i. option_or (before i) (now i)))
-      by (inr lower) earlier = stop_more v ∙ ap (λ o. option_or o (commit_stop kind log spans v catalogue)) (earlier lower)
+      by (inr lower) earlier = stop_more v ∙ ap (λ o. option_or o (commit_stop domain log spans v catalogue)) (earlier lower)
 
   pub stop_stays : {X Y : Type 0} (P : X → Type 0) (Q : Y → Type 0) (u v : ℕ) (stop : HistoryStop) → suc u ≤ v → stop_upto u ≡ None
-      → Annotates {X = X} P catalogue (Err stop) (commit_stop kind log spans u catalogue) → Annotates {X = Y} Q catalogue (Err stop) (stop_upto v)
+      → Annotates {X = X} P catalogue (Err stop) (commit_stop domain log spans u catalogue) → Annotates {X = Y} Q catalogue (Err stop) (stop_upto v)
   stop_stays P Q u v (Inconsistent version table) less before now = (stop_first u v (E24 version (name_at table catalogue)) less before now.0, now.1)
   stop_stays P Q u v (Rows t k) less before now = stop_first u v (E25 t k) less before now
   stop_stays P Q u v (Ancestry t k) less before now = stop_first u v (E26 t k) less before now

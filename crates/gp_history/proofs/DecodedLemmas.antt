@@ -1,6 +1,6 @@
 -- Rows with system columns stand for the rows that they encode.
 use Rattle.std.proofs.Common.{◌≡◌, ℕ, zero, suc, ◌+◌, ◌-◌, true, List, [], ◌∷◌, ◌++◌, length, get_or, take, map, refl, ap, ◌∙◌, arith, Some, length-append}
-use Rattle.gp_algebra.proofs.Bags.{SameBag, none, first, swapped, through}
+use Rattle.gp_base.proofs.Bags.{SameBag, none, first, swapped, through}
 use Rattle.gp_base.specs.declared.cell.Cell.{Cell}
 use Rattle.gp_base.specs.declared.cell.Cell.TheVariants as cell
 use Rattle.gp_base.specs.Annotated.{Annotated}

@@ -4,9 +4,9 @@ use Rattle.std.specs.Option.{option_map}
 use Rattle.std.proofs.lemmas.Bool.{and_parts, eq-eqb, eqb-true}
 use Rattle.std.proofs.lemmas.List.Sorted.{IsPermutation-refl}
 use Rattle.std.specs.List.Sorted.{IsPermutation}
-use Rattle.gp_algebra.proofs.Lists.{map-map}
 use Rattle.gp_algebra.specs.declared.plain.ScanAt.{ScanAt}
-use Rattle.gp_algebra.specs.AnnotatedQueries.{Derived, Program, program_meaning, scanned}
+use Rattle.gp_algebra.specs.AnnotatedQueries.{Program}
+use Rattle.gp_algebra.specs.AnnotatedMeaning.{Derived, program_meaning, scanned}
 use Rattle.gp_algebra.specs.Scans.{annotated_program_scans}
 use Rattle.gp_algebra.specs.Stops as stops
 use Rattle.gp_base.specs.declared.cell.Cell.{Cell}
@@ -16,7 +16,7 @@ use Rattle.gp_base.specs.Order.{row_cmp}
 use Rattle.gp_compose.proofs.ProgramLemmas.{table_program_is_built}
 use Rattle.gp_exec.specs.declared.error.ExecStop.{ExecStop}
 use Rattle.gp_exec.specs.declared.error.ExecStop.TheVariants as exec
-use Rattle.gp_exec.specs.declared.limit.TheConstants.{MAX_ANSWER_ROWS, MAX_TABLE_ROWS}
+use Rattle.gp_base.specs.declared.limit.TheConstants.{MAX_ANSWER_ROWS, MAX_TABLE_ROWS}
 use Rattle.gp_kexec.specs.declared.env.KEnv.{KEnv}
 use Rattle.gp_kexec.specs.declared.env.KRow.{KRow}
 use Rattle.gp_kexec.specs.declared.env.KScanned.{KScanned}
@@ -43,6 +43,7 @@ use Rattle.gp_history.proofs.ChangeLemmas.{columns, program_same, some, t}
 use Rattle.gp_history.proofs.CommitLemmas.{stop_none, stops_change}
 use Rattle.gp_history.proofs.ImageLemmas.{published_means, published_stops}
 use Rattle.gp_history.proofs.SpanLemmas.{versions_are}
+use Rattle.gp_base.proofs.SmallLemmas.{map-map}
 
 -- ---- scans of an environment
 
@@ -87,7 +88,7 @@ module _ {M : Type 0} (env : Environment M) where
 
 -- ---- a table that a transaction published
 
-module _ {M : Type 0} (kind : Annotations M) (image : IsImage kind) (entries : List Entry) (versions : List Versions) (sound : IsSound entries versions) (before : ℕ) (within : before < versions_in entries) (table : ℕ) where
+module _ {M : Type 0} (domain : Annotations M) (image : IsImage domain) (entries : List Entry) (versions : List Versions) (sound : IsSound entries versions) (before : ℕ) (within : before < versions_in entries) (table : ℕ) where
   abbrev spans : ℕ → List Span
   spans = spans_of versions
 
@@ -103,57 +104,57 @@ module _ {M : Type 0} (kind : Annotations M) (image : IsImage kind) (entries : L
         table_program_is_built (tables_in entries) entries sound.statements (t entries versions sound before within table) before table (some entries versions sound before within table),
       )
 
-  module _ (known : List (List M)) (are : AreAnnotated kind log spans before known) (env : KEnv M) (agree : AgreesOn (annotated_program_scans (maker_program entries before table)) (environment_view env) (versions_with spans known)) where
-    over : (past kind log spans before) ≡ versions_with spans known
-    over = sym (versions_are kind log spans before known are)
+  module _ (known : List (List M)) (are : AreAnnotated domain log spans before known) (env : KEnv M) (agree : AgreesOn (annotated_program_scans (maker_program entries before table)) (environment_view env) (versions_with spans known)) where
+    over : (past domain log spans before) ≡ versions_with spans known
+    over = sym (versions_are domain log spans before known are)
 
-    rows_are : program_meaning kind (environment_view env) (maker_program entries before table) ≡ map (scanned kind) (published kind log spans before table)
+    rows_are : program_meaning domain (environment_view env) (maker_program entries before table) ≡ map (scanned domain) (published domain log spans before table)
     rows_are =
-        program_meaning_agrees kind (environment_view env) (versions_with spans known) (maker_program entries before table) agree
-        ∙ ap (λ (e : Environment M). program_meaning kind e (maker_program entries before table)) (sym over)
-        ∙ ap (program_meaning kind (past kind log spans before)) (program_same entries versions sound before within table)
-        ∙ published_means kind image entries spans sound.statements sound.spans before (t entries versions sound before within table) before table
+        program_meaning_agrees domain (environment_view env) (versions_with spans known) (maker_program entries before table) agree
+        ∙ ap (λ (e : Environment M). program_meaning domain e (maker_program entries before table)) (sym over)
+        ∙ ap (program_meaning domain (past domain log spans before)) (program_same entries versions sound before within table)
+        ∙ published_means domain image entries spans sound.statements sound.spans before (t entries versions sound before within table) before table
 
-    stop_is : program_stop kind MAX_TABLE_ROWS MAX_NODES (environment_view env) (maker_program entries before table) ≡ option_map step_stop (maker_stop kind log spans before)
+    stop_is : program_stop domain MAX_TABLE_ROWS MAX_NODES (environment_view env) (maker_program entries before table) ≡ option_map step_stop (maker_stop domain log spans before)
     stop_is =
-        program_stop_agrees kind (environment_view env) (versions_with spans known) MAX_TABLE_ROWS MAX_NODES (maker_program entries before table) agree
-        ∙ ap (λ (e : Environment M). program_stop kind MAX_TABLE_ROWS MAX_NODES e (maker_program entries before table)) (sym over)
-        ∙ ap (program_stop kind MAX_TABLE_ROWS MAX_NODES (past kind log spans before)) (program_same entries versions sound before within table)
-        ∙ published_stops kind image entries spans sound.statements sound.spans before (t entries versions sound before within table) before table
+        program_stop_agrees domain (environment_view env) (versions_with spans known) MAX_TABLE_ROWS MAX_NODES (maker_program entries before table) agree
+        ∙ ap (λ (e : Environment M). program_stop domain MAX_TABLE_ROWS MAX_NODES e (maker_program entries before table)) (sym over)
+        ∙ ap (program_stop domain MAX_TABLE_ROWS MAX_NODES (past domain log spans before)) (program_same entries versions sound before within table)
+        ∙ published_stops domain image entries spans sound.statements sound.spans before (t entries versions sound before within table) before table
 
-    held_as : (held : List (Held M)) → map held_view held ≡ map (scanned kind) (map row_view held)
-    held_as held = sym (map-map (scanned kind) row_view held)
+    held_as : (held : List (Held M)) → map held_view held ≡ map (scanned domain) (map row_view held)
+    held_as held = sym (map-map (scanned domain) row_view held)
 
-    pub publishes : {X : Type 0} (view : X → List (Held M)) (result : Result X ExecStop) → RunsTable kind view result env (maker_program entries before table)
-        → Publishes kind log spans before (λ found. map row_view (view found)) table result
+    pub publishes : {X : Type 0} (view : X → List (Held M)) (result : Result X ExecStop) → RunsTable domain view result env (maker_program entries before table)
+        → Publishes domain log spans before (λ found. map row_view (view found)) table result
     publishes view (Ok found) runs = (
-      stop_none (maker_stop kind log spans before) (sym stop_is ∙ runs.0),
-      subst (λ (rows : List (Annotated M)). IsPermutation rows (published kind log spans before table))
-          (sym (scanned_once kind (map row_view (view found)) (published kind log spans before table) (sym (held_as (view found)) ∙ runs.1 ∙ rows_are)))
-          (IsPermutation-refl (published kind log spans before table)),
+      stop_none (maker_stop domain log spans before) (sym stop_is ∙ runs.0),
+      subst (λ (rows : List (Annotated M)). IsPermutation rows (published domain log spans before table))
+          (sym (scanned_once domain (map row_view (view found)) (published domain log spans before table) (sym (held_as (view found)) ∙ runs.1 ∙ rows_are)))
+          (IsPermutation-refl (published domain log spans before table)),
     )
-    publishes view (Err (exec.Rows j)) runs = stops_change kind entries spans before table (stops.rows j) (sym stop_is ∙ runs)
-    publishes view (Err (exec.Ancestry j)) runs = stops_change kind entries spans before table (stops.ancestry j) (sym stop_is ∙ runs)
+    publishes view (Err (exec.Rows j)) runs = stops_change domain entries spans before table (stops.rows j) (sym stop_is ∙ runs)
+    publishes view (Err (exec.Ancestry j)) runs = stops_change domain entries spans before table (stops.ancestry j) (sym stop_is ∙ runs)
     publishes view (Err exec.Answer) runs = absurd runs
     publishes view (Err exec.NoMemory) runs = tt
 
 -- ---- sums
 
 -- a run over the scans that a program has asked for
-pub sums_are : {K : Type 0} (kind : Annotations K) (plus : K → K → K) {X : Type 0} (view : X → List (KRow K)) (result : Result X ExecStop) (env : KEnv K) (other : Environment K) (program : Program)
-    → AgreesOn (annotated_program_scans program) (environment_view env) other → Runs kind view plus result env program → SumsOver kind plus (λ found. map pair_view (view found)) result other program
-sums_are kind plus view result env other program agree runs = by result runs
+pub sums_are : {K : Type 0} (domain : Annotations K) (plus : K → K → K) {X : Type 0} (view : X → List (KRow K)) (result : Result X ExecStop) (env : KEnv K) (other : Environment K) (program : Program)
+    → AgreesOn (annotated_program_scans program) (environment_view env) other → Runs domain view plus result env program → SumsOver domain plus (λ found. map pair_view (view found)) result other program
+sums_are domain plus view result env other program agree runs = by result runs
   where
-    rows : program_meaning kind (environment_view env) program ≡ program_meaning kind other program
-    rows = program_meaning_agrees kind (environment_view env) other program agree
+    rows : program_meaning domain (environment_view env) program ≡ program_meaning domain other program
+    rows = program_meaning_agrees domain (environment_view env) other program agree
 
-    stop : program_stop kind MAX_TABLE_ROWS MAX_NODES (environment_view env) program ≡ program_stop kind MAX_TABLE_ROWS MAX_NODES other program
-    stop = program_stop_agrees kind (environment_view env) other MAX_TABLE_ROWS MAX_NODES program agree
+    stop : program_stop domain MAX_TABLE_ROWS MAX_NODES (environment_view env) program ≡ program_stop domain MAX_TABLE_ROWS MAX_NODES other program
+    stop = program_stop_agrees domain (environment_view env) other MAX_TABLE_ROWS MAX_NODES program agree
 
-    sums : summed row_cmp plus (pairs_of (program_meaning kind (environment_view env) program)) ≡ summed row_cmp plus (pairs_of (program_meaning kind other program))
+    sums : summed row_cmp plus (pairs_of (program_meaning domain (environment_view env) program)) ≡ summed row_cmp plus (pairs_of (program_meaning domain other program))
     sums = ap (λ (all : List (Derived _)). summed row_cmp plus (pairs_of all)) rows
 
-    by : (result : Result _ ExecStop) → Runs kind view plus result env program → SumsOver kind plus (λ found. map pair_view (view found)) result other program
+    by : (result : Result _ ExecStop) → Runs domain view plus result env program → SumsOver domain plus (λ found. map pair_view (view found)) result other program
     by (Ok found) runs = (sym stop ∙ runs.0, (runs.1.0 ∙ sums, subst (λ (all : List (List Cell × _)). length all ≤ MAX_ANSWER_ROWS) sums runs.1.1))
     by (Err (exec.Rows j)) runs = sym stop ∙ runs
     by (Err (exec.Ancestry j)) runs = sym stop ∙ runs

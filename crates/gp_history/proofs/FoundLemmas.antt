@@ -4,16 +4,10 @@ use Rattle.std.specs.BTreeMap.{BTreeMap, Updates, get}
 use Rattle.std.specs.Option.{option_or}
 use Rattle.std.specs.Prelude.{is_some}
 use Rattle.std.specs.Ordering.{is_eq}
-use Rattle.std.specs.declared.cmp.Ordering.{Ordering}
-use Rattle.std.specs.declared.cmp.Ordering.TheVariants.{Less, Equal, Greater}
 use Rattle.gp_base.specs.Identities.{Identity, identity_cmp}
 use Rattle.gp_base.specs.IdentityOrder.{identity_cmp-exact}
 use Rattle.gp_history.specs.Noted.{noted}
-
-tied : (o : Ordering) → is_eq o ≡ true → o ≡ Equal
-tied Less e = absurd (true≢false (sym e))
-tied Equal e = refl
-tied Greater e = absurd (true≢false (sym e))
+use Rattle.gp_base.proofs.OrderLemmas.{equal_from_is_eq}
 
 module _ {M : Type 0} where
   absent : (o : Option M) → is_some o ≡ false → o ≡ None
@@ -27,7 +21,7 @@ module _ {M : Type 0} where
     where
       by : (b : Bool) → is_eq (identity_cmp id other) ≡ b → cond b (Some annotation) (get identity_cmp old other) ≡ option_or (get identity_cmp old other) (cond b (Some annotation) None)
       by true is =
-          let same : id ≡ other = identity_cmp-exact id other (tied (identity_cmp id other) is) in
+          let same : id ≡ other = identity_cmp-exact id other (equal_from_is_eq (identity_cmp id other) is) in
           sym (ap (λ o. option_or o (Some annotation)) (ap (get identity_cmp old) (sym same) ∙ absent (get identity_cmp old id) none))
       by false is = keep (get identity_cmp old other)
         where
@@ -48,7 +42,7 @@ module _ {M : Type 0} where
       by : (b : Bool) → is_eq (identity_cmp id other) ≡ b → get identity_cmp old other ≡ option_or (get identity_cmp old other) (cond b (Some annotation) None)
       by true is =
           whole (get identity_cmp old other) true
-          (λ yes. ap (λ (key : Identity). is_some (get identity_cmp old key)) (sym (identity_cmp-exact id other (tied (identity_cmp id other) is))) ∙ some)
+          (λ yes. ap (λ (key : Identity). is_some (get identity_cmp old key)) (sym (identity_cmp-exact id other (equal_from_is_eq (identity_cmp id other) is))) ∙ some)
       by false is = whole (get identity_cmp old other) false (λ no. absurd (true≢false (sym no)))
 
   -- a row without an identity or an annotation adds none

@@ -7,18 +7,19 @@ use Rattle.std.proofs.lemmas.List.{append-nil, append_assoc}
 use Rattle.gp_base.specs.declared.row_id.TheConstants.{MAX_NODES}
 use Rattle.gp_base.specs.declared.token.Token.{Token}
 use Rattle.gp_base.specs.Annotated.{Annotated, Annotations, Environment}
-use Rattle.gp_algebra.specs.AnnotatedQueries as q
-use Rattle.gp_algebra.specs.AnnotatedQueries.{Derived, Program, Query, scanned}
-use Rattle.gp_algebra.specs.Fitting.{width_of}
+use Rattle.gp_algebra.specs.AnnotatedMeaning as qm
+use Rattle.gp_algebra.specs.AnnotatedQueries.{Program, Query}
+use Rattle.gp_algebra.specs.AnnotatedMeaning.{Derived, scanned}
+use Rattle.gp_algebra.specs.Statements.{width_of}
 use Rattle.gp_algebra.specs.Plain.{no_steps}
 use Rattle.gp_algebra.specs.Reannotation.{reannotated}
 use Rattle.gp_compose.specs.Composed.{composed, current, last_write, onto, published_table}
 use Rattle.gp_compose.proofs.ProgramLemmas.{composed_step_is, published_table_gives}
-use Rattle.gp_exec.specs.declared.limit.TheConstants.{MAX_TABLE_ROWS}
+use Rattle.gp_base.specs.declared.limit.TheConstants.{MAX_TABLE_ROWS}
 use Rattle.gp_kexec.specs.AnnotatedStops.{program_stop}
-use Rattle.gp_kexec.specs.InSemiring.{derived_reannotated, environment_reannotated, words}
+use Rattle.gp_kexec.specs.SemiringForms.{derived_reannotated, environment_reannotated, words}
 use Rattle.gp_kexec.proofs.CarryLemmas.{program_carried, program_stop_carried}
-use Rattle.gp_log.specs.Limits.{limits}
+use Rattle.gp_log.specs.Parameters.{parameters}
 use Rattle.gp_log.specs.LogFacts.{tables_in}
 use Rattle.gp_log.specs.LogFitting.{SpansFit, statements_fit}
 use Rattle.gp_machine.specs.Annotating.{annotated, computed}
@@ -40,47 +41,47 @@ word_monoid = record { right_one = append-nil; associative = append_assoc }
 
 -- ---- versions
 
-module _ {M : Type 0} (kind : Annotations M) (image : IsImage kind) (log : Log) (spans : ℕ → List Span) (n : ℕ) where
+module _ {M : Type 0} (domain : Annotations M) (image : IsImage domain) (log : Log) (spans : ℕ → List Span) (n : ℕ) where
   abbrev pub env : Environment M
-  env = annotated kind spans (computed kind log spans n)
+  env = annotated domain spans (computed domain log spans n)
 
   abbrev pub word_env : Environment (List Token)
   word_env = annotated words spans (computed words log spans n)
 
   pub env_carried : VersionsReannotate image.image word_env env
-  env_carried = annotated_reannotated words kind image.image image.keeps spans (computed words log spans n) (computed kind log spans n) (computed_reannotated words kind image.image image.keeps spans log n)
+  env_carried = annotated_reannotated words domain image.image image.keeps spans (computed words log spans n) (computed domain log spans n) (computed_reannotated words domain image.image image.keeps spans log n)
 
   env_is : environment_reannotated image.image word_env ≡ env
   env_is = λ i. λ version table. sym (env_carried version table) i
 
   -- the rows and the stop of a program
-  pub meaning_carried : (program : Program) → q.program_meaning kind env program ≡ map (derived_reannotated image.image) (q.program_meaning words word_env program)
-  meaning_carried program = ap (λ e. q.program_meaning kind e program) (sym env_is) ∙ program_carried words kind image.image image.keeps word_env program
+  pub meaning_carried : (program : Program) → qm.program_meaning domain env program ≡ map (derived_reannotated image.image) (qm.program_meaning words word_env program)
+  meaning_carried program = ap (λ e. qm.program_meaning domain e program) (sym env_is) ∙ program_carried words domain image.image image.keeps word_env program
 
-  pub stop_carried : (most_rows most_nodes : ℕ) (program : Program) → program_stop kind most_rows most_nodes env program ≡ program_stop words most_rows most_nodes word_env program
+  pub stop_carried : (most_rows most_nodes : ℕ) (program : Program) → program_stop domain most_rows most_nodes env program ≡ program_stop words most_rows most_nodes word_env program
   stop_carried most_rows most_nodes program =
-      ap (λ e. program_stop kind most_rows most_nodes e program) (sym env_is) ∙ program_stop_carried words kind image.image image.keeps word_env most_rows most_nodes program
+      ap (λ e. program_stop domain most_rows most_nodes e program) (sym env_is) ∙ program_stop_carried words domain image.image image.keeps word_env most_rows most_nodes program
 
   -- the stop of a run
-  pub run_carried : (t k : ℕ) → run_stop kind limits log t k env ≡ run_stop words limits log t k word_env
-  run_carried t k = run_stop_reannotated words kind image.image image.keeps word_env env env_carried limits log t k
+  pub run_carried : (t k : ℕ) → run_stop domain parameters log t k env ≡ run_stop words parameters log t k word_env
+  run_carried t k = run_stop_reannotated words domain image.image image.keeps word_env env env_carried parameters log t k
 
 -- rows of tables, scanned
-scanned_carried : {M N : Type 0} (kind : Annotations M) (other : Annotations N) (h : M → N) (rows : List (Annotated M)) → map (derived_reannotated h) (map (scanned kind) rows) ≡ map (scanned other) (map (reannotated h) rows)
-scanned_carried kind other h [] = refl
-scanned_carried kind other h (row ∷ rows) = ap (λ rest. scanned other (reannotated h row) ∷ rest) (scanned_carried kind other h rows)
+scanned_carried : {M N : Type 0} (domain : Annotations M) (other : Annotations N) (h : M → N) (rows : List (Annotated M)) → map (derived_reannotated h) (map (scanned domain) rows) ≡ map (scanned other) (map (reannotated h) rows)
+scanned_carried domain other h [] = refl
+scanned_carried domain other h (row ∷ rows) = ap (λ rest. scanned other (reannotated h row) ∷ rest) (scanned_carried domain other h rows)
 
 -- ---- programs of a log
 
-module _ {M : Type 0} (kind : Annotations M) (image : IsImage kind) (entries : List Entry) (spans : ℕ → List Span) (fit : statements_fit (tables_in entries) entries ≡ true) (spans_fit : SpansFit (tables_in entries) spans) (n : ℕ) where
+module _ {M : Type 0} (domain : Annotations M) (image : IsImage domain) (entries : List Entry) (spans : ℕ → List Span) (fit : statements_fit (tables_in entries) entries ≡ true) (spans_fit : SpansFit (tables_in entries) spans) (n : ℕ) where
   abbrev columns : ℕ → ℕ
   columns = width_of (tables_in entries)
 
   abbrev past : Environment M
-  past = env kind image (log_of entries) spans n
+  past = env domain image (log_of entries) spans n
 
   abbrev word_past : Environment (List Token)
-  word_past = word_env kind image (log_of entries) spans n
+  word_past = word_env domain image (log_of entries) spans n
 
   word_wide : (version : ℕ) → AreAsWide columns (word_past version)
   word_wide = wide_rows words (tables_in entries) spans spans_fit (computed words (log_of entries) spans n)
@@ -90,29 +91,29 @@ module _ {M : Type 0} (kind : Annotations M) (image : IsImage kind) (entries : L
 
   -- a program with the steps of a transaction stops where its run does
   pub steps_stop_is : (t k : ℕ) (last : Query)
-      → program_stop kind MAX_TABLE_ROWS MAX_NODES past (record { steps = composed columns (log_of entries) t k; last = last })
-      ≡ option_map step_stop (run_stop kind limits (log_of entries) t k past)
+      → program_stop domain MAX_TABLE_ROWS MAX_NODES past (record { steps = composed columns (log_of entries) t k; last = last })
+      ≡ option_map step_stop (run_stop domain parameters (log_of entries) t k past)
   steps_stop_is t k last =
-      stop_carried kind image (log_of entries) spans n MAX_TABLE_ROWS MAX_NODES (record { steps = composed columns (log_of entries) t k; last = last })
-      ∙ program_stops words limits (tables_in entries) entries t k word_past last fit
+      stop_carried domain image (log_of entries) spans n MAX_TABLE_ROWS MAX_NODES (record { steps = composed columns (log_of entries) t k; last = last })
+      ∙ program_stops words parameters (tables_in entries) entries t k word_past last fit
       (held_rows words (tables_in entries) spans spans_fit (computed words (log_of entries) spans n))
       (λ j table statement within is writes_it. composed_step_is words word_monoid (tables_in entries) entries fit word_past word_wide word_unmarked t k j table statement within is writes_it)
-      ∙ ap (option_map step_stop) (sym (run_carried kind image (log_of entries) spans n t k))
+      ∙ ap (option_map step_stop) (sym (run_carried domain image (log_of entries) spans n t k))
 
   module _ (t before table : ℕ) where
     abbrev pub program : Program
     program = published_table columns (log_of entries) t before table
 
     -- the program of a table that a transaction published gives it
-    pub published_means : q.program_meaning kind past program ≡ map (scanned kind) (at_commit kind (log_of entries) t before past table)
+    pub published_means : qm.program_meaning domain past program ≡ map (scanned domain) (at_commit domain (log_of entries) t before past table)
     published_means =
-        meaning_carried kind image (log_of entries) spans n program
+        meaning_carried domain image (log_of entries) spans n program
         ∙ ap (map (derived_reannotated image.image)) (published_table_gives words word_monoid (tables_in entries) entries fit word_past word_wide word_unmarked t before table)
-        ∙ scanned_carried words kind image.image (at_commit words (log_of entries) t before word_past table)
-        ∙ ap (map (scanned kind)) (sym (at_commit_reannotated words kind image.image image.keeps word_past past (env_carried kind image (log_of entries) spans n) (log_of entries) t before table))
+        ∙ scanned_carried words domain image.image (at_commit words (log_of entries) t before word_past table)
+        ∙ ap (map (scanned domain)) (sym (at_commit_reannotated words domain image.image image.keeps word_past past (env_carried domain image (log_of entries) spans n) (log_of entries) t before table))
 
     -- and stops where its run does
-    pub published_stops : program_stop kind MAX_TABLE_ROWS MAX_NODES past program ≡ option_map step_stop (run_stop kind limits (log_of entries) t (statement_count t entries) past)
+    pub published_stops : program_stop domain MAX_TABLE_ROWS MAX_NODES past program ≡ option_map step_stop (run_stop domain parameters (log_of entries) t (statement_count t entries) past)
     published_stops = steps_stop_is t (statement_count t entries) program.last
 
     -- the query of the table, by the statement that wrote it last
@@ -122,10 +123,10 @@ module _ {M : Type 0} (kind : Annotations M) (image : IsImage kind) (entries : L
         onto ((log_of entries).version t count) before table write (current (log_of entries) t count table)
 
     -- a table without a statement on it is as in the version before
-    pub kept_is : last_write (log_of entries) t (statement_count t entries) table ≡ None → at_commit kind (log_of entries) t before past table ≡ past before table
+    pub kept_is : last_write (log_of entries) t (statement_count t entries) table ≡ None → at_commit domain (log_of entries) t before past table ≡ past before table
     kept_is none =
-        scanned_once kind (at_commit kind (log_of entries) t before past table) (past before table)
-        (sym published_means ∙ ap (λ o. q.meaning kind (q.steps_meaning kind past program.steps no_steps) past (published_by o)) none)
+        scanned_once domain (at_commit domain (log_of entries) t before past table) (past before table)
+        (sym published_means ∙ ap (λ o. qm.meaning domain (qm.steps_meaning domain past program.steps no_steps) past (published_by o)) none)
 
     scan_of : (o : Option ℕ) → last_write (log_of entries) t (statement_count t entries) table ≡ o → is_scan (published_by o) ≡ true → o ≡ None
     scan_of None is scans = refl

@@ -18,7 +18,7 @@ use Rattle.gp_history.specs.Agreement.{key_of}
 use Rattle.gp_history.specs.Matching.{TakesRow, keys_from, keys_of, span_key}
 use Rattle.gp_history.specs.Noted.{held_key}
 use Rattle.gp_history.specs.declared.matching.Places.{Places}
-use Rattle.gp_history.proofs.AgreementLemmas.{equal_from}
+use Rattle.gp_base.proofs.OrderLemmas.{equal_from_is_eq}
 
 -- ---- lists
 
@@ -52,8 +52,8 @@ split_keys rows kept written n front back =
 -- a row with the cells and the identity of a span
 pub row_matches : {M : Type 0} (row : Held M) (span : Span) → is_eq (identity_cmp row.id span.id) ≡ true → is_eq (row_cmp row.cells span.row) ≡ true → held_key row ≡ span_key span
 row_matches row span id cells =
-    let same_id : row.id ≡ span.id = identity_cmp-exact row.id span.id (equal_from (identity_cmp row.id span.id) id) in
-    let same_cells : row.cells ≡ span.row = exact_rows row.cells span.row (equal_from (row_cmp row.cells span.row) cells) in
+    let same_id : row.id ≡ span.id = identity_cmp-exact row.id span.id (equal_from_is_eq (identity_cmp row.id span.id) id) in
+    let same_cells : row.cells ≡ span.row = exact_rows row.cells span.row (equal_from_is_eq (row_cmp row.cells span.row) cells) in
     λ i. same_cells i ++ cell.Id (same_id i) ∷ []
 
 -- the first row that is left

@@ -6,21 +6,21 @@ use Rattle.gp_base.specs.Annotated.{Annotated, Annotations}
 use Rattle.gp_base.specs.Identities.{Identity, same_identity}
 use Rattle.gp_base.proofs.IdentityLaws.{same_identity-is}
 use Rattle.gp_machine.specs.Annotating.{annotation_of}
-use Rattle.gp_machine.specs.Views.{HaveDifferentIdentities}
-use Rattle.gp_machine.proofs.Distinct.{or_false}
+use Rattle.gp_machine.specs.SeenRows.{HaveDifferentIdentities}
 use Rattle.gp_versions.proofs.SameLemmas.{same-exact}
 use Rattle.gp_history.specs.Noted.{first_noted, first_written, written_note}
+use Rattle.std.proofs.lemmas.Bool.{or_parts}
 
-module _ {M : Type 0} (kind : Annotations M) where
+module _ {M : Type 0} (domain : Annotations M) where
   -- the first row with an identity
-  pub noted_is : (id : Identity) (rows : List (Annotated M)) → unwrap_or (first_noted id rows) kind.one ≡ annotation_of kind id rows
+  pub noted_is : (id : Identity) (rows : List (Annotated M)) → unwrap_or (first_noted id rows) domain.one ≡ annotation_of domain id rows
   noted_is id [] = refl
   noted_is id (row ∷ rows) =
-      ap (λ b. unwrap_or (option_or (cond b (Some row.annotation) None) (first_noted id rows)) kind.one) (sym (same_identity-is row.identity id))
+      ap (λ b. unwrap_or (option_or (cond b (Some row.annotation) None) (first_noted id rows)) domain.one) (sym (same_identity-is row.identity id))
       ∙ by (same_identity row.identity id) (noted_is id rows)
     where
-      by : (b : Bool) → unwrap_or (first_noted id rows) kind.one ≡ annotation_of kind id rows
-          → unwrap_or (option_or (cond b (Some row.annotation) None) (first_noted id rows)) kind.one ≡ cond b row.annotation (annotation_of kind id rows)
+      by : (b : Bool) → unwrap_or (first_noted id rows) domain.one ≡ annotation_of domain id rows
+          → unwrap_or (option_or (cond b (Some row.annotation) None) (first_noted id rows)) domain.one ≡ cond b row.annotation (annotation_of domain id rows)
       by true others = refl
       by false others = others
 
@@ -35,7 +35,7 @@ module _ {M : Type 0} (kind : Annotations M) where
   none_written : (id : Identity) (rows : List (Annotated M)) → list_any (λ row. same_identity row.identity id) rows ≡ false → first_written id rows ≡ None
   none_written id [] not = refl
   none_written id (row ∷ rows) not =
-      let parts = or_false (same_identity row.identity id) (list_any (λ row. same_identity row.identity id) rows) not in
+      let parts = or_parts (same_identity row.identity id) (list_any (λ row. same_identity row.identity id) rows) not in
       (λ i. option_or (note_is id row i) (none_written id rows parts.1 i))
       ∙ ap (λ b. option_or (note_by row.mark b row.annotation) None) parts.0
       ∙ by row.mark
@@ -46,7 +46,7 @@ module _ {M : Type 0} (kind : Annotations M) where
 
   -- where identities differ, the first written row with an identity is the row with it
   pub written_is : (id : Identity) (rows : List (Annotated M)) → HaveDifferentIdentities rows → (annotation : M)
-      → first_written id rows ≡ Some annotation → annotation_of kind id rows ≡ annotation
+      → first_written id rows ≡ Some annotation → annotation_of domain id rows ≡ annotation
   written_is id [] different annotation is = absurd (cc)
   written_is id (row ∷ rows) different annotation is =
       by row.mark (same_identity row.identity id) refl
@@ -60,8 +60,8 @@ module _ {M : Type 0} (kind : Annotations M) where
 
       by : (mark same : Bool) → same_identity row.identity id ≡ same
           → option_or (note_by mark same row.annotation) (first_written id rows) ≡ Some annotation
-          → (first_written id rows ≡ Some annotation → annotation_of kind id rows ≡ annotation)
-          → cond same row.annotation (annotation_of kind id rows) ≡ annotation
+          → (first_written id rows ≡ Some annotation → annotation_of domain id rows ≡ annotation)
+          → cond same row.annotation (annotation_of domain id rows) ≡ annotation
       by true true at found later = cc
       by true false at found later = later found
       by false false at found later = later found

@@ -10,22 +10,25 @@ use Rattle.gp_base.specs.Annotated.{Annotated, Annotations, Database, Environmen
 use Rattle.gp_base.specs.Tokens.{Monomial}
 use Rattle.gp_grammar.specs.Syntax as y
 use Rattle.gp_algebra.specs.AnnotatedQueries as q
-use Rattle.gp_algebra.specs.AnnotatedQueries.{Change, Derived, Query, QueryStep}
+use Rattle.gp_algebra.specs.AnnotatedMeaning as qm
+use Rattle.gp_algebra.specs.AnnotatedQueries.{Change, Query, QueryStep}
+use Rattle.gp_algebra.specs.AnnotatedMeaning.{Derived}
 use Rattle.gp_algebra.specs.Answers.{Element, answer}
-use Rattle.gp_algebra.specs.Fitting.{select_fits, width_of}
+use Rattle.gp_algebra.specs.Fitting.{select_fits}
+use Rattle.gp_algebra.specs.Statements.{width_of}
 use Rattle.gp_algebra.specs.Plain as p
-use Rattle.gp_algebra.specs.QueryForms.{HasSteps, IsWellBuilt, step_table}
+use Rattle.gp_algebra.specs.QueryForms.{HasSteps, IsWellBuilt}
+use Rattle.gp_algebra.specs.AnnotatedQueries.{step_table}
 use Rattle.gp_algebra.specs.Scans.{AgreeOn, annotated_program_scans, annotated_query_scans, annotated_steps_scans, program_scans, query_scans, steps_scans}
 use Rattle.gp_algebra.specs.Statements.{Select}
 use Rattle.gp_algebra.specs.Stops.{program_stop}
 use Rattle.gp_algebra.specs.WellBuilt.{is_well_built}
 use Rattle.gp_algebra.specs.declared.plain.ScanAt.{ScanAt}
-use Rattle.gp_algebra.proofs.Lists.{map-map}
 use Rattle.gp_compose.specs.Composed.{composed, program_at}
 use Rattle.gp_compose.proofs.ProgramLemmas.{asked_program_is_built, composed_step_is, program_is}
 use Rattle.gp_compose.proofs.ScanLemmas.{scans_are_needed}
-use Rattle.gp_exec.specs.declared.limit.TheConstants.{MAX_TABLE_ROWS}
-use Rattle.gp_log.specs.Limits.{limits}
+use Rattle.gp_base.specs.declared.limit.TheConstants.{MAX_TABLE_ROWS}
+use Rattle.gp_log.specs.Parameters.{parameters}
 use Rattle.gp_log.specs.LogFacts.{tables_in}
 use Rattle.gp_machine.specs.Annotating.{annotated, annotation_of, computed}
 use Rattle.gp_machine.specs.Committed.{cleared}
@@ -43,42 +46,41 @@ use Rattle.gp_reenact.proofs.StopLemmas.{gives_run, program_stops, step_stop}
 use Rattle.gp_rewrite.specs.Meaning.{AreAsWide, of_element, unmarked}
 use Rattle.gp_versions.specs.declared.span.Span.{Span}
 use Rattle.gp_versions.specs.Spans.{Versions, holds_at, is_before_end, spans_at}
-use Rattle.gp_history.specs.Provenance.{occurrence}
+use Rattle.gp_history.specs.Agreement.{occurrence}
 use Rattle.gp_history.specs.Sound.{IsSound}
-use Rattle.gp_history.proofs.TableLemmas.{both, held_rows, monoid, none_marked, wide_rows}
+use Rattle.gp_history.proofs.TableLemmas.{held_rows, monoid, none_marked, wide_rows}
+use Rattle.gp_base.proofs.SmallLemmas.{map-map, not_eq}
+use Rattle.std.proofs.lemmas.Bool.{and_parts}
 
 -- ---- versions that were computed stay
 
-below : (a b : ℕ) → a < b → (a == b) ≡ false
-below a b l = grind (arith, nat_tests)
-
-module _ {M : Type 0} (kind : Annotations M) (log : Log) (spans : ℕ → List Span) where
-  pub computed_stays : (w n v : ℕ) → v ≤ w → w ≤ n → computed kind log spans n v ≡ computed kind log spans w v
-  computed_stays w zero v l m = let same : w ≡ zero = omega arith in ap (λ u. computed kind log spans u v) (sym same)
+module _ {M : Type 0} (domain : Annotations M) (log : Log) (spans : ℕ → List Span) where
+  pub computed_stays : (w n v : ℕ) → v ≤ w → w ≤ n → computed domain log spans n v ≡ computed domain log spans w v
+  computed_stays w zero v l m = let same : w ≡ zero = omega arith in ap (λ u. computed domain log spans u v) (sym same)
   computed_stays w (suc n) v l m = by (eq-or-lt_of_le m) (λ less. computed_stays w n v l less)
     where
-      later : (db : Database M) (b : Bool) → b ≡ false → cond b db (computed kind log spans n v) ≡ computed kind log spans n v
+      later : (db : Database M) (b : Bool) → b ≡ false → cond b db (computed domain log spans n v) ≡ computed domain log spans n v
       later db true is = absurd (cc)
       later db false is = refl
 
-      by : (w ≡ suc n) ⊎ (w < suc n) → (w ≤ n → computed kind log spans n v ≡ computed kind log spans w v) → computed kind log spans (suc n) v ≡ computed kind log spans w v
-      by (inl same) earlier = ap (λ u. computed kind log spans u v) (sym same)
+      by : (w ≡ suc n) ⊎ (w < suc n) → (w ≤ n → computed domain log spans n v ≡ computed domain log spans w v) → computed domain log spans (suc n) v ≡ computed domain log spans w v
+      by (inl same) earlier = ap (λ u. computed domain log spans u v) (sym same)
       by (inr less) earlier =
-          later (cleared (at_commit kind log (log.committer (suc n)) n (annotated kind spans (computed kind log spans n)))) (v == suc n) (below v (suc n) (omega arith))
+          later (cleared (at_commit domain log (log.committer (suc n)) n (annotated domain spans (computed domain log spans n)))) (v == suc n) (not_eq v (suc n) (omega arith))
           ∙ earlier (omega arith)
 
   -- the rows of a version are annotated once its version is computed
-  pub rows_stay : (w n version table : ℕ) → version ≤ w → w ≤ n → annotated kind spans (computed kind log spans n) version table ≡ annotated kind spans (computed kind log spans w) version table
+  pub rows_stay : (w n version table : ℕ) → version ≤ w → w ≤ n → annotated domain spans (computed domain log spans n) version table ≡ annotated domain spans (computed domain log spans w) version table
   rows_stay w n version table l m = go (spans table)
     where
       begun : (span : Span) → holds_at version span ≡ true → span.from ≤ version
-      begun span holds = within span.from version (both (nat_le span.from version) (is_before_end version span.to) holds).0
+      begun span holds = within span.from version (and_parts (nat_le span.from version) (is_before_end version span.to) holds).0
         where
           within : (a b : ℕ) → nat_le a b ≡ true → a ≤ b
           within a b e = grind (arith, nat_tests)
 
       row : ℕ → Span → Annotated M
-      row u span = record { identity = span.id; cells = span.row; mark = false; annotation = annotation_of kind span.id (computed kind log spans u span.from table) }
+      row u span = record { identity = span.id; cells = span.row; mark = false; annotation = annotation_of domain span.id (computed domain log spans u span.from table) }
 
       go : (all : List Span) → map (row n) (spans_at version all) ≡ map (row w) (spans_at version all)
       go [] = refl
@@ -88,7 +90,7 @@ module _ {M : Type 0} (kind : Annotations M) (log : Log) (spans : ℕ → List S
               → map (row n) (cond b (span ∷ spans_at version all) (spans_at version all)) ≡ map (row w) (cond b (span ∷ spans_at version all) (spans_at version all))
           by true holds others =
               let from = begun span holds in
-              (λ i. record { identity = span.id; cells = span.row; mark = false; annotation = annotation_of kind span.id (computed_stays w n span.from (omega arith) m i table) } ∷ others i)
+              (λ i. record { identity = span.id; cells = span.row; mark = false; annotation = annotation_of domain span.id (computed_stays w n span.from (omega arith) m i table) } ∷ others i)
           by false holds others = others
 
 -- ---- the scans of a program with system columns
@@ -177,15 +179,15 @@ module _ (entries : List Entry) (versions : List Versions) (sound : IsSound entr
     pub gives : p.program_meaning (encoded true env) (plain_program columns true program) ≡ map occurrence (answer monomials select (at_point monomials entries point env))
     gives =
         answers_are columns true env widths program built
-        ∙ occurrences (q.program_meaning monomials env program) (answer monomials select (at_point monomials entries point env))
+        ∙ occurrences (qm.program_meaning monomials env program) (answer monomials select (at_point monomials entries point env))
         (program_is monomials monoid (tables_in entries) entries sound.statements env wide unmarked_rows point select fits)
 
     steps_stop_is : (t k : ℕ) (last : Query) → HasSteps columns (record { steps = composed columns (log_of entries) t k; last = last })
         → program_stop MAX_TABLE_ROWS MAX_NODES (encoded true env) (plain_program columns true (record { steps = composed columns (log_of entries) t k; last = last }))
-        ≡ option_map step_stop (run_stop monomials limits (log_of entries) t k env)
+        ≡ option_map step_stop (run_stop monomials parameters (log_of entries) t k env)
     steps_stop_is t k last has =
         let steps : List QueryStep = composed columns (log_of entries) t k in
-        program_stops true limits (tables_in entries) entries t k env last sound.statements
+        program_stops true parameters (tables_in entries) entries t k env last sound.statements
         (held_rows monomials (tables_in entries) spans sound.spans (computed monomials (log_of entries) spans n))
         (gives_run true columns (step_table steps) (log_of entries) t env k
         (λ j table statement within is writes_it. composed_step_is monomials monoid (tables_in entries) entries sound.statements env wide unmarked_rows t k j table statement within is writes_it)
@@ -198,14 +200,14 @@ module _ (entries : List Entry) (versions : List Versions) (sound : IsSound entr
   past = annotated monomials (spans_of versions) (computed monomials (log_of entries) (spans_of versions) n)
 
   pub stops : (point : y.State) → log_refusal entries point ≡ None
-      → own_stop monomials limits entries point past
+      → own_stop monomials parameters entries point past
       ≡ option_map (refusal_at (transaction_at point)) (program_stop MAX_TABLE_ROWS MAX_NODES (encoded true past) (plain_program (width_of (tables_in entries)) true (program_at (width_of (tables_in entries)) entries point select)))
   stops (y.as_of version) known = refl
   stops (y.after t k) known =
-      run_refused monomials limits (log_of entries) t past k
+      run_refused monomials parameters (log_of entries) t past k
       ∙ ap (option_map (refusal_at t)) (sym (steps_stop_is entries versions sound select fits (y.after t k) known n t k (program entries versions sound select fits (y.after t k) known).last (built entries versions sound select fits (y.after t k) known n).steps))
   stops (y.State.commit t) known =
-      run_refused monomials limits (log_of entries) t past (statement_count t entries)
+      run_refused monomials parameters (log_of entries) t past (statement_count t entries)
       ∙ ap (option_map (refusal_at t)) (sym (steps_stop_is entries versions sound select fits (y.State.commit t) known n t (statement_count t entries) (program entries versions sound select fits (y.State.commit t) known).last (built entries versions sound select fits (y.State.commit t) known n).steps))
 
 -- the versions that a state needs are enough

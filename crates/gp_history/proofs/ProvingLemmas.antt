@@ -6,7 +6,8 @@ use Rattle.std.specs.Option.{option_map, option_or}
 use Rattle.std.proofs.lemmas.Bool.Decides.{nat_tests}
 use Rattle.std.proofs.lemmas.List.{length-map}
 use Rattle.gp_algebra.specs.Answers.{Element, answer}
-use Rattle.gp_algebra.specs.Fitting.{select_fits, width_of}
+use Rattle.gp_algebra.specs.Fitting.{select_fits}
+use Rattle.gp_algebra.specs.Statements.{width_of}
 use Rattle.gp_algebra.specs.Plain.{PlainEnvironment, PlainProgram, program_meaning}
 use Rattle.gp_algebra.specs.Statements.{Select}
 use Rattle.gp_algebra.specs.Stops.{Stop, ancestry, rows, program_stop}
@@ -22,9 +23,9 @@ use Rattle.gp_exec.specs.Running.{Runs, environment_view}
 use Rattle.gp_exec.specs.declared.env.Env.{Env}
 use Rattle.gp_exec.specs.declared.error.ExecStop.{ExecStop}
 use Rattle.gp_exec.specs.declared.error.ExecStop.TheVariants as exec
-use Rattle.gp_exec.specs.declared.limit.TheConstants.{MAX_ANSWER_ROWS, MAX_TABLE_ROWS}
+use Rattle.gp_base.specs.declared.limit.TheConstants.{MAX_ANSWER_ROWS, MAX_TABLE_ROWS}
 use Rattle.gp_grammar.specs.Syntax as y
-use Rattle.gp_log.specs.Limits.{limits}
+use Rattle.gp_log.specs.Parameters.{parameters}
 use Rattle.gp_log.specs.LogFacts.{tables_in}
 use Rattle.gp_machine.specs.Annotating.{annotated, computed}
 use Rattle.gp_machine.specs.Entries.{Began, Committed, Created, Ended, Entry, Ran, log_of, version_of, versions_in}
@@ -39,11 +40,14 @@ use Rattle.gp_reenact.specs.Reenacting.{RunsOver, spans_of, stopped, transaction
 use Rattle.gp_reenact.proofs.ReplayLemmas.{refusal_at}
 use Rattle.gp_versions.specs.Spans.{Versions}
 use Rattle.gp_history.specs.Agreement.{agree}
-use Rattle.gp_history.specs.Provenance.{AnnotatesOr, Proves, occurrence}
+use Rattle.gp_history.specs.Provenance.{AnnotatesOr, Proves}
+use Rattle.gp_history.specs.Agreement.{occurrence}
 use Rattle.gp_history.specs.Sound.{IsSound}
 use Rattle.gp_history.specs.SpanAnnotations.{AreAnnotated, versions_with}
 use Rattle.gp_history.proofs.ProvenanceLemmas.{gives, needed_suffice, stops}
 use Rattle.gp_history.proofs.SpanLemmas.{versions_are}
+use Rattle.std.proofs.lemmas.Bool.{leb-true}
+use Rattle.gp_base.proofs.SmallLemmas.{some_none}
 
 -- a run over the scans that a program has asked for
 pub answers_over : {X : Type 0} (view : X → List (List Cell)) (result : Result X ExecStop) (scanned : Env) (env : PlainEnvironment) (program meant : PlainProgram)
@@ -82,17 +86,11 @@ made_within t (Committed line session u ∷ older) = go (u == t) (made_within t 
     go false l = omega arith
 made_within t (Ended line session end u ∷ older) = made_within t older
 
-some_none : (refusal : Refusal) → Some refusal ≡ None → ⊥
-some_none refusal e = cc
-
 pub needed_within : (entries : List Entry) (point : y.State) → log_refusal entries point ≡ None → needed_version entries point ≤ versions_in entries
 needed_within entries (y.as_of version) known = go (nat_le version (versions_in entries)) refl known
   where
-    within : (a b : ℕ) → nat_le a b ≡ true → a ≤ b
-    within a b e = grind (arith, nat_tests)
-
     go : (b : Bool) → nat_le version (versions_in entries) ≡ b → cond b None (Some (E23 (versions_in entries))) ≡ None → version ≤ versions_in entries
-    go true is e = within version (versions_in entries) is
+    go true is e = leb-true version (versions_in entries) is
     go false is e = absurd (some_none (E23 (versions_in entries)) e)
 needed_within entries (y.after t k) known = versions_le t k entries
 needed_within entries (y.State.commit t) known = made_within t entries
@@ -101,7 +99,7 @@ needed_within entries (y.State.commit t) known = made_within t entries
 
 -- a state that the log does not have
 pub log_refuses : {X : Type 0} (view : X → List (List Cell)) (entries : List Entry) (versions : List Versions) (select : Select) (point : y.State) (refusal : Refusal) → log_refusal entries point ≡ Some refusal
-    → Proves view (Err (Refused refusal)) (annotated_answer monomials limits agree (tables_in entries) entries (spans_of versions) point select)
+    → Proves view (Err (Refused refusal)) (annotated_answer monomials parameters agree (tables_in entries) entries (spans_of versions) point select)
 log_refuses view entries versions select point refusal is =
     subst (λ (d : Result (List (Element Monomial)) Refusal). Proves view (Err (Refused refusal)) d) (sym (ap (λ o. given (option_or o rest) elements) is)) refl
   where
@@ -113,8 +111,8 @@ log_refuses view entries versions select point refusal is =
 
     rest : Option Refusal
     rest =
-        option_or (annotation_stop monomials limits agree (tables_in entries) (log_of entries) (spans_of versions) (needed_version entries point))
-        (option_or (own_stop monomials limits entries point all) (cond (nat_lt MAX_ANSWER_ROWS (length elements)) (Some E27) None))
+        option_or (annotation_stop monomials parameters agree (tables_in entries) (log_of entries) (spans_of versions) (needed_version entries point))
+        (option_or (own_stop monomials parameters entries point all) (cond (nat_lt MAX_ANSWER_ROWS (length elements)) (Some E27) None))
 
 -- a program that gives the rows of an answer, and stops where its run does
 module _ {X : Type 0} (view : X → List (List Cell)) (entries : List Entry) (versions : List Versions) (sound : IsSound entries versions) (select : Select) (fits : select_fits (tables_in entries) select ≡ true)
@@ -131,26 +129,26 @@ module _ {X : Type 0} (view : X → List (List Cell)) (entries : List Entry) (ve
   abbrev elements : List (Element Monomial)
   elements = answer monomials select (at_point monomials entries point (past (versions_in entries)))
 
-  abbrev due : Result (List (Element Monomial)) Refusal
-  due = annotated_answer monomials limits agree (tables_in entries) entries (spans_of versions) point select
+  abbrev expected : Result (List (Element Monomial)) Refusal
+  expected = annotated_answer monomials parameters agree (tables_in entries) entries (spans_of versions) point select
 
   abbrev annotation : Option Refusal
-  annotation = annotation_stop monomials limits agree (tables_in entries) (log_of entries) (spans_of versions) needed
+  annotation = annotation_stop monomials parameters agree (tables_in entries) (log_of entries) (spans_of versions) needed
 
-  due_first : (refusal : Refusal) → annotation ≡ Some refusal → due ≡ Err refusal
-  due_first refusal is = λ i. given (option_or (known i) (option_or (is i) (option_or (own_stop monomials limits entries point (past (versions_in entries))) (cond (nat_lt MAX_ANSWER_ROWS (length elements)) (Some E27) None)))) elements
+  due_first : (refusal : Refusal) → annotation ≡ Some refusal → expected ≡ Err refusal
+  due_first refusal is = λ i. given (option_or (known i) (option_or (is i) (option_or (own_stop monomials parameters entries point (past (versions_in entries))) (cond (nat_lt MAX_ANSWER_ROWS (length elements)) (Some E27) None)))) elements
 
   due_is : annotation ≡ None → (stop : Option Stop) → program_stop MAX_TABLE_ROWS MAX_NODES (encoded true (past (versions_in entries))) program ≡ stop → (over : Bool) → nat_lt MAX_ANSWER_ROWS (length elements) ≡ over
-      → due ≡ given (option_or (option_map (refusal_at (transaction_at point)) stop) (cond over (Some E27) None)) elements
+      → expected ≡ given (option_or (option_map (refusal_at (transaction_at point)) stop) (cond over (Some E27) None)) elements
   due_is none stop is over many =
       λ i. given (option_or (known i) (option_or (none i) (option_or ((stops entries versions sound select fits (versions_in entries) point known ∙ ap (option_map (refusal_at (transaction_at point))) is) i) (cond (many i) (Some E27) None)))) elements
 
-  pub annotation_refuses : (stop : ReenactStop) (refusal : Refusal) → stop ≡ Refused refusal → annotation ≡ Some refusal → Proves view (Err stop) due
+  pub annotation_refuses : (stop : ReenactStop) (refusal : Refusal) → stop ≡ Refused refusal → annotation ≡ Some refusal → Proves view (Err stop) expected
   annotation_refuses stop refusal is first =
-      subst (λ (s : ReenactStop). Proves view (Err s) due) (sym is) (subst (λ (d : Result (List (Element Monomial)) Refusal). Proves view (Err (Refused refusal)) d) (sym (due_first refusal first)) refl)
+      subst (λ (s : ReenactStop). Proves view (Err s) expected) (sym is) (subst (λ (d : Result (List (Element Monomial)) Refusal). Proves view (Err (Refused refusal)) d) (sym (due_first refusal first)) refl)
 
   -- versions that cannot be annotated
-  pub annotated_err : {Y : Type 0} (P : Y → Type 0) (stop : ReenactStop) → AnnotatesOr P (Err stop) annotation → Proves view (Err stop) due
+  pub annotated_err : {Y : Type 0} (P : Y → Type 0) (stop : ReenactStop) → AnnotatesOr P (Err stop) annotation → Proves view (Err stop) expected
   annotated_err P (Refused refusal) told = annotation_refuses (Refused refusal) refusal refl told
   annotated_err P NoMemory told = tt
 
@@ -160,13 +158,13 @@ module _ {X : Type 0} (view : X → List (List Cell)) (entries : List Entry) (ve
   many_rows : length (program_meaning (encoded true (past (versions_in entries))) program) ≡ length elements
   many_rows = ap length rows_given ∙ length-map elements occurrence
 
-  pub found_is : annotation ≡ None → (found : X) → RunsOver view (Ok found) (encoded true (past (versions_in entries))) program → Proves view (Ok found) due
+  pub found_is : annotation ≡ None → (found : X) → RunsOver view (Ok found) (encoded true (past (versions_in entries))) program → Proves view (Ok found) expected
   found_is none found runs =
       let count : length elements ≤ MAX_ANSWER_ROWS = subst (λ n. n ≤ MAX_ANSWER_ROWS) many_rows runs.1.1 in
       let few : nat_lt MAX_ANSWER_ROWS (length elements) ≡ false = grind (arith, nat_tests) in
       subst (λ d. Proves view (Ok found) d) (sym (due_is none None runs.0 false few)) (subst (λ rows. IsPermutation (view found) rows) rows_given runs.1.0)
 
-  pub stop_is : annotation ≡ None → (stop : ExecStop) → RunsOver view (Err stop) (encoded true (past (versions_in entries))) program → Proves view (Err (stopped (transaction_at point) stop)) due
+  pub stop_is : annotation ≡ None → (stop : ExecStop) → RunsOver view (Err stop) (encoded true (past (versions_in entries))) program → Proves view (Err (stopped (transaction_at point) stop)) expected
   stop_is none (exec.Rows j) runs =
       subst (λ d. Proves view (Err (stopped (transaction_at point) (exec.Rows j))) d) (sym (due_is none (Some (rows j)) runs (nat_lt MAX_ANSWER_ROWS (length elements)) refl)) refl
   stop_is none (exec.Ancestry j) runs =

@@ -1,7 +1,7 @@
 -- The plain program of a table that a transaction published gives the table with monomials.
 use Rattle.std.proofs.Common.{◌≡◌, ℕ, ◌<◌, true, List, map, refl, sym, ap, ◌∙◌, subst, None, Ok, Err, Result}
 use Rattle.std.specs.List.Sorted.{IsPermutation}
-use Rattle.gp_algebra.proofs.Permutations.{permuted, unpermuted}
+use Rattle.gp_base.proofs.Permutations.{permuted, unpermuted}
 use Rattle.gp_algebra.specs.AnnotatedQueries as q
 use Rattle.gp_algebra.specs.Stops as stops
 use Rattle.gp_algebra.specs.WellBuilt.{is_well_built}

@@ -10,7 +10,7 @@ use Rattle.gp_exec.specs.Running.{RunsTable, environment_view, scanned_rows}
 use Rattle.gp_exec.specs.declared.env.Env.{Env}
 use Rattle.gp_exec.specs.declared.error.ExecStop.{ExecStop}
 use Rattle.gp_exec.specs.declared.error.ExecStop.TheVariants.{Ancestry, Answer, NoMemory, Rows}
-use Rattle.gp_exec.specs.declared.limit.TheConstants.{MAX_TABLE_ROWS}
+use Rattle.gp_base.specs.declared.limit.TheConstants.{MAX_TABLE_ROWS}
 use Rattle.gp_algebra.specs.Scans.{AgreeOn}
 use Rattle.gp_algebra.specs.declared.plain.ScanAt.{ScanAt}
 use Rattle.gp_history.specs.Running.{RunsTableOver}

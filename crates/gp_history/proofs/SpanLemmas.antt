@@ -9,14 +9,12 @@ use Rattle.gp_base.specs.Annotated.{Annotated, Annotations}
 use Rattle.gp_base.specs.Identities.{Identity, identity_cmp}
 use Rattle.gp_machine.specs.Annotating.{annotated, annotation_of, computed}
 use Rattle.gp_machine.specs.Entries.{Log}
-use Rattle.gp_machine.proofs.Distinct.{or_false}
 use Rattle.gp_versions.specs.declared.span.Span.{Span}
 use Rattle.gp_versions.specs.Spans.{holds_at, is_before_end, spans_at}
 use Rattle.gp_history.specs.Changes.{Finds, IsChange, ends_at, is_touched, made, changed_at, maker, renewed, renewed_at, renewed_by, renewed_span}
 use Rattle.gp_history.specs.SpanAnnotations.{AreAnnotated, row_with, rows_with, versions_with}
-
-same_number : (n : ℕ) → (n == n) ≡ true
-same_number n = grind (arith, nat_tests)
+use Rattle.std.proofs.lemmas.Bool.{eqb-true, or_parts}
+use Rattle.gp_base.proofs.SmallLemmas.{eq_not}
 
 -- ---- the versions that annotated spans hold
 
@@ -28,10 +26,10 @@ rows_are version f (span ∷ spans) =
       | false ↦ rows_are version f spans
     ]
 
-module _ {M : Type 0} (kind : Annotations M) (log : Log) (spans : ℕ → List Span) (version : ℕ) (annotations : List (List M)) (are : AreAnnotated kind log spans version annotations) where
+module _ {M : Type 0} (domain : Annotations M) (log : Log) (spans : ℕ → List Span) (version : ℕ) (annotations : List (List M)) (are : AreAnnotated domain log spans version annotations) where
   -- the versions of spans that were annotated are the annotated versions
-  pub versions_are : versions_with spans annotations ≡ annotated kind spans (computed kind log spans version)
-  versions_are = λ i. λ v table. (ap (rows_with v (spans table)) (are.tables table) ∙ rows_are v (λ span. annotation_of kind span.id (computed kind log spans version span.from table)) (spans table)) i
+  pub versions_are : versions_with spans annotations ≡ annotated domain spans (computed domain log spans version)
+  versions_are = λ i. λ v table. (ap (rows_with v (spans table)) (are.tables table) ∙ rows_are v (λ span. annotation_of domain span.id (computed domain log spans version span.from table)) (spans table)) i
 
 -- ---- a version that touches no span
 
@@ -46,8 +44,8 @@ begins_same version from not = grind (arith, nat_tests)
 pub untouched_spans : (version : ℕ) (spans : List Span) → list_any (is_touched (suc version)) spans ≡ false → spans_at (suc version) spans ≡ spans_at version spans
 untouched_spans version [] none = refl
 untouched_spans version (span ∷ spans) none =
-    let parts = or_false (is_touched (suc version) span) (list_any (is_touched (suc version)) spans) none in
-    let own = or_false (span.from == suc version) (ends_at (suc version) span.to) parts.0 in
+    let parts = or_parts (is_touched (suc version) span) (list_any (is_touched (suc version)) spans) none in
+    let own = or_parts (span.from == suc version) (ends_at (suc version) span.to) parts.0 in
     let same : holds_at (suc version) span ≡ holds_at version span = λ i. begins_same version span.from own.0 i && ends_same version span.to own.1 i in
     λ i. cond (same i) (span ∷ untouched_spans version spans parts.1 i) (untouched_spans version spans parts.1 i)
 
@@ -87,9 +85,6 @@ module _ {M : Type 0} (one : M) where
       by true = refl
       by false = refl
 
-differ : (a b : ℕ) → a ≢ b → (a == b) ≡ false
-differ a b e = grind (arith, nat_tests)
-
 same_suc : (a b : ℕ) → (a == b) ≡ (suc a == suc b)
 same_suc a b = grind (arith, nat_tests)
 
@@ -98,8 +93,8 @@ pub renewed_table : {M : Type 0} (old : List (List M)) (at table : ℕ) (new : L
     → get_or (set (set old at []) at new) table [] ≡ cond (table == at) new (get_or old table [])
 renewed_table [] at table new l = absurd (omega arith)
 renewed_table (first ∷ old) zero zero new l = refl
-renewed_table (first ∷ old) zero (suc table) new l = ap (λ b. cond b new (get_or old table [])) (sym (differ (suc table) zero (omega arith)))
-renewed_table (first ∷ old) (suc at) zero new l = ap (λ b. cond b new first) (sym (differ zero (suc at) (omega arith)))
+renewed_table (first ∷ old) zero (suc table) new l = ap (λ b. cond b new (get_or old table [])) (sym (eq_not (suc table) zero (omega arith)))
+renewed_table (first ∷ old) (suc at) zero new l = ap (λ b. cond b new first) (sym (eq_not zero (suc at) (omega arith)))
 renewed_table (first ∷ old) (suc at) (suc table) new l = renewed_table old at table new (omega arith) ∙ ap (λ b. cond b new (get_or old table [])) (same_suc table at)
 
 pub renewed_nothing : {M : Type 0} (one : M) (version : ℕ) (found : BTreeMap Identity M) (spans : List Span) → renewed one version found spans [] ≡ []
@@ -111,12 +106,9 @@ pub renewed_past : {M : Type 0} (one : M) (version at : ℕ) (found : BTreeMap I
     → (table : ℕ) → get_or old table [] ≡ renewed_at one version at found spans (get_or old table []) table
 renewed_past one version at found spans old past table = by (table == at) refl
   where
-    equal : (a b : ℕ) → (a == b) ≡ true → a ≡ b
-    equal a b e = grind (arith, nat_tests)
-
     by : (b : Bool) → (table == at) ≡ b → get_or old table [] ≡ cond b (renewed one version found spans (get_or old table [])) (get_or old table [])
     by true is =
-        let same : table ≡ at = equal table at is in
+        let same : table ≡ at = eqb-true table at is in
         let none : get_or old table [] ≡ [] = get_or_past old table [] (omega arith) in
         none ∙ sym (renewed_nothing one version found spans) ∙ ap (renewed one version found spans) (sym none)
     by false is = refl
@@ -147,9 +139,6 @@ pub renewed_step : {M : Type 0} (one : M) (version : ℕ) (spans : ℕ → List 
     ≡ renewed_by one version (slice_get (take (suc at) changes) table) (spans table) annotations
 renewed_step one version spans changes at change less is table annotations = by (table == at) refl
   where
-    equal : (a b : ℕ) → (a == b) ≡ true → a ≡ b
-    equal a b e = grind (arith, nat_tests)
-
     here : (table : ℕ) → table ≡ at → renewed_by one version (Some change) (spans at) (renewed_by one version (slice_get (take at changes) table) (spans table) annotations)
         ≡ renewed_by one version (slice_get (take (suc at) changes) table) (spans table) annotations
     here table same =
@@ -159,50 +148,50 @@ renewed_step one version spans changes at change less is table annotations = by 
 
     by : (b : Bool) → (table == at) ≡ b → cond b (renewed_by one version (Some change) (spans at) (renewed_by one version (slice_get (take at changes) table) (spans table) annotations)) (renewed_by one version (slice_get (take at changes) table) (spans table) annotations)
         ≡ renewed_by one version (slice_get (take (suc at) changes) table) (spans table) annotations
-    by true same = here table (equal table at same)
+    by true same = here table (eqb-true table at same)
     by false other = ap (λ o. renewed_by one version o (spans table) annotations) (sym (get_taken changes at table other))
 
-module _ {M : Type 0} (kind : Annotations M) (log : Log) (spans : ℕ → List Span) (before : ℕ) where
+module _ {M : Type 0} (domain : Annotations M) (log : Log) (spans : ℕ → List Span) (before : ℕ) where
   abbrev noted : ℕ → ℕ → Span → M
-  noted version table span = annotation_of kind span.id (computed kind log spans version span.from table)
+  noted version table span = annotation_of domain span.id (computed domain log spans version span.from table)
 
   -- a span that begins with another version keeps its annotation
   kept_span : (table : ℕ) (span : Span) → (span.from == suc before) ≡ false → noted (suc before) table span ≡ noted before table span
-  kept_span table span not = ap (λ b. annotation_of kind span.id (cond b (made kind log spans before) (computed kind log spans before span.from) table)) not
+  kept_span table span not = ap (λ b. annotation_of domain span.id (cond b (made domain log spans before) (computed domain log spans before span.from) table)) not
 
   -- one that begins with it has that of the rows that are made
-  new_span : (table : ℕ) (span : Span) → (span.from == suc before) ≡ true → noted (suc before) table span ≡ annotation_of kind span.id (made kind log spans before table)
-  new_span table span is = ap (λ b. annotation_of kind span.id (cond b (made kind log spans before) (computed kind log spans before span.from) table)) is
+  new_span : (table : ℕ) (span : Span) → (span.from == suc before) ≡ true → noted (suc before) table span ≡ annotation_of domain span.id (made domain log spans before table)
+  new_span table span is = ap (λ b. annotation_of domain span.id (cond b (made domain log spans before) (computed domain log spans before span.from) table)) is
 
   kept_all : (table : ℕ) (all : List Span) → list_any (is_touched (suc before)) all ≡ false → map (noted before table) all ≡ map (noted (suc before) table) all
   kept_all table [] none = refl
   kept_all table (span ∷ all) none =
-      let parts = or_false (is_touched (suc before) span) (list_any (is_touched (suc before)) all) none in
-      let own = or_false (span.from == suc before) (ends_at (suc before) span.to) parts.0 in
+      let parts = or_parts (is_touched (suc before) span) (list_any (is_touched (suc before)) all) none in
+      let own = or_parts (span.from == suc before) (ends_at (suc before) span.to) parts.0 in
       λ i. sym (kept_span table span own.0) i ∷ kept_all table all parts.1 i
 
-  new_all : (table : ℕ) (found : BTreeMap Identity M) (all : List Span) → Finds kind (suc before) found all (made kind log spans before table)
-      → renewed kind.one (suc before) found all (map (noted before table) all) ≡ map (noted (suc before) table) all
+  new_all : (table : ℕ) (found : BTreeMap Identity M) (all : List Span) → Finds domain (suc before) found all (made domain log spans before table)
+      → renewed domain.one (suc before) found all (map (noted before table) all) ≡ map (noted (suc before) table) all
   new_all table found [] finds = refl
   new_all table found (span ∷ all) finds = λ i. by (span.from == suc before) refl i ∷ new_all table found all finds.1 i
     where
-      by : (b : Bool) → (span.from == suc before) ≡ b → cond b (unwrap_or (get identity_cmp found span.id) kind.one) (noted before table span) ≡ noted (suc before) table span
+      by : (b : Bool) → (span.from == suc before) ≡ b → cond b (unwrap_or (get identity_cmp found span.id) domain.one) (noted before table span) ≡ noted (suc before) table span
       by true is = finds.0 is ∙ sym (new_span table span is)
       by false is = sym (kept_span table span is)
 
   -- the changes of all tables that have spans annotate the next version
   pub next_are : (changes : List (Option (BTreeMap Identity M))) (old new : List (List M))
-      → ((table : ℕ) → (change : Option (BTreeMap Identity M)) → slice_get changes table ≡ Some change → IsChange kind log (maker log before) (suc before) table (spans table) (made kind log spans before table) change)
+      → ((table : ℕ) → (change : Option (BTreeMap Identity M)) → slice_get changes table ≡ Some change → IsChange domain log (maker log before) (suc before) table (spans table) (made domain log spans before table) change)
       → ((table : ℕ) → slice_get changes table ≡ None → spans table ≡ [])
-      → AreAnnotated kind log spans before old
-      → ((table : ℕ) → slice_index_or new table [] ≡ renewed_by kind.one (suc before) (slice_get changes table) (spans table) (slice_index_or old table []))
-      → AreAnnotated kind log spans (suc before) new
+      → AreAnnotated domain log spans before old
+      → ((table : ℕ) → slice_index_or new table [] ≡ renewed_by domain.one (suc before) (slice_get changes table) (spans table) (slice_index_or old table []))
+      → AreAnnotated domain log spans (suc before) new
   next_are changes old new each beyond are renews = record { tables = λ table. renews table ∙ by table (slice_get changes table) refl }
     where
       by : (table : ℕ) (change : Option (Option (BTreeMap Identity M))) → slice_get changes table ≡ change
-          → renewed_by kind.one (suc before) change (spans table) (slice_index_or old table []) ≡ map (noted (suc before) table) (spans table)
+          → renewed_by domain.one (suc before) change (spans table) (slice_index_or old table []) ≡ map (noted (suc before) table) (spans table)
       by table None is =
           let none = beyond table is in
           are.tables table ∙ subst (λ (all : List Span). map (noted before table) all ≡ map (noted (suc before) table) all) (sym none) refl
       by table (Some None) is = are.tables table ∙ kept_all table (spans table) (each table None is).untouched
-      by table (Some (Some found)) is = ap (renewed kind.one (suc before) found (spans table)) (are.tables table) ∙ new_all table found (spans table) (each table (Some found) is)
+      by table (Some (Some found)) is = ap (renewed domain.one (suc before) found (spans table)) (are.tables table) ∙ new_all table found (spans table) (each table (Some found) is)

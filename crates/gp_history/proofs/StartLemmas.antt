@@ -26,8 +26,8 @@ ended (x ∷ xs) zero is = absurd (cc)
 ended (x ∷ xs) (suc k) is = let rest = ended xs k is in omega (arith, rest)
 
 -- before the first version each annotation is one
-pub none_annotated : {M : Type 0} (kind : Annotations M) (log : Log) (versions : List Versions) → AreAnnotated kind log (spans_of versions) zero (ones kind.one versions)
-none_annotated kind log versions = record { tables = λ table. get_or-map (λ (t : Versions). map (λ (span : Span). kind.one) t.spans) versions table no_table }
+pub none_annotated : {M : Type 0} (domain : Annotations M) (log : Log) (versions : List Versions) → AreAnnotated domain log (spans_of versions) zero (ones domain.one versions)
+none_annotated domain log versions = record { tables = λ table. get_or-map (λ (t : Versions). map (λ (span : Span). domain.one) t.spans) versions table no_table }
 
 -- one more item
 pub map_more : {X Y : Type 0} (f : X → Y) (xs : List X) (i : ℕ) (x : X) → i < length xs → x ≡ get_or xs i x → map f (take (i + 1) xs) ≡ map f (take i xs) ++ f x ∷ []

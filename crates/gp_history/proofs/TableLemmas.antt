@@ -1,35 +1,36 @@
 -- The program of a table that a transaction published, over annotated versions, gives the table as its commit published it, and stops where the run of the
 -- transaction does.
-use Rattle.std.proofs.Common.{◌≡◌, ℕ, zero, suc, ◌<◌, ◌==◌, Bool, true, false, true≢false, cond, List, length, map, refl, sym, ap, ◌∙◌, arith, inr, Option, Some, None}
-use Rattle.std.specs.Prelude.{◌&&◌}
+use Rattle.std.proofs.Common.{◌≡◌, ℕ, zero, suc, ◌<◌, ◌==◌, Bool, true, false, true≢false, cond, List, length, map, refl, sym, ap, ◌∙◌, inr, Option, Some, None}
 use Rattle.std.specs.List.{AllByRecursion}
 use Rattle.std.specs.Option.{option_map, option_or}
-use Rattle.std.proofs.lemmas.Bool.{eq-eqb, eqb-true, ltb-true}
-use Rattle.std.proofs.lemmas.Bool.Decides.{nat_tests}
+use Rattle.std.proofs.lemmas.Bool.{eqb-true, ltb-true, and_parts}
 use Rattle.gp_base.specs.declared.row_id.TheConstants.{MAX_NODES}
 use Rattle.gp_base.specs.declared.table.Table.{Table}
 use Rattle.gp_base.specs.Annotated.{Annotated, Annotations, Environment, monomials}
 use Rattle.gp_base.specs.Tokens.{Monomial}
 use Rattle.gp_base.proofs.ProductLaws.{times-associative, times-one}
 use Rattle.gp_algebra.specs.AnnotatedQueries as q
+use Rattle.gp_algebra.specs.AnnotatedMeaning as qm
 use Rattle.gp_algebra.specs.AnnotatedQueries.{Query, QueryStep}
-use Rattle.gp_algebra.specs.Fitting.{is_there, statement_fits, width_of}
+use Rattle.gp_algebra.specs.Fitting.{is_there, statement_fits}
+use Rattle.gp_algebra.specs.Statements.{width_of}
 use Rattle.gp_algebra.specs.Plain as p
-use Rattle.gp_algebra.specs.QueryForms.{IsTableProgram, step_table}
+use Rattle.gp_algebra.specs.QueryForms.{IsTableProgram}
+use Rattle.gp_algebra.specs.AnnotatedQueries.{step_table}
 use Rattle.gp_algebra.specs.Statements.{Statement, delete, insert, insert_select, read, update}
 use Rattle.gp_algebra.specs.Stops.{program_stop}
 use Rattle.gp_algebra.specs.WellBuilt.{is_well_built}
 use Rattle.gp_compose.specs.Composed.{composed, last_write, published_table, writes}
 use Rattle.gp_compose.proofs.ProgramLemmas.{composed_step_is, published_table_gives, table_program_is_built}
-use Rattle.gp_exec.specs.declared.limit.TheConstants.{MAX_TABLE_ROWS}
-use Rattle.gp_log.specs.Limits.{limits}
+use Rattle.gp_base.specs.declared.limit.TheConstants.{MAX_TABLE_ROWS}
+use Rattle.gp_log.specs.Parameters.{parameters}
 use Rattle.gp_log.specs.LogFacts.{tables_in}
 use Rattle.gp_log.specs.LogFitting.{SpanFits, SpansFit, statements_fit}
 use Rattle.gp_machine.specs.Annotating.{annotated, annotated_row}
 use Rattle.gp_machine.specs.Entries.{Entry, Log, log_of, statement_count}
 use Rattle.gp_machine.specs.Points.{run_stop, statement_stop}
 use Rattle.gp_machine.specs.Runs.{at_commit, run_before}
-use Rattle.gp_machine.proofs.Distinct.{each_filter, each_map}
+use Rattle.gp_machine.proofs.Distinct.{each_filter}
 use Rattle.gp_prov.specs.Encoding.{encoded, encoded_row}
 use Rattle.gp_prov.specs.ToPlain.{plain_program}
 use Rattle.gp_prov.proofs.BuiltLemmas.{program_built}
@@ -39,32 +40,29 @@ use Rattle.gp_reenact.proofs.StopLemmas.{gives_run, program_stops, scanned_once,
 use Rattle.gp_rewrite.specs.Meaning.{AreAsWide, IsMonoid}
 use Rattle.gp_versions.specs.declared.span.Span.{Span}
 use Rattle.gp_versions.specs.Spans.{holds_at, spans_at}
-
-pub both : (a b : Bool) → a && b ≡ true → (a ≡ true) × (b ≡ true)
-both true b e = (refl, e)
-both false b e = absurd (true≢false (sym e))
+use Rattle.gp_base.proofs.SmallLemmas.{each_map, eq_itself, eq_turned}
 
 pub monoid : IsMonoid monomials
 monoid = record { right_one = times-one; associative = times-associative }
 
 -- ---- annotated versions
 
-module _ {M : Type 0} (kind : Annotations M) (catalogue : List Table) (spans : ℕ → List Span) (fit : SpansFit catalogue spans) (versions : Environment M) where
+module _ {M : Type 0} (domain : Annotations M) (catalogue : List Table) (spans : ℕ → List Span) (fit : SpansFit catalogue spans) (versions : Environment M) where
   abbrev env : Environment M
-  env = annotated kind spans versions
+  env = annotated domain spans versions
 
-  each_row : (P : Annotated M → Type 0) (table : ℕ) → ((span : Span) → SpanFits (width_of catalogue table) span → P (annotated_row kind versions table span))
+  each_row : (P : Annotated M → Type 0) (table : ℕ) → ((span : Span) → SpanFits (width_of catalogue table) span → P (annotated_row domain versions table span))
       → (version : ℕ) → AllByRecursion P (env version table)
   each_row P table holds version =
-      each_map P (SpanFits (width_of catalogue table)) (annotated_row kind versions table) holds (spans_at version (spans table))
+      each_map P (SpanFits (width_of catalogue table)) (annotated_row domain versions table) holds (spans_at version (spans table))
       (each_filter (SpanFits (width_of catalogue table)) (SpanFits (width_of catalogue table)) (holds_at version) (λ span at is. is) (spans table) (fit table))
 
   pub held_rows : (version : ℕ) → AreHeld MAX_NODES (env version)
-  held_rows version table = each_row (IsHeld MAX_NODES) table (λ span is. record { cells = (both _ _ is.cells).1; small = is.small }) version
+  held_rows version table = each_row (IsHeld MAX_NODES) table (λ span is. record { cells = (and_parts _ _ is.cells).1; small = is.small }) version
 
   pub wide_rows : (version : ℕ) → AreAsWide (width_of catalogue) (env version)
   wide_rows version table =
-      each_row (λ row. length row.cells ≡ width_of catalogue table) table (λ span is. eqb-true (length span.row) (width_of catalogue table) (both _ _ is.cells).0) version
+      each_row (λ row. length row.cells ≡ width_of catalogue table) table (λ span is. eqb-true (length span.row) (width_of catalogue table) (and_parts _ _ is.cells).0) version
 
   pub none_marked : (version table : ℕ) → AllByRecursion (λ row. row.mark ≡ false) (env version table)
   none_marked version table = each_row (λ row. row.mark ≡ false) table (λ span is. refl) version
@@ -97,7 +95,7 @@ module _ (entries : List Entry) (spans : ℕ → List Span) (fit : statements_fi
   pub plain_is_built : is_well_built (plain_program columns true program) ≡ true
   plain_is_built = program_built columns true program built.steps (inr (table, built.contents))
 
-  means : q.program_meaning monomials past program ≡ map (q.scanned monomials) (at_commit monomials (log_of entries) t before past table)
+  means : qm.program_meaning monomials past program ≡ map (qm.scanned monomials) (at_commit monomials (log_of entries) t before past table)
   means = published_table_gives monomials monoid (tables_in entries) entries fit past wide (none_marked monomials (tables_in entries) spans spans_fit versions) t before table
 
   -- its rows, with identities, marks and monomials
@@ -108,10 +106,10 @@ module _ (entries : List Entry) (spans : ℕ → List Span) (fit : statements_fi
 
   -- it stops where the run does
   pub stop_is : program_stop MAX_TABLE_ROWS MAX_NODES (encoded true past) (plain_program columns true program)
-      ≡ option_map step_stop (run_stop monomials limits (log_of entries) t count past)
+      ≡ option_map step_stop (run_stop monomials parameters (log_of entries) t count past)
   stop_is =
       let steps : List QueryStep = composed columns (log_of entries) t count in
-      program_stops true limits (tables_in entries) entries t count past program.last fit
+      program_stops true parameters (tables_in entries) entries t count past program.last fit
       (held_rows monomials (tables_in entries) spans spans_fit versions)
       (gives_run true columns (step_table steps) (log_of entries) t past count
       (λ j own statement within is writes_it. composed_step_is monomials monoid (tables_in entries) entries fit past wide (none_marked monomials (tables_in entries) spans spans_fit versions) t count j own statement within is writes_it)
@@ -119,25 +117,19 @@ module _ (entries : List Entry) (spans : ℕ → List Span) (fit : statements_fi
 
 -- ---- a transaction that writes nothing
 
-module _ {M : Type 0} (kind : Annotations M) (catalogue : List Table) (log : Log) (t : ℕ) (versions : Environment M)
+module _ {M : Type 0} (domain : Annotations M) (catalogue : List Table) (log : Log) (t : ℕ) (versions : Environment M)
     (fits : (k : ℕ) (statement : Statement) → log.statement t k ≡ Some statement → statement_fits catalogue statement ≡ true) where
   -- if a statement that writes a table writes none of these, there is no statement
   none_there : (table : ℕ) → is_there catalogue table ≡ true → ((own : ℕ) → own < length catalogue → (table == own) ≡ false) → ⊥
-  none_there table there none = true≢false (sym (same_number table) ∙ none table (ltb-true table (length catalogue) there))
-    where
-      same_number : (n : ℕ) → (n == n) ≡ true
-      same_number n = eq-eqb n n refl
-
-  turned : (a b : ℕ) → (a == b) ≡ false → (b == a) ≡ false
-  turned a b e = grind (arith, nat_tests)
+  none_there table there none = true≢false (sym (eq_itself table) ∙ none table (ltb-true table (length catalogue) there))
 
   one_stop : (k : ℕ) (found : Option Statement) → log.statement t (suc k) ≡ found → ((table : ℕ) → table < length catalogue → writes found table ≡ false)
-      → statement_stop kind limits t (suc k) found (run_before kind log t k versions) ≡ None
+      → statement_stop domain parameters t (suc k) found (run_before domain log t k versions) ≡ None
   one_stop k None is none = refl
   one_stop k (Some (insert table rows)) is none =
-      absurd (none_there table (both _ _ (fits (suc k) (insert table rows) is)).0 (λ own less. turned own table (none own less)))
+      absurd (none_there table (and_parts _ _ (fits (suc k) (insert table rows) is)).0 (λ own less. eq_turned own table (none own less)))
   one_stop k (Some (insert_select table select)) is none =
-      absurd (none_there table (both _ _ (fits (suc k) (insert_select table select) is)).0 (λ own less. turned own table (none own less)))
+      absurd (none_there table (and_parts _ _ (fits (suc k) (insert_select table select) is)).0 (λ own less. eq_turned own table (none own less)))
   one_stop k (Some (update table sets c)) is none = refl
   one_stop k (Some (delete table c)) is none = refl
   one_stop k (Some (read select)) is none = refl
@@ -147,7 +139,7 @@ module _ {M : Type 0} (kind : Annotations M) (catalogue : List Table) (log : Log
   parts false j o e = (refl, e)
 
   -- a transaction that has no statement on any table never stops
-  pub never_stops : (k : ℕ) → ((table : ℕ) → table < length catalogue → last_write log t k table ≡ None) → run_stop kind limits log t k versions ≡ None
+  pub never_stops : (k : ℕ) → ((table : ℕ) → table < length catalogue → last_write log t k table ≡ None) → run_stop domain parameters log t k versions ≡ None
   never_stops zero none = refl
   never_stops (suc k) none =
       let each = λ (table : ℕ) (less : table < length catalogue). parts (writes (log.statement t (suc k)) table) (suc k) (last_write log t k table) (none table less) in

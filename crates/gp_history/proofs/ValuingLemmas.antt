@@ -2,17 +2,18 @@
 use Rattle.std.proofs.Common.{◌≡◌, ℕ, ◌<◌, ◌≤◌, [], ◌∷◌, ◌++◌, true, false, cond, List, length, map, refl, sym, ap, ◌∙◌, subst, arith, Option, Some, None, Result, Ok, Err, nat_lt}
 use Rattle.std.specs.Option.{option_map, option_or}
 use Rattle.std.proofs.lemmas.Bool.Decides.{nat_tests}
-use Rattle.gp_algebra.specs.AnnotatedQueries.{Derived, Program, program_meaning}
+use Rattle.gp_algebra.specs.AnnotatedQueries.{Program}
+use Rattle.gp_algebra.specs.AnnotatedMeaning.{Derived, program_meaning}
 use Rattle.gp_algebra.specs.Answers as a
 use Rattle.gp_algebra.specs.Answers.{Element, answer}
-use Rattle.gp_algebra.specs.Fitting.{select_fits, width_of}
+use Rattle.gp_algebra.specs.Fitting.{select_fits}
+use Rattle.gp_algebra.specs.Statements.{width_of}
 use Rattle.gp_algebra.specs.Reannotation.{element_reannotated, reannotated}
 use Rattle.gp_algebra.specs.Scans.{annotated_program_scans}
 use Rattle.gp_algebra.specs.Statements.{Select}
 use Rattle.gp_algebra.specs.Stops as s
 use Rattle.gp_algebra.specs.Stops.{Stop}
 use Rattle.gp_algebra.proofs.Erasure.{answer_reannotated}
-use Rattle.gp_algebra.proofs.Lists.{map-map}
 use Rattle.gp_base.specs.declared.cell.Cell.{Cell}
 use Rattle.gp_base.specs.declared.cell.Cell.TheVariants as cell
 use Rattle.gp_base.specs.declared.refusal.Refusal.{Refusal}
@@ -27,14 +28,14 @@ use Rattle.gp_compose.proofs.ProgramLemmas.{asked_program_is_built, program_is}
 use Rattle.gp_compose.proofs.ScanLemmas.{scans_are_needed}
 use Rattle.gp_exec.specs.declared.error.ExecStop.{ExecStop}
 use Rattle.gp_exec.specs.declared.error.ExecStop.TheVariants as exec
-use Rattle.gp_exec.specs.declared.limit.TheConstants.{MAX_ANSWER_ROWS, MAX_TABLE_ROWS}
+use Rattle.gp_base.specs.declared.limit.TheConstants.{MAX_ANSWER_ROWS, MAX_TABLE_ROWS}
 use Rattle.gp_grammar.specs.declared.limits.TheConstants.{MAX_FROM}
 use Rattle.gp_grammar.specs.Syntax as y
 use Rattle.gp_kexec.specs.AnnotatedStops.{program_stop}
-use Rattle.gp_kexec.specs.InSemiring.{derived_reannotated, words}
+use Rattle.gp_kexec.specs.SemiringForms.{derived_reannotated, words}
 use Rattle.gp_kexec.specs.Rows as k
 use Rattle.gp_kexec.specs.Running.{IsSomeProgram}
-use Rattle.gp_log.specs.Limits.{limits}
+use Rattle.gp_log.specs.Parameters.{parameters}
 use Rattle.gp_log.specs.LogFacts.{tables_in}
 use Rattle.gp_log.specs.LogFitting.{SpanFits}
 use Rattle.gp_machine.specs.Annotating.{annotated_versions, computed, identified}
@@ -50,7 +51,8 @@ use Rattle.gp_reenact.proofs.ReplayLemmas.{refusal_at, run_refused}
 use Rattle.gp_rewrite.specs.Meaning.{of_element, unmarked}
 use Rattle.gp_semiring.specs.Sums.{summed}
 use Rattle.gp_values.specs.Room.{HasRoom}
-use Rattle.gp_values.specs.ValueAnswers.{IgnoreAnnotations, limited, summed_answer, sums_of}
+use Rattle.gp_values.specs.ValueAnswers.{limited}
+use Rattle.gp_values.specs.AnswerForms.{IgnoreAnnotations, summed_answer, sums_of}
 use Rattle.gp_values.proofs.RoomLemmas.{has_room}
 use Rattle.gp_values.proofs.VersionReannotation.{annotation_stop_reannotated}
 use Rattle.gp_versions.specs.declared.span.Span.{Span}
@@ -70,6 +72,7 @@ use Rattle.gp_history.proofs.ProvenanceLemmas.{rows_stay}
 use Rattle.gp_history.proofs.ProvingLemmas.{needed_within}
 use Rattle.gp_history.proofs.SpanLemmas.{versions_are}
 use Rattle.gp_history.proofs.TableLemmas.{none_marked, wide_rows}
+use Rattle.gp_base.proofs.SmallLemmas.{map-map}
 
 -- ---- tables agree whatever their annotations are
 
@@ -83,22 +86,22 @@ natural : {M N : Type 0} (h : M → N) (rows others : List (Annotated M)) → ag
 natural h rows others = λ i. keys_agree (map-map key_of (reannotated h) rows i) (map-map key_of (reannotated h) others i)
 
 -- the versions stop where those with monomials do
-pub stop_same : {M : Type 0} (kind : Annotations M) (image : IsImage kind) (entries : List Entry) (spans : ℕ → List Span) (u : ℕ)
-    → annotation_stop kind limits agree (tables_in entries) (log_of entries) spans u ≡ annotation_stop monomials limits agree (tables_in entries) (log_of entries) spans u
-stop_same kind image entries spans u =
-    annotation_stop_reannotated words kind image.image image.keeps spans limits agree agree (natural image.image) (tables_in entries) (log_of entries) u
-    ∙ sym (annotation_stop_reannotated words monomials monomials_are_images.image monomials_are_images.keeps spans limits agree agree (natural monomials_are_images.image) (tables_in entries) (log_of entries) u)
+pub stop_same : {M : Type 0} (domain : Annotations M) (image : IsImage domain) (entries : List Entry) (spans : ℕ → List Span) (u : ℕ)
+    → annotation_stop domain parameters agree (tables_in entries) (log_of entries) spans u ≡ annotation_stop monomials parameters agree (tables_in entries) (log_of entries) spans u
+stop_same domain image entries spans u =
+    annotation_stop_reannotated words domain image.image image.keeps spans parameters agree agree (natural image.image) (tables_in entries) (log_of entries) u
+    ∙ sym (annotation_stop_reannotated words monomials monomials_are_images.image monomials_are_images.keeps spans parameters agree agree (natural monomials_are_images.image) (tables_in entries) (log_of entries) u)
 
 -- there is room for all counts
-pub room : (entries : List Entry) (versions : List Versions) → IsSound entries versions → versions_in entries ≤ 0xffff_ffff → (select : Select) → HasFewItems select → HasRoom limits entries (spans_of versions) select
+pub room : (entries : List Entry) (versions : List Versions) → IsSound entries versions → versions_in entries ≤ 0xffff_ffff → (select : Select) → HasFewItems select → HasRoom parameters entries (spans_of versions) select
 room entries versions sound few select items =
-    has_room limits entries (spans_of versions) select 0xffff_ffff MAX_FROM
+    has_room parameters entries (spans_of versions) select 0xffff_ffff MAX_FROM
     (λ table. each_weaker (λ (span : Span). nodes span.id ≤ MAX_NODES) (SpanFits (width_of (tables_in entries) table)) (λ span is. is.small) (spans_of versions table) (sound.spans table))
     few items (omega arith)
 
 -- ---- the program of a state
 
-module _ {K : Type 0} (kind : Annotations K) (image : IsImage kind) (plus : K → K → K) (entries : List Entry) (versions : List Versions) (sound : IsSound entries versions) (select : Select)
+module _ {K : Type 0} (domain : Annotations K) (image : IsImage domain) (plus : K → K → K) (entries : List Entry) (versions : List Versions) (sound : IsSound entries versions) (select : Select)
     (fits : select_fits (tables_in entries) select ≡ true) (point : y.State) (known : log_refusal entries point ≡ None) where
   abbrev columns : ℕ → ℕ
   columns = width_of (tables_in entries)
@@ -110,10 +113,10 @@ module _ {K : Type 0} (kind : Annotations K) (image : IsImage kind) (plus : K �
   needed = needed_version entries point
 
   abbrev past : ℕ → Environment K
-  past n = env kind image (log_of entries) spans n
+  past n = env domain image (log_of entries) spans n
 
   abbrev word_past : ℕ → Environment (List Token)
-  word_past n = word_env kind image (log_of entries) spans n
+  word_past n = word_env domain image (log_of entries) spans n
 
   abbrev program : Program
   program = program_at columns entries point select
@@ -122,12 +125,12 @@ module _ {K : Type 0} (kind : Annotations K) (image : IsImage kind) (plus : K �
   program_is_built = (columns, asked_program_is_built (tables_in entries) entries sound.statements point known select fits)
 
   abbrev elements : List (Element K)
-  elements = answer kind select (at_point kind entries point (past (versions_in entries)))
+  elements = answer domain select (at_point domain entries point (past (versions_in entries)))
 
   -- its rows with their elements are those of the answer
-  pairs : k.pairs_of (program_meaning kind (past (versions_in entries)) program) ≡ a.pairs_of elements
+  pairs : k.pairs_of (program_meaning domain (past (versions_in entries)) program) ≡ a.pairs_of elements
   pairs =
-      ap k.pairs_of (meaning_carried kind image (log_of entries) spans (versions_in entries) program)
+      ap k.pairs_of (meaning_carried domain image (log_of entries) spans (versions_in entries) program)
       ∙ map-map (λ (row : Derived K). (row.cells, row.annotation)) (derived_reannotated image.image) made
       ∙ sym (map-map (λ (row : Derived (List Token)). (row.cells, image.image row.annotation)) unmarked made)
       ∙ ap (map (λ (row : Derived (List Token)). (row.cells, image.image row.annotation)))
@@ -137,8 +140,8 @@ module _ {K : Type 0} (kind : Annotations K) (image : IsImage kind) (plus : K �
       ∙ map-map (λ (row : Derived (List Token)). (row.cells, image.image row.annotation)) of_element word_elements
       ∙ sym (map-map (λ (element : Element K). (element.cells, element.annotation)) (element_reannotated image.image) word_elements)
       ∙ ap a.pairs_of
-      (sym (answer_reannotated words kind image.image image.keeps select (at_point words entries point (word_past (versions_in entries))) (at_point kind entries point (past (versions_in entries)))
-      (at_point_reannotated words kind image.image image.keeps (word_past (versions_in entries)) (past (versions_in entries)) (env_carried kind image (log_of entries) spans (versions_in entries)) entries point)))
+      (sym (answer_reannotated words domain image.image image.keeps select (at_point words entries point (word_past (versions_in entries))) (at_point domain entries point (past (versions_in entries)))
+      (at_point_reannotated words domain image.image image.keeps (word_past (versions_in entries)) (past (versions_in entries)) (env_carried domain image (log_of entries) spans (versions_in entries)) entries point)))
     where
       made : List (Derived (List Token))
       made = program_meaning words (word_past (versions_in entries)) program
@@ -147,52 +150,52 @@ module _ {K : Type 0} (kind : Annotations K) (image : IsImage kind) (plus : K �
       word_elements = answer words select (at_point words entries point (word_past (versions_in entries)))
 
   abbrev stop : Option Stop
-  stop = program_stop kind MAX_TABLE_ROWS MAX_NODES (past (versions_in entries)) program
+  stop = program_stop domain MAX_TABLE_ROWS MAX_NODES (past (versions_in entries)) program
 
   abbrev annotation : Option Refusal
-  annotation = annotation_stop monomials limits agree (tables_in entries) (log_of entries) spans needed
+  annotation = annotation_stop monomials parameters agree (tables_in entries) (log_of entries) spans needed
 
-  abbrev due : Result (List (List Cell × K)) Refusal
-  due = summed_answer limits plus kind agree (tables_in entries) entries spans point select
+  abbrev expected : Result (List (List Cell × K)) Refusal
+  expected = summed_answer parameters plus domain agree (tables_in entries) entries spans point select
 
-module _ {K : Type 0} (kind : Annotations K) (image : IsImage kind) (entries : List Entry) (versions : List Versions) (sound : IsSound entries versions) (select : Select) where
+module _ {K : Type 0} (domain : Annotations K) (image : IsImage domain) (entries : List Entry) (versions : List Versions) (sound : IsSound entries versions) (select : Select) where
   stops : (point : y.State)
-      → own_stop kind limits entries point (env kind image (log_of entries) (spans_of versions) (versions_in entries))
+      → own_stop domain parameters entries point (env domain image (log_of entries) (spans_of versions) (versions_in entries))
       ≡ option_map (refusal_at (transaction_at point))
-      (program_stop kind MAX_TABLE_ROWS MAX_NODES (env kind image (log_of entries) (spans_of versions) (versions_in entries)) (program_at (width_of (tables_in entries)) entries point select))
+      (program_stop domain MAX_TABLE_ROWS MAX_NODES (env domain image (log_of entries) (spans_of versions) (versions_in entries)) (program_at (width_of (tables_in entries)) entries point select))
   stops (y.as_of version) = refl
   stops (y.after t j) =
-      run_refused kind limits (log_of entries) t (env kind image (log_of entries) (spans_of versions) (versions_in entries)) j
-      ∙ ap (option_map (refusal_at t)) (sym (steps_stop_is kind image entries (spans_of versions) sound.statements sound.spans (versions_in entries) t j (program_at (width_of (tables_in entries)) entries (y.after t j) select).last))
+      run_refused domain parameters (log_of entries) t (env domain image (log_of entries) (spans_of versions) (versions_in entries)) j
+      ∙ ap (option_map (refusal_at t)) (sym (steps_stop_is domain image entries (spans_of versions) sound.statements sound.spans (versions_in entries) t j (program_at (width_of (tables_in entries)) entries (y.after t j) select).last))
   stops (y.State.commit t) =
-      run_refused kind limits (log_of entries) t (env kind image (log_of entries) (spans_of versions) (versions_in entries)) (statement_count t entries)
-      ∙ ap (option_map (refusal_at t)) (sym (steps_stop_is kind image entries (spans_of versions) sound.statements sound.spans (versions_in entries) t (statement_count t entries) (program_at (width_of (tables_in entries)) entries (y.State.commit t) select).last))
+      run_refused domain parameters (log_of entries) t (env domain image (log_of entries) (spans_of versions) (versions_in entries)) (statement_count t entries)
+      ∙ ap (option_map (refusal_at t)) (sym (steps_stop_is domain image entries (spans_of versions) sound.statements sound.spans (versions_in entries) t (statement_count t entries) (program_at (width_of (tables_in entries)) entries (y.State.commit t) select).last))
 
-module _ {K : Type 0} (kind : Annotations K) (image : IsImage kind) (plus : K → K → K) (entries : List Entry) (versions : List Versions) (sound : IsSound entries versions) (select : Select)
+module _ {K : Type 0} (domain : Annotations K) (image : IsImage domain) (plus : K → K → K) (entries : List Entry) (versions : List Versions) (sound : IsSound entries versions) (select : Select)
     (fits : select_fits (tables_in entries) select ≡ true) (point : y.State) (known : log_refusal entries point ≡ None) where
   abbrev asked : Program
-  asked = program kind image plus entries versions sound select fits point known
+  asked = program domain image plus entries versions sound select fits point known
 
   abbrev all : Environment K
-  all = past kind image plus entries versions sound select fits point known (versions_in entries)
+  all = past domain image plus entries versions sound select fits point known (versions_in entries)
 
   abbrev refused : Option Refusal
-  refused = annotation kind image plus entries versions sound select fits point known
+  refused = annotation domain image plus entries versions sound select fits point known
 
   abbrev wanted : Result (List (List Cell × K)) Refusal
-  wanted = due kind image plus entries versions sound select fits point known
+  wanted = expected domain image plus entries versions sound select fits point known
 
   abbrev chosen : List (Element K)
-  chosen = elements kind image plus entries versions sound select fits point known
+  chosen = elements domain image plus entries versions sound select fits point known
 
   abbrev of_sums : Option Refusal → Result (List (List Cell × K)) Refusal
-  of_sums refusal = limited limits.answer (sums_of plus) (given refusal chosen)
+  of_sums refusal = limited parameters.answer (sums_of plus) (given refusal chosen)
 
-  due_is : (own : Option Refusal) → refused ≡ own → (stop : Option Stop) → program_stop kind MAX_TABLE_ROWS MAX_NODES all asked ≡ stop
+  due_is : (own : Option Refusal) → refused ≡ own → (stop : Option Stop) → program_stop domain MAX_TABLE_ROWS MAX_NODES all asked ≡ stop
       → wanted ≡ of_sums (option_or own (option_map (refusal_at (transaction_at point)) stop))
   due_is own first stop is =
-      λ i. of_sums (option_or (known i) (option_or ((stop_same kind image entries (spans_of versions) (needed_version entries point) ∙ first) i)
-      ((stops kind image entries versions sound select point ∙ ap (option_map (refusal_at (transaction_at point))) is) i)))
+      λ i. of_sums (option_or (known i) (option_or ((stop_same domain image entries (spans_of versions) (needed_version entries point) ∙ first) i)
+      ((stops domain image entries versions sound select point ∙ ap (option_map (refusal_at (transaction_at point))) is) i)))
 
   -- versions that cannot be annotated
   pub annotated_err : {X Y : Type 0} (view : X → List (List Cell × K)) (P : Y → Type 0) (stop : ReenactStop) → AnnotatesOr P (Err stop) refused → Gives {X = X} view (Err stop) wanted
@@ -200,36 +203,36 @@ module _ {K : Type 0} (kind : Annotations K) (image : IsImage kind) (plus : K �
   annotated_err view P NoMemory told = tt
 
   -- what a run over the needed versions gave, told over all
-  over_all : {X : Type 0} (view : X → List (List Cell × K)) (annotations : List (List K)) → AreAnnotated kind (log_of entries) (spans_of versions) (needed_version entries point) annotations
-      → (result : Result X ExecStop) → SumsOver kind plus view result (versions_with (spans_of versions) annotations) asked → SumsOver kind plus view result all asked
-  over_all view annotations are result sums = by result (subst (λ (e : Environment K). SumsOver kind plus view result e asked) (versions_are kind (log_of entries) (spans_of versions) (needed_version entries point) annotations are) sums)
+  over_all : {X : Type 0} (view : X → List (List Cell × K)) (annotations : List (List K)) → AreAnnotated domain (log_of entries) (spans_of versions) (needed_version entries point) annotations
+      → (result : Result X ExecStop) → SumsOver domain plus view result (versions_with (spans_of versions) annotations) asked → SumsOver domain plus view result all asked
+  over_all view annotations are result sums = by result (subst (λ (e : Environment K). SumsOver domain plus view result e asked) (versions_are domain (log_of entries) (spans_of versions) (needed_version entries point) annotations are) sums)
     where
       few : Environment K
-      few = past kind image plus entries versions sound select fits point known (needed_version entries point)
+      few = past domain image plus entries versions sound select fits point known (needed_version entries point)
 
       same : AgreesOn (annotated_program_scans asked) few all
       same scan among =
-          sym (rows_stay kind (log_of entries) (spans_of versions) (needed_version entries point) (versions_in entries) scan.version scan.table
+          sym (rows_stay domain (log_of entries) (spans_of versions) (needed_version entries point) (versions_in entries) scan.version scan.table
           (scans_are_needed (width_of (tables_in entries)) entries sound.sessions point known select scan among) (needed_within entries point known))
 
-      stop_moved : program_stop kind MAX_TABLE_ROWS MAX_NODES few asked ≡ program_stop kind MAX_TABLE_ROWS MAX_NODES all asked
-      stop_moved = program_stop_agrees kind few all MAX_TABLE_ROWS MAX_NODES asked same
+      stop_moved : program_stop domain MAX_TABLE_ROWS MAX_NODES few asked ≡ program_stop domain MAX_TABLE_ROWS MAX_NODES all asked
+      stop_moved = program_stop_agrees domain few all MAX_TABLE_ROWS MAX_NODES asked same
 
-      sums_moved : summed row_cmp plus (k.pairs_of (program_meaning kind few asked)) ≡ summed row_cmp plus (k.pairs_of (program_meaning kind all asked))
-      sums_moved = ap (λ (rows : List (Derived K)). summed row_cmp plus (k.pairs_of rows)) (program_meaning_agrees kind few all asked same)
+      sums_moved : summed row_cmp plus (k.pairs_of (program_meaning domain few asked)) ≡ summed row_cmp plus (k.pairs_of (program_meaning domain all asked))
+      sums_moved = ap (λ (rows : List (Derived K)). summed row_cmp plus (k.pairs_of rows)) (program_meaning_agrees domain few all asked same)
 
-      by : (result : Result _ ExecStop) → SumsOver kind plus view result few asked → SumsOver kind plus view result all asked
+      by : (result : Result _ ExecStop) → SumsOver domain plus view result few asked → SumsOver domain plus view result all asked
       by (Ok found) sums = (sym stop_moved ∙ sums.0, (sums.1.0 ∙ sums_moved, subst (λ (rows : List (List Cell × K)). length rows ≤ MAX_ANSWER_ROWS) sums_moved sums.1.1))
       by (Err (exec.Rows j)) sums = sym stop_moved ∙ sums
       by (Err (exec.Ancestry j)) sums = sym stop_moved ∙ sums
       by (Err exec.Answer) sums = (sym stop_moved ∙ sums.0, subst (λ (rows : List (List Cell × K)). MAX_ANSWER_ROWS < length rows) sums_moved sums.1)
       by (Err exec.NoMemory) sums = tt
 
-  sums_same : summed row_cmp plus (k.pairs_of (program_meaning kind all asked)) ≡ sums_of plus chosen
-  sums_same = ap (summed row_cmp plus) (pairs kind image plus entries versions sound select fits point known)
+  sums_same : summed row_cmp plus (k.pairs_of (program_meaning domain all asked)) ≡ sums_of plus chosen
+  sums_same = ap (summed row_cmp plus) (pairs domain image plus entries versions sound select fits point known)
 
-  module _ {X : Type 0} (view : X → List (List Cell × K)) (annotations : List (List K)) (are : AnnotatesOr (AreAnnotated kind (log_of entries) (spans_of versions) (needed_version entries point)) (Ok annotations) refused) where
-    pub found_is : (found : X) → SumsOver kind plus view (Ok found) (versions_with (spans_of versions) annotations) asked → Gives view (Ok found) wanted
+  module _ {X : Type 0} (view : X → List (List Cell × K)) (annotations : List (List K)) (are : AnnotatesOr (AreAnnotated domain (log_of entries) (spans_of versions) (needed_version entries point)) (Ok annotations) refused) where
+    pub found_is : (found : X) → SumsOver domain plus view (Ok found) (versions_with (spans_of versions) annotations) asked → Gives view (Ok found) wanted
     found_is found sums =
         let ran = over_all view annotations are.1 (Ok found) sums in
         let count : length (sums_of plus chosen) ≤ MAX_ANSWER_ROWS = subst (λ (rows : List (List Cell × K)). length rows ≤ MAX_ANSWER_ROWS) sums_same ran.1.1 in
@@ -237,10 +240,10 @@ module _ {K : Type 0} (kind : Annotations K) (image : IsImage kind) (plus : K �
         subst (λ (d : Result (List (List Cell × K)) Refusal). Gives view (Ok found) d)
         (sym (due_is None are.0 None ran.0 ∙ (λ i. given (cond (few i) (Some E27) None) (sums_of plus chosen)))) (ran.1.0 ∙ sums_same)
 
-    pub stop_is : (stop : ExecStop) → SumsOver kind plus view (Err stop) (versions_with (spans_of versions) annotations) asked → Gives view (Err (stopped (transaction_at point) stop)) wanted
+    pub stop_is : (stop : ExecStop) → SumsOver domain plus view (Err stop) (versions_with (spans_of versions) annotations) asked → Gives view (Err (stopped (transaction_at point) stop)) wanted
     stop_is stop sums = by stop (over_all view annotations are.1 (Err stop) sums)
       where
-        by : (stop : ExecStop) → SumsOver kind plus view (Err stop) all asked → Gives view (Err (stopped (transaction_at point) stop)) wanted
+        by : (stop : ExecStop) → SumsOver domain plus view (Err stop) all asked → Gives view (Err (stopped (transaction_at point) stop)) wanted
         by (exec.Rows j) ran = subst (λ (d : Result (List (List Cell × K)) Refusal). Gives view (Err (stopped (transaction_at point) (exec.Rows j))) d) (sym (due_is None are.0 (Some (s.rows j)) ran)) refl
         by (exec.Ancestry j) ran = subst (λ (d : Result (List (List Cell × K)) Refusal). Gives view (Err (stopped (transaction_at point) (exec.Ancestry j))) d) (sym (due_is None are.0 (Some (s.ancestry j)) ran)) refl
         by exec.Answer ran =
@@ -251,16 +254,16 @@ module _ {K : Type 0} (kind : Annotations K) (image : IsImage kind) (plus : K �
         by exec.NoMemory ran = tt
 
 -- a state that the log does not have
-pub log_refuses : {K : Type 0} (kind : Annotations K) (plus : K → K → K) {X : Type 0} (view : X → List (List Cell × K)) (entries : List Entry) (versions : List Versions) (select : Select) (point : y.State) (refusal : Refusal)
-    → log_refusal entries point ≡ Some refusal → Gives view (Err (Refused refusal)) (summed_answer limits plus kind agree (tables_in entries) entries (spans_of versions) point select)
-log_refuses {K} kind plus view entries versions select point refusal is =
+pub log_refuses : {K : Type 0} (domain : Annotations K) (plus : K → K → K) {X : Type 0} (view : X → List (List Cell × K)) (entries : List Entry) (versions : List Versions) (select : Select) (point : y.State) (refusal : Refusal)
+    → log_refusal entries point ≡ Some refusal → Gives view (Err (Refused refusal)) (summed_answer parameters plus domain agree (tables_in entries) entries (spans_of versions) point select)
+log_refuses {K} domain plus view entries versions select point refusal is =
     subst (λ (d : Result (List (List Cell × K)) Refusal). Gives view (Err (Refused refusal)) d)
-    (sym (ap (λ o. limited limits.answer (sums_of plus) (given (option_or o rest) chosen)) is)) refl
+    (sym (ap (λ o. limited parameters.answer (sums_of plus) (given (option_or o rest) chosen)) is)) refl
   where
     rest : Option Refusal
     rest =
-        option_or (annotation_stop kind limits agree (tables_in entries) (log_of entries) (spans_of versions) (needed_version entries point))
-        (own_stop kind limits entries point (annotated_versions kind entries (spans_of versions)))
+        option_or (annotation_stop domain parameters agree (tables_in entries) (log_of entries) (spans_of versions) (needed_version entries point))
+        (own_stop domain parameters entries point (annotated_versions domain entries (spans_of versions)))
 
     chosen : List (Element K)
-    chosen = answer kind select (at_point kind entries point (annotated_versions kind entries (spans_of versions)))
+    chosen = answer domain select (at_point domain entries point (annotated_versions domain entries (spans_of versions)))

@@ -11,11 +11,11 @@ use Rattle.gp_base.specs.Annotated.{Annotations, Annotated, Database, Environmen
 use Rattle.gp_base.specs.Identities.{Identity, identity_cmp}
 use Rattle.gp_algebra.specs.AnnotatedQueries as q
 use Rattle.gp_algebra.specs.AnnotatedQueries.{Program, Query}
-use Rattle.gp_algebra.specs.Fitting.{width_of}
+use Rattle.gp_algebra.specs.Statements.{width_of}
 use Rattle.gp_compose.specs.Composed.{last_write, published_table}
 use Rattle.gp_exec.specs.declared.error.ExecStop.{ExecStop}
 use Rattle.gp_exec.specs.declared.error.ExecStop.TheVariants as exec
-use Rattle.gp_log.specs.Limits.{limits}
+use Rattle.gp_log.specs.Parameters.{parameters}
 use Rattle.gp_log.specs.LogFacts.{tables_in}
 use Rattle.gp_machine.specs.Annotating.{annotated, annotation_of, computed}
 use Rattle.gp_machine.specs.Committed.{cleared}
@@ -123,11 +123,11 @@ abbrev pub maker_program : List Entry → ℕ → ℕ → Program
 maker_program entries before table =
     let t = maker (log_of entries) before in published_table (width_of (tables_in entries)) (log_of entries) t (version_before (version_of t entries)) table
 
-module _ {M : Type 0} (kind : Annotations M) where
+module _ {M : Type 0} (domain : Annotations M) where
   -- the annotations that were found are those of the rows, for each span that begins with the version
   abbrev pub Finds : ℕ → BTreeMap Identity M → List Span → List (Annotated M) → Type 0
   Finds version found spans made =
-      AllByRecursion (λ (span : Span). (span.from == version) ≡ true → unwrap_or (get identity_cmp found span.id) kind.one ≡ annotation_of kind span.id made) spans
+      AllByRecursion (λ (span : Span). (span.from == version) ≡ true → unwrap_or (get identity_cmp found span.id) domain.one ≡ annotation_of domain span.id made) spans
 
   -- what becomes of a table: it is as before, or its rows were found
   abbrev pub IsChange : Log → ℕ → ℕ → ℕ → List Span → List (Annotated M) → Option (BTreeMap Identity M) → Type 0
@@ -137,21 +137,21 @@ module _ {M : Type 0} (kind : Annotations M) where
   module _ (log : Log) (spans : ℕ → List Span) (before : ℕ) where
     -- the versions before it
     abbrev pub past : Environment M
-    past = annotated kind spans (computed kind log spans before)
+    past = annotated domain spans (computed domain log spans before)
 
     -- what its transaction publishes, and the version that it makes
     abbrev pub published : Database M
-    published = at_commit kind log (maker log before) before past
+    published = at_commit domain log (maker log before) before past
 
     abbrev pub made : Database M
     made = cleared published
 
     -- the rows that the spans have
     abbrev pub held : Database M
-    held = as_of kind spans (suc before)
+    held = as_of domain spans (suc before)
 
     abbrev pub maker_stop : Option RunStop
-    maker_stop = run_stop kind limits log (maker log before) (log.statement_count (maker log before)) past
+    maker_stop = run_stop domain parameters log (maker log before) (log.statement_count (maker log before)) past
 
     -- what running the program of a table that it published gives: its rows in any order, or its stop
     abbrev pub Publishes : {X : Type 0} → (X → List (Annotated M)) → ℕ → Result X ExecStop → Type 0
@@ -181,4 +181,4 @@ module _ {M : Type 0} (kind : Annotations M) where
     -- the first stop of the commit: in the run of its transaction, or in the first table that differs
     abbrev pub commit_stop : List Table → Option Refusal
     commit_stop catalogue =
-        option_or (option_map stop_refusal maker_stop) (difference kind limits agree catalogue (suc before) (length catalogue) made held)
+        option_or (option_map stop_refusal maker_stop) (difference domain parameters agree catalogue (suc before) (length catalogue) made held)

@@ -4,7 +4,7 @@ use Rattle.std.specs.Prelude.{ℕ, List, Option, Some, None, unwrap_or}
 use Rattle.gp_base.specs.declared.token.Token.{Token}
 use Rattle.gp_base.specs.Annotated.{Annotations, monomials}
 use Rattle.gp_algebra.specs.Reannotation.{IsHomomorphism}
-use Rattle.gp_kexec.specs.InSemiring.{counted, word_value, words}
+use Rattle.gp_kexec.specs.SemiringForms.{counted, word_value, words}
 use Rattle.gp_kexec.specs.Valuing.{values_by}
 use Rattle.gp_kexec.proofs.WordLemmas.{counted_carries, word_carries}
 use Rattle.gp_semiring.specs.Semirings.{SemiringLaws}
@@ -12,9 +12,9 @@ use Rattle.gp_valuation.specs.declared.rules.Rule.{Rule}
 use Rattle.gp_valuation.specs.Rules.{number_by}
 use Rattle.gp_valuation.specs.Values.{token_value, value_by}
 
-pub record IsImage {M : Type 0} (kind : Annotations M) : Type 0 where
+pub record IsImage {M : Type 0} (domain : Annotations M) : Type 0 where
   pub image : List Token → M
-  pub keeps : IsHomomorphism words kind image
+  pub keeps : IsHomomorphism words domain image
 
 pub monomials_are_images : IsImage monomials
 monomials_are_images = record { image = counted; keeps = counted_carries }

@@ -8,11 +8,11 @@ use Rattle.gp_reenact.specs.declared.error.ReenactStop.{ReenactStop}
 use Rattle.gp_reenact.specs.declared.error.ReenactStop.TheVariants.{Refused, NoMemory}
 
 abbrev pub Gives : {X A : Type 0} → (X → A) → Result X ReenactStop → Result A Refusal → Type 0
-Gives view (Ok found) (Ok due) = view found ≡ due
-Gives view (Ok found) (Err due) = ⊥
-Gives view (Err (Refused refusal)) (Ok due) = ⊥
-Gives view (Err (Refused refusal)) (Err due) = refusal ≡ due
-Gives view (Err NoMemory) due = Unit {0}
+Gives view (Ok found) (Ok expected) = view found ≡ expected
+Gives view (Ok found) (Err expected) = ⊥
+Gives view (Err (Refused refusal)) (Ok expected) = ⊥
+Gives view (Err (Refused refusal)) (Err expected) = refusal ≡ expected
+Gives view (Err NoMemory) expected = Unit {0}
 
 -- no FROM has more items than one that was read
 abbrev pub HasFewItems : Select → Type 0

@@ -3,7 +3,6 @@
 ghost use Rattle.std.specs.Prelude.{◌≡◌, ◌<◌, map, IfOk};
 ghost use Rattle.gp_algebra.specs.QueryViews.{annotated_program_view};
 ghost use Rattle.gp_base.specs.Annotated.{Annotations};
-ghost use Rattle.gp_log.specs.Logs.{log_view};
 ghost use Rattle.gp_machine.specs.Entries as m;
 ghost use Rattle.gp_reenact.specs.Reenacting.{spans_of};
 ghost use Rattle.gp_history.specs.Changes.{Publishes, maker_program};
@@ -11,6 +10,7 @@ ghost use Rattle.gp_history.specs.Images.{IsImage};
 ghost use Rattle.gp_history.specs.Noted.{row_view};
 ghost use Rattle.gp_history.specs.Sound.{IsSound};
 ghost use Rattle.gp_history.specs.SpanAnnotations.{AreAnnotated};
+ghost use Rattle.gp_log.specs.Contents.{entries};
 
 use crate::annotated::Annotated;
 use gp_algebra::AProgram;
@@ -35,11 +35,11 @@ pub struct Publication {
 /// What annotates row versions with values of a type. Running out of memory says nothing.
 pub trait Annotator<A: Drop> {
     /// Its one, its products and its tokens.
-    ghost kind: { Self → Annotations A };
+    ghost domain: { Self → Annotations A };
 
     /// The annotation of a row that nothing is known of.
     fn one(&self, alloc: Global) -> Result<A, NoMemory>
-        ensures { IfOk result (λ one. one ≡ (kind self.now).one) };
+        ensures { IfOk result (λ one. one ≡ (domain self.now).one) };
 
     /// A copy.
     fn copy(&self, alloc: Global, annotation: &A) -> Result<A, NoMemory>
@@ -55,16 +55,16 @@ pub trait Annotator<A: Drop> {
         known: &Annotated<A>,
         of: &Publication,
     ) -> Result<Vec<Held<A>>, ExecStop>
-        requires sound { IsSound (log_view log.now.entries) versions.now }
-        requires within { of.now.before < m.versions_in (log_view log.now.entries) }
+        requires sound { IsSound (entries log.now) versions.now }
+        requires within { of.now.before < m.versions_in (entries log.now) }
         requires program { annotated_program_view of.now.program
-            ≡ maker_program (log_view log.now.entries) of.now.before of.now.table }
-        requires known { AreAnnotated (kind self.now) (m.log_of (log_view log.now.entries))
+            ≡ maker_program (entries log.now) of.now.before of.now.table }
+        requires known { AreAnnotated (domain self.now) (m.log_of (entries log.now))
             (spans_of versions.now) of.now.before known.now }
-        ensures { Publishes (kind self.now) (m.log_of (log_view log.now.entries))
+        ensures { Publishes (domain self.now) (m.log_of (entries log.now))
             (spans_of versions.now) of.now.before (λ rows. map row_view rows.items)
             of.now.table result };
 
     /// Its annotations are what lists of tokens stand for.
-    ghost is_image: { (annotator : Self) → IsImage (kind annotator) };
+    ghost is_image: { (annotator : Self) → IsImage (domain annotator) };
 }

@@ -2,13 +2,12 @@
 
 ghost use Rattle.std.specs.Prelude.{◌≡◌, None};
 ghost use Rattle.gp_grammar.specs.Syntax as y;
-ghost use Rattle.gp_log.specs.LogFacts.{tables_in};
-ghost use Rattle.gp_log.specs.Logs.{log_view};
 ghost use Rattle.gp_machine.specs.Entries as m;
 ghost use Rattle.gp_machine.specs.Questions as q;
 ghost use Rattle.gp_reenact.specs.Reenacting as r;
 ghost use Rattle.gp_syntax.specs.Views.{state_view};
 ghost use Rattle.gp_history.specs.Provenance.{IsInTables, Refuses};
+ghost use Rattle.gp_log.specs.Contents.{entries, tables};
 
 use crate::error::HistoryStop;
 use gp_base::Refusal;
@@ -20,8 +19,8 @@ use gp_syntax::State;
 
 /// The version that a statement of a transaction read.
 fn statement_version(log: &Log, t: u64, k: u64) -> u32
-    requires { q.log_refusal (log_view log.now.entries) (y.after t k) ≡ None }
-    ensures { result ≡ m.statement_version t k (log_view log.now.entries) }
+    requires { q.log_refusal (entries log.now) (y.after t k) ≡ None }
+    ensures { result ≡ m.statement_version t k (entries log.now) }
 {
     // Transactions and statements are numbered by 32 bits. That is known of a log where it is asked for their number.
     let _transactions = log.transactions();
@@ -34,8 +33,8 @@ fn statement_version(log: &Log, t: u64, k: u64) -> u32
 
 /// The last version whose annotations a state needs.
 pub fn needed_version(log: &Log, state: State) -> u32
-    requires { q.log_refusal (log_view log.now.entries) (state_view state) ≡ None }
-    ensures { result ≡ q.needed_version (log_view log.now.entries) (state_view state) }
+    requires { q.log_refusal (entries log.now) (state_view state) ≡ None }
+    ensures { result ≡ q.needed_version (entries log.now) (state_view state) }
 {
     // Versions and transactions are numbered by 32 bits. That is known of a log where it is asked for their number.
     let _commits = log.commits();
@@ -52,7 +51,7 @@ pub fn needed_version(log: &Log, state: State) -> u32
 
 /// The transaction of a state, or 0 for a version.
 pub fn transaction_at(log: &Log, state: State) -> u32
-    requires { q.log_refusal (log_view log.now.entries) (state_view state) ≡ None }
+    requires { q.log_refusal (entries log.now) (state_view state) ≡ None }
     ensures { result ≡ r.transaction_at (state_view state) }
 {
     let _count = log.transactions();
@@ -76,8 +75,8 @@ pub fn stopped(t: u32, stop: ExecStop) -> ReenactStop
 
 /// The refusal of a question that needs versions which cannot be annotated.
 pub fn refused(log: &Log, stop: HistoryStop) -> ReenactStop
-    requires { IsInTables (tables_in (log_view log.now.entries)) stop }
-    ensures { Refuses (tables_in (log_view log.now.entries)) stop result }
+    requires { IsInTables (tables log.now) stop }
+    ensures { Refuses (tables log.now) stop result }
 {
     match stop {
         HistoryStop::Inconsistent { version, table } => {

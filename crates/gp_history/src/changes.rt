@@ -2,8 +2,6 @@
 
 ghost use Rattle.std.specs.Prelude.{◌≡◌, ◌<◌, true, length, map};
 ghost use Rattle.gp_algebra.specs.Fitting.{is_there};
-ghost use Rattle.gp_log.specs.LogFacts.{tables_in};
-ghost use Rattle.gp_log.specs.Logs.{log_view};
 ghost use Rattle.gp_machine.specs.Entries as m;
 ghost use Rattle.gp_reenact.specs.Reenacting.{spans_of};
 ghost use Rattle.gp_history.specs.Changes.{AreChanges, ChangesTable, FindsRows, commit_stop, maker, stopped};
@@ -11,6 +9,7 @@ ghost use Rattle.gp_history.specs.Annotating.{Annotates};
 ghost use Rattle.gp_history.specs.Noted.{row_view};
 ghost use Rattle.gp_history.specs.Sound.{IsSound};
 ghost use Rattle.gp_history.specs.SpanAnnotations.{AreAnnotated};
+ghost use Rattle.gp_log.specs.Contents.{entries, tables};
 
 use crate::agreement::agree;
 use crate::annotated::Annotated;
@@ -67,13 +66,13 @@ fn table_change<A: Drop, N: Annotator<A>>(
     t: u32,
     table: u32,
 ) -> Result<Option<BTreeMap<RowId, A>>, HistoryStop>
-    requires sound { IsSound (log_view log.now.entries) versions.now }
-    requires within { before < m.versions_in (log_view log.now.entries) }
-    requires maker { t ≡ maker (m.log_of (log_view log.now.entries)) before }
-    requires there { is_there (tables_in (log_view log.now.entries)) table ≡ true }
-    requires known { AreAnnotated (N.kind annotator.now) (m.log_of (log_view log.now.entries))
+    requires sound { IsSound (entries log.now) versions.now }
+    requires within { before < m.versions_in (entries log.now) }
+    requires maker { t ≡ maker (m.log_of (entries log.now)) before }
+    requires there { is_there (tables log.now) table ≡ true }
+    requires known { AreAnnotated (N.domain annotator.now) (m.log_of (entries log.now))
         (spans_of versions.now) before known.now }
-    ensures { ChangesTable (N.kind annotator.now) (m.log_of (log_view log.now.entries))
+    ensures { ChangesTable (N.domain annotator.now) (m.log_of (entries log.now))
         (spans_of versions.now) before table result }
 {
     // The number of commits has 32 bits.
@@ -95,8 +94,8 @@ fn table_change<A: Drop, N: Annotator<A>>(
 
 /// The transaction that made the version after this one.
 fn maker_after(log: &Log, before: u32) -> u32
-    requires { before < m.versions_in (log_view log.now.entries) }
-    ensures { result ≡ maker (m.log_of (log_view log.now.entries)) before }
+    requires { before < m.versions_in (entries log.now) }
+    ensures { result ≡ maker (m.log_of (entries log.now)) before }
 {
     // The number of commits has 32 bits.
     let _commits = log.commits();
@@ -116,16 +115,15 @@ pub fn changes_of<A: Drop, N: Annotator<A>>(
     known: &Annotated<A>,
     before: u32,
 ) -> Result<Vec<Option<BTreeMap<RowId, A>>>, HistoryStop>
-    requires sound { IsSound (log_view log.now.entries) versions.now }
-    requires within { before < m.versions_in (log_view log.now.entries) }
-    requires known { AreAnnotated (N.kind annotator.now) (m.log_of (log_view log.now.entries))
+    requires sound { IsSound (entries log.now) versions.now }
+    requires within { before < m.versions_in (entries log.now) }
+    requires known { AreAnnotated (N.domain annotator.now) (m.log_of (entries log.now))
         (spans_of versions.now) before known.now }
-    ensures { Annotates (λ changes. AreChanges (N.kind annotator.now)
-        (m.log_of (log_view log.now.entries)) (spans_of versions.now) before
-        (length (tables_in (log_view log.now.entries))) changes.items)
-        (tables_in (log_view log.now.entries)) result
-        (commit_stop (N.kind annotator.now) (m.log_of (log_view log.now.entries))
-        (spans_of versions.now) before (tables_in (log_view log.now.entries))) }
+    ensures { Annotates (λ changes. AreChanges (N.domain annotator.now)
+        (m.log_of (entries log.now)) (spans_of versions.now) before
+        (length (tables log.now)) changes.items) (tables log.now) result
+        (commit_stop (N.domain annotator.now) (m.log_of (entries log.now))
+        (spans_of versions.now) before (tables log.now)) }
 {
     let t = maker_after(log, before);
     let mut changes = Vec::new(alloc);

@@ -87,7 +87,7 @@ pub fn k_env<K: Semiring>(
 }
 
 impl<K: Semiring, F: Answers<K>> Annotator<K> for Valuation<K, F> {
-    ghost kind = { λ valuation. values_by K.one_of K.times_of K.number_of K.itself_of valuation };
+    ghost domain = { λ valuation. values_by K.one_of K.times_of K.number_of K.itself_of valuation };
 
     fn one(&self, alloc: Global) -> Result<K, NoMemory> {
         K::one(alloc)

@@ -132,7 +132,7 @@ pub fn looked_up<A: Drop, N: Annotator<A>>(
     id: &RowId,
 ) -> Result<A, NoMemory>
     ensures { IfOk result (λ annotation.
-        annotation ≡ unwrap_or (get identity_cmp found.now id.now) (N.kind annotator.now).one) }
+        annotation ≡ unwrap_or (get identity_cmp found.now id.now) (N.domain annotator.now).one) }
 {
     match found.get(id) {
         Some(annotation) => annotator.copy(alloc, annotation),

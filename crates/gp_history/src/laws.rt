@@ -6,7 +6,7 @@ ghost use Rattle.std.specs.List.Sorted.{IsPermutation};
 ghost use Rattle.gp_base.specs.Annotated.{Annotated, Annotations, monomials};
 ghost use Rattle.gp_algebra.specs.Statements.{Select};
 ghost use Rattle.gp_grammar.specs.Syntax as y;
-ghost use Rattle.gp_log.specs.Limits.{limits};
+ghost use Rattle.gp_log.specs.Parameters.{parameters};
 ghost use Rattle.gp_machine.specs.Annotating.{annotated_versions, identified};
 ghost use Rattle.gp_machine.specs.Committed.{cleared};
 ghost use Rattle.gp_machine.specs.Entries.{log_of, statement_count, version_of, versions_in};
@@ -34,16 +34,16 @@ pub fn agreement_is_having_the_same_rows<M>()
 /// the answer of the annotated history: the same rows with the same monomials, each as often, or the same refusal.
 pub fn histories_are_annotated()
     ensures stops { (lines : List Line) (spans : ℕ → List Span) → ((table : ℕ)
-        → IsPermutation (spans table) (state_spans (after monomials limits start lines) table))
-        → (u : ℕ) → u ≤ versions_in (after monomials limits start lines).entries
-        → annotation_stop monomials limits agree (after monomials limits start lines).catalogue
-        (log_of (after monomials limits start lines).entries) spans u ≡ None }
+        → IsPermutation (spans table) (state_spans (after monomials parameters start lines) table))
+        → (u : ℕ) → u ≤ versions_in (after monomials parameters start lines).entries
+        → annotation_stop monomials parameters agree (after monomials parameters start lines).catalogue
+        (log_of (after monomials parameters start lines).entries) spans u ≡ None }
     ensures answers { (lines : List Line) (spans : ℕ → List Span) → ((table : ℕ)
-        → IsPermutation (spans table) (state_spans (after monomials limits start lines) table))
+        → IsPermutation (spans table) (state_spans (after monomials parameters start lines) table))
         → (point : y.State) (query : Select) → AreAlike
-        (annotated_answer monomials limits agree (after monomials limits start lines).catalogue
-        (after monomials limits start lines).entries spans point query)
-        (held_answer monomials limits (after monomials limits start lines) point query) }
+        (annotated_answer monomials parameters agree (after monomials parameters start lines).catalogue
+        (after monomials parameters start lines).entries spans point query)
+        (held_answer monomials parameters (after monomials parameters start lines) point query) }
 {
     questions_are_answered_by_the_history::<Monomial>()
 }
@@ -53,28 +53,28 @@ pub fn histories_are_annotated()
 /// statements, what the transaction saw, marks included, and its commit publishes the version that it made. The spans are in any
 /// order.
 pub fn annotated_versions_are_the_committed_ones<M>()
-    ensures versions { (kind : Annotations M) (lines : List Line) (spans : ℕ → List Span)
+    ensures versions { (domain : Annotations M) (lines : List Line) (spans : ℕ → List Span)
         → ((table : ℕ)
-        → IsPermutation (spans table) (state_spans (after kind limits start lines) table))
-        → (u : ℕ) → u ≤ versions_in (after kind limits start lines).entries → (table : ℕ)
+        → IsPermutation (spans table) (state_spans (after domain parameters start lines) table))
+        → (u : ℕ) → u ≤ versions_in (after domain parameters start lines).entries → (table : ℕ)
         → IsPermutation
-        (annotated_versions kind (after kind limits start lines).entries spans u table)
-        ((after kind limits start lines).committed u table) }
-    ensures runs { (kind : Annotations M) (lines : List Line) (spans : ℕ → List Span)
+        (annotated_versions domain (after domain parameters start lines).entries spans u table)
+        ((after domain parameters start lines).committed u table) }
+    ensures runs { (domain : Annotations M) (lines : List Line) (spans : ℕ → List Span)
         → ((table : ℕ)
-        → IsPermutation (spans table) (state_spans (after kind limits start lines) table))
-        → (t k u : ℕ) → version_of t (after kind limits start lines).entries ≡ Some u
-        → k ≤ statement_count t (after kind limits start lines).entries → (table : ℕ)
-        → IsPermutation (run kind (log_of (after kind limits start lines).entries) t k
-        (annotated_versions kind (after kind limits start lines).entries spans) table)
-        ((after kind limits start lines).views t k table) }
-    ensures commits { (kind : Annotations M) (lines : List Line) (spans : ℕ → List Span)
+        → IsPermutation (spans table) (state_spans (after domain parameters start lines) table))
+        → (t k u : ℕ) → version_of t (after domain parameters start lines).entries ≡ Some u
+        → k ≤ statement_count t (after domain parameters start lines).entries → (table : ℕ)
+        → IsPermutation (run domain (log_of (after domain parameters start lines).entries) t k
+        (annotated_versions domain (after domain parameters start lines).entries spans) table)
+        ((after domain parameters start lines).views t k table) }
+    ensures commits { (domain : Annotations M) (lines : List Line) (spans : ℕ → List Span)
         → ((table : ℕ)
-        → IsPermutation (spans table) (state_spans (after kind limits start lines) table))
-        → (t u : ℕ) → version_of t (after kind limits start lines).entries ≡ Some u → (table : ℕ)
-        → IsPermutation (cleared (at_commit kind (log_of (after kind limits start lines).entries) t
-        (version_before (version_of t (after kind limits start lines).entries))
-        (annotated_versions kind (after kind limits start lines).entries spans)) table)
-        (at_version (version_of t (after kind limits start lines).entries)
-        (after kind limits start lines).committed table) }
+        → IsPermutation (spans table) (state_spans (after domain parameters start lines) table))
+        → (t u : ℕ) → version_of t (after domain parameters start lines).entries ≡ Some u → (table : ℕ)
+        → IsPermutation (cleared (at_commit domain (log_of (after domain parameters start lines).entries) t
+        (version_before (version_of t (after domain parameters start lines).entries))
+        (annotated_versions domain (after domain parameters start lines).entries spans)) table)
+        (at_version (version_of t (after domain parameters start lines).entries)
+        (after domain parameters start lines).committed table) }
 {}

@@ -224,7 +224,7 @@ fn plain_rows(
 pub struct Monomials;
 
 impl Annotator<Monomial> for Monomials {
-    ghost kind = { λ annotator. monomials };
+    ghost domain = { λ annotator. monomials };
 
     fn one(&self, alloc: Global) -> Result<Monomial, NoMemory> {
         Ok(Monomial::one(alloc))

@@ -1,16 +1,15 @@
 //! Queries over past states, with provenance.
 
 ghost use Rattle.std.specs.Prelude.{◌≡◌, ◌≤◌, true, IfOk, None};
-ghost use Rattle.gp_algebra.specs.Fitting.{select_fits, width_of};
+ghost use Rattle.gp_algebra.specs.Fitting.{select_fits};
+ghost use Rattle.gp_algebra.specs.Statements.{width_of};
 ghost use Rattle.gp_algebra.specs.PlainViews.{program_view};
 ghost use Rattle.gp_algebra.specs.Views.{select_view};
 ghost use Rattle.gp_algebra.specs.WellBuilt.{is_well_built};
 ghost use Rattle.gp_base.specs.Annotated.{monomials};
-ghost use Rattle.gp_compose.specs.Composed.{program_at};
-ghost use Rattle.gp_log.specs.Limits.{limits};
-ghost use Rattle.gp_log.specs.LogFacts.{tables_in};
-ghost use Rattle.gp_log.specs.LogFitting.{statements_fit};
-ghost use Rattle.gp_log.specs.Logs.{log_view};
+ghost use Rattle.gp_compose.specs.Composing.{QueryFits, program_in};
+ghost use Rattle.gp_log.specs.Contents.{entries, tables};
+ghost use Rattle.gp_log.specs.Parameters.{parameters};
 ghost use Rattle.gp_machine.specs.Entries as m;
 ghost use Rattle.gp_machine.specs.Questions as q;
 ghost use Rattle.gp_machine.specs.Questions.{annotated_answer, annotation_stop};
@@ -46,12 +45,11 @@ fn annotated_to(
     versions: &[VersionTable],
     v: u32,
 ) -> Result<Annotated<Monomial>, ReenactStop>
-    requires sound { IsSound (log_view log.now.entries) versions.now }
-    requires within { v ≤ m.versions_in (log_view log.now.entries) }
-    ensures { AnnotatesOr (AreAnnotated monomials (m.log_of (log_view log.now.entries))
-        (spans_of versions.now) v) result
-        (annotation_stop monomials limits agree (tables_in (log_view log.now.entries))
-        (m.log_of (log_view log.now.entries)) (spans_of versions.now) v) }
+    requires sound { IsSound (entries log.now) versions.now }
+    requires within { v ≤ m.versions_in (entries log.now) }
+    ensures { AnnotatesOr (AreAnnotated monomials (m.log_of (entries log.now))
+        (spans_of versions.now) v) result (annotation_stop monomials parameters agree (tables log.now)
+        (m.log_of (entries log.now)) (spans_of versions.now) v) }
 {
     match annotate(alloc, log, versions, v) {
         Ok(known) => Ok(known),
@@ -61,15 +59,11 @@ fn annotated_to(
 
 /// The program of a query over a state, with columns for provenance.
 fn planned(alloc: Global, log: &Log, state: State, select: &Select) -> Result<PProgram, NoMemory>
-    requires fits { select_fits (tables_in (log_view log.now.entries))
-        (select_view select.now) ≡ true }
-    requires statements { statements_fit (tables_in (log_view log.now.entries))
-        (log_view log.now.entries) ≡ true }
-    requires known { q.log_refusal (log_view log.now.entries) (state_view state) ≡ None }
+    requires query { QueryFits log.now (select_view select.now) }
+    requires known { q.log_refusal (entries log.now) (state_view state) ≡ None }
     ensures { IfOk result (λ plain. program_view plain ≡ to.plain_program
-        (width_of (tables_in (log_view log.now.entries))) true
-        (program_at (width_of (tables_in (log_view log.now.entries)))
-        (log_view log.now.entries) (state_view state) (select_view select.now))) }
+        (width_of (tables log.now)) true
+        (program_in log.now (state_view state) (select_view select.now))) }
 {
     match program(alloc, log, state, select) {
         Ok(program) => to_plain(alloc, &program, log.catalog(), true),
@@ -102,7 +96,7 @@ fn rows_over(
 /// The rows of a query over a state with their monomials, in no particular order: a monomial stands behind the cells of each row. Refused
 /// as [`log_refusal`] refuses the state; else as [`annotate`] stops (E24 to E26), for the versions up to the one that the state needs;
 /// else if a statement of the transaction passes a limit (E25, E26); else if the answer has more than
-/// [`MAX_ANSWER_ROWS`](gp_exec::MAX_ANSWER_ROWS) rows (E27).
+/// [`MAX_ANSWER_ROWS`](gp_base::MAX_ANSWER_ROWS) rows (E27).
 pub fn provenance(
     alloc: Global,
     log: &Log,
@@ -110,13 +104,11 @@ pub fn provenance(
     state: State,
     select: &Select,
 ) -> Result<Vec<Row>, ReenactStop>
-    requires sound { IsSound (log_view log.now.entries) versions.now }
-    requires fits { select_fits (tables_in (log_view log.now.entries))
-        (select_view select.now) ≡ true }
+    requires sound { IsSound (entries log.now) versions.now }
+    requires fits { select_fits (tables log.now) (select_view select.now) ≡ true }
     ensures { Proves (λ rows. rows.items) result
-        (annotated_answer monomials limits agree (tables_in (log_view log.now.entries))
-        (log_view log.now.entries) (spans_of versions.now)
-        (state_view state) (select_view select.now)) }
+        (annotated_answer monomials parameters agree (tables log.now)
+        (entries log.now) (spans_of versions.now) (state_view state) (select_view select.now)) }
 {
     if let Some(refusal) = log_refusal(log, state) {
         return Err(ReenactStop::Refused(refusal));
@@ -132,14 +124,12 @@ fn known_provenance(
     state: State,
     select: &Select,
 ) -> Result<Vec<Row>, ReenactStop>
-    requires sound { IsSound (log_view log.now.entries) versions.now }
-    requires fits { select_fits (tables_in (log_view log.now.entries))
-        (select_view select.now) ≡ true }
-    requires known { q.log_refusal (log_view log.now.entries) (state_view state) ≡ None }
+    requires sound { IsSound (entries log.now) versions.now }
+    requires fits { select_fits (tables log.now) (select_view select.now) ≡ true }
+    requires known { q.log_refusal (entries log.now) (state_view state) ≡ None }
     ensures { Proves (λ rows. rows.items) result
-        (annotated_answer monomials limits agree (tables_in (log_view log.now.entries))
-        (log_view log.now.entries) (spans_of versions.now)
-        (state_view state) (select_view select.now)) }
+        (annotated_answer monomials parameters agree (tables log.now)
+        (entries log.now) (spans_of versions.now) (state_view state) (select_view select.now)) }
 {
     let known = match annotated_to(alloc, log, versions, needed_version(log, state)) {
         Ok(known) => known,

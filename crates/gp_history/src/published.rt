@@ -2,15 +2,12 @@
 
 ghost use Rattle.std.specs.Prelude.{◌≡◌, true, IfOk, None};
 ghost use Rattle.gp_algebra.specs.AnnotatedQueries as q;
-ghost use Rattle.gp_algebra.specs.Fitting.{is_there, width_of};
+ghost use Rattle.gp_algebra.specs.Fitting.{is_there};
 ghost use Rattle.gp_algebra.specs.QueryViews.{annotated_program_view, annotated_view};
-ghost use Rattle.gp_compose.specs.Composed.{published_table};
+ghost use Rattle.gp_compose.specs.Composing.{published_in};
 ghost use Rattle.gp_grammar.specs.Syntax as y;
-ghost use Rattle.gp_log.specs.LogFacts.{tables_in};
+ghost use Rattle.gp_log.specs.Contents.{entries, tables};
 ghost use Rattle.gp_log.specs.LogFitting.{statements_fit};
-ghost use Rattle.gp_log.specs.Logs.{log_view};
-ghost use Rattle.gp_machine.specs.Entries as m;
-ghost use Rattle.gp_machine.specs.Points.{version_before};
 ghost use Rattle.gp_machine.specs.Questions.{log_refusal};
 ghost use Rattle.gp_history.specs.Changes.{is_scan};
 
@@ -32,14 +29,11 @@ pub fn is_scan(query: &AQuery) -> bool
 
 /// The program of a table that a transaction which made a version published.
 pub fn published_program(alloc: Global, log: &Log, t: u32, table: u32) -> Result<AProgram, NoMemory>
-    requires there { is_there (tables_in (log_view log.now.entries)) table ≡ true }
-    requires statements { statements_fit (tables_in (log_view log.now.entries))
-        (log_view log.now.entries) ≡ true }
-    requires known { log_refusal (log_view log.now.entries) (y.State.commit t) ≡ None }
-    ensures { IfOk result (λ program. annotated_program_view program
-        ≡ published_table (width_of (tables_in (log_view log.now.entries)))
-        (m.log_of (log_view log.now.entries)) t
-        (version_before (m.version_of t (log_view log.now.entries))) table) }
+    requires there { is_there (tables log.now) table ≡ true }
+    requires statements { statements_fit (tables log.now) (entries log.now) ≡ true }
+    requires known { log_refusal (entries log.now) (y.State.commit t) ≡ None }
+    ensures { IfOk result (λ program.
+        annotated_program_view program ≡ published_in log.now t table) }
 {
     match published(alloc, log, u64::from(t), table) {
         Ok(program) => Ok(program),

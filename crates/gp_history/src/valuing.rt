@@ -1,18 +1,17 @@
 //! Queries over past states, with values in a semiring.
 
 ghost use Rattle.std.specs.Prelude.{◌≡◌, ◌≤◌, true, map, IfOk, None};
-ghost use Rattle.gp_algebra.specs.Fitting.{select_fits, width_of};
+ghost use Rattle.gp_algebra.specs.Fitting.{select_fits};
+ghost use Rattle.gp_algebra.specs.Statements.{width_of};
 ghost use Rattle.gp_algebra.specs.QueryViews.{annotated_program_view};
 ghost use Rattle.gp_algebra.specs.Views.{select_view};
 ghost use Rattle.gp_base.specs.Annotated.{monomials};
-ghost use Rattle.gp_compose.specs.Composed.{program_at};
+ghost use Rattle.gp_compose.specs.Composing.{QueryFits, program_in};
 ghost use Rattle.gp_kexec.specs.Rows.{pair_view};
 ghost use Rattle.gp_kexec.specs.Running.{IsSomeProgram};
 ghost use Rattle.gp_kexec.specs.Valuing.{values_by};
-ghost use Rattle.gp_log.specs.Limits.{limits};
-ghost use Rattle.gp_log.specs.LogFacts.{tables_in};
-ghost use Rattle.gp_log.specs.LogFitting.{statements_fit};
-ghost use Rattle.gp_log.specs.Logs.{log_view};
+ghost use Rattle.gp_log.specs.Contents.{entries, tables};
+ghost use Rattle.gp_log.specs.Parameters.{parameters};
 ghost use Rattle.gp_machine.specs.Entries as m;
 ghost use Rattle.gp_machine.specs.Questions as q;
 ghost use Rattle.gp_machine.specs.Questions.{annotation_stop};
@@ -53,13 +52,13 @@ fn annotated_to<K: Semiring, F: Answers<K>>(
     v: u32,
     valuation: &Valuation<K, F>,
 ) -> Result<Annotated<K>, ReenactStop>
-    requires sound { IsSound (log_view log.now.entries) versions.now }
-    requires within { v ≤ m.versions_in (log_view log.now.entries) }
+    requires sound { IsSound (entries log.now) versions.now }
+    requires within { v ≤ m.versions_in (entries log.now) }
     ensures { AnnotatesOr (AreAnnotated
         (values_by K.one_of K.times_of K.number_of K.itself_of valuation.now)
-        (m.log_of (log_view log.now.entries)) (spans_of versions.now) v) result
-        (annotation_stop monomials limits agree (tables_in (log_view log.now.entries))
-        (m.log_of (log_view log.now.entries)) (spans_of versions.now) v) }
+        (m.log_of (entries log.now)) (spans_of versions.now) v) result
+        (annotation_stop monomials parameters agree (tables log.now)
+        (m.log_of (entries log.now)) (spans_of versions.now) v) }
 {
     match annotate_in(alloc, log, versions, v, valuation) {
         Ok(known) => Ok(known),
@@ -69,14 +68,10 @@ fn annotated_to<K: Semiring, F: Answers<K>>(
 
 /// The program of a query over a state.
 fn planned(alloc: Global, log: &Log, state: State, select: &Select) -> Result<AProgram, NoMemory>
-    requires fits { select_fits (tables_in (log_view log.now.entries))
-        (select_view select.now) ≡ true }
-    requires statements { statements_fit (tables_in (log_view log.now.entries))
-        (log_view log.now.entries) ≡ true }
-    requires known { q.log_refusal (log_view log.now.entries) (state_view state) ≡ None }
+    requires query { QueryFits log.now (select_view select.now) }
+    requires known { q.log_refusal (entries log.now) (state_view state) ≡ None }
     ensures { IfOk result (λ program. annotated_program_view program
-        ≡ program_at (width_of (tables_in (log_view log.now.entries)))
-        (log_view log.now.entries) (state_view state) (select_view select.now)) }
+        ≡ program_in log.now (state_view state) (select_view select.now)) }
 {
     match program(alloc, log, state, select) {
         Ok(program) => Ok(program),
@@ -106,7 +101,7 @@ fn sums_over<K: Semiring, F: Answers<K>>(
 /// The distinct rows of a query over a state in row order, each with its value in the semiring: the sum, over its occurrences, of
 /// the values of their monomials. No monomial is listed: the versions are annotated with elements of the semiring, and the query
 /// adds and multiplies elements. Refused as [`provenance`](crate::provenance) is, but that only distinct rows are counted: E27 if
-/// there are more than [`MAX_ANSWER_ROWS`](gp_exec::MAX_ANSWER_ROWS) of them.
+/// there are more than [`MAX_ANSWER_ROWS`](gp_base::MAX_ANSWER_ROWS) of them.
 pub fn values<K: Semiring, F: Answers<K>>(
     alloc: Global,
     log: &Log,
@@ -115,14 +110,13 @@ pub fn values<K: Semiring, F: Answers<K>>(
     select: &Select,
     valuation: &Valuation<K, F>,
 ) -> Result<Vec<KRow<K>>, ReenactStop>
-    requires sound { IsSound (log_view log.now.entries) versions.now }
-    requires fits { select_fits (tables_in (log_view log.now.entries))
-        (select_view select.now) ≡ true }
+    requires sound { IsSound (entries log.now) versions.now }
+    requires fits { select_fits (tables log.now) (select_view select.now) ≡ true }
     requires few { HasFewItems (select_view select.now) }
     ensures { Gives (λ rows. map pair_view rows.items) result
-        (value_answer limits K.plus_of K.zero_of K.one_of K.times_of
+        (value_answer parameters K.plus_of K.zero_of K.one_of K.times_of
         (token_value K.one_of K.number_of K.itself_of valuation.now) agree
-        (tables_in (log_view log.now.entries)) (log_view log.now.entries)
+        (tables log.now) (entries log.now)
         (spans_of versions.now) (state_view state) (select_view select.now)) }
 {
     if let Some(refusal) = log_refusal(log, state) {
@@ -140,15 +134,14 @@ fn known_values<K: Semiring, F: Answers<K>>(
     select: &Select,
     valuation: &Valuation<K, F>,
 ) -> Result<Vec<KRow<K>>, ReenactStop>
-    requires sound { IsSound (log_view log.now.entries) versions.now }
-    requires fits { select_fits (tables_in (log_view log.now.entries))
-        (select_view select.now) ≡ true }
+    requires sound { IsSound (entries log.now) versions.now }
+    requires fits { select_fits (tables log.now) (select_view select.now) ≡ true }
     requires few { HasFewItems (select_view select.now) }
-    requires known { q.log_refusal (log_view log.now.entries) (state_view state) ≡ None }
+    requires known { q.log_refusal (entries log.now) (state_view state) ≡ None }
     ensures { Gives (λ rows. map pair_view rows.items) result
-        (value_answer limits K.plus_of K.zero_of K.one_of K.times_of
+        (value_answer parameters K.plus_of K.zero_of K.one_of K.times_of
         (token_value K.one_of K.number_of K.itself_of valuation.now) agree
-        (tables_in (log_view log.now.entries)) (log_view log.now.entries)
+        (tables log.now) (entries log.now)
         (spans_of versions.now) (state_view state) (select_view select.now)) }
 {
     values_are_sums_over_the_history::<K>();

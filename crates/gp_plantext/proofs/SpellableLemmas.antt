@@ -9,7 +9,8 @@ use Rattle.std.specs.FinMap.{is_sorted}
 use Rattle.std.proofs.lemmas.Bool.{and_from, le-leb, eq-eqb, ne_eqb}
 use Rattle.gp_base.specs.declared.token.Token.{Token}
 use Rattle.gp_base.specs.declared.token.Token.TheVariants.{Inserted, Queried, Updated}
-use Rattle.gp_base.specs.Tokens.{Monomial, IsMonomial, IsToken, ArePowers, token_cmp, greatest_count}
+use Rattle.gp_base.specs.Tokens.{Monomial, token_cmp, greatest_count}
+use Rattle.gp_base.specs.MonomialForms.{IsMonomial, IsToken, ArePowers}
 use Rattle.gp_expr.specs.Expressions as e
 use Rattle.gp_expr.specs.declared.expr.Expr.{Expr}
 use Rattle.gp_expr.specs.Views.{expr_view, parts_of}

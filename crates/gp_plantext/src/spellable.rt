@@ -5,7 +5,7 @@ ghost use Rattle.std.specs.Char.{is_ascii_control};
 ghost use Rattle.std.specs.List.{list_all, list_any};
 ghost use Rattle.std.specs.Str.Lossy.{utf8_valid_len};
 ghost use Rattle.gp_base.specs.Cells as c;
-ghost use Rattle.gp_base.specs.Identities.{sources_of};
+ghost use Rattle.gp_base.specs.IdentityParts.{sources_of};
 ghost use Rattle.gp_expr.specs.Expressions as e;
 ghost use Rattle.gp_expr.specs.Views.{cond_view, expr_view, parts_of};
 ghost use Rattle.gp_algebra.specs.PlainViews.{program_view, query_view, step_view};

@@ -1,37 +1,34 @@
 -- Plain programs are well built: their conditions and expressions are those of annotated programs with columns for columns, and new identities are made in
 -- the projections of INSERT steps alone.
-use Rattle.std.proofs.Common.{◌≡◌, ℕ, zero, suc, ◌+◌, ◌<◌, Bool, true, false, List, [], ◌∷◌, ◌++◌, refl, sym, ap, ◌∙◌, subst, arith, map, ◌⊎◌, inl, inr}
+use Rattle.std.proofs.Common.{◌≡◌, ℕ, zero, suc, ◌+◌, Bool, true, false, List, [], ◌∷◌, ◌++◌, refl, sym, ap, ◌∙◌, subst, map, ◌⊎◌, inl, inr}
 use Rattle.std.specs.Prelude.{◌&&◌, nat_lt, Some, None}
 use Rattle.std.specs.List.{list_all, AllByRecursion}
-use Rattle.std.proofs.lemmas.Bool.{and_parts, false≢true}
-use Rattle.std.proofs.lemmas.Bool.Decides.{nat_tests}
+use Rattle.std.proofs.lemmas.Bool.{and_parts, false≢true, lt-ltb}
 use Rattle.std.proofs.lemmas.List.Folds.{list_all-append}
 use Rattle.gp_base.specs.declared.cell.Cell.TheVariants as cell
 use Rattle.gp_base.specs.declared.token.Token.TheVariants.{Queried}
 use Rattle.gp_base.specs.Tokens.{once}
 use Rattle.gp_expr.specs.Expressions as e
-use Rattle.gp_expr.specs.Expressions.{Expr, Cond, is_simple, cond_is_simple}
+use Rattle.gp_expr.specs.Expressions.{Expr, Cond}
+use Rattle.gp_expr.specs.ExpressionForms.{is_simple, cond_is_simple}
 use Rattle.gp_expr.specs.Substitution.{substituted_each, substituted_cond}
 use Rattle.gp_algebra.specs.Plain as p
 use Rattle.gp_algebra.specs.Plain.{Plain}
 use Rattle.gp_algebra.specs.WellBuilt.{makes_no_identity, parts_make_no_identity, may_be_identity, query_is_built, rows_are_built, step_is_built, is_above, steps_are_built, numbers_after, is_well_built}
 use Rattle.gp_algebra.specs.AnnotatedQueries as q
 use Rattle.gp_algebra.specs.AnnotatedQueries.{Change, Query, QueryStep, Program}
-use Rattle.gp_algebra.specs.QueryForms.{IsTable, IsSomeTable, IsJoin, IsSource, IsBranch, AreNew, IsStep, IsAnswer, is_sound, step_table, AreAfter, AreRising, AreSteps, HasSteps, reads_only, steps_read, numbers_with}
+use Rattle.gp_algebra.specs.QueryForms.{IsTable, IsSomeTable, IsJoin, IsSource, IsBranch, AreNew, IsStep, IsAnswer, is_sound, AreAfter, AreRising, AreSteps, HasSteps, reads_only, steps_read, numbers_with}
+use Rattle.gp_algebra.specs.AnnotatedQueries.{step_table}
 use Rattle.gp_prov.specs.Encoding.{noted}
 use Rattle.gp_prov.specs.ToPlain.{columns_from, system_width, users_from, identities_from, times_from, product_of, changed_columns, new_columns, answer_columns, widths_of, plain, plain_last, plain_step, plain_program}
 use Rattle.gp_prov.proofs.MeaningLemmas.{plain_table}
 use Rattle.gp_expr.proofs.SubstitutionLemmas.{simple_cond_substituted, simple_each_substituted}
+use Rattle.gp_base.proofs.SmallLemmas.{all_weaker, both_follow}
 
 both : {a b : Bool} → a ≡ true → b ≡ true → (a && b) ≡ true
 both x y = λ i. x i && y i
 
 -- a weaker test of each item
-all_weaker : {X : Type 0} (f g : X → Bool) → ((x : X) → f x ≡ true → g x ≡ true) → (xs : List X) → list_all f xs ≡ true → list_all g xs ≡ true
-all_weaker f g weaker [] all = refl
-all_weaker f g weaker (x ∷ xs) all =
-    let parts = and_parts (f x) (list_all f xs) all in
-    both (weaker x parts.0) (all_weaker f g weaker xs parts.1)
 
 all_joined : {X : Type 0} (f : X → Bool) (xs ys : List X) → list_all f xs ≡ true → list_all f ys ≡ true → list_all f (xs ++ ys) ≡ true
 all_joined f xs ys all others = list_all-append f xs ys ∙ both all others
@@ -39,21 +36,17 @@ all_joined f xs ys all others = list_all-append f xs ys ∙ both all others
 -- ---- expressions that make no identity
 
 -- two tests follow from two others
-parts_follow : (a b x y : Bool) → (a ≡ true → x ≡ true) → (b ≡ true → y ≡ true) → (a && b) ≡ true → (x && y) ≡ true
-parts_follow a b x y first second all =
-    let parts = and_parts a b all in
-    both (first parts.0) (second parts.1)
 
 simple_makes_none : (expr : Expr) → is_simple expr ≡ true → makes_no_identity expr ≡ true
 simple_makes_none (e.col n) so = refl
 simple_makes_none (e.constant x) so = refl
-simple_makes_none (e.add a b) so = parts_follow (is_simple a) (is_simple b) _ _ (simple_makes_none a) (simple_makes_none b) so
-simple_makes_none (e.sub a b) so = parts_follow (is_simple a) (is_simple b) _ _ (simple_makes_none a) (simple_makes_none b) so
-simple_makes_none (e.mul a b) so = parts_follow (is_simple a) (is_simple b) _ _ (simple_makes_none a) (simple_makes_none b) so
+simple_makes_none (e.add a b) so = both_follow (is_simple a) (is_simple b) _ _ (simple_makes_none a) (simple_makes_none b) so
+simple_makes_none (e.sub a b) so = both_follow (is_simple a) (is_simple b) _ _ (simple_makes_none a) (simple_makes_none b) so
+simple_makes_none (e.mul a b) so = both_follow (is_simple a) (is_simple b) _ _ (simple_makes_none a) (simple_makes_none b) so
 simple_makes_none (e.neg a) so = simple_makes_none a so
 simple_makes_none (e.case c a b) so =
-    parts_follow (cond_is_simple c) (is_simple a && is_simple b) _ _ (λ simple. simple)
-    (parts_follow (is_simple a) (is_simple b) _ _ (simple_makes_none a) (simple_makes_none b)) so
+    both_follow (cond_is_simple c) (is_simple a && is_simple b) _ _ (λ simple. simple)
+    (both_follow (is_simple a) (is_simple b) _ _ (simple_makes_none a) (simple_makes_none b)) so
 simple_makes_none (e.new_id t k b parts) so = absurd (false≢true so)
 simple_makes_none (e.times a b) so = absurd (false≢true so)
 
@@ -124,14 +117,14 @@ module _ (prov : Bool) (widths : List ℕ) where
 
 rows_built : (earlier : List ℕ) (query : Plain) → query_is_built earlier query ≡ true → rows_are_built earlier query ≡ true
 rows_built earlier (p.union left right) so =
-    parts_follow (query_is_built earlier left) (query_is_built earlier right) _ _ (rows_built earlier left) (rows_built earlier right) so
+    both_follow (query_is_built earlier left) (query_is_built earlier right) _ _ (rows_built earlier left) (rows_built earlier right) so
 rows_built earlier (p.project query exprs) so =
-    parts_follow (query_is_built earlier query) (list_all makes_no_identity exprs) _ _ (λ built. built) (all_weaker makes_no_identity may_be_identity none_may_be exprs) so
+    both_follow (query_is_built earlier query) (list_all makes_no_identity exprs) _ _ (λ built. built) (all_weaker makes_no_identity may_be_identity none_may_be exprs) so
 rows_built earlier query so = so
 
 query_step_built : (earlier : List ℕ) (query : Plain) → query_is_built earlier query ≡ true → step_is_built earlier query ≡ true
 query_step_built earlier (p.union left right) so =
-    parts_follow (query_is_built earlier left) (query_is_built earlier right) _ _ (rows_built earlier left) (rows_built earlier right) so
+    both_follow (query_is_built earlier left) (query_is_built earlier right) _ _ (rows_built earlier left) (rows_built earlier right) so
 query_step_built earlier query so = so
 
 module _ (columns : ℕ → ℕ) (of_step : ℕ → ℕ) (prov : Bool) (earlier : List ℕ) where
@@ -239,16 +232,13 @@ module _ (columns : ℕ → ℕ) (of_step : ℕ → ℕ) (prov : Bool) (earlier 
 abbrev AreAbove : List ℕ → List QueryStep → Type 0
 AreAbove earlier steps = AllByRecursion (λ (step : QueryStep). is_above earlier step.j ≡ true) steps
 
-lt_test : (a b : ℕ) → a < b → nat_lt a b ≡ true
-lt_test a b less = grind (arith, nat_tests)
-
 above_nothing : (steps : List QueryStep) → AreAbove [] steps
 above_nothing [] = tt
 above_nothing (step ∷ steps) = (refl, above_nothing steps)
 
 one_more_above : (n : ℕ) (earlier : List ℕ) (steps : List QueryStep) → AreAfter n steps → AreAbove earlier steps → AreAbove (n ∷ earlier) steps
 one_more_above n earlier [] after above = tt
-one_more_above n earlier (step ∷ steps) after above = (both (lt_test n step.j after.0) above.0, one_more_above n earlier steps after.1 above.1)
+one_more_above n earlier (step ∷ steps) after above = (both (lt-ltb n step.j after.0) above.0, one_more_above n earlier steps after.1 above.1)
 
 numbers_same : (columns : ℕ → ℕ) (of_step : ℕ → ℕ) (prov : Bool) (earlier : List ℕ) (steps : List QueryStep) →
     numbers_after earlier (map (plain_step columns of_step prov) steps) ≡ numbers_with earlier steps

@@ -13,7 +13,7 @@ use Rattle.gp_expr.specs.Expressions.{Expr, Cond, constant}
 use Rattle.gp_expr.specs.Substitution.{substituted_each, substituted_cond}
 use Rattle.gp_expr.specs.Values.{value, truth, identities, holds, passes}
 use Rattle.gp_algebra.specs.Answers.{values}
-use Rattle.gp_algebra.specs.AnnotatedQueries.{Derived, joined_sources, scanned, crossed}
+use Rattle.gp_algebra.specs.AnnotatedMeaning.{Derived, joined_sources, scanned, crossed}
 use Rattle.gp_prov.specs.Encoding.{encoded_row}
 use Rattle.gp_prov.specs.ToPlain.{users_from, identities_from, times_from, product_of}
 use Rattle.gp_expr.proofs.SubstitutionLemmas.{truth_substituted, values_substituted}

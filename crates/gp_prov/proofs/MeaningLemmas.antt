@@ -1,8 +1,7 @@
 -- A plain program means the annotated one that it is made of, row for row.
-use Rattle.std.proofs.Common.{◌≡◌, ℕ, suc, ◌+◌, ◌<◌, Bool, true, false, cond, List, [], ◌∷◌, ◌++◌, length, refl, sym, ap, ◌∙◌, subst, arith, map}
+use Rattle.std.proofs.Common.{◌≡◌, ℕ, suc, ◌+◌, Bool, true, false, cond, List, [], ◌∷◌, ◌++◌, length, refl, sym, ap, ◌∙◌, subst, arith, map}
 use Rattle.std.specs.Prelude.{sum, ◌==◌, Some, None}
 use Rattle.std.specs.List.{AllByRecursion}
-use Rattle.std.proofs.lemmas.Bool.Decides.{nat_tests}
 use Rattle.gp_base.specs.declared.cell.Cell.{Cell}
 use Rattle.gp_base.specs.declared.cell.Cell.TheVariants as cell
 use Rattle.gp_base.specs.Annotated.{Annotated, Environment, monomials}
@@ -11,23 +10,16 @@ use Rattle.gp_algebra.specs.Answers.{values}
 use Rattle.gp_algebra.specs.Effects.{given_from}
 use Rattle.gp_algebra.specs.Plain.{no_steps, with_step, meaning as plain_meaning, steps_meaning as plain_steps_meaning, program_meaning as plain_program_meaning}
 use Rattle.gp_algebra.specs.AnnotatedQueries as q
-use Rattle.gp_algebra.specs.AnnotatedQueries.{Query, QueryStep, Program, scanned, projected, crossed, renewed, meaning, steps_meaning, program_meaning}
-use Rattle.gp_algebra.specs.QueryForms.{step_table, AreAfter, AreRising, AreSteps, HasSteps, IsWellBuilt, IsTableProgram, IsTable, IsSomeTable, IsJoin, IsSource, IsBranch, AreWide, AreNew, IsStep, IsAnswer}
-use Rattle.gp_algebra.proofs.Lists.{map-map}
+use Rattle.gp_algebra.specs.AnnotatedQueries.{Query, QueryStep, Program, step_table}
+use Rattle.gp_algebra.specs.QueryForms.{AreAfter, AreRising, AreSteps, HasSteps, IsWellBuilt, IsTableProgram, IsTable, IsSomeTable, IsJoin, IsSource, IsBranch, AreWide, AreNew, IsStep, IsAnswer}
+use Rattle.gp_algebra.specs.AnnotatedMeaning.{scanned, projected, crossed, renewed, meaning, steps_meaning, program_meaning}
 use Rattle.gp_prov.specs.Encoding.{noted, encoded_row, encoded}
 use Rattle.gp_prov.specs.ToPlain.{widths_of, changed_columns, new_columns, answer_columns, plain, plain_last, plain_step, plain_program}
 use Rattle.gp_prov.proofs.Pairs.{Pairwise, pair_append, pair_map, pair_weaker, pair_flat_map, pair_filter, pair_is}
 use Rattle.gp_prov.proofs.Codes.{Row, Coded, Joined, as_joined, one_more, passes_joined}
 use Rattle.gp_prov.proofs.RowLemmas.{published_there, change_there, new_there, answered_there, Answered}
-
-eq_from : (a b : ℕ) → (a == b) ≡ true → a ≡ b
-eq_from a b e = grind (arith, nat_tests)
-
-not_eq : (a b : ℕ) → a < b → (a == b) ≡ false
-not_eq a b l = grind (arith, nat_tests)
-
-eq_itself : (a : ℕ) → (a == a) ≡ true
-eq_itself a = grind (arith, nat_tests)
+use Rattle.gp_base.proofs.SmallLemmas.{eq_itself, map-map, not_eq}
+use Rattle.std.proofs.lemmas.Bool.{eqb-true}
 
 -- ---- rows of tables
 
@@ -199,7 +191,7 @@ module _ (columns : ℕ → ℕ) (of_step : ℕ → ℕ) (prov : Bool) (env : En
       let meant : List Row = meaning monomials steps env step.query in
       steps_go todo names.1 forms.1 (with_step step.j planned plain_steps) (with_step step.j meant steps)
       (λ j. elim (j == step.j) as (λ b. (j == step.j) ≡ b → Pairwise (Coded prov (columns (of_step j))) (cond b planned (plain_steps j)) (cond b meant (steps j))) [
-        | true ↦ λ e. subst (λ t. Pairwise (Coded prov (columns t)) planned meant) (sym names.0 ∙ ap of_step (sym (eq_from j step.j e)))
+        | true ↦ λ e. subst (λ t. Pairwise (Coded prov (columns t)) planned meant) (sym names.0 ∙ ap of_step (sym (eqb-true j step.j e)))
             (step_is columns of_step prov plain_steps steps env widths are step.table step.query forms.0)
         | false ↦ λ e. are j
       ] refl)

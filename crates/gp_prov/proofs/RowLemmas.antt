@@ -14,16 +14,14 @@ use Rattle.gp_expr.specs.Substitution.{substituted_each, substituted_cond}
 use Rattle.gp_expr.specs.Values.{value, column, passes, multiplied, made_identity}
 use Rattle.gp_algebra.specs.Answers.{values}
 use Rattle.gp_algebra.specs.Plain.{is_same_id, is_marked, has_id, is_written, published}
-use Rattle.gp_algebra.specs.AnnotatedQueries.{Change, scanned, projected, renewed, stands, was_replaced, published as rows_published}
+use Rattle.gp_algebra.specs.AnnotatedQueries.{Change}
+use Rattle.gp_algebra.specs.AnnotatedMeaning.{scanned, projected, renewed, stands, was_replaced, published as rows_published}
 use Rattle.gp_prov.specs.Encoding.{noted, encoded_row}
 use Rattle.gp_prov.specs.ToPlain.{users_from, identities_from, times_from, product_of, changed_columns, new_columns, answer_columns}
 use Rattle.gp_prov.proofs.Pairs.{Pairwise, pair_append, pair_filter, pair_any}
 use Rattle.gp_prov.proofs.ColumnLemmas.{cell_at}
 use Rattle.gp_prov.proofs.Codes.{Row, Coded, Joined, as_joined, identities_joined, passes_joined, values_joined, product_joined, times_joined}
-
-and_true : (b : Bool) → (b && true) ≡ b
-and_true true = refl
-and_true false = refl
+use Rattle.gp_base.proofs.SmallLemmas.{and_nothing}
 
 map-noted : {X Y : Type 0} (prov : Bool) (f : X → Y) (x : X) → map f (noted prov x) ≡ noted prov (f x)
 map-noted true f x = refl
@@ -65,7 +63,7 @@ module _ (prov : Bool) (width at : ℕ) (same : width ≡ at) (p : List Cell) (r
   same_there : (id : Identity) → is_same_id (column (suc at) p) (cell.Id id) ≡ same_sources r.sources (only id)
   same_there id =
       ap (λ c. is_same_id c (cell.Id id)) id_there
-      ∙ sym (ap (λ (r : Row). same_sources r.sources (only id)) code.annotated ∙ and_true (same_identity code.row.identity id))
+      ∙ sym (ap (λ (r : Row). same_sources r.sources (only id)) code.annotated ∙ and_nothing (same_identity code.row.identity id))
 
   marked_there : is_marked (column (suc (suc at)) p) ≡ r.mark
   marked_there = ap is_marked mark_there ∙ sym (ap (λ (r : Row). r.mark) code.annotated)

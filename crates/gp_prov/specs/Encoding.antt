@@ -1,10 +1,10 @@
--- Part of the statement: annotated rows as rows of the plain algebra. Behind the columns of its table a row has its identity, its mark and, with provenance,
--- its monomial.
-use Rattle.std.specs.Prelude.{Bool, true, false, List, [], ◌∷◌, ◌++◌, map}
+-- Part of the statement: annotated rows as rows of the plain algebra, with their monomials or without them.
+use Rattle.std.specs.Prelude.{Bool, true, false, List, [], ◌∷◌}
 use Rattle.gp_base.specs.declared.cell.Cell.{Cell}
 use Rattle.gp_base.specs.declared.cell.Cell.TheVariants as cell
 use Rattle.gp_base.specs.Annotated.{Annotated, Environment}
 use Rattle.gp_base.specs.Tokens.{Monomial}
+use Rattle.gp_algebra.specs.Encoding as a
 use Rattle.gp_algebra.specs.Plain.{PlainEnvironment}
 
 -- what is there with provenance only
@@ -13,8 +13,7 @@ noted true x = x ∷ []
 noted false x = []
 
 abbrev pub encoded_row : Bool → Annotated Monomial → List Cell
-encoded_row prov row = row.cells ++ (cell.Id row.identity ∷ cell.Mark row.mark ∷ noted prov (cell.Mono row.annotation))
+encoded_row prov row = a.encoded_row (λ (monomial : Monomial). noted prov (cell.Mono monomial)) row
 
--- the rows of each table in each version, in the same order
 abbrev pub encoded : Bool → Environment Monomial → PlainEnvironment
-encoded prov env version table = map (encoded_row prov) (env version table)
+encoded prov env version table = a.encoded (λ (monomial : Monomial). noted prov (cell.Mono monomial)) env version table

@@ -12,8 +12,7 @@ use Rattle.gp_algebra.specs.Effects.{given_from}
 use Rattle.gp_algebra.specs.Plain as p
 use Rattle.gp_algebra.specs.Plain.{Plain, PlainStep, PlainProgram}
 use Rattle.gp_algebra.specs.AnnotatedQueries as q
-use Rattle.gp_algebra.specs.AnnotatedQueries.{Change, Query, QueryStep, Program}
-use Rattle.gp_algebra.specs.QueryForms.{step_table}
+use Rattle.gp_algebra.specs.AnnotatedQueries.{Change, Query, QueryStep, Program, step_table}
 use Rattle.gp_prov.specs.Encoding.{noted, encoded_row}
 
 -- ---- columns of joined rows, whose parts have so many user columns each

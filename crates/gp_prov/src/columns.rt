@@ -118,8 +118,7 @@ pub(crate) fn product(alloc: Global, left: Expr, right: Expr) -> Result<Expr, No
 
 /// A monomial times that of a part, whose system columns stand behind the column `at`.
 fn times_part(alloc: Global, monomial: Expr, at: u32) -> Result<Expr, NoMemory>
-    ensures { IfOk result (λ new. expr_view new
-        ≡ e.times (expr_view monomial) (e.col (at + 3))) }
+    ensures { IfOk result (λ new. expr_view new ≡ e.times (expr_view monomial) (e.col (at + 3))) }
 {
     product(alloc, monomial, monomial_column(at)?)
 }

@@ -5,10 +5,12 @@ ghost use Rattle.std.specs.List.{AllByRecursion};
 ghost use Rattle.gp_base.specs.declared.cell.Cell.TheVariants as cell;
 ghost use Rattle.gp_base.specs.Annotated.{Annotated, Environment, monomials};
 ghost use Rattle.gp_base.specs.Tokens.{Monomial};
-ghost use Rattle.gp_algebra.specs.AnnotatedQueries as q;
-ghost use Rattle.gp_algebra.specs.AnnotatedQueries.{Derived, Program, scanned};
+ghost use Rattle.gp_algebra.specs.AnnotatedMeaning as qm;
+ghost use Rattle.gp_algebra.specs.AnnotatedQueries.{Program};
+ghost use Rattle.gp_algebra.specs.AnnotatedMeaning.{Derived, scanned};
 ghost use Rattle.gp_algebra.specs.Plain as p;
-ghost use Rattle.gp_algebra.specs.QueryForms.{HasSteps, IsAnswer, IsSomeTable, IsTableProgram, IsWellBuilt, step_table};
+ghost use Rattle.gp_algebra.specs.QueryForms.{HasSteps, IsAnswer, IsSomeTable, IsTableProgram, IsWellBuilt};
+ghost use Rattle.gp_algebra.specs.AnnotatedQueries.{step_table};
 ghost use Rattle.gp_algebra.specs.WellBuilt.{is_well_built};
 ghost use Rattle.gp_prov.specs.Encoding.{encoded, encoded_row, noted};
 ghost use Rattle.gp_prov.specs.ToPlain.{plain_program};
@@ -24,7 +26,7 @@ pub fn plain_programs_mean_the_annotated()
         → IsWellBuilt columns program
         → p.program_meaning (encoded prov env) (plain_program columns prov program)
         ≡ map (λ (row : Derived Monomial). row.cells ++ noted prov (cell.Mono row.annotation))
-        (q.program_meaning monomials env program) }
+        (qm.program_meaning monomials env program) }
     ensures tables { (columns : ℕ → ℕ) (prov : Bool) (env : Environment Monomial)
         (table : ℕ) (program : Program)
         → ((version table : ℕ) → AllByRecursion (λ row. length row.cells ≡ columns table)
@@ -33,7 +35,7 @@ pub fn plain_programs_mean_the_annotated()
         → (rows : List (Annotated Monomial))
         × (p.program_meaning (encoded prov env) (plain_program columns prov program)
         ≡ map (encoded_row prov) rows)
-        × (q.program_meaning monomials env program ≡ map (scanned monomials) rows) }
+        × (qm.program_meaning monomials env program ≡ map (scanned monomials) rows) }
     ensures steps { (columns : ℕ → ℕ) (prov : Bool) (env : Environment Monomial)
         (program : Program) (j : ℕ)
         → ((version table : ℕ) → AllByRecursion (λ row. length row.cells ≡ columns table)
@@ -42,7 +44,7 @@ pub fn plain_programs_mean_the_annotated()
         → (rows : List (Annotated Monomial))
         × (p.steps_meaning (encoded prov env) (plain_program columns prov program).steps
         p.no_steps j ≡ map (encoded_row prov) rows)
-        × (q.steps_meaning monomials env program.steps p.no_steps j
+        × (qm.steps_meaning monomials env program.steps p.no_steps j
         ≡ map (scanned monomials) rows) }
 {}
 

@@ -1,50 +1,37 @@
 //! Programs with system columns.
 
 ghost use Rattle.std.specs.Prelude.{◌≡◌, map, IfOk};
-ghost use Rattle.gp_algebra.specs.Fitting.{width_of};
+ghost use Rattle.gp_algebra.specs.Statements.{width_of};
 ghost use Rattle.gp_algebra.specs.PlainViews.{program_view, step_view};
-ghost use Rattle.gp_algebra.specs.QueryForms.{step_table};
 ghost use Rattle.gp_algebra.specs.QueryViews.{annotated_program_view, annotated_step_view};
 ghost use Rattle.gp_prov.specs.ToPlain as to;
+ghost use Rattle.gp_prov.specs.Translating.{plain_step_over};
 
-use crate::queries::{plain_last, plain_query};
+use crate::queries::{Translation, plain_last, plain_query};
 use gp_algebra::{AProgram, AStep, PProgram, PStep};
 use gp_base::{Catalog, NoMemory, Sequence};
 use std::alloc::Global;
 
 /// A step with system columns.
-fn plain_step(
-    alloc: Global,
-    catalog: &Catalog,
-    steps: &[AStep],
-    with_prov: bool,
-    step: &AStep,
-) -> Result<PStep, NoMemory>
-    ensures { IfOk result (λ new. step_view new ≡ to.plain_step (width_of catalog.now)
-        (step_table (map annotated_step_view steps.now)) with_prov
-        (annotated_step_view step.now)) }
+fn plain_step(translation: &Translation<'_>, step: &AStep) -> Result<PStep, NoMemory>
+    ensures { IfOk result (λ new. step_view new
+        ≡ plain_step_over translation.now (annotated_step_view step.now)) }
 {
     Ok(PStep {
         j: step.j,
         table: step.table,
-        query: plain_query(alloc, catalog, steps, with_prov, &step.query)?,
+        query: plain_query(translation, &step.query)?,
     })
 }
 
 /// The steps with system columns.
-fn plain_steps(
-    alloc: Global,
-    catalog: &Catalog,
-    steps: &[AStep],
-    with_prov: bool,
-) -> Result<Sequence<PStep>, NoMemory>
-    ensures { IfOk result (λ new. map step_view new ≡ map (to.plain_step (width_of catalog.now)
-        (step_table (map annotated_step_view steps.now)) with_prov)
-        (map annotated_step_view steps.now)) }
+fn plain_steps(translation: &Translation<'_>) -> Result<Sequence<PStep>, NoMemory>
+    ensures { IfOk result (λ new. map step_view new ≡ map (plain_step_over translation.now)
+        (map annotated_step_view translation.now.steps.now)) }
 {
-    let mut new = Sequence::new(alloc);
-    for step in steps {
-        new.push(plain_step(alloc, catalog, steps, with_prov, step)?)?;
+    let mut new = Sequence::new(translation.alloc);
+    for step in translation.steps {
+        new.push(plain_step(translation, step)?)?;
     }
     Ok(new)
 }
@@ -62,8 +49,13 @@ pub fn to_plain(
     ensures exact { IfOk result (λ plain. program_view plain ≡ to.plain_program
         (width_of catalog.now) with_prov (annotated_program_view program.now)) }
 {
-    let steps = program.steps.as_slice();
-    let last = plain_last(alloc, catalog, steps, with_prov, &program.last)?;
-    let steps = plain_steps(alloc, catalog, steps, with_prov)?;
+    let translation = Translation {
+        alloc,
+        catalog,
+        steps: program.steps.as_slice(),
+        with_prov,
+    };
+    let last = plain_last(&translation, &program.last)?;
+    let steps = plain_steps(&translation)?;
     Ok(PProgram { steps, last })
 }

@@ -16,13 +16,13 @@ use Rattle.gp_algebra.specs.Plain.{PlainEnvironment, PlainProgram, program_meani
 use Rattle.gp_algebra.specs.Scans.{AgreeOn, HaveSameRowsOn, program_scans}
 use Rattle.gp_algebra.specs.Statements.{Select}
 use Rattle.gp_algebra.specs.Stops.{program_stop}
-use Rattle.gp_algebra.proofs.Permutations.{permuted, unpermuted}
+use Rattle.gp_base.proofs.Permutations.{permuted, unpermuted}
 use Rattle.gp_algebra.proofs.PlainBags.{program_meaning_same, program_stop_same}
 use Rattle.gp_exec.specs.Backends.{Executes, Given, IsGiven}
 use Rattle.gp_exec.specs.declared.error.ExecStop.{ExecStop}
 use Rattle.gp_exec.specs.declared.error.ExecStop.TheVariants as exec
-use Rattle.gp_exec.specs.declared.limit.TheConstants.{MAX_ANSWER_ROWS, MAX_TABLE_ROWS}
-use Rattle.gp_log.specs.Limits.{limits}
+use Rattle.gp_base.specs.declared.limit.TheConstants.{MAX_ANSWER_ROWS, MAX_TABLE_ROWS}
+use Rattle.gp_log.specs.Parameters.{parameters}
 use Rattle.gp_machine.specs.Entries.{Entry}
 use Rattle.gp_machine.specs.HistorySpans as machine
 use Rattle.gp_machine.specs.Points.{at_point}
@@ -51,12 +51,12 @@ module _ {X : Type 0} (view : X → List (List Cell)) (gives : PlainProgram → 
   gives_over (Err exec.NoMemory) is = tt
 
 -- a stop of the program as a refusal
-pub stop_refused : {X : Type 0} (view : X → List (List Cell)) (gives : PlainProgram → PlainEnvironment → Given → Type 0) (due : Option Refusal) (t : ℕ) (program : PlainProgram) (past : PlainEnvironment)
-    (stop : ExecStop) → due ≡ None → GivesOver view gives (Err stop) program past → ReenactsBy view gives (Err (stopped t stop)) due t program past
-stop_refused view gives due t program past (exec.Rows j) known is = subst (λ d. RefusedBy gives (E25 t j) d t program past) (sym known) (record { stop = exec.Rows j; given = is; is = refl })
-stop_refused view gives due t program past (exec.Ancestry j) known is = subst (λ d. RefusedBy gives (E26 t j) d t program past) (sym known) (record { stop = exec.Ancestry j; given = is; is = refl })
-stop_refused view gives due t program past exec.Answer known is = subst (λ d. RefusedBy gives E27 d t program past) (sym known) (record { stop = exec.Answer; given = is; is = refl })
-stop_refused view gives due t program past exec.NoMemory known is = tt
+pub stop_refused : {X : Type 0} (view : X → List (List Cell)) (gives : PlainProgram → PlainEnvironment → Given → Type 0) (expected : Option Refusal) (t : ℕ) (program : PlainProgram) (past : PlainEnvironment)
+    (stop : ExecStop) → expected ≡ None → GivesOver view gives (Err stop) program past → ReenactsBy view gives (Err (stopped t stop)) expected t program past
+stop_refused view gives expected t program past (exec.Rows j) known is = subst (λ d. RefusedBy gives (E25 t j) d t program past) (sym known) (record { stop = exec.Rows j; given = is; is = refl })
+stop_refused view gives expected t program past (exec.Ancestry j) known is = subst (λ d. RefusedBy gives (E26 t j) d t program past) (sym known) (record { stop = exec.Ancestry j; given = is; is = refl })
+stop_refused view gives expected t program past exec.Answer known is = subst (λ d. RefusedBy gives E27 d t program past) (sym known) (record { stop = exec.Answer; given = is; is = refl })
+stop_refused view gives expected t program past exec.NoMemory known is = tt
 
 -- ---- the executor
 
@@ -89,7 +89,7 @@ module _ {X : Type 0} (view : X → List (List Cell)) (entries : List Entry) (ve
   past = travel.encoded (travels.as_of plain versions)
 
   abbrev answer_is : Result X ReenactStop → Type 0
-  answer_is result = Reenacts view result (rows_answer limits entries (spans_of versions) point select)
+  answer_is result = Reenacts view result (rows_answer parameters entries (spans_of versions) point select)
 
   executed_stop : (stop : ExecStop) → RunsOver (λ (rows : List (List Cell)). rows) (Err stop) past program → RunsOver view (Err stop) past program
   executed_stop (exec.Rows j) runs = runs
@@ -97,10 +97,10 @@ module _ {X : Type 0} (view : X → List (List Cell)) (entries : List Entry) (ve
   executed_stop exec.Answer runs = runs
   executed_stop exec.NoMemory runs = tt
 
-  refused : (refusal : Refusal) (due : Option Refusal) → log_refusal entries point ≡ due → RefusedBy Executes refusal due (transaction_at point) program past → answer_is (Err (Refused refusal))
-  refused refusal (Some due) is same =
+  refused : (refusal : Refusal) (expected : Option Refusal) → log_refusal entries point ≡ expected → RefusedBy Executes refusal expected (transaction_at point) program past → answer_is (Err (Refused refusal))
+  refused refusal (Some expected) is same =
       let elements = answer plain select (at_point plain entries point (machine.as_of plain (spans_of versions))) in
-      let rest = option_or (own_stop plain limits entries point (machine.as_of plain (spans_of versions))) (answer_refusal plain limits elements) in
+      let rest = option_or (own_stop plain parameters entries point (machine.as_of plain (spans_of versions))) (answer_refusal plain parameters elements) in
       subst (λ d. Reenacts view (Err (Refused refusal)) (given (option_or d rest) elements)) (sym is) same
   refused refusal None is by =
       subst answer_is (ap Err (sym by.is)) (stop_is view entries versions point select program (replays is) by.stop (executed_stop by.stop (runs_over_same program past (Err by.stop) by.given)))

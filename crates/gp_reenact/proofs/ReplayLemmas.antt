@@ -15,29 +15,31 @@ use Rattle.gp_base.specs.Tokens.{Monomial}
 use Rattle.gp_base.proofs.ProductLaws.{times-associative, times-one}
 use Rattle.gp_grammar.specs.Syntax as y
 use Rattle.gp_algebra.specs.AnnotatedQueries as q
-use Rattle.gp_algebra.specs.AnnotatedQueries.{Derived}
+use Rattle.gp_algebra.specs.AnnotatedMeaning as qm
+use Rattle.gp_algebra.specs.AnnotatedMeaning.{Derived}
 use Rattle.gp_algebra.specs.Answers.{Element, answer, cells_of}
 use Rattle.gp_algebra.specs.Effects.{is_over_rows, is_over_nodes}
-use Rattle.gp_algebra.specs.Fitting.{select_fits, width_of}
-use Rattle.gp_algebra.specs.QueryForms.{HasSteps, IsWellBuilt, step_table}
+use Rattle.gp_algebra.specs.Fitting.{select_fits}
+use Rattle.gp_algebra.specs.Statements.{width_of}
+use Rattle.gp_algebra.specs.QueryForms.{HasSteps, IsWellBuilt}
+use Rattle.gp_algebra.specs.AnnotatedQueries.{step_table}
 use Rattle.gp_algebra.specs.Plain as p
 use Rattle.gp_algebra.specs.Reannotation.{IsHomomorphism, forgotten, reannotated}
 use Rattle.gp_algebra.specs.Statements.{Select, Statement}
 use Rattle.gp_algebra.specs.Stops.{Stop, rows, ancestry, program_stop}
 use Rattle.gp_algebra.specs.WellBuilt.{is_well_built}
-use Rattle.gp_algebra.proofs.Lists.{map-map}
 use Rattle.gp_exec.specs.declared.env.Env.{Env}
 use Rattle.gp_exec.specs.Running.{Runs, environment_view}
 use Rattle.gp_exec.specs.declared.error.ExecStop.{ExecStop}
 use Rattle.gp_exec.specs.declared.error.ExecStop.TheVariants as exec
-use Rattle.gp_exec.specs.declared.limit.TheConstants.{MAX_TABLE_ROWS, MAX_ANSWER_ROWS}
+use Rattle.gp_base.specs.declared.limit.TheConstants.{MAX_TABLE_ROWS, MAX_ANSWER_ROWS}
 use Rattle.gp_machine.specs.Entries.{Entry, Log, log_of, statement_count}
 use Rattle.gp_machine.specs.HistorySpans as machine
-use Rattle.gp_machine.specs.Limits.{Limits}
+use Rattle.gp_machine.specs.Parameters.{Parameters}
 use Rattle.gp_machine.specs.Points.{RunStop, OverRows, OverNodes, at_point, run_stop, statement_stop}
 use Rattle.gp_machine.specs.Questions.{given, log_refusal, own_stop, rows_answer, stop_refusal}
 use Rattle.gp_machine.specs.Runs.{run_before}
-use Rattle.gp_log.specs.Limits.{limits}
+use Rattle.gp_log.specs.Parameters.{parameters}
 use Rattle.gp_log.specs.LogFacts.{tables_in}
 use Rattle.gp_log.specs.LogFitting.{SpansFit, statements_fit}
 use Rattle.gp_versions.specs.declared.span.Span.{Span}
@@ -57,10 +59,12 @@ use Rattle.gp_merge.proofs.BuiltLemmas.{merged_built}
 use Rattle.gp_merge.proofs.Orders.{program_ordered}
 use Rattle.gp_merge.proofs.RebuildingLemmas.{merged_is}
 use Rattle.gp_merge.proofs.StepLemmas.{merged_stop}
-use Rattle.gp_reenact.specs.Reenacting.{Reenacts, RunsOver, merged_at, spans_of, stopped, transaction_at}
+use Rattle.gp_reenact.specs.Reenacting.{Reenacts, RunsOver, spans_of, stopped, transaction_at}
+use Rattle.gp_reenact.specs.Programs.{merged_at}
 use Rattle.gp_machine.proofs.PointReannotation.{VersionsReannotate, cells_reannotated, run_stop_reannotated}
 use Rattle.gp_reenact.proofs.HeldLemmas.{held_rows, wide_rows}
 use Rattle.gp_reenact.proofs.StopLemmas.{gives_run, program_stops, step_stop}
+use Rattle.gp_base.proofs.SmallLemmas.{map-map}
 
 -- ---- stops
 
@@ -70,7 +74,7 @@ refusal_at t (rows k) = E25 t k
 refusal_at t (ancestry k) = E26 t k
 
 -- a run stops in its own transaction
-module _ {M : Type 0} (kind : Annotations M) (bounds : Limits) (log : Log) (t : ℕ) (env : Environment M) where
+module _ {M : Type 0} (domain : Annotations M) (bounds : Parameters) (log : Log) (t : ℕ) (env : Environment M) where
   one_refusal : (k : ℕ) (over_rows over_nodes : Bool)
       → option_map stop_refusal (cond over_rows (Some (OverRows t k)) (cond over_nodes (Some (OverNodes t k)) None))
       ≡ option_map (refusal_at t) (option_map step_stop (cond over_rows (Some (OverRows t k)) (cond over_nodes (Some (OverNodes t k)) None)))
@@ -79,9 +83,9 @@ module _ {M : Type 0} (kind : Annotations M) (bounds : Limits) (log : Log) (t : 
   one_refusal k false false = refl
 
   statement_refused : (k : ℕ) (found : Option Statement) (db : Database M)
-      → option_map stop_refusal (statement_stop kind bounds t k found db) ≡ option_map (refusal_at t) (option_map step_stop (statement_stop kind bounds t k found db))
+      → option_map stop_refusal (statement_stop domain bounds t k found db) ≡ option_map (refusal_at t) (option_map step_stop (statement_stop domain bounds t k found db))
   statement_refused k None db = refl
-  statement_refused k (Some statement) db = one_refusal k (is_over_rows kind bounds.rows t k statement db) (is_over_nodes kind bounds.nodes t k statement db)
+  statement_refused k (Some statement) db = one_refusal k (is_over_rows domain bounds.rows t k statement db) (is_over_nodes domain bounds.nodes t k statement db)
 
   abbrev AreRefused : Option RunStop → Type 0
   AreRefused stop = option_map stop_refusal stop ≡ option_map (refusal_at t) (option_map step_stop stop)
@@ -90,11 +94,11 @@ module _ {M : Type 0} (kind : Annotations M) (bounds : Limits) (log : Log) (t : 
   first_refused (Some stop) next one two = one
   first_refused None next one two = two
 
-  pub run_refused : (k : ℕ) → AreRefused (run_stop kind bounds log t k env)
+  pub run_refused : (k : ℕ) → AreRefused (run_stop domain bounds log t k env)
   run_refused zero = refl
   run_refused (suc k) =
-      first_refused (run_stop kind bounds log t k env) (statement_stop kind bounds t (suc k) (log.statement t (suc k)) (run_before kind log t k env)) (run_refused k)
-      (statement_refused (suc k) (log.statement t (suc k)) (run_before kind log t k env))
+      first_refused (run_stop domain bounds log t k env) (statement_stop domain bounds t (suc k) (log.statement t (suc k)) (run_before domain log t k env)) (run_refused k)
+      (statement_refused (suc k) (log.statement t (suc k)) (run_before domain log t k env))
 
 -- ---- answers
 
@@ -103,7 +107,7 @@ pub record Replays (entries : List Entry) (versions : List Versions) (point : y.
   pub known : log_refusal entries point ≡ None
   pub gives : p.program_meaning (travel.encoded (travels.as_of plain versions)) program
       ≡ cells_of (answer plain select (at_point plain entries point (machine.as_of plain (spans_of versions))))
-  pub stops : own_stop plain limits entries point (machine.as_of plain (spans_of versions))
+  pub stops : own_stop plain parameters entries point (machine.as_of plain (spans_of versions))
       ≡ option_map (refusal_at (transaction_at point)) (program_stop MAX_TABLE_ROWS MAX_NODES (travel.encoded (travels.as_of plain versions)) program)
 
 module _ {X : Type 0} (view : X → List (List Cell)) (entries : List Entry) (versions : List Versions) (point : y.State) (select : Select) (program : p.PlainProgram)
@@ -114,25 +118,25 @@ module _ {X : Type 0} (view : X → List (List Cell)) (entries : List Entry) (ve
   abbrev elements : List (Element (Unit {0}))
   elements = answer plain select (at_point plain entries point (machine.as_of plain (spans_of versions)))
 
-  abbrev due : Result (List (Element (Unit {0}))) Refusal
-  due = rows_answer limits entries (spans_of versions) point select
+  abbrev expected : Result (List (Element (Unit {0}))) Refusal
+  expected = rows_answer parameters entries (spans_of versions) point select
 
   due_is : (stop : Option Stop) → program_stop MAX_TABLE_ROWS MAX_NODES env program ≡ stop → (over : Bool) → nat_lt MAX_ANSWER_ROWS (length elements) ≡ over
-      → due ≡ given (option_or (option_map (refusal_at (transaction_at point)) stop) (cond over (Some E27) None)) elements
+      → expected ≡ given (option_or (option_map (refusal_at (transaction_at point)) stop) (cond over (Some E27) None)) elements
   due_is stop is over many =
       λ i. given (option_or (replays.known i) (option_or ((replays.stops ∙ ap (option_map (refusal_at (transaction_at point))) is) i) (cond (many i) (Some E27) None))) elements
 
   rows_many : length (p.program_meaning env program) ≡ length elements
   rows_many = ap length replays.gives ∙ length-map elements (λ (element : Element (Unit {0})). element.cells)
 
-  pub found_is : (found : X) → RunsOver view (Ok found) env program → Reenacts view (Ok found) due
+  pub found_is : (found : X) → RunsOver view (Ok found) env program → Reenacts view (Ok found) expected
   found_is found runs =
       let count : length elements ≤ MAX_ANSWER_ROWS = subst (λ n. n ≤ MAX_ANSWER_ROWS) rows_many runs.1.1 in
       let few : nat_lt MAX_ANSWER_ROWS (length elements) ≡ false = grind (arith, nat_tests) in
       subst (λ d. Reenacts view (Ok found) d) (sym (due_is None runs.0 false few))
       (subst (λ rows. IsPermutation (view found) rows) replays.gives runs.1.0)
 
-  pub stop_is : (stop : ExecStop) → RunsOver view (Err stop) env program → Reenacts view (Err (stopped (transaction_at point) stop)) due
+  pub stop_is : (stop : ExecStop) → RunsOver view (Err stop) env program → Reenacts view (Err (stopped (transaction_at point) stop)) expected
   stop_is (exec.Rows j) runs =
       subst (λ d. Reenacts view (Err (stopped (transaction_at point) (exec.Rows j))) d) (sym (due_is (Some (rows j)) runs (nat_lt MAX_ANSWER_ROWS (length elements)) refl)) refl
   stop_is (exec.Ancestry j) runs =
@@ -233,33 +237,33 @@ module _ (entries : List Entry) (versions : List Versions) (select : Select) (fi
   gives point known =
       ap (λ env. p.program_meaning env (plain_program columns false (program point))) (env_is versions)
       ∙ answers_are columns false past widths (program point) (built point known)
-      ∙ cells_out (q.program_meaning monomials past (program point)) (answer monomials select (at_point monomials entries point past))
+      ∙ cells_out (qm.program_meaning monomials past (program point)) (answer monomials select (at_point monomials entries point past))
       (program_is monomials monoid (tables_in entries) entries fit past wide (none_marked versions) point select fits)
       ∙ sym (cells_reannotated monomials plain forgotten forgetting past plain_past (forgets versions) entries point select)
 
   -- the steps of a transaction stop where its run does
   steps_stop_is : (t k : ℕ) (last : q.Query) → HasSteps columns (record { steps = composed columns (log_of entries) t k; last = last })
       → program_stop MAX_TABLE_ROWS MAX_NODES (travel.encoded (travels.as_of plain versions)) (plain_program columns false (record { steps = composed columns (log_of entries) t k; last = last }))
-      ≡ option_map step_stop (run_stop plain limits (log_of entries) t k plain_past)
+      ≡ option_map step_stop (run_stop plain parameters (log_of entries) t k plain_past)
   steps_stop_is t k last has =
       let steps : List q.QueryStep = composed columns (log_of entries) t k in
       ap (λ env. program_stop MAX_TABLE_ROWS MAX_NODES env (plain_program columns false (record { steps = steps; last = last }))) (env_is versions)
-      ∙ program_stops false limits (tables_in entries) entries t k past last fit
+      ∙ program_stops false parameters (tables_in entries) entries t k past last fit
       (held_rows monomials (tables_in entries) (spans_of versions) spans_fit)
       (gives_run false columns (step_table steps) (log_of entries) t past k
       (λ j table statement within is writes_it. composed_step_is monomials monoid (tables_in entries) entries fit past wide (none_marked versions) t k j table statement within is writes_it)
       (λ j. rows_between false (columns (step_table steps j)) (steps_are columns false past widths (record { steps = steps; last = last }) has j)))
-      ∙ ap (option_map step_stop) (sym (run_stop_reannotated monomials plain forgotten forgetting past plain_past (forgets versions) limits (log_of entries) t k))
+      ∙ ap (option_map step_stop) (sym (run_stop_reannotated monomials plain forgotten forgetting past plain_past (forgets versions) parameters (log_of entries) t k))
 
   stops : (point : y.State) → log_refusal entries point ≡ None
-      → own_stop plain limits entries point plain_past
+      → own_stop plain parameters entries point plain_past
       ≡ option_map (refusal_at (transaction_at point)) (program_stop MAX_TABLE_ROWS MAX_NODES (travel.encoded (travels.as_of plain versions)) (plain_program columns false (program point)))
   stops (y.as_of version) known = refl
   stops (y.after t k) known =
-      run_refused plain limits (log_of entries) t plain_past k
+      run_refused plain parameters (log_of entries) t plain_past k
       ∙ ap (option_map (refusal_at t)) (sym (steps_stop_is t k (program (y.after t k)).last (built (y.after t k) known).steps))
   stops (y.State.commit t) known =
-      run_refused plain limits (log_of entries) t plain_past (statement_count t entries)
+      run_refused plain parameters (log_of entries) t plain_past (statement_count t entries)
       ∙ ap (option_map (refusal_at t)) (sym (steps_stop_is t (statement_count t entries) (program (y.State.commit t)).last (built (y.State.commit t) known).steps))
 
   -- the merged program replays the state

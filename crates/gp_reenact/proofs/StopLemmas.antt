@@ -1,9 +1,9 @@
 -- The plain program of a transaction stops where its run does. Only the rows that an INSERT appends can be over the limits, since those of its table are as tables
 -- hold them.
-use Rattle.std.proofs.Common.{◌≡◌, ℕ, zero, suc, ◌<◌, ◌≤◌, ◌==◌, nat_le, nat_lt, Bool, true, false, true≢false, ◌||◌, List, [], ◌∷◌, ◌++◌, length, map, Option, Some, None, if◌then◌else◌, refl, sym, ap, ◌∙◌, arith}
+use Rattle.std.proofs.Common.{◌≡◌, ℕ, zero, suc, ◌<◌, ◌≤◌, nat_le, nat_lt, Bool, true, false, true≢false, ◌||◌, List, [], ◌∷◌, ◌++◌, length, map, Option, Some, None, if◌then◌else◌, refl, sym, ap, ◌∙◌, arith}
 use Rattle.std.specs.List.{AllByRecursion, list_all, list_any}
 use Rattle.std.specs.Option.{option_map, option_or}
-use Rattle.std.proofs.lemmas.Bool.{eq-eqb, eqb-true, ne_eqb}
+use Rattle.std.proofs.lemmas.Bool.{eqb-true, ne_eqb, and_parts, le-ltb}
 use Rattle.std.proofs.lemmas.Bool.Decides.{nat_tests}
 use Rattle.std.proofs.lemmas.List.{length-map, map-append}
 use Rattle.std.proofs.lemmas.List.Folds.{list_any-append}
@@ -11,30 +11,33 @@ use Rattle.gp_base.specs.declared.cell.Cell.{Cell}
 use Rattle.gp_base.specs.declared.cell.Cell.TheVariants as cell
 use Rattle.gp_base.specs.declared.table.Table.{Table}
 use Rattle.gp_base.specs.Annotated.{Annotated, Annotations, Database, Environment, monomials}
-use Rattle.gp_base.specs.Cells.{is_user_cell}
+use Rattle.gp_base.specs.UserCells.{is_user_cell}
 use Rattle.gp_base.specs.Identities.{Identity, Sources, identity, no_sources, nodes, source}
 use Rattle.gp_base.specs.Tokens.{Monomial}
-use Rattle.gp_expr.specs.Values.{is_large}
-use Rattle.gp_algebra.specs.AnnotatedQueries as q
-use Rattle.gp_algebra.specs.AnnotatedQueries.{Derived, Query, scanned}
+use Rattle.gp_expr.specs.LargeValues.{is_large}
+use Rattle.gp_algebra.specs.AnnotatedMeaning as qm
+use Rattle.gp_algebra.specs.AnnotatedQueries.{Query}
+use Rattle.gp_algebra.specs.AnnotatedMeaning.{Derived, scanned}
 use Rattle.gp_algebra.specs.Answers.{answer}
 use Rattle.gp_algebra.specs.Effects.{given_from, made, step, with_rows}
-use Rattle.gp_algebra.specs.Fitting.{is_countable, is_there, width_of}
+use Rattle.gp_algebra.specs.Fitting.{is_countable, is_there}
+use Rattle.gp_algebra.specs.Statements.{width_of}
 use Rattle.gp_algebra.specs.Plain.{PlainEnvironment, PlainStep, StepRows, meaning, no_steps, steps_meaning, with_step}
-use Rattle.gp_algebra.specs.QueryForms.{step_table}
-use Rattle.gp_algebra.specs.Statements.{Statement, delete, insert, insert_select, read, update}
+use Rattle.gp_algebra.specs.Statements.{Statement, delete, insert, insert_select, read, update, target}
+use Rattle.gp_algebra.specs.AnnotatedQueries.{step_table}
 use Rattle.gp_algebra.specs.Stops.{Stop, ancestry, first_stop, program_stop, rows, steps_stop, stop_at}
 use Rattle.gp_machine.specs.Entries.{Entry, Log, log_of}
-use Rattle.gp_machine.specs.Limits.{Limits}
+use Rattle.gp_machine.specs.Parameters.{Parameters}
 use Rattle.gp_machine.specs.Points.{OverNodes, OverRows, RunStop, run_stop, statement_stop}
 use Rattle.gp_machine.specs.Runs.{run, run_before, stepped}
-use Rattle.gp_machine.proofs.Distinct.{each_append, each_weaker}
+use Rattle.gp_machine.proofs.Distinct.{each_weaker}
 use Rattle.gp_log.specs.LogFitting.{statements_fit}
-use Rattle.gp_rewrite.specs.Rewriting.{rewritten, target}
+use Rattle.gp_rewrite.specs.Rewriting.{rewritten}
 use Rattle.gp_compose.specs.Composed.{composed, current_before, is_target, step_of, steps_of, writes}
 use Rattle.gp_prov.specs.Encoding.{encoded, encoded_row, noted}
 use Rattle.gp_prov.specs.ToPlain.{plain, plain_program, plain_step}
-use Rattle.gp_reenact.proofs.HeldLemmas.{AreHeld, FitsIfSome, HasUserCells, IsHeld, both, held_refreshed, held_step, logged_fits, user_given, user_made}
+use Rattle.gp_reenact.proofs.HeldLemmas.{AreHeld, FitsIfSome, HasUserCells, IsHeld, held_refreshed, held_step, logged_fits, user_given, user_made}
+use Rattle.gp_base.proofs.SmallLemmas.{each_append, eq_itself}
 
 -- the stop of a program for that of a run
 abbrev pub step_stop : RunStop → Stop
@@ -43,19 +46,13 @@ step_stop (OverNodes t k) = ancestry k
 
 -- ---- tests
 
-same_number : (n : ℕ) → (n == n) ≡ true
-same_number n = eq-eqb n n refl
-
-not_less : (a b : ℕ) → b ≤ a → nat_lt a b ≡ false
-not_less a b l = grind (arith, nat_tests)
-
 -- ---- what is over the limits
 
 no_large : (most : ℕ) (cells : List Cell) → list_all is_user_cell cells ≡ true → list_any (is_large most) cells ≡ false
 no_large most [] all = refl
 no_large most (cell.Null ∷ cells) all = no_large most cells all
-no_large most (cell.Int n ∷ cells) all = no_large most cells (both (is_user_cell (cell.Int n)) _ all).1
-no_large most (cell.Text bytes ∷ cells) all = no_large most cells (both (is_user_cell (cell.Text bytes)) _ all).1
+no_large most (cell.Int n ∷ cells) all = no_large most cells (and_parts (is_user_cell (cell.Int n)) _ all).1
+no_large most (cell.Text bytes ∷ cells) all = no_large most cells (and_parts (is_user_cell (cell.Text bytes)) _ all).1
 no_large most (cell.Id id ∷ cells) all = absurd (true≢false (sym all))
 no_large most (cell.Mark mark ∷ cells) all = absurd (true≢false (sym all))
 no_large most (cell.Mono monomial ∷ cells) all = absurd (true≢false (sym all))
@@ -65,46 +62,46 @@ or_nothing true b none = absurd (true≢false none)
 or_nothing false true none = refl
 or_nothing false false none = refl
 
-module _ (prov : Bool) (limits : Limits) where
+module _ (prov : Bool) (parameters : Parameters) where
   abbrev over : Annotated Monomial → Bool
-  over row = nat_lt limits.nodes (nodes row.identity)
+  over row = nat_lt parameters.nodes (nodes row.identity)
 
-  row_large : (row : Annotated Monomial) → list_all is_user_cell row.cells ≡ true → list_any (is_large limits.nodes) (encoded_row prov row) ≡ over row
+  row_large : (row : Annotated Monomial) → list_all is_user_cell row.cells ≡ true → list_any (is_large parameters.nodes) (encoded_row prov row) ≡ over row
   row_large row all =
-      list_any-append (is_large limits.nodes) row.cells (cell.Id row.identity ∷ cell.Mark row.mark ∷ noted prov (cell.Mono row.annotation))
-      ∙ ap (λ b. list_any (is_large limits.nodes) row.cells || (over row || b)) (none_noted prov)
-      ∙ or_nothing _ (over row) (no_large limits.nodes row.cells all)
+      list_any-append (is_large parameters.nodes) row.cells (cell.Id row.identity ∷ cell.Mark row.mark ∷ noted prov (cell.Mono row.annotation))
+      ∙ ap (λ b. list_any (is_large parameters.nodes) row.cells || (over row || b)) (none_noted prov)
+      ∙ or_nothing _ (over row) (no_large parameters.nodes row.cells all)
     where
-      none_noted : (prov : Bool) → list_any (is_large limits.nodes) (noted prov (cell.Mono row.annotation)) ≡ false
+      none_noted : (prov : Bool) → list_any (is_large parameters.nodes) (noted prov (cell.Mono row.annotation)) ≡ false
       none_noted true = refl
       none_noted false = refl
 
-  rows_large : (all : List (Annotated Monomial)) → AllByRecursion (HasUserCells monomials limits.nodes) all
-      → list_any (list_any (is_large limits.nodes)) (map (encoded_row prov) all) ≡ list_any over all
+  rows_large : (all : List (Annotated Monomial)) → AllByRecursion (HasUserCells monomials parameters.nodes) all
+      → list_any (list_any (is_large parameters.nodes)) (map (encoded_row prov) all) ≡ list_any over all
   rows_large [] each = refl
   rows_large (row ∷ all) each = (λ i. row_large row each.0 i || rows_large all each.1 i)
 
-  none_over : (all : List (Annotated Monomial)) → AllByRecursion (IsHeld limits.nodes) all → list_any over all ≡ false
+  none_over : (all : List (Annotated Monomial)) → AllByRecursion (IsHeld parameters.nodes) all → list_any over all ≡ false
   none_over [] each = refl
-  none_over (row ∷ all) each = rw (not_less limits.nodes (nodes row.identity) each.0.small) (none_over all each.1)
+  none_over (row ∷ all) each = rw (le-ltb parameters.nodes (nodes row.identity) each.0.small) (none_over all each.1)
 
   -- rows that an INSERT appends to those of its table
   appended : (t k : ℕ) (old new after : List (Annotated Monomial)) (contents : List (List Cell)) → after ≡ old ++ new → contents ≡ map (encoded_row prov) after
-      → AllByRecursion (IsHeld limits.nodes) old → AllByRecursion (HasUserCells monomials limits.nodes) new
+      → AllByRecursion (IsHeld parameters.nodes) old → AllByRecursion (HasUserCells monomials parameters.nodes) new
       → first_stop
-      (if nat_lt limits.rows (length contents) then Some (rows k) else if list_any (list_any (is_large limits.nodes)) contents then Some (ancestry k) else None) None
-      ≡ option_map step_stop (if nat_lt limits.rows (length after) then Some (OverRows t k) else if list_any over new then Some (OverNodes t k) else None)
+      (if nat_lt parameters.rows (length contents) then Some (rows k) else if list_any (list_any (is_large parameters.nodes)) contents then Some (ancestry k) else None) None
+      ≡ option_map step_stop (if nat_lt parameters.rows (length after) then Some (OverRows t k) else if list_any over new then Some (OverNodes t k) else None)
   appended t k old new after contents is encodes held user =
       (λ i. first_stop (if count i then Some (rows k) else if large i then Some (ancestry k) else None) None)
-      ∙ split (nat_lt limits.rows (length after)) (list_any over new)
+      ∙ split (nat_lt parameters.rows (length after)) (list_any over new)
     where
-      count : nat_lt limits.rows (length contents) ≡ nat_lt limits.rows (length after)
-      count = ap (λ (rows : List (List Cell)). nat_lt limits.rows (length rows)) encodes ∙ ap (nat_lt limits.rows) (length-map after (encoded_row prov))
+      count : nat_lt parameters.rows (length contents) ≡ nat_lt parameters.rows (length after)
+      count = ap (λ (rows : List (List Cell)). nat_lt parameters.rows (length rows)) encodes ∙ ap (nat_lt parameters.rows) (length-map after (encoded_row prov))
 
-      large : list_any (list_any (is_large limits.nodes)) contents ≡ list_any over new
+      large : list_any (list_any (is_large parameters.nodes)) contents ≡ list_any over new
       large =
-          ap (list_any (list_any (is_large limits.nodes))) (encodes ∙ ap (map (encoded_row prov)) is)
-          ∙ rows_large (old ++ new) (each_append _ old new (each_weaker _ (IsHeld limits.nodes) (λ row own. own.cells) old held) user)
+          ap (list_any (list_any (is_large parameters.nodes))) (encodes ∙ ap (map (encoded_row prov)) is)
+          ∙ rows_large (old ++ new) (each_append _ old new (each_weaker _ (IsHeld parameters.nodes) (λ row own. own.cells) old held) user)
           ∙ list_any-append over old new ∙ ap (λ b. b || list_any over new) (none_over old held)
 
       split : (a b : Bool) → first_stop (if a then Some (rows k) else if b then Some (ancestry k) else None) None
@@ -191,7 +188,7 @@ module _ (prov : Bool) (columns of_step : ℕ → ℕ) (log : Log) (t : ℕ) (en
       more_rows k (suc k)
       ∙ ap (λ found. steps_meaning (encoded prov env) (next_steps k found) (after_steps k) (suc k)) is
       ∙ ap (λ own. steps_meaning (encoded prov env) (step_on k statement own) (after_steps k) (suc k)) writes_it
-      ∙ ap (λ b. if b then rows_by k statement else after_steps k (suc k)) (same_number (suc k))
+      ∙ ap (λ b. if b then rows_by k statement else after_steps k (suc k)) (eq_itself (suc k))
 
   module _ (count : ℕ) (gives : GivesRun count) where
     written : (k : ℕ) (statement : Statement) (table : ℕ) → k < count → log.statement t (suc k) ≡ Some statement → target statement ≡ Some table
@@ -199,62 +196,62 @@ module _ (prov : Bool) (columns of_step : ℕ → ℕ) (log : Log) (t : ℕ) (en
     written k statement table before is writes_it =
         sym (own_rows k statement table is writes_it)
         ∙ sym (kept (suc k) count before)
-        ∙ gives k table before (ap (λ found. writes found table) is ∙ ap (λ own. is_target own table) writes_it ∙ same_number table)
+        ∙ gives k table before (ap (λ found. writes found table) is ∙ ap (λ own. is_target own table) writes_it ∙ eq_itself table)
         ∙ ap (λ found. map (encoded_row prov) (stepped monomials t (suc k) found (run_before monomials log t k env) table)) is
 
-    module _ (limits : Limits) (catalogue : List Table) (fits : (k : ℕ) → FitsIfSome catalogue (log.statement t k))
-        (held : (version : ℕ) → AreHeld limits.nodes (env version)) where
+    module _ (parameters : Parameters) (catalogue : List Table) (fits : (k : ℕ) → FitsIfSome catalogue (log.statement t k))
+        (held : (version : ℕ) → AreHeld parameters.nodes (env version)) where
       abbrev stop_in : List PlainStep → StepRows → Option Stop
-      stop_in steps before = steps_stop limits.rows limits.nodes (encoded prov env) steps before
+      stop_in steps before = steps_stop parameters.rows parameters.nodes (encoded prov env) steps before
 
-      one_stop : (k : ℕ) → k < count → AreHeld limits.nodes (run_before monomials log t k env)
+      one_stop : (k : ℕ) → k < count → AreHeld parameters.nodes (run_before monomials log t k env)
           → (found : Option Statement) → log.statement t (suc k) ≡ found → FitsIfSome catalogue found
           → stop_in (next_steps k found) (after_steps k)
-          ≡ option_map step_stop (statement_stop monomials limits t (suc k) found (run_before monomials log t k env))
+          ≡ option_map step_stop (statement_stop monomials parameters t (suc k) found (run_before monomials log t k env))
       one_stop k before held None is fit = refl
       one_stop k before held (Some (insert table all)) is fit =
-          let are = both (is_there catalogue table) _ fit in
+          let are = and_parts (is_there catalogue table) _ fit in
           let db : Database Monomial = run_before monomials log t k env in
           let new : List (Annotated Monomial) = given_from monomials t (suc k) 1 all in
-          appended prov limits t (suc k) (db table) new (with_rows table (db table ++ new) db table) _
-          (ap (λ b. if b then db table ++ new else db table) (same_number table)) (written k (insert table all) table before is refl)
-          (held table) (user_given monomials limits.nodes (width_of catalogue table) t (suc k) 1 all (both _ _ are.1).1)
+          appended prov parameters t (suc k) (db table) new (with_rows table (db table ++ new) db table) _
+          (ap (λ b. if b then db table ++ new else db table) (eq_itself table)) (written k (insert table all) table before is refl)
+          (held table) (user_given monomials parameters.nodes (width_of catalogue table) t (suc k) 1 all (and_parts _ _ are.1).1)
       one_stop k before held (Some (insert_select table select)) is fit =
-          let are = both (is_there catalogue table) _ fit in
+          let are = and_parts (is_there catalogue table) _ fit in
           let db : Database Monomial = run_before monomials log t k env in
           let new : List (Annotated Monomial) = map (made monomials t (suc k)) (answer monomials select db) in
-          appended prov limits t (suc k) (db table) new (with_rows table (db table ++ new) db table) _
-          (ap (λ b. if b then db table ++ new else db table) (same_number table)) (written k (insert_select table select) table before is refl)
-          (held table) (user_made monomials limits catalogue t (suc k) select db held (width_of catalogue table) (both (is_countable select) _ are.1).1)
+          appended prov parameters t (suc k) (db table) new (with_rows table (db table ++ new) db table) _
+          (ap (λ b. if b then db table ++ new else db table) (eq_itself table)) (written k (insert_select table select) table before is refl)
+          (held table) (user_made monomials parameters catalogue t (suc k) select db held (width_of catalogue table) (and_parts (is_countable select) _ are.1).1)
       one_stop k before held (Some (update table sets c)) is fit = refl
       one_stop k before held (Some (delete table c)) is fit = refl
       one_stop k before held (Some (read select)) is fit = refl
 
       -- the stops of the first statements agree, and without one the run has no row over the limit
       record Agrees (k : ℕ) : Type 0 where
-        stop : stop_in (plain_steps k) no_steps ≡ option_map step_stop (run_stop monomials limits log t k env)
-        holds : run_stop monomials limits log t k env ≡ None → AreHeld limits.nodes (run monomials log t k env)
+        stop : stop_in (plain_steps k) no_steps ≡ option_map step_stop (run_stop monomials parameters log t k env)
+        holds : run_stop monomials parameters log t k env ≡ None → AreHeld parameters.nodes (run monomials log t k env)
 
       next_agrees : (k : ℕ) → k < count → Agrees k → Agrees (suc k)
-      next_agrees k before earlier = go (run_stop monomials limits log t k env) refl
+      next_agrees k before earlier = go (run_stop monomials parameters log t k env) refl
         where
           found : Option Statement
           found = log.statement t (suc k)
 
           next : Option RunStop
-          next = statement_stop monomials limits t (suc k) found (run_before monomials log t k env)
+          next = statement_stop monomials parameters t (suc k) found (run_before monomials log t k env)
 
-          reads : AreHeld limits.nodes (run monomials log t k env) → AreHeld limits.nodes (run_before monomials log t k env)
-          reads own = held_refreshed monomials limits.nodes env held (log.version t k) (log.version t (suc k)) (run monomials log t k env) own
+          reads : AreHeld parameters.nodes (run monomials log t k env) → AreHeld parameters.nodes (run_before monomials log t k env)
+          reads own = held_refreshed monomials parameters.nodes env held (log.version t k) (log.version t (suc k)) (run monomials log t k env) own
 
           sooner : stop_in (plain_steps (suc k)) no_steps
-              ≡ first_stop (option_map step_stop (run_stop monomials limits log t k env)) (stop_in (next_steps k found) (after_steps k))
+              ≡ first_stop (option_map step_stop (run_stop monomials parameters log t k env)) (stop_in (next_steps k found) (after_steps k))
           sooner =
               ap (λ steps. stop_in steps no_steps) (more_steps k)
-              ∙ stop_after limits.rows limits.nodes (encoded prov env) (plain_steps k) (next_steps k found) no_steps
+              ∙ stop_after parameters.rows parameters.nodes (encoded prov env) (plain_steps k) (next_steps k found) no_steps
               ∙ ap (λ stop. first_stop stop (stop_in (next_steps k found) (after_steps k))) earlier.stop
 
-          go : (stop : Option RunStop) → run_stop monomials limits log t k env ≡ stop → Agrees (suc k)
+          go : (stop : Option RunStop) → run_stop monomials parameters log t k env ≡ stop → Agrees (suc k)
           go (Some stop) at = record {
             stop =
                 sooner
@@ -272,7 +269,7 @@ module _ (prov : Bool) (columns of_step : ℕ → ℕ) (log : Log) (t : ℕ) (en
                 ∙ one_stop k before (reads (earlier.holds at)) found refl (fits (suc k))
                 ∙ sym (ap (λ o. option_map step_stop (option_or o next)) at);
             holds = λ none.
-                held_step monomials limits catalogue t (suc k) found (run_before monomials log t k env) (fits (suc k)) (sym (ap (λ o. option_or o next) at) ∙ none) (reads (earlier.holds at));
+                held_step monomials parameters catalogue t (suc k) found (run_before monomials log t k env) (fits (suc k)) (sym (ap (λ o. option_or o next) at) ∙ none) (reads (earlier.holds at));
           }
 
       agrees : (k : ℕ) → k ≤ count → Agrees k
@@ -289,20 +286,20 @@ identity_in (source id ids) = id
 abbrev unscanned : {M : Type 0} → Derived M → Annotated M
 unscanned row = record { identity = identity_in row.sources; cells = row.cells; mark = row.mark; annotation = row.annotation }
 
-unscanned_again : {M : Type 0} (kind : Annotations M) (all : List (Annotated M)) → map unscanned (map (scanned kind) all) ≡ all
-unscanned_again kind [] = refl
-unscanned_again kind (row ∷ all) = ap (λ rest. row ∷ rest) (unscanned_again kind all)
+unscanned_again : {M : Type 0} (domain : Annotations M) (all : List (Annotated M)) → map unscanned (map (scanned domain) all) ≡ all
+unscanned_again domain [] = refl
+unscanned_again domain (row ∷ all) = ap (λ rest. row ∷ rest) (unscanned_again domain all)
 
 -- rows are known by what scans of them are
-pub scanned_once : {M : Type 0} (kind : Annotations M) (one other : List (Annotated M)) → map (scanned kind) one ≡ map (scanned kind) other → one ≡ other
-scanned_once kind one other same = sym (unscanned_again kind one) ∙ ap (map unscanned) same ∙ unscanned_again kind other
+pub scanned_once : {M : Type 0} (domain : Annotations M) (one other : List (Annotated M)) → map (scanned domain) one ≡ map (scanned domain) other → one ≡ other
+scanned_once domain one other same = sym (unscanned_again domain one) ∙ ap (map unscanned) same ∙ unscanned_again domain other
 
 module _ (prov : Bool) (columns of_step : ℕ → ℕ) (log : Log) (t : ℕ) (env : Environment Monomial) (count : ℕ) where
   -- the annotated steps give the tables of the run, and the plain steps their rows
   pub gives_run : ((j table : ℕ) (statement : Statement) → j ≤ count → log.statement t j ≡ Some statement → target statement ≡ Some table
-      → q.steps_meaning monomials env (composed columns log t count) no_steps j ≡ map (scanned monomials) (run monomials log t j env table))
+      → qm.steps_meaning monomials env (composed columns log t count) no_steps j ≡ map (scanned monomials) (run monomials log t j env table))
       → ((j : ℕ) → (all : List (Annotated Monomial)) × (after_steps prov columns of_step log t env count j ≡ map (encoded_row prov) all)
-      × (q.steps_meaning monomials env (composed columns log t count) no_steps j ≡ map (scanned monomials) all))
+      × (qm.steps_meaning monomials env (composed columns log t count) no_steps j ≡ map (scanned monomials) all))
       → GivesRun prov columns of_step log t env count
   gives_run means encodes j table before written = by_statement (log.statement t (suc j)) refl written
     where
@@ -325,12 +322,12 @@ module _ (prov : Bool) (columns of_step : ℕ → ℕ) (log : Log) (t : ℕ) (en
 -- ---- programs
 
 -- a program with the steps of the first k statements stops where their run does, if its steps give the rows of the run
-pub program_stops : (prov : Bool) (limits : Limits) (catalogue : List Table) (entries : List Entry) (t k : ℕ) (env : Environment Monomial) (last : Query)
-    → statements_fit catalogue entries ≡ true → ((version : ℕ) → AreHeld limits.nodes (env version))
+pub program_stops : (prov : Bool) (parameters : Parameters) (catalogue : List Table) (entries : List Entry) (t k : ℕ) (env : Environment Monomial) (last : Query)
+    → statements_fit catalogue entries ≡ true → ((version : ℕ) → AreHeld parameters.nodes (env version))
     → GivesRun prov (width_of catalogue) (step_table (composed (width_of catalogue) (log_of entries) t k)) (log_of entries) t env k
-    → program_stop limits.rows limits.nodes (encoded prov env)
+    → program_stop parameters.rows parameters.nodes (encoded prov env)
     (plain_program (width_of catalogue) prov (record { steps = composed (width_of catalogue) (log_of entries) t k; last = last }))
-    ≡ option_map step_stop (run_stop monomials limits (log_of entries) t k env)
-program_stops prov limits catalogue entries t k env last fit held gives =
-    (agrees prov (width_of catalogue) (step_table (composed (width_of catalogue) (log_of entries) t k)) (log_of entries) t env k gives limits catalogue
+    ≡ option_map step_stop (run_stop monomials parameters (log_of entries) t k env)
+program_stops prov parameters catalogue entries t k env last fit held gives =
+    (agrees prov (width_of catalogue) (step_table (composed (width_of catalogue) (log_of entries) t k)) (log_of entries) t env k gives parameters catalogue
     (λ j. logged_fits catalogue t j entries fit) held k (omega arith)).stop

@@ -34,11 +34,11 @@ pub record IsStop (gives : PlainProgram → PlainEnvironment → Given → Type 
 
 -- by the refusal of the state, if it is refused
 abbrev pub RefusedBy : (PlainProgram → PlainEnvironment → Given → Type 0) → Refusal → Option Refusal → ℕ → PlainProgram → PlainEnvironment → Type 0
-RefusedBy gives refusal (Some due) t program past = refusal ≡ due
+RefusedBy gives refusal (Some expected) t program past = refusal ≡ expected
 RefusedBy gives refusal None t program past = IsStop gives refusal t program past
 
 abbrev pub ReenactsBy : {X : Type 0} → (X → List (List Cell)) → (PlainProgram → PlainEnvironment → Given → Type 0)
     → Result X ReenactStop → Option Refusal → ℕ → PlainProgram → PlainEnvironment → Type 0
-ReenactsBy view gives (Ok found) due t program past = (due ≡ None) × IsGivenOver gives program past (Ok (view found))
-ReenactsBy view gives (Err (Refused refusal)) due t program past = RefusedBy gives refusal due t program past
-ReenactsBy view gives (Err NoMemory) due t program past = Unit {0}
+ReenactsBy view gives (Ok found) expected t program past = (expected ≡ None) × IsGivenOver gives program past (Ok (view found))
+ReenactsBy view gives (Err (Refused refusal)) expected t program past = RefusedBy gives refusal expected t program past
+ReenactsBy view gives (Err NoMemory) expected t program past = Unit {0}

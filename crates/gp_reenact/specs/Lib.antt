@@ -1,2 +1,4 @@
 pub mod Backends
 pub mod Reenacting
+pub mod Uncomposed
+pub mod Programs

@@ -1,27 +1,18 @@
 -- Part of the statement: what reenactment answers: the rows of the database of a state, in any order, or the refusal that is due. Running out of memory
 -- says nothing.
-use Rattle.std.specs.Prelude.{◌≡◌, ◌<◌, ◌≤◌, ℕ, zero, Bool, List, length, Option, Some, None, Result, Ok, Err, slice_index_or}
+use Rattle.std.specs.Prelude.{◌≡◌, ◌<◌, ◌≤◌, ℕ, zero, List, length, Option, Some, None, Result, Ok, Err, slice_index_or}
 use Rattle.std.specs.List.Sorted.{IsPermutation}
 use Rattle.gp_base.specs.declared.cell.Cell.{Cell}
 use Rattle.gp_base.specs.declared.refusal.Refusal.{Refusal}
-use Rattle.gp_base.specs.declared.refusal.Refusal.TheVariants.{E20, E21, E22, E23, E25, E26, E27}
+use Rattle.gp_base.specs.declared.refusal.Refusal.TheVariants.{E25, E26, E27}
 use Rattle.gp_base.specs.declared.row_id.TheConstants.{MAX_NODES}
 use Rattle.gp_grammar.specs.Syntax as y
 use Rattle.gp_algebra.specs.Answers.{Element, cells_of}
-use Rattle.gp_algebra.specs.Fitting.{width_of}
 use Rattle.gp_algebra.specs.Plain.{PlainEnvironment, PlainProgram, program_meaning}
-use Rattle.gp_algebra.specs.Statements.{Select}
 use Rattle.gp_algebra.specs.Stops.{rows, ancestry, program_stop}
 use Rattle.gp_exec.specs.declared.error.ExecStop.{ExecStop}
 use Rattle.gp_exec.specs.declared.error.ExecStop.TheVariants as exec
-use Rattle.gp_exec.specs.declared.limit.TheConstants.{MAX_TABLE_ROWS, MAX_ANSWER_ROWS}
-use Rattle.gp_compose.specs.Composed.{program_at}
-use Rattle.gp_compose.specs.declared.error.ComposeStop.{ComposeStop}
-use Rattle.gp_compose.specs.declared.error.ComposeStop.TheVariants as compose
-use Rattle.gp_log.specs.LogFacts.{tables_in}
-use Rattle.gp_machine.specs.Entries.{Entry}
-use Rattle.gp_merge.specs.Merging.{merged}
-use Rattle.gp_prov.specs.ToPlain.{plain_program}
+use Rattle.gp_base.specs.declared.limit.TheConstants.{MAX_TABLE_ROWS, MAX_ANSWER_ROWS}
 use Rattle.gp_travel.specs.Travel.{no_table}
 use Rattle.gp_versions.specs.declared.span.Span.{Span}
 use Rattle.gp_versions.specs.Spans.{Versions}
@@ -34,20 +25,16 @@ spans_of versions table = (slice_index_or versions table no_table).spans
 
 abbrev pub Reenacts : {X M : Type 0} → (X → List (List Cell)) → Result X ReenactStop → Result (List (Element M)) Refusal → Type 0
 Reenacts view (Ok found) (Ok elements) = IsPermutation (view found) (cells_of elements)
-Reenacts view (Ok found) (Err due) = ⊥
+Reenacts view (Ok found) (Err expected) = ⊥
 Reenacts view (Err (Refused refusal)) (Ok elements) = ⊥
-Reenacts view (Err (Refused refusal)) (Err due) = refusal ≡ due
-Reenacts view (Err NoMemory) due = Unit {0}
-
--- the program of a query over a state; with provenance, its rows end in their monomials
-abbrev pub merged_at : Bool → List Entry → y.State → Select → PlainProgram
-merged_at prov entries point select = merged (plain_program (width_of (tables_in entries)) prov (program_at (width_of (tables_in entries)) entries point select))
+Reenacts view (Err (Refused refusal)) (Err expected) = refusal ≡ expected
+Reenacts view (Err NoMemory) expected = Unit {0}
 
 -- it is that of a state, or the log gives the refusal
 abbrev pub Plans : {X : Type 0} → (X → PlainProgram) → Result X ReenactStop → Option Refusal → PlainProgram → Type 0
-Plans view (Ok found) due program = (due ≡ None) × (view found ≡ program)
-Plans view (Err (Refused refusal)) due program = due ≡ Some refusal
-Plans view (Err NoMemory) due program = Unit {0}
+Plans view (Ok found) expected program = (expected ≡ None) × (view found ≡ program)
+Plans view (Err (Refused refusal)) expected program = expected ≡ Some refusal
+Plans view (Err NoMemory) expected program = Unit {0}
 
 -- ---- a plain program over an environment
 
@@ -76,11 +63,3 @@ stopped t (exec.Rows j) = Refused (E25 t j)
 stopped t (exec.Ancestry j) = Refused (E26 t j)
 stopped t exec.Answer = Refused E27
 stopped t exec.NoMemory = NoMemory
-
--- the refusal of a state that has no program
-abbrev pub uncomposed : ComposeStop → ReenactStop
-uncomposed (compose.Unknown t) = Refused (E20 t)
-uncomposed (compose.NotCommitted t fate) = Refused (E21 t fate)
-uncomposed (compose.NoStatement t count) = Refused (E22 t count)
-uncomposed (compose.NoVersion count) = Refused (E23 count)
-uncomposed compose.NoMemory = NoMemory

@@ -3,6 +3,7 @@
 ghost use Rattle.std.specs.Prelude.{◌≡◌};
 
 use gp_base::{NoMemory, Refusal};
+use gp_compose::ComposeStop;
 
 /// Why reenactment gives no rows.
 #[derive(Drop)]
@@ -20,5 +21,19 @@ impl From<NoMemory> for ReenactStop {
 
     fn from(_error: NoMemory) -> ReenactStop {
         ReenactStop::NoMemory
+    }
+}
+
+/// A state that has no program is refused.
+impl From<ComposeStop> for ReenactStop {
+    ghost use Rattle.gp_reenact.specs.Uncomposed.{uncomposed};
+
+    ghost from_gives = { λ stop e. e ≡ uncomposed stop };
+
+    fn from(stop: ComposeStop) -> ReenactStop {
+        match stop.refusal() {
+            Some(refusal) => ReenactStop::Refused(refusal),
+            None => ReenactStop::NoMemory,
+        }
     }
 }

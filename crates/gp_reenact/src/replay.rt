@@ -3,15 +3,15 @@
 ghost use Rattle.std.specs.Prelude.{◌≡◌, true, false, None};
 ghost use Rattle.gp_base.specs.Annotated.{plain};
 ghost use Rattle.gp_syntax.specs.Views.{state_view};
-ghost use Rattle.gp_algebra.specs.Fitting.{select_fits, width_of};
+ghost use Rattle.gp_algebra.specs.Statements.{width_of};
 ghost use Rattle.gp_algebra.specs.PlainViews.{program_view};
 ghost use Rattle.gp_algebra.specs.QueryViews.{annotated_program_view};
 ghost use Rattle.gp_algebra.specs.Views.{select_view};
 ghost use Rattle.gp_algebra.specs.WellBuilt.{is_well_built};
-ghost use Rattle.gp_log.specs.Limits.{limits};
-ghost use Rattle.gp_log.specs.LogFacts.{tables_in};
-ghost use Rattle.gp_log.specs.LogFitting.{SpansFit, statements_fit};
-ghost use Rattle.gp_log.specs.Logs.{log_view};
+ghost use Rattle.gp_compose.specs.Composing.{QueryFits};
+ghost use Rattle.gp_log.specs.Contents.{entries, tables};
+ghost use Rattle.gp_log.specs.Parameters.{parameters};
+ghost use Rattle.gp_log.specs.LogFitting.{SpansFit};
 ghost use Rattle.gp_machine.specs.Questions as m;
 ghost use Rattle.gp_machine.specs.Questions.{rows_answer};
 ghost use Rattle.gp_merge.specs.Merging.{merged};
@@ -20,12 +20,13 @@ ghost use Rattle.gp_travel.specs.Encoding.{encoded};
 ghost use Rattle.gp_travel.specs.Travel.{as_of};
 ghost use Rattle.gp_reenact.specs.Backends.{GivesOver, ReenactsBy};
 ghost use Rattle.gp_reenact.specs.Reenacting as r;
-ghost use Rattle.gp_reenact.specs.Reenacting.{Plans, Reenacts, merged_at, spans_of};
+ghost use Rattle.gp_reenact.specs.Reenacting.{Plans, Reenacts, spans_of};
+ghost use Rattle.gp_reenact.specs.Programs.{merged_at};
 
 use crate::error::ReenactStop;
 use gp_algebra::{AProgram, PProgram, Select, scans};
 use gp_base::{Refusal, Row};
-use gp_compose::{ComposeStop, check_state, program};
+use gp_compose::{check_state, program};
 use gp_exec::{Backend, ExecStop, Plain};
 use gp_log::Log;
 use gp_merge::merge;
@@ -38,15 +39,11 @@ use std::alloc::Global;
 /// The refusal of a state that the log does not have: E20 if no transaction has the number, E21 if it did not commit, E22 if it has
 /// no such statement, E23 if there is no such version.
 pub fn log_refusal(log: &Log, state: State) -> Option<Refusal>
-    ensures { result ≡ m.log_refusal (log_view log.now.entries) (state_view state) }
+    ensures { result ≡ m.log_refusal (entries log.now) (state_view state) }
 {
     match check_state(log, state) {
         Ok(()) => None,
-        Err(ComposeStop::Unknown { t }) => Some(Refusal::E20 { t }),
-        Err(ComposeStop::NotCommitted { t, fate }) => Some(Refusal::E21 { t, fate }),
-        Err(ComposeStop::NoStatement { t, count }) => Some(Refusal::E22 { t, count }),
-        Err(ComposeStop::NoVersion { count }) => Some(Refusal::E23 { count }),
-        Err(ComposeStop::NoMemory) => unreachable!(),
+        Err(stop) => stop.refusal(),
     }
 }
 
@@ -68,7 +65,7 @@ fn rows_over<B: Backend>(
 
 /// The transaction of a state that the log has, or 0 for a version.
 fn transaction_at(log: &Log, state: State) -> u32
-    requires { m.log_refusal (log_view log.now.entries) (state_view state) ≡ None }
+    requires { m.log_refusal (entries log.now) (state_view state) ≡ None }
     ensures { result ≡ r.transaction_at (state_view state) }
 {
     // A log numbers its transactions by 32 bits. That is known of it where it is asked for their number.
@@ -91,19 +88,6 @@ fn stopped(t: u32, stop: ExecStop) -> ReenactStop
     }
 }
 
-/// The refusal of a state that has no program.
-fn uncomposed(stop: ComposeStop) -> ReenactStop
-    ensures { result ≡ r.uncomposed stop }
-{
-    match stop {
-        ComposeStop::Unknown { t } => ReenactStop::Refused(Refusal::E20 { t }),
-        ComposeStop::NotCommitted { t, fate } => ReenactStop::Refused(Refusal::E21 { t, fate }),
-        ComposeStop::NoStatement { t, count } => ReenactStop::Refused(Refusal::E22 { t, count }),
-        ComposeStop::NoVersion { count } => ReenactStop::Refused(Refusal::E23 { count }),
-        ComposeStop::NoMemory => ReenactStop::NoMemory,
-    }
-}
-
 /// An annotated program as a plain one, merged.
 fn merged_program(
     alloc: Global,
@@ -111,12 +95,10 @@ fn merged_program(
     program: &AProgram,
     with_prov: bool,
 ) -> Result<PProgram, ReenactStop>
-    requires { is_well_built (to.plain_program
-        (width_of (tables_in (log_view log.now.entries))) with_prov
+    requires { is_well_built (to.plain_program (width_of (tables log.now)) with_prov
         (annotated_program_view program.now)) ≡ true }
     ensures { Plans program_view result None (merged (to.plain_program
-        (width_of (tables_in (log_view log.now.entries))) with_prov
-        (annotated_program_view program.now))) }
+        (width_of (tables log.now)) with_prov (annotated_program_view program.now))) }
 {
     let plain = to_plain(alloc, program, log.catalog(), with_prov)?;
     Ok(merge(alloc, &plain)?)
@@ -131,17 +113,14 @@ pub fn planned(
     select: &Select,
     with_prov: bool,
 ) -> Result<PProgram, ReenactStop>
-    requires fits { select_fits (tables_in (log_view log.now.entries))
-        (select_view select.now) ≡ true }
-    requires statements { statements_fit (tables_in (log_view log.now.entries))
-        (log_view log.now.entries) ≡ true }
-    ensures { Plans program_view result (m.log_refusal (log_view log.now.entries) (state_view state))
-        (merged_at with_prov (log_view log.now.entries) (state_view state) (select_view select.now)) }
+    requires { QueryFits log.now (select_view select.now) }
+    ensures { Plans program_view result (m.log_refusal (entries log.now) (state_view state))
+        (merged_at with_prov (entries log.now) (state_view state) (select_view select.now)) }
 {
     // What may fail borrows the program, which has many parts: each way out that owns it lets them all go.
     match program(alloc, log, state, select) {
         Ok(program) => merged_program(alloc, log, &program, with_prov),
-        Err(stop) => Err(uncomposed(stop)),
+        Err(stop) => Err(ReenactStop::from(stop)),
     }
 }
 
@@ -156,14 +135,10 @@ pub fn reenact_by<B: Backend>(
     select: &Select,
     backend: &B,
 ) -> Result<Vec<Row>, ReenactStop>
-    requires fits { select_fits (tables_in (log_view log.now.entries))
-        (select_view select.now) ≡ true }
-    requires statements { statements_fit (tables_in (log_view log.now.entries))
-        (log_view log.now.entries) ≡ true }
+    requires { QueryFits log.now (select_view select.now) }
     ensures { ReenactsBy (λ rows. rows.items) (B.gives backend.now) result
-        (m.log_refusal (log_view log.now.entries) (state_view state))
-        (r.transaction_at (state_view state))
-        (merged_at false (log_view log.now.entries) (state_view state) (select_view select.now))
+        (m.log_refusal (entries log.now) (state_view state)) (r.transaction_at (state_view state))
+        (merged_at false (entries log.now) (state_view state) (select_view select.now))
         (encoded (as_of plain versions.now)) }
 {
     let plain = planned(alloc, log, state, select, false)?;
@@ -178,7 +153,7 @@ pub fn reenact_by<B: Backend>(
 ///
 /// Refused as [`log_refusal`] refuses the state; else if a statement of the transaction leaves more rows in its table than a
 /// statement may (E25) or makes an identity of too many nodes (E26), by the first such statement, and in one statement the rows
-/// first; else if the answer has more than [`MAX_ANSWER_ROWS`](gp_exec::MAX_ANSWER_ROWS) rows (E27).
+/// first; else if the answer has more than [`MAX_ANSWER_ROWS`](gp_base::MAX_ANSWER_ROWS) rows (E27).
 pub fn reenact(
     alloc: Global,
     log: &Log,
@@ -186,13 +161,10 @@ pub fn reenact(
     state: State,
     select: &Select,
 ) -> Result<Vec<Row>, ReenactStop>
-    requires fits { select_fits (tables_in (log_view log.now.entries))
-        (select_view select.now) ≡ true }
-    requires statements { statements_fit (tables_in (log_view log.now.entries))
-        (log_view log.now.entries) ≡ true }
-    requires spans { SpansFit (tables_in (log_view log.now.entries)) (spans_of versions.now) }
+    requires query { QueryFits log.now (select_view select.now) }
+    requires spans { SpansFit (tables log.now) (spans_of versions.now) }
     ensures { Reenacts (λ rows. rows.items) result
-        (rows_answer limits (log_view log.now.entries) (spans_of versions.now)
+        (rows_answer parameters (entries log.now) (spans_of versions.now)
         (state_view state) (select_view select.now)) }
 {
     reenact_by(alloc, log, versions, state, select, &Plain)

@@ -5,7 +5,7 @@ use Rattle.gp_algebra.specs.Views.{select_view}
 use Rattle.gp_log.specs.LogFacts.{tables_in}
 use Rattle.gp_log.specs.Logs.{log_view}
 use Rattle.gp_machine.specs.Questions.{log_refusal}
-use Rattle.gp_reenact.specs.Reenacting.{merged_at}
+use Rattle.gp_reenact.specs.Programs.{merged_at}
 use Rattle.gp_explain.specs.Explained.{Explains}
 use Rattle.gp_explain.specs.Shapes.{IsShaped}
 use Rattle.gp_explain.proofs.ComposedShapes.{merged_at_shaped}

@@ -6,7 +6,7 @@ use Rattle.gp_history.proofs.annotated.renewed.Goals as goal
 
 pub loop-i-preserved : goal.loop-i-preserved
 loop-i-preserved g c =
-    let one = (g.N.Annotator.kind c.args.annotator.now).one in
+    let one = (g.N.Annotator.domain c.args.annotator.now).one in
     let version = c.args.version in
     let found = c.args.found.now in
     let spans = c.args.spans.now in

@@ -1,5 +1,5 @@
 use Rattle.std.proofs.Common.{◌≡◌, None}
-use Rattle.gp_log.specs.Limits.{limits}
+use Rattle.gp_log.specs.Parameters.{parameters}
 use Rattle.gp_log.specs.LogFacts.{tables_in}
 use Rattle.gp_log.specs.Logs.{log_view}
 use Rattle.gp_machine.specs.Entries.{log_of}
@@ -12,6 +12,6 @@ use Rattle.gp_history.proofs.annotating.annotate_by.Given as goal
 -- the versions so far are annotated, and none stopped
 abbrev pub invariant-loop-before : goal.invariant-loop-before
 invariant-loop-before g l =
-    let kind = g.N.Annotator.kind l.annotator in
-    AreAnnotated kind (log_of (log_view l.log.entries)) (spans_of l.versions) l.before l.known
-    × (annotation_stop kind limits agree (tables_in (log_view l.log.entries)) (log_of (log_view l.log.entries)) (spans_of l.versions) l.before ≡ None)
+    let domain = g.N.Annotator.domain l.annotator in
+    AreAnnotated domain (log_of (log_view l.log.entries)) (spans_of l.versions) l.before l.known
+    × (annotation_stop domain parameters agree (tables_in (log_view l.log.entries)) (log_of (log_view l.log.entries)) (spans_of l.versions) l.before ≡ None)

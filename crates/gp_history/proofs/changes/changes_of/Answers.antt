@@ -11,33 +11,33 @@ use Rattle.gp_history.proofs.changes.changes_of.Goals as goal
 
 pub returns-in-Err : goal.returns-in-Err
 returns-in-Err g c =
-    let kind = g.N.Annotator.kind c.args.annotator.now in
+    let domain = g.N.Annotator.domain c.args.annotator.now in
     let image = g.met.N.Annotator.is_image c.args.annotator.now in
     let entries = log_view c.args.log.now.entries in
     let spans = spans_of c.args.versions.now in
     let less : c.loop-table.table < length (tables_in entries) = omega (arith, c.loop-table-test.true, c.len-table-end.ensures.len, ap length c.catalog.ensures) in
-    partly_stop kind entries spans c.args.before image c.requires.sound.statements c.requires.sound.spans
-    (λ (changes : Vec (Option (BTreeMap Identity g.row.A.Denot)) Global). AreChanges kind (log_of entries) spans c.args.before (length (tables_in entries)) changes.items)
+    partly_stop domain entries spans c.args.before image c.requires.sound.statements c.requires.sound.spans
+    (λ (changes : Vec (Option (BTreeMap Identity g.row.A.Denot)) Global). AreChanges domain (log_of entries) spans c.args.before (length (tables_in entries)) changes.items)
     c.loop-table.table c.loop-table.changes.items c.in-Err.stop c.loop-table.invariant less c.in-Err.ensures
 
 pub loop-table-preserved : goal.loop-table-preserved
 loop-table-preserved g c =
-    let kind = g.N.Annotator.kind c.args.annotator.now in
+    let domain = g.N.Annotator.domain c.args.annotator.now in
     let image = g.met.N.Annotator.is_image c.args.annotator.now in
     let entries = log_view c.args.log.now.entries in
     let spans = spans_of c.args.versions.now in
     let next : suc c.loop-table.table ≡ c.loop-table.table + 1 = omega arith in
-    subst (λ (changes : List (Option (BTreeMap Identity g.row.A.Denot))). Partly kind entries spans c.args.before (c.loop-table.table + 1) changes) (sym c.in_ok-push.ensures.items)
-    (subst (λ (n : ℕ). Partly kind entries spans c.args.before n (c.loop-table.changes.items ++ c.in-Ok.change ∷ [])) next
-    (partly_more kind entries spans c.args.before image c.requires.sound.statements c.requires.sound.spans
+    subst (λ (changes : List (Option (BTreeMap Identity g.row.A.Denot))). Partly domain entries spans c.args.before (c.loop-table.table + 1) changes) (sym c.in_ok-push.ensures.items)
+    (subst (λ (n : ℕ). Partly domain entries spans c.args.before n (c.loop-table.changes.items ++ c.in-Ok.change ∷ [])) next
+    (partly_more domain entries spans c.args.before image c.requires.sound.statements c.requires.sound.spans
     c.loop-table.table c.loop-table.changes.items c.in-Ok.change c.loop-table.invariant c.in-Ok.ensures))
 
 pub returns : goal.returns
 returns g c =
-    let kind = g.N.Annotator.kind c.args.annotator.now in
+    let domain = g.N.Annotator.domain c.args.annotator.now in
     let image = g.met.N.Annotator.is_image c.args.annotator.now in
     let entries = log_view c.args.log.now.entries in
     let spans = spans_of c.args.versions.now in
     let all : c.loop-table.table ≡ length (tables_in entries) =
     omega (arith, c.loop-table-test.false, c.loop-table.auto.table-end, c.len-table-end.ensures.len, ap length c.catalog.ensures) in
-    partly_all kind entries spans c.args.before image c.requires.sound.statements c.requires.sound.spans c.loop-table.table c.loop-table.changes.items c.loop-table.invariant all
+    partly_all domain entries spans c.args.before image c.requires.sound.statements c.requires.sound.spans c.loop-table.table c.loop-table.changes.items c.loop-table.invariant all

@@ -7,7 +7,7 @@ use Rattle.gp_algebra.specs.Stops.{program_stop}
 use Rattle.gp_algebra.specs.WellBuilt.{is_well_built}
 use Rattle.gp_base.specs.declared.row.Row.{Row}
 use Rattle.gp_base.specs.declared.row_id.TheConstants.{MAX_NODES}
-use Rattle.gp_exec.specs.declared.limit.TheConstants.{MAX_TABLE_ROWS}
+use Rattle.gp_base.specs.declared.limit.TheConstants.{MAX_TABLE_ROWS}
 use Rattle.gp_exec.specs.Running.{environment_view}
 use Rattle.gp_prov.specs.Encoding.{encoded}
 use Rattle.gp_reenact.specs.Reenacting.{spans_of}

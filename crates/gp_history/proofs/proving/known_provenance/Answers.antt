@@ -4,7 +4,7 @@ use Rattle.gp_algebra.specs.Views.{select_view}
 use Rattle.gp_algebra.specs.WellBuilt.{is_well_built}
 use Rattle.gp_base.specs.declared.row.Row.{Row}
 use Rattle.gp_base.specs.Annotated.{monomials}
-use Rattle.gp_log.specs.Limits.{limits}
+use Rattle.gp_log.specs.Parameters.{parameters}
 use Rattle.gp_log.specs.LogFacts.{tables_in}
 use Rattle.gp_log.specs.Logs.{log_view}
 use Rattle.gp_machine.specs.Entries.{log_of, versions_in}
@@ -24,6 +24,9 @@ annotated_to-requires-clause-within c =
     let entries = log_view c.args.log.now.entries in
     subst (λ (v : ℕ). v ≤ versions_in entries) (sym c.needed_version.ensures) (needed_within entries (state_view c.args.state) c.requires.known)
 
+pub planned-requires-clause-query : goal.planned-requires-clause-query
+planned-requires-clause-query c = record { fits = c.requires.fits; statements = c.requires.sound.statements }
+
 pub rows_over-requires : goal.rows_over-requires
 rows_over-requires c =
     let entries = log_view c.args.log.now.entries in
@@ -38,7 +41,7 @@ returns-in-Ok-rows_over c =
     let select = select_view c.args.select.now in
     let point = state_view c.args.state in
     let view = λ (rows : Vec Row Global). rows.items in
-    let none = subst (λ (v : ℕ). annotation_stop monomials limits agree (tables_in entries) (log_of entries) spans v ≡ None) c.needed_version.ensures c.in-Ok.ensures.0 in
+    let none = subst (λ (v : ℕ). annotation_stop monomials parameters agree (tables_in entries) (log_of entries) spans v ≡ None) c.needed_version.ensures c.in-Ok.ensures.0 in
     let are = subst (λ (v : ℕ). AreAnnotated monomials (log_of entries) spans v c.in-Ok.known) c.needed_version.ensures c.in-Ok.ensures.1 in
     found_is view entries versions c.requires.sound select c.requires.fits point c.requires.known none c.in-Ok-rows_over.rows
     (over_all view entries versions c.requires.sound select c.requires.fits point c.requires.known c.in-Ok.known are (program_view c.in_ok-plain.plain) c.in_ok-plain.ensures (Ok c.in-Ok-rows_over.rows) c.in-Ok-rows_over.ensures)
@@ -51,9 +54,9 @@ returns c =
     let select = select_view c.args.select.now in
     let point = state_view c.args.state in
     let view = λ (rows : Vec Row Global). rows.items in
-    let none = subst (λ (v : ℕ). annotation_stop monomials limits agree (tables_in entries) (log_of entries) spans v ≡ None) c.needed_version.ensures c.in-Ok.ensures.0 in
+    let none = subst (λ (v : ℕ). annotation_stop monomials parameters agree (tables_in entries) (log_of entries) spans v ≡ None) c.needed_version.ensures c.in-Ok.ensures.0 in
     let are = subst (λ (v : ℕ). AreAnnotated monomials (log_of entries) spans v c.in-Ok.known) c.needed_version.ensures c.in-Ok.ensures.1 in
-    subst (λ (stop : ReenactStop). Proves view (Err stop) (annotated_answer monomials limits agree (tables_in entries) entries spans point select))
+    subst (λ (stop : ReenactStop). Proves view (Err stop) (annotated_answer monomials parameters agree (tables_in entries) entries spans point select))
     (sym (c.stopped.ensures ∙ ap (λ (t : ℕ). stopped t c.in-Err-rows_over.stop) c.transaction_at.ensures))
     (stop_is view entries versions c.requires.sound select c.requires.fits point c.requires.known none c.in-Err-rows_over.stop
     (over_all view entries versions c.requires.sound select c.requires.fits point c.requires.known c.in-Ok.known are (program_view c.in_ok-plain.plain) c.in_ok-plain.ensures (Err c.in-Err-rows_over.stop) c.in-Err-rows_over.ensures))

@@ -6,7 +6,7 @@ use Rattle.gp_kexec.specs.declared.env.KRow.{KRow}
 use Rattle.gp_kexec.specs.Rows.{pair_view}
 use Rattle.gp_kexec.specs.Running.{IsSomeProgram}
 use Rattle.gp_kexec.specs.Valuing.{values_by}
-use Rattle.gp_log.specs.Limits.{limits}
+use Rattle.gp_log.specs.Parameters.{parameters}
 use Rattle.gp_log.specs.LogFacts.{tables_in}
 use Rattle.gp_log.specs.Logs.{log_view}
 use Rattle.gp_machine.specs.Entries.{log_of, versions_in}
@@ -31,6 +31,9 @@ annotated_to-requires-clause-within g c =
     let entries = log_view c.args.log.now.entries in
     subst (λ (v : ℕ). v ≤ versions_in entries) (sym c.needed_version.ensures) (needed_within entries (state_view c.args.state) c.requires.known)
 
+pub planned-requires-clause-query : goal.planned-requires-clause-query
+planned-requires-clause-query g c = record { fits = c.requires.fits; statements = c.requires.sound.statements }
+
 pub sums_over-requires : goal.sums_over-requires
 sums_over-requires g c =
     let k = g.K.Semiring in
@@ -45,7 +48,7 @@ returns-in-Ok-sums_over g c =
     let k = g.K.Semiring in
     let met = g.met.K.Semiring in
     let rules = c.args.valuation.now in
-    let kind = values_by k.one_of k.times_of k.number_of k.itself_of rules in
+    let domain = values_by k.one_of k.times_of k.number_of k.itself_of rules in
     let image = values_are_images met.laws k.number_of k.itself_of met.number_in met.itself_in rules in
     let value = token_value k.one_of k.number_of k.itself_of rules in
     let entries = log_view c.args.log.now.entries in
@@ -56,21 +59,21 @@ returns-in-Ok-sums_over g c =
     let view = λ (rows : Vec (KRow g.row.K.Denot) Global). map pair_view rows.items in
     let few : versions_in entries ≤ 0xffff_ffff = omega (arith, c.commits-commits.ensures, c.commits-commits.type_inv) in
     let same =
-    c.values_are_sums_over_the_history.ensures.answers value (value_in met.laws k.number_of k.itself_of met.number_in met.itself_in rules) limits agree agree agree_ignores (tables_in entries) entries spans point select
+    c.values_are_sums_over_the_history.ensures.answers value (value_in met.laws k.number_of k.itself_of met.number_in met.itself_in rules) parameters agree agree agree_ignores (tables_in entries) entries spans point select
     (room entries versions c.requires.sound few select c.requires.few) in
     let are =
-    subst (λ (v : ℕ). AnnotatesOr (λ (all : List (List g.row.K.Denot)). AreAnnotated kind (log_of entries) spans v all) (Ok c.in-Ok.known) (annotation_stop monomials limits agree (tables_in entries) (log_of entries) spans v))
+    subst (λ (v : ℕ). AnnotatesOr (λ (all : List (List g.row.K.Denot)). AreAnnotated domain (log_of entries) spans v all) (Ok c.in-Ok.known) (annotation_stop monomials parameters agree (tables_in entries) (log_of entries) spans v))
     c.needed_version.ensures c.in-Ok.ensures in
-    let sums = subst (λ (program : Program). SumsOver kind k.plus_of view (Ok c.in-Ok-sums_over.rows) (versions_with spans c.in-Ok.known) program) c.in_ok-program.ensures c.in-Ok-sums_over.ensures in
+    let sums = subst (λ (program : Program). SumsOver domain k.plus_of view (Ok c.in-Ok-sums_over.rows) (versions_with spans c.in-Ok.known) program) c.in_ok-program.ensures c.in-Ok-sums_over.ensures in
     subst (Gives view (Ok c.in-Ok-sums_over.rows)) same
-    (found_is kind image k.plus_of entries versions c.requires.sound select c.requires.fits point c.requires.known view c.in-Ok.known are c.in-Ok-sums_over.rows sums)
+    (found_is domain image k.plus_of entries versions c.requires.sound select c.requires.fits point c.requires.known view c.in-Ok.known are c.in-Ok-sums_over.rows sums)
 
 pub returns : goal.returns
 returns g c =
     let k = g.K.Semiring in
     let met = g.met.K.Semiring in
     let rules = c.args.valuation.now in
-    let kind = values_by k.one_of k.times_of k.number_of k.itself_of rules in
+    let domain = values_by k.one_of k.times_of k.number_of k.itself_of rules in
     let image = values_are_images met.laws k.number_of k.itself_of met.number_in met.itself_in rules in
     let value = token_value k.one_of k.number_of k.itself_of rules in
     let entries = log_view c.args.log.now.entries in
@@ -81,13 +84,13 @@ returns g c =
     let view = λ (rows : Vec (KRow g.row.K.Denot) Global). map pair_view rows.items in
     let few : versions_in entries ≤ 0xffff_ffff = omega (arith, c.commits-commits.ensures, c.commits-commits.type_inv) in
     let same =
-    c.values_are_sums_over_the_history.ensures.answers value (value_in met.laws k.number_of k.itself_of met.number_in met.itself_in rules) limits agree agree agree_ignores (tables_in entries) entries spans point select
+    c.values_are_sums_over_the_history.ensures.answers value (value_in met.laws k.number_of k.itself_of met.number_in met.itself_in rules) parameters agree agree agree_ignores (tables_in entries) entries spans point select
     (room entries versions c.requires.sound few select c.requires.few) in
     let are =
-    subst (λ (v : ℕ). AnnotatesOr (λ (all : List (List g.row.K.Denot)). AreAnnotated kind (log_of entries) spans v all) (Ok c.in-Ok.known) (annotation_stop monomials limits agree (tables_in entries) (log_of entries) spans v))
+    subst (λ (v : ℕ). AnnotatesOr (λ (all : List (List g.row.K.Denot)). AreAnnotated domain (log_of entries) spans v all) (Ok c.in-Ok.known) (annotation_stop monomials parameters agree (tables_in entries) (log_of entries) spans v))
     c.needed_version.ensures c.in-Ok.ensures in
-    let sums = subst (λ (program : Program). SumsOver kind k.plus_of view (Err c.in-Err-sums_over.stop) (versions_with spans c.in-Ok.known) program) c.in_ok-program.ensures c.in-Err-sums_over.ensures in
-    subst (λ (stop : ReenactStop). Gives view (Err stop) (value_answer limits k.plus_of k.zero_of k.one_of k.times_of value agree (tables_in entries) entries spans point select))
+    let sums = subst (λ (program : Program). SumsOver domain k.plus_of view (Err c.in-Err-sums_over.stop) (versions_with spans c.in-Ok.known) program) c.in_ok-program.ensures c.in-Err-sums_over.ensures in
+    subst (λ (stop : ReenactStop). Gives view (Err stop) (value_answer parameters k.plus_of k.zero_of k.one_of k.times_of value agree (tables_in entries) entries spans point select))
     (sym (c.stopped.ensures ∙ ap (λ (t : ℕ). stopped t c.in-Err-sums_over.stop) c.transaction_at.ensures))
     (subst (Gives view (Err (stopped (transaction_at point) c.in-Err-sums_over.stop))) same
-    (stop_is kind image k.plus_of entries versions c.requires.sound select c.requires.fits point c.requires.known view c.in-Ok.known are c.in-Err-sums_over.stop sums))
+    (stop_is domain image k.plus_of entries versions c.requires.sound select c.requires.fits point c.requires.known view c.in-Ok.known are c.in-Err-sums_over.stop sums))

@@ -14,9 +14,9 @@ use Rattle.gp_history.proofs.valuing.sums_over.Goals as goal
 pub returns : goal.returns
 returns g c =
     let k = g.K.Semiring in
-    let kind = values_by k.one_of k.times_of k.number_of k.itself_of c.args.valuation.now in
+    let domain = values_by k.one_of k.times_of k.number_of k.itself_of c.args.valuation.now in
     let program = annotated_program_view c.args.program.now in
     let env = versions_with (spans_of c.args.versions.now) c.args.known.now in
     let agree : AgreesOn (annotated_program_scans program) (environment_view c.in_ok-env.env) env =
     λ at there. c.in_ok-env.ensures at (subst (λ (scans : List ScanAt). Contains scans at) (sym c.deref.ensures.value) ((c.in_ok-asked.ensures.exact at).1 there)) in
-    sums_are kind k.plus_of (λ (rows : Vec (KRow g.row.K.Denot) Global). rows.items) c.run_k.result c.in_ok-env.env env program agree c.run_k.ensures
+    sums_are domain k.plus_of (λ (rows : Vec (KRow g.row.K.Denot) Global). rows.items) c.run_k.result c.in_ok-env.env env program agree c.run_k.ensures

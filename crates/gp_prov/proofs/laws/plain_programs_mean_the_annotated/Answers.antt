@@ -1,4 +1,4 @@
-use Rattle.gp_algebra.specs.QueryForms.{step_table}
+use Rattle.gp_algebra.specs.AnnotatedQueries.{step_table}
 use Rattle.gp_prov.proofs.MeaningLemmas.{rows_between, steps_are, answers_are, tables_are}
 use Rattle.gp_prov.proofs.laws.plain_programs_mean_the_annotated.Goals as goal
 

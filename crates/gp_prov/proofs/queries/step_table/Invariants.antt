@@ -1,5 +1,5 @@
 use Rattle.std.proofs.Common.{◌≡◌, map, drop}
-use Rattle.gp_algebra.specs.QueryForms.{step_table}
+use Rattle.gp_algebra.specs.AnnotatedQueries.{step_table}
 use Rattle.gp_algebra.specs.QueryViews.{annotated_step_view}
 use Rattle.gp_prov.proofs.queries.step_table.Given as goal
 

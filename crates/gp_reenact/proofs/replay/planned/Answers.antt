@@ -1,7 +1,7 @@
 use Rattle.std.proofs.Common.{ap, ◌∙◌}
 use Rattle.gp_syntax.specs.Views.{state_view}
 use Rattle.gp_algebra.specs.AnnotatedQueries.{Program}
-use Rattle.gp_algebra.specs.Fitting.{width_of}
+use Rattle.gp_algebra.specs.Statements.{width_of}
 use Rattle.gp_algebra.specs.Views.{select_view}
 use Rattle.gp_algebra.specs.WellBuilt.{is_well_built}
 use Rattle.gp_log.specs.LogFacts.{tables_in}

@@ -3,7 +3,7 @@ use Rattle.gp_base.specs.declared.row.Row.{Row}
 use Rattle.gp_syntax.specs.Views.{state_view}
 use Rattle.gp_algebra.specs.Views.{select_view}
 use Rattle.gp_log.specs.Logs.{log_view}
-use Rattle.gp_reenact.specs.Reenacting.{merged_at}
+use Rattle.gp_reenact.specs.Programs.{merged_at}
 use Rattle.gp_reenact.proofs.BackendLemmas.{executed_reenacts}
 use Rattle.gp_reenact.proofs.ReplayLemmas.{planned_replays}
 use Rattle.gp_reenact.proofs.replay.reenact.Goals as goal
@@ -16,4 +16,4 @@ returns c =
     let select = select_view c.args.select.now in
     let program = merged_at false entries point select in
     executed_reenacts (λ (rows : Vec Row Global). rows.items) entries versions point select program
-    (planned_replays entries versions select c.requires.statements c.requires.spans c.requires.fits point program refl) c.reenact_by.result c.reenact_by.ensures
+    (planned_replays entries versions select c.requires.query.statements c.requires.spans c.requires.query.fits point program refl) c.reenact_by.result c.reenact_by.ensures

@@ -13,7 +13,8 @@ use Rattle.gp_travel.specs.Encoding.{encoded}
 use Rattle.gp_travel.specs.Travel.{as_of}
 use Rattle.gp_reenact.specs.Backends.{GivesOver, IsGivenOver, ReenactsBy}
 use Rattle.gp_reenact.specs.declared.error.ReenactStop.{ReenactStop}
-use Rattle.gp_reenact.specs.Reenacting.{merged_at, stopped, transaction_at}
+use Rattle.gp_reenact.specs.Reenacting.{stopped, transaction_at}
+use Rattle.gp_reenact.specs.Programs.{merged_at}
 use Rattle.gp_reenact.proofs.BackendLemmas.{stop_refused}
 use Rattle.gp_reenact.proofs.ReplayLemmas.{planned_is_built}
 use Rattle.gp_reenact.proofs.replay.reenact_by.Goals as goal
@@ -32,11 +33,11 @@ returns-in-Ok g c =
 pub returns : goal.returns
 returns g c =
     let gives = g.B.Backend.gives c.args.backend.now in
-    let due = log_refusal (log_view c.args.log.now.entries) (state_view c.args.state) in
+    let expected = log_refusal (log_view c.args.log.now.entries) (state_view c.args.state) in
     let program = merged_at false (log_view c.args.log.now.entries) (state_view c.args.state) (select_view c.args.select.now) in
     let past = encoded (as_of plain c.args.versions.now) in
     let planned = c.in_ok-plain.ensures in
     let over = subst (λ (program : PlainProgram). GivesOver (λ (rows : Vec Row Global). rows.items) gives (Err c.in-Err.stop) program past) planned.1 c.in-Err.ensures in
-    subst (λ (s : ReenactStop). ReenactsBy (λ (rows : Vec Row Global). rows.items) gives (Err s) due (transaction_at (state_view c.args.state)) program past)
+    subst (λ (s : ReenactStop). ReenactsBy (λ (rows : Vec Row Global). rows.items) gives (Err s) expected (transaction_at (state_view c.args.state)) program past)
     (sym (c.stopped.ensures ∙ ap (λ t. stopped t c.in-Err.stop) c.transaction_at.ensures))
-    (stop_refused (λ (rows : Vec Row Global). rows.items) gives due (transaction_at (state_view c.args.state)) program past c.in-Err.stop planned.0 over)
+    (stop_refused (λ (rows : Vec Row Global). rows.items) gives expected (transaction_at (state_view c.args.state)) program past c.in-Err.stop planned.0 over)

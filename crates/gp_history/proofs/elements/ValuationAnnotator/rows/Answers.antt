@@ -19,17 +19,17 @@ pub run_k_table-requires : goal.run_k_table-requires
 run_k_table-requires g c =
     let k = g.K.Semiring in
     let met = g.met.K.Semiring in
-    let kind = values_by k.one_of k.times_of k.number_of k.itself_of c.args.self.now in
+    let domain = values_by k.one_of k.times_of k.number_of k.itself_of c.args.self.now in
     let image = values_are_images met.laws k.number_of k.itself_of met.number_in met.itself_in c.args.self.now in
     let entries = log_view c.args._log.now.entries in
     subst (λ (program : Program). IsSomeTableProgram program) (sym c.requires.program)
-    (asked_is_built kind image entries c.args.versions.now c.requires.sound c.args.of.now.before c.requires.within c.args.of.now.table)
+    (asked_is_built domain image entries c.args.versions.now c.requires.sound c.args.of.now.before c.requires.within c.args.of.now.table)
 
 pub returns : goal.returns
 returns g c =
     let k = g.K.Semiring in
     let met = g.met.K.Semiring in
-    let kind = values_by k.one_of k.times_of k.number_of k.itself_of c.args.self.now in
+    let domain = values_by k.one_of k.times_of k.number_of k.itself_of c.args.self.now in
     let image = values_are_images met.laws k.number_of k.itself_of met.number_in met.itself_in c.args.self.now in
     let entries = log_view c.args._log.now.entries in
     let versions = c.args.versions.now in
@@ -40,5 +40,5 @@ returns g c =
     λ at there. c.in_ok-env.ensures at
     (subst (λ (scans : List ScanAt). Contains scans at) (sym c.deref.ensures.value)
     ((c.in_ok-asked.ensures.exact at).1 (subst (λ (program : Program). Contains (annotated_program_scans program) at) (sym c.requires.program) there))) in
-    publishes kind image entries versions c.requires.sound before c.requires.within table c.args.known.now c.requires.known c.in_ok-env.env agree view c.run_k_table.result
-    (subst (λ (program : Program). RunsTable kind view c.run_k_table.result c.in_ok-env.env program) c.requires.program c.run_k_table.ensures)
+    publishes domain image entries versions c.requires.sound before c.requires.within table c.args.known.now c.requires.known c.in_ok-env.env agree view c.run_k_table.result
+    (subst (λ (program : Program). RunsTable domain view c.run_k_table.result c.in_ok-env.env program) c.requires.program c.run_k_table.ensures)

@@ -1,5 +1,5 @@
 use Rattle.std.proofs.Common.{Err, Global, Ok, Vec, ap, map, subst, true, ◌∙◌}
-use Rattle.gp_algebra.specs.Fitting.{width_of}
+use Rattle.gp_algebra.specs.Statements.{width_of}
 use Rattle.gp_algebra.specs.Plain.{PlainProgram}
 use Rattle.gp_algebra.specs.WellBuilt.{is_well_built}
 use Rattle.gp_base.specs.declared.monomial.Monomial.{Monomial}
