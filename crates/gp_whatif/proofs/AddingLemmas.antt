@@ -4,15 +4,14 @@ use Rattle.std.specs.Prelude.{◌==◌, nat_lt, slice_get}
 use Rattle.std.specs.List.{AllByRecursion}
 use Rattle.std.proofs.lemmas.Bool.Decides.{nat_tests}
 use Rattle.std.proofs.lemmas.List.{length-append}
-use Rattle.std.proofs.lemmas.Option.{slice_get_within}
+use Rattle.std.proofs.lemmas.Option.{slice_get_within, same_Some}
 use Rattle.gp_base.specs.Catalogs.{HaveDifferentNames}
 use Rattle.gp_base.specs.declared.catalog.TheConstants.{MAX_TABLES}
 use Rattle.gp_algebra.specs.Statements.{Statement}
 use Rattle.gp_grammar.specs.Syntax.{Command}
 use Rattle.gp_machine.specs.Entries as m
-use Rattle.gp_machine.specs.Entries.{statement_count}
+use Rattle.gp_machine.specs.Entries.{statement_count, line_of, session_of}
 use Rattle.gp_log.proofs.EntryLemmas.{log-pushed}
-use Rattle.gp_log.specs.Discipline.{line_of, session_of}
 use Rattle.gp_log.specs.Kinds.{IsAddable, IsNumbered}
 use Rattle.gp_log.specs.LogFacts.{tables_in}
 use Rattle.gp_log.specs.Logs.{entry_view, log_view, what_view}
@@ -22,7 +21,9 @@ use Rattle.gp_log.specs.declared.entry.What.TheVariants as w
 use Rattle.gp_whatif.specs.Changed.{doubled, is_step_of, tables_at_end, with_added}
 use Rattle.gp_whatif.specs.Changing.{IsLastStep, Numbers, SameStep, is_last, step_of}
 use Rattle.gp_whatif.proofs.ChangedLemmas.{added_same, doubled_same}
-use Rattle.gp_whatif.proofs.ChangingLemmas.{addable, count_doubled, creates_new, eq_from, log-all, log-more, numbers_next}
+use Rattle.gp_whatif.proofs.ChangingLemmas.{addable, count_doubled, creates_new, log-all, log-more, numbers_next}
+use Rattle.std.proofs.lemmas.Bool.{eqb-true, ltb-true}
+use Rattle.gp_base.proofs.SmallLemmas.{eq_turned}
 
 -- ---- steps of a transaction
 
@@ -40,9 +41,6 @@ count-kept t (m.Began line session u level) older other = refl
 count-kept t (m.Ran line session command u statement) older other = ap (λ b. cond b (suc (statement_count t older)) (statement_count t older)) other
 count-kept t (m.Committed line session u) older other = refl
 count-kept t (m.Ended line session end u) older other = refl
-
-some-same : (a b : ℕ) → Some a ≡ Some b → a ≡ b
-some-same a b e = cc
 
 entry-same : (a b : Entry) → Some a ≡ Some b → a ≡ b
 entry-same a b e = cc
@@ -64,13 +62,13 @@ module _ (t : ℕ) (entries : List Entry) where
   -- an entry that is a step
   pub last_found : (place : ℕ) (entry : Entry) (last : Option ℕ) → slice_get entries place ≡ Some entry → is_step_of t (entry_view entry) ≡ true → Last (place + 1) (Some place)
   last_found place entry last is step = record {
-    within = λ found e. let same = some-same place found e in omega (arith, same);
-    here = λ found other e at. subst (λ (x : Entry). is_step_of t (entry_view x) ≡ true) (entry-same entry other (sym is ∙ ap (slice_get entries) (some-same place found e) ∙ at)) step;
-    later = λ before found other e l m at. absurd (let same = some-same place before e in omega (arith, same, l, m));
+    within = λ found e. let same = same_Some place found e in omega (arith, same);
+    here = λ found other e at. subst (λ (x : Entry). is_step_of t (entry_view x) ≡ true) (entry-same entry other (sym is ∙ ap (slice_get entries) (same_Some place found e) ∙ at)) step;
+    later = λ before found other e l m at. absurd (let same = same_Some place before e in omega (arith, same, l, m));
     none = λ e. absurd cc;
     tables = ap (tables_at_end t) (log-more entries place entry is)
         ∙ ap (λ b. cond b (tables_in (log_view (take place entries))) (tables_at_end t (log_view (take place entries)))) step;
-    count = λ found e. ap (λ p. statement_count t (log_view (take (p + 1) entries))) (sym (some-same place found e));
+    count = λ found e. ap (λ p. statement_count t (log_view (take (p + 1) entries))) (sym (same_Some place found e));
   }
 
   -- one that is none
@@ -88,7 +86,7 @@ module _ (t : ℕ) (entries : List Entry) where
     where
       go : (before found : ℕ) (other : Entry) → last ≡ Some before → before < found → slice_get entries found ≡ Some other → (b : Bool) → (found == place) ≡ b → found ≤ place → is_step_of t (entry_view other) ≡ false
       go before found other e l at true same most =
-          subst (λ (x : Entry). is_step_of t (entry_view x) ≡ false) (entry-same entry other (sym is ∙ ap (slice_get entries) (sym (eq_from found place same)) ∙ at)) step
+          subst (λ (x : Entry). is_step_of t (entry_view x) ≡ false) (entry-same entry other (sym is ∙ ap (slice_get entries) (sym (eqb-true found place same)) ∙ at)) step
       go before found other e l at false differ most = holds.later before found other e l (less found place differ most) at
         where
           less : (a b : ℕ) → (a == b) ≡ false → a ≤ b → a < b
@@ -107,9 +105,6 @@ is_behind (Some last) upto = nat_lt last upto
 
 less-true : (a b : ℕ) → a < b → nat_lt a b ≡ true
 less-true a b l = grind (arith, nat_tests)
-
-true-less : (a b : ℕ) → nat_lt a b ≡ true → a < b
-true-less a b e = grind (arith, nat_tests)
 
 behind_none : (last : Option ℕ) → is_behind last zero ≡ false
 behind_none None = refl
@@ -141,7 +136,7 @@ behind_next (Some found) place here = less found place here
 
 last_is : (last : Option ℕ) (place : ℕ) → is_last last place ≡ true → last ≡ Some place
 last_is None place here = absurd cc
-last_is (Some found) place here = ap Some (eq_from found place here)
+last_is (Some found) place here = ap Some (eqb-true found place here)
 
 module _ (t : ℕ) (command : Command) (statement : Statement) where
   abbrev extra : Bool → List m.Entry → List m.Entry
@@ -178,18 +173,15 @@ module _ (t : ℕ) (command : Command) (statement : Statement) where
 
   -- a step is of the transaction, and another entry no statement of it
   step-own : (line session v : ℕ) (what : What) → is_step_of t (what_view line session v what) ≡ true → v ≡ t
-  step-own line session v (w.Begin level) e = eq_from v t e
-  step-own line session v (w.Statement k own stmt) e = eq_from v t e
+  step-own line session v (w.Begin level) e = eqb-true v t e
+  step-own line session v (w.Statement k own stmt) e = eqb-true v t e
   step-own line session v (w.Create table) e = absurd cc
   step-own line session v w.Commit e = absurd cc
   step-own line session v w.Lost e = absurd cc
   step-own line session v w.Rollback e = absurd cc
 
   not-own : (line session v : ℕ) (what : What) (k : ℕ) → step_of what ≡ Numbers k → is_step_of t (what_view line session v what) ≡ false → (t == v) ≡ false
-  not-own line session v (w.Statement n own stmt) k step e = swapped v t e
-    where
-      swapped : (a b : ℕ) → (a == b) ≡ false → (b == a) ≡ false
-      swapped a b e = grind (arith, nat_tests)
+  not-own line session v (w.Statement n own stmt) k step e = eq_turned v t e
   not-own line session v (w.Create table) k step e = absurd cc
   not-own line session v (w.Begin level) k step e = absurd cc
   not-own line session v w.Commit k step e = absurd cc
@@ -202,13 +194,13 @@ module _ (t : ℕ) (command : Command) (statement : Statement) where
       ≡ m.Ran (suc (line + line)) session command v statement ∷ doubled (what_view line session v what) ∷ older
   added-here line session v (w.Begin level) older e =
       ap (λ b. cond b (m.Ran (suc (line + line)) session command t statement ∷ here ∷ older) (here ∷ with_added t command statement older)) e
-      ∙ ap (λ u. m.Ran (suc (line + line)) session command u statement ∷ here ∷ older) (sym (eq_from v t e))
+      ∙ ap (λ u. m.Ran (suc (line + line)) session command u statement ∷ here ∷ older) (sym (eqb-true v t e))
     where
       here : m.Entry
       here = m.Began (line + line) session v level
   added-here line session v (w.Statement k own stmt) older e =
       ap (λ b. cond b (m.Ran (suc (line + line)) session command t statement ∷ here ∷ older) (here ∷ with_added t command statement older)) e
-      ∙ ap (λ u. m.Ran (suc (line + line)) session command u statement ∷ here ∷ older) (sym (eq_from v t e))
+      ∙ ap (λ u. m.Ran (suc (line + line)) session command u statement ∷ here ∷ older) (sym (eqb-true v t e))
     where
       here : m.Entry
       here = doubled (what_view line session v (w.Statement k own stmt))
@@ -242,7 +234,7 @@ module _ (t : ℕ) (command : Command) (statement : Statement) where
       where
         go : (found : Option ℕ) → last ≡ found → is_behind found place ≡ true → is_step_of t (entry_view entry) ≡ false
         go None e behind = absurd cc
-        go (Some found) e behind = is.later found place entry e (true-less found place behind) (slice_get_within entries place entry at) at
+        go (Some found) e behind = is.later found place entry e (ltb-true found place behind) (slice_get_within entries place entry at) at
 
     pub extended_addable : (place : ℕ) (new : List Entry) (entry copy : Entry) → HaveDifferentNames (tables_in (log_view entries)) → length (tables_in (log_view entries)) ≤ MAX_TABLES → slice_get entries place ≡ Some entry
         → IsNumbered (before place) entry → SameStep copy entry → Extended entries last place new → IsAddable (log_view new) copy

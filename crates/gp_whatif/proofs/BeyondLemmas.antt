@@ -11,14 +11,15 @@ use Rattle.gp_machine.specs.Bases.{pairs}
 use Rattle.gp_machine.specs.Committed.{is_written, merged, next_version, unmarked}
 use Rattle.gp_machine.specs.Entries.{Entry, Log, committer_of, log_of, statement_at, statement_count, statement_version}
 use Rattle.gp_machine.specs.HistorySpans.{span_from, spans_upto}
-use Rattle.gp_machine.specs.Limits.{HasTarget}
+use Rattle.gp_machine.specs.CheckedTargets.{HasTarget}
 use Rattle.gp_machine.specs.Publishing.{publish, was_written}
 use Rattle.gp_machine.specs.Reading.{Seen, seen_by, start_by, started}
 use Rattle.gp_machine.specs.Replaying.{replayed, replayed_spans, rerun, upto_version}
 use Rattle.gp_machine.specs.Runs.{refreshed, run, run_before, stepped}
 use Rattle.gp_log.specs.LogFitting.{statements_fit}
 use Rattle.gp_whatif.specs.Replays.{WritesTables}
-use Rattle.gp_whatif.proofs.FittingLogs.{fits_target, statement_at_fits, statement_at_target}
+use Rattle.gp_log.proofs.FittingLogs.{statement_at_fits}
+use Rattle.gp_whatif.proofs.FittingLogs.{fits_target, statement_at_target}
 
 other_table : (place table tables : ℕ) → tables ≤ place → table < tables → (place == table) ≡ false
 other_table place table tables high there = grind (arith, nat_tests)

@@ -1,22 +1,19 @@
 -- A changed log keeps its sessions, and its statements fit.
-use Rattle.std.proofs.Common.{◌≡◌, ℕ, suc, ◌+◌, Bool, true, false, cond, List, [], ◌∷◌, ◌++◌, map, Some, None, refl, sym, ap, ◌∙◌, arith}
+use Rattle.std.proofs.Common.{◌≡◌, ℕ, suc, ◌+◌, Bool, true, false, cond, List, [], ◌∷◌, ◌++◌, map, Some, None, refl, sym, ap, ◌∙◌}
 use Rattle.std.specs.Prelude.{◌==◌, ◌&&◌}
-use Rattle.std.proofs.lemmas.Bool.{and_parts, eq-eqb}
-use Rattle.std.proofs.lemmas.Bool.Decides.{nat_tests}
+use Rattle.std.proofs.lemmas.Bool.{and_parts, eq-eqb, and_from, eqb-true}
 use Rattle.std.specs.List.{list_all}
 use Rattle.gp_base.specs.declared.table.Table.{Table}
 use Rattle.gp_grammar.specs.Syntax.{Command}
-use Rattle.gp_algebra.specs.Fitting.{branches_fit, cond_fits, is_countable, is_there, row_fits, set_fits, statement_fits, width_of}
+use Rattle.gp_algebra.specs.Fitting.{branches_fit, cond_fits, is_countable, is_there, row_fits, set_fits, statement_fits}
+use Rattle.gp_algebra.specs.Statements.{width_of}
 use Rattle.gp_algebra.specs.Statements.{Statement, insert, insert_select, update, delete, read}
-use Rattle.gp_machine.specs.Entries.{End, Entry, Created, Began, Ran, Committed, Ended, transactions_in}
-use Rattle.gp_log.specs.Discipline.{line_of, session_of, transaction_in}
+use Rattle.gp_machine.specs.Entries.{End, Entry, Created, Began, Ran, Committed, Ended, transactions_in, line_of, session_of}
+use Rattle.gp_log.specs.Discipline.{transaction_in}
 use Rattle.gp_log.specs.LogFitting.{statements_fit}
 use Rattle.gp_log.specs.LogFacts.{tables_in}
 use Rattle.gp_whatif.specs.Changed.{doubled, dropped_statement, is_at, is_step_of, nothing_at, with_added, with_other}
 use Rattle.gp_log.specs.Sessions.{KeepsSessions}
-
-eq_from : (a b : ℕ) → (a == b) ≡ true → a ≡ b
-eq_from a b e = grind (arith, nat_tests)
 
 -- ---- two logs with the same sessions and transactions
 
@@ -99,8 +96,8 @@ module _ (t k : ℕ) (command : Command → Command) (statement : Statement → 
 module _ (t : ℕ) (command : Command) (statement : Statement) where
   -- behind an entry of the transaction, its session has the transaction
   runs_on : (entry : Entry) (older : List Entry) → is_step_of t entry ≡ true → KeepsSessions (entry ∷ older) → transaction_in (session_of entry) (entry ∷ older) ≡ Some t
-  runs_on (Began line session u level) older is keeps = ap (λ b. cond b (Some u) (transaction_in session older)) (eq-eqb session session refl) ∙ ap Some (eq_from u t is)
-  runs_on (Ran line session other u now) older is keeps = keeps.0 ∙ ap Some (eq_from u t is)
+  runs_on (Began line session u level) older is keeps = ap (λ b. cond b (Some u) (transaction_in session older)) (eq-eqb session session refl) ∙ ap Some (eqb-true u t is)
+  runs_on (Ran line session other u now) older is keeps = keeps.0 ∙ ap Some (eqb-true u t is)
   runs_on (Created line session table) older is keeps = absurd cc
   runs_on (Committed line session u) older is keeps = absurd cc
   runs_on (Ended line session end u) older is keeps = absurd cc
@@ -123,10 +120,6 @@ module _ (t : ℕ) (command : Command) (statement : Statement) where
 
 -- ---- statements that fit
 
-both : (a b : Bool) → a ≡ true → b ≡ true → (a && b) ≡ true
-both true b left right = right
-both false b left right = absurd cc
-
 module _ (tables : List Table) where
   nothing_fits : (table : ℕ) → is_there tables table ≡ true → statement_fits tables (nothing_at table) ≡ true
   nothing_fits table there = rw there refl
@@ -144,7 +137,7 @@ module _ (tables : List Table) where
   doubled_fits (Began line session t level ∷ older) fits = doubled_fits older fits
   doubled_fits (Ran line session command t statement ∷ older) fits =
       let parts = and_parts (statement_fits tables statement) (statements_fit tables older) fits in
-      both (statement_fits tables statement) (statements_fit tables (map doubled older)) parts.0 (doubled_fits older parts.1)
+      and_from (statement_fits tables statement) (statements_fit tables (map doubled older)) parts.0 (doubled_fits older parts.1)
   doubled_fits (Committed line session t ∷ older) fits = doubled_fits older fits
   doubled_fits (Ended line session end t ∷ older) fits = doubled_fits older fits
 
@@ -160,8 +153,8 @@ module _ (tables : List Table) where
 
         by : (b : Bool) → statements_fit tables (with_other t k command statement older) ≡ true
             → statements_fit tables (cond b (Ran line session (command own) u (statement now) ∷ older) (Ran line session own u now ∷ with_other t k command statement older)) ≡ true
-        by true rest = both (statement_fits tables (statement now)) (statements_fit tables older) (kept now parts.0) parts.1
-        by false rest = both (statement_fits tables now) (statements_fit tables (with_other t k command statement older)) parts.0 rest
+        by true rest = and_from (statement_fits tables (statement now)) (statements_fit tables older) (kept now parts.0) parts.1
+        by false rest = and_from (statement_fits tables now) (statements_fit tables (with_other t k command statement older)) parts.0 rest
     other_fits (Committed line session u ∷ older) fits = other_fits older fits
     other_fits (Ended line session end u ∷ older) fits = other_fits older fits
 
@@ -171,7 +164,7 @@ module _ (tables : List Table) where
     front_fits (Began line session u level) old new rest fits = rest fits
     front_fits (Ran line session other u now) old new rest fits =
         let parts = and_parts (statement_fits tables now) (statements_fit tables old) fits in
-        both (statement_fits tables now) (statements_fit tables new) parts.0 (rest parts.1)
+        and_from (statement_fits tables now) (statements_fit tables new) parts.0 (rest parts.1)
     front_fits (Committed line session u) old new rest fits = rest fits
     front_fits (Ended line session end u) old new rest fits = rest fits
 
@@ -181,5 +174,5 @@ module _ (tables : List Table) where
       where
         by : (b : Bool) → (statements_fit tables older ≡ true → statements_fit tables (with_added t command statement older) ≡ true)
             → statements_fit tables (cond b (Ran (suc (line_of entry)) (session_of entry) command t statement ∷ entry ∷ older) (entry ∷ with_added t command statement older)) ≡ true
-        by true rest = both (statement_fits tables statement) (statements_fit tables (entry ∷ older)) fit fits
+        by true rest = and_from (statement_fits tables statement) (statements_fit tables (entry ∷ older)) fit fits
         by false rest = front_fits entry older (with_added t command statement older) rest fits

@@ -2,7 +2,7 @@
 use Rattle.std.proofs.Common.{◌≡◌, ◌≢◌, ℕ, zero, suc, ◌+◌, ◌<◌, ◌≤◌, ◌^◌, Bool, true, false, cond, List, [], ◌∷◌, ◌++◌, get_or, length, map, reverse, take, drop, Some, None, refl, sym, ap, ◌∙◌, subst, arith}
 use Rattle.std.specs.Prelude.{◌&&◌, ◌==◌, slice_get, nat_lt}
 use Rattle.std.specs.Str.{bytes_eq}
-use Rattle.std.proofs.lemmas.Bool.{and_parts, false≢true, ne_eqb}
+use Rattle.std.proofs.lemmas.Bool.{and_parts, false≢true, ne_eqb, eqb-true}
 use Rattle.std.proofs.lemmas.Bool.Decides.{nat_tests}
 use Rattle.std.proofs.lemmas.List.{append-nil, get_or_append_left, get_or_at, length-append, map-append, reverse-append, take-append-drop, take_all, take_more}
 use Rattle.std.proofs.lemmas.List.Sums.{position_or_len_is}
@@ -16,7 +16,7 @@ use Rattle.gp_algebra.specs.Views.{statement_view}
 use Rattle.gp_grammar.specs.Syntax.{Command}
 use Rattle.gp_syntax.specs.Views.{command_view}
 use Rattle.gp_machine.specs.Entries as m
-use Rattle.gp_machine.specs.Entries.{statement_count}
+use Rattle.gp_machine.specs.Entries.{statement_count, line_of}
 use Rattle.gp_log.proofs.EntryLemmas.{log-pushed}
 use Rattle.gp_log.specs.Kinds.{CreatesNew, HasNextNumber, IsAddable, IsNumbered, created_by}
 use Rattle.gp_log.specs.LogFacts.{tables_in}
@@ -24,10 +24,11 @@ use Rattle.gp_log.specs.Logs.{entry_view, log_view, what_view}
 use Rattle.gp_log.specs.declared.entry.Entry.{Entry}
 use Rattle.gp_log.specs.declared.entry.What.{What}
 use Rattle.gp_log.specs.declared.entry.What.TheVariants as w
-use Rattle.gp_log.specs.Discipline.{line_of}
-use Rattle.gp_whatif.specs.Changed.{CanDouble, doubled, is_at, tables_before, with_other}
+use Rattle.gp_whatif.specs.Changed.{doubled, is_at, tables_before, with_other}
+use Rattle.gp_whatif.specs.ChangedForms.{CanDouble}
 use Rattle.gp_whatif.specs.Changing.{Goes, Makes, Numbers, SameStep, Step, edited, is_numbered, is_own, step_of}
 use Rattle.gp_whatif.proofs.ChangedLemmas.{doubled_same, other_same}
+use Rattle.gp_base.proofs.SmallLemmas.{eq_itself}
 
 -- ---- a log up to a place
 
@@ -68,9 +69,6 @@ pub log-all : (entries : List Entry) (place : ℕ) → length entries ≤ place 
 log-all entries place l = ap log_view (take_all place entries l)
 
 -- ---- counts
-
-pub eq_from : (a b : ℕ) → (a == b) ≡ true → a ≡ b
-eq_from a b e = grind (arith, nat_tests)
 
 pub count_doubled : (t : ℕ) (entries : List m.Entry) → statement_count t (map doubled entries) ≡ statement_count t entries
 count_doubled t [] = refl
@@ -130,11 +128,11 @@ module _ (t k : ℕ) (command : Command → Command) (statement : Statement → 
           ∙ last (number == k) refl
         where
           same : suc (statement_count t (map doubled older)) ≡ number
-          same = ap suc (count_doubled t older ∙ ap (λ u. statement_count u older) (sym (eq_from v t e))) ∙ sym numbered
+          same = ap suc (count_doubled t older ∙ ap (λ u. statement_count u older) (sym (eqb-true v t e))) ∙ sym numbered
 
           last : (b : Bool) → (number == k) ≡ b
               → cond b (m.Ran line session (command own) v (statement now) ∷ map doubled older) (m.Ran line session own v now ∷ others (map doubled older)) ≡ edited b command statement (m.Ran line session own v now) ∷ others (map doubled older)
-          last true f = ap (λ es. m.Ran line session (command own) v (statement now) ∷ es) (sym (other_none (map doubled older) (let is = eq_from number k f in omega (arith, same, is))))
+          last true f = ap (λ es. m.Ran line session (command own) v (statement now) ∷ es) (sym (other_none (map doubled older) (let is = eqb-true number k f in omega (arith, same, is))))
           last false f = refl
 
   -- one entry more
@@ -324,7 +322,7 @@ count-next t line session v (w.Statement n command stmt) older k number other l 
   where
     go : (b : Bool) → (v == t) ≡ b → (b && (n == k)) ≡ false → cond b (suc (statement_count t older)) (statement_count t older) < k
     go true e other =
-        let same : suc (statement_count t older) ≡ n = ap (λ u. suc (statement_count u older)) (sym (eq_from v t e)) ∙ sym number in
+        let same : suc (statement_count t older) ≡ n = ap (λ u. suc (statement_count u older)) (sym (eqb-true v t e)) ∙ sym number in
         let differ : n ≢ k = unequal n k other in omega (arith, same, apart n k differ (omega arith))
       where
         unequal : (a b : ℕ) → (a == b) ≡ false → a ≢ b
@@ -369,14 +367,11 @@ before-here : (t k : ℕ) (line session v : ℕ) (what : What) (older : List m.E
     → (tables_before t k (what_view line session v what ∷ older) ≡ tables_in older) × (k ≤ statement_count t (what_view line session v what ∷ older))
 before-here t k line session v (w.Statement n command stmt) older number own =
     let both = and_parts (v == t) (n == k) own in
-    let same : suc (statement_count t older) ≡ k = ap (λ u. suc (statement_count u older)) (sym (eq_from v t both.0)) ∙ sym number ∙ eq_from n k both.1 in (
+    let same : suc (statement_count t older) ≡ k = ap (λ u. suc (statement_count u older)) (sym (eqb-true v t both.0)) ∙ sym number ∙ eqb-true n k both.1 in (
       ap (λ b. cond (b && (suc (statement_count t older) == k)) (tables_in older) (tables_before t k older)) both.0 ∙ ap (λ j. cond (j == k) (tables_in older) (tables_before t k older)) same
-          ∙ ap (λ b. cond b (tables_in older) (tables_before t k older)) (equal k),
+          ∙ ap (λ b. cond b (tables_in older) (tables_before t k older)) (eq_itself k),
       subst (λ b. k ≤ cond b (suc (statement_count t older)) (statement_count t older)) (sym both.0) (omega (arith, same)),
     )
-  where
-    equal : (j : ℕ) → (j == j) ≡ true
-    equal j = grind (arith, nat_tests)
 before-here t k line session v (w.Create table) older number own = absurd (none (v == t) own)
   where
     none : (b : Bool) → (b && false) ≡ true → ⊥

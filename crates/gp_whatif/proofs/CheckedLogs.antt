@@ -12,14 +12,15 @@ use Rattle.gp_check.specs.Checking.{checked, refused_by}
 use Rattle.gp_check.specs.Faults.{block_columns_fault, block_types, block_where_is_typed, first_refusal, or_else, query_tables_fault, table_fault, tables_fault}
 use Rattle.gp_check.specs.Meaning.{branch_of, number_of_table, select_of, set_of, where_of}
 use Rattle.gp_check.specs.Scopes.{target_scope}
-use Rattle.gp_machine.specs.Actions.{Action, Begin, Commit, Create, Rollback, Run, action_of}
-use Rattle.gp_machine.specs.Entries.{Entry, Created, Began, Ran, Committed, Ended, statement_count, statements_in, transactions_in}
+use Rattle.gp_machine.specs.Actions.{Action, Begin, Commit, Create, Rollback, Run, action_of, allowed}
+use Rattle.gp_machine.specs.Entries.{Entry, Created, Began, Ran, Committed, Ended, statement_count, statements_in, transactions_in, line_of, session_of}
 use Rattle.gp_machine.specs.Event.{count_refusal}
 use Rattle.gp_machine.specs.Questions.{statement_refusal, transaction_refusal}
-use Rattle.gp_log.specs.Discipline.{Disorder, Flaw, IsLog, creating, doing, line_of, running, session_of, transaction_in}
-use Rattle.gp_log.specs.Limits.{limits}
+use Rattle.gp_log.specs.Discipline.{Disorder, Flaw, IsLog, creating, doing, running, transaction_in}
+use Rattle.gp_log.specs.Parameters.{parameters}
 use Rattle.gp_log.specs.LogFacts.{tables_in}
-use Rattle.gp_whatif.specs.Changed.{AreChecked, changed, doubled, dropped_command, dropped_statement, is_at, is_step_of, nothing_at, nothing_from, rewritten, steps_refusal, tables_at_end, tables_before, with_added, with_other}
+use Rattle.gp_whatif.specs.Changed.{changed, doubled, dropped_command, dropped_statement, is_at, is_step_of, nothing_at, nothing_from, rewritten, steps_refusal, tables_at_end, tables_before, with_added, with_other}
+use Rattle.gp_whatif.specs.ChangedForms.{AreChecked}
 use Rattle.gp_whatif.proofs.ChangedLemmas.{added_same, doubled_same, other_same}
 use Rattle.gp_whatif.proofs.ChangingLemmas.{count_doubled}
 use Rattle.gp_whatif.proofs.FittingMore.{checked_is}
@@ -151,11 +152,11 @@ module _ (older : List Entry) (line session t : ℕ) (command : Command) (statem
   same-command : (u : ℕ) (other : Command) (found : Statement) → accepted (Ran line session other u found) ≡ accepted here → (other ≡ command) × (found ≡ statement)
   same-command u other found e = (cc, cc)
 
-  created : (table : Table) (o : Option Refusal) → creating limits older line session table o ≡ accepted here → ⊥
+  created : (table : Table) (o : Option Refusal) → creating parameters older line session table o ≡ accepted here → ⊥
   created table (Some refusal) e = cc
   created table None e = cc
 
-  creates : (b : Bool) (table : Table) (o : Option Refusal) → cond b (refused Disorder) (creating limits older line session table o) ≡ accepted here → ⊥
+  creates : (b : Bool) (table : Table) (o : Option Refusal) → cond b (refused Disorder) (creating parameters older line session table o) ≡ accepted here → ⊥
   creates true table o e = cc
   creates false table o e = created table o e
 
@@ -163,7 +164,7 @@ module _ (older : List Entry) (line session t : ℕ) (command : Command) (statem
   begins true u level e = cc
   begins false u level e = cc
 
-  runs : (u : ℕ) (other : Command) (o : Option Refusal) (r : Result Statement Refusal) → running limits older line session u other o r ≡ accepted here → (other ≡ command) × IsSame r (Ok statement)
+  runs : (u : ℕ) (other : Command) (o : Option Refusal) (r : Result Statement Refusal) → running parameters older line session u other o r ≡ accepted here → (other ≡ command) × IsSame r (Ok statement)
   runs u other (Some refusal) r e = absurd cc
   runs u other None (Err refusal) e = absurd cc
   runs u other None (Ok found) e = let same = same-command u other found e in (same.0, ap (λ (made : Statement). result made) same.1)
@@ -171,9 +172,9 @@ module _ (older : List Entry) (line session t : ℕ) (command : Command) (statem
       result : Statement → Result Statement Refusal
       result made = Ok made
 
-  does : (o : Option ℕ) (a : Action) → IsNow (doing limits older line session o a) (Ok here) → IsSame (checked (tables_in older) command) (Ok statement)
-  does None (Create table) e = absurd (creates (nat_le limits.tables (length (tables_in older))) table (limits.created (tables_in older) table) e)
-  does None (Begin level) e = absurd (begins (nat_le limits.transactions (transactions_in older)) (suc (transactions_in older)) level e)
+  does : (o : Option ℕ) (a : Action) → IsNow (doing parameters older line session (allowed o a)) (Ok here) → IsSame (checked (tables_in older) command) (Ok statement)
+  does None (Create table) e = absurd (creates (nat_le parameters.tables (length (tables_in older))) table (parameters.created (tables_in older) table) e)
+  does None (Begin level) e = absurd (begins (nat_le parameters.transactions (transactions_in older)) (suc (transactions_in older)) level e)
   does None Commit e = absurd cc
   does None Rollback e = absurd cc
   does None (Run other) e = absurd cc
@@ -182,10 +183,10 @@ module _ (older : List Entry) (line session t : ℕ) (command : Command) (statem
   does (Some u) Commit e = absurd cc
   does (Some u) Rollback e = absurd cc
   does (Some u) (Run other) e =
-      let is = runs u other (count_refusal limits (statement_count u older) (statements_in older)) (limits.checked (tables_in older) other) e in
+      let is = runs u other (count_refusal parameters (statement_count u older) (statements_in older)) (parameters.checked (tables_in older) other) e in
       subst (λ (x : Command). IsSame (checked (tables_in older) x) (Ok statement)) is.0 is.1
 
-pub logs_checked : (entries : List Entry) → IsLog limits entries → AreChecked entries
+pub logs_checked : (entries : List Entry) → IsLog parameters entries → AreChecked entries
 logs_checked [] log = tt
 logs_checked (Created line session table ∷ older) log = logs_checked older log.1
 logs_checked (Began line session t level ∷ older) log = logs_checked older log.1
@@ -202,24 +203,24 @@ same-ok : (a b : List Entry) → AreSame (Ok a) (Ok b) → a ≡ b
 same-ok a b e = cc
 
 module _ (entries new : List Entry) (are : AreChecked entries) where
-  put : (refusal : Option Refusal) (passes : Result Statement Refusal) (make : Statement → List Entry) → AreSame (rewritten limits entries refusal passes make) (Ok new)
-      → ((statement : Statement) → IsSame passes (Ok statement) → AreChecked (make statement)) → AreChecked new
+  put : {A : Type 0} (refusal : Option Refusal) (passes : Result A Refusal) (make : A → List Entry) → AreSame (rewritten parameters entries refusal passes make) (Ok new)
+      → ((given : A) → passes ≡ Ok given → AreChecked (make given)) → AreChecked new
   put (Some refusal) passes make e each = absurd cc
   put None (Err refusal) make e each = absurd cc
-  put None (Ok statement) make e each = subst AreChecked (same-ok (make statement) new e) (each statement refl)
+  put None (Ok given) make e each = subst AreChecked (same-ok (make given) new e) (each given refl)
 
   twice : AreChecked (map doubled entries)
   twice = doubled_checked entries are
 
-  pub change_checked : (change : LogChange) → AreSame (changed limits entries change) (Ok new) → AreChecked new
+  pub change_checked : (change : LogChange) → AreSame (changed parameters entries change) (Ok new) → AreChecked new
   change_checked (y.drop t k) e =
-      put (option_or (transaction_refusal t entries) (statement_refusal t k entries)) (Ok (nothing_at 0)) (λ statement. with_other t k dropped_command dropped_statement (map doubled entries)) e
-      (λ statement passes. other_checked t k dropped_command dropped_statement (map doubled entries) (λ own now is. dropped_checked (tables_before t k (map doubled entries)) own now is) twice)
+      put (option_or (transaction_refusal t entries) (statement_refusal t k entries)) (Ok (tt {0})) (λ nothing. with_other t k dropped_command dropped_statement (map doubled entries)) e
+      (λ nothing passes. other_checked t k dropped_command dropped_statement (map doubled entries) (λ own now is. dropped_checked (tables_before t k (map doubled entries)) own now is) twice)
   change_checked (y.replace t k command) e =
       put (option_or (transaction_refusal t entries) (statement_refusal t k entries)) (checked (tables_before t k entries) command)
       (λ statement. with_other t k (λ own. command) (λ own. statement) (map doubled entries)) e
       (λ statement passes. other_checked t k (λ own. command) (λ own. statement) (map doubled entries)
       (λ own now is. ap (λ tables. checked tables command) (before_doubled t k entries) ∙ passes) twice)
   change_checked (y.add t command) e =
-      put (option_or (transaction_refusal t entries) (steps_refusal limits entries t)) (checked (tables_at_end t entries) command) (λ statement. with_added t command statement (map doubled entries)) e
+      put (option_or (transaction_refusal t entries) (steps_refusal parameters entries t)) (checked (tables_at_end t entries) command) (λ statement. with_added t command statement (map doubled entries)) e
       (λ statement passes. added_checked t command statement (map doubled entries) (ap (λ tables. checked tables command) (end_doubled t entries) ∙ passes) twice)

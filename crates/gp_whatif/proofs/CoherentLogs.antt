@@ -2,8 +2,7 @@
 use Rattle.std.proofs.Common.{◌≡◌, ◌≤◌, ℕ, suc, Bool, true, false, cond, List, [], ◌∷◌, ◌++◌, length, map, Option, Some, None, refl, sym, ap, ◌∙◌, subst, arith, nat_le, length-append}
 use Rattle.std.specs.Prelude.{◌==◌, Result, Ok, Err}
 use Rattle.std.specs.Option.{option_map, option_or}
-use Rattle.std.proofs.lemmas.Bool.{and_parts}
-use Rattle.std.proofs.lemmas.Bool.Decides.{nat_tests}
+use Rattle.std.proofs.lemmas.Bool.{and_parts, eqb-true}
 use Rattle.gp_base.specs.declared.refusal.Refusal.{Refusal}
 use Rattle.gp_base.specs.declared.table.Table.{Table}
 use Rattle.gp_base.specs.Annotated.{Annotations}
@@ -13,17 +12,18 @@ use Rattle.gp_grammar.specs.Syntax as y
 use Rattle.gp_grammar.specs.Syntax.{Command, LogChange}
 use Rattle.gp_machine.specs.Actions.{Action, Begin, Commit, Create, Rollback, Run, action_of}
 use Rattle.gp_machine.specs.Conflicts.{Conflict}
-use Rattle.gp_machine.specs.Entries.{End, Entry, Created, Began, Ran, Committed, Ended, Lost, RolledBack, statements_in, transactions_in}
+use Rattle.gp_machine.specs.Entries.{End, Entry, Created, Began, Ran, Committed, Ended, Lost, RolledBack, statements_in, transactions_in, line_of, session_of}
 use Rattle.gp_machine.specs.Event as e
 use Rattle.gp_machine.specs.Event.{Line, after, conflict_of, count_refusal, creation_refusal, is_full, line_event, refusal_of, start_now}
-use Rattle.gp_machine.specs.Limits.{ChecksTargets, HasTarget, Limits}
+use Rattle.gp_machine.specs.Parameters.{Parameters}
+use Rattle.gp_machine.specs.CheckedTargets.{ChecksTargets, HasTarget}
 use Rattle.gp_machine.specs.Questions.{statement_refusal, transaction_refusal}
 use Rattle.gp_machine.specs.State.{Active, State, start}
-use Rattle.gp_log.specs.Discipline.{line_of, session_of, transaction_in}
+use Rattle.gp_log.specs.Discipline.{transaction_in}
 use Rattle.gp_log.specs.LogFacts.{tables_in}
 use Rattle.gp_log.specs.LogFitting.{statements_fit}
 use Rattle.gp_log.specs.Sessions.{KeepsSessions}
-use Rattle.gp_whatif.specs.Changed.{changed, doubled, dropped_command, dropped_statement, is_at, is_step_of, nothing_at, steps_refusal, tables_at_end, tables_before, with_added, with_other}
+use Rattle.gp_whatif.specs.Changed.{changed, doubled, dropped_command, dropped_statement, is_at, is_step_of, steps_refusal, tables_at_end, tables_before, with_added, with_other}
 use Rattle.gp_whatif.specs.Replays.{IsCoherent, IsReplayable, WritesTables}
 use Rattle.gp_whatif.proofs.ChangedLemmas.{SameSessions, added_same, doubled_same, other_same}
 use Rattle.gp_whatif.proofs.FittingLogs.{fits_target}
@@ -121,7 +121,7 @@ coherent old new same writes is = record {
   tables = subst (λ (tables : List Table). WritesTables (length tables) new) (sym same.tables) writes;
 }
 
-module _ (limits : Limits) (checks : ChecksTargets limits) (entries new : List Entry) (is : IsCoherent entries) where
+module _ (parameters : Parameters) (checks : ChecksTargets parameters) (entries new : List Entry) (is : IsCoherent entries) where
   abbrev doubles : List Entry
   doubles = map doubled entries
 
@@ -143,21 +143,21 @@ module _ (limits : Limits) (checks : ChecksTargets limits) (entries new : List E
       (added_tables tables t command statement there doubles writes) is
 
   -- what the check passes on the first tables
-  checked_target : (front : List Table) (command : Command) (statement : Statement) → Extends front (tables_in entries) → limits.checked front command ≡ Ok statement → HasTarget tables statement
+  checked_target : (front : List Table) (command : Command) (statement : Statement) → Extends front (tables_in entries) → parameters.checked front command ≡ Ok statement → HasTarget tables statement
   checked_target front command statement extends checked =
       more_target (length front) tables (longer front (tables_in entries) extends) statement (checks front command statement checked)
 
-  pub change_coherent : (change : LogChange) → changed limits entries change ≡ Ok new → IsCoherent new
+  pub change_coherent : (change : LogChange) → changed parameters entries change ≡ Ok new → IsCoherent new
   change_coherent (y.drop t k) e =
-      put limits entries new IsCoherent (option_or (transaction_refusal t entries) (statement_refusal t k entries)) (Ok (nothing_at 0))
-      (λ statement. with_other t k dropped_command dropped_statement (map doubled entries)) e
-      (λ statement checked. other_coherent t k dropped_command dropped_statement (dropped_target tables))
+      put parameters entries new IsCoherent (option_or (transaction_refusal t entries) (statement_refusal t k entries)) (Ok (tt {0}))
+      (λ nothing. with_other t k dropped_command dropped_statement (map doubled entries)) e
+      (λ nothing checked. other_coherent t k dropped_command dropped_statement (dropped_target tables))
   change_coherent (y.replace t k command) e =
-      put limits entries new IsCoherent (option_or (transaction_refusal t entries) (statement_refusal t k entries)) (limits.checked (tables_before t k entries) command)
+      put parameters entries new IsCoherent (option_or (transaction_refusal t entries) (statement_refusal t k entries)) (parameters.checked (tables_before t k entries) command)
       (λ statement. with_other t k (λ own. command) (λ own. statement) (map doubled entries)) e
       (λ statement checked. other_coherent t k (λ own. command) (λ own. statement) (λ own there. checked_target (tables_before t k entries) command statement (before_first t k entries) checked))
   change_coherent (y.add t command) e =
-      put limits entries new IsCoherent (option_or (transaction_refusal t entries) (steps_refusal limits entries t)) (limits.checked (tables_at_end t entries) command)
+      put parameters entries new IsCoherent (option_or (transaction_refusal t entries) (steps_refusal parameters entries t)) (parameters.checked (tables_at_end t entries) command)
       (λ statement. with_added t command statement (map doubled entries)) e
       (λ statement checked. added_coherent t command statement (checked_target (tables_at_end t entries) command statement (end_first t entries) checked))
 
@@ -173,10 +173,7 @@ record HasLog {M : Type 0} (state : State M) : Type 0 where
   pub active : (session : ℕ) → transaction_in session state.entries ≡ transaction_of (state.active session)
   pub tables : WritesTables (length state.catalogue) state.entries
 
-eq_from : (a b : ℕ) → (a == b) ≡ true → a ≡ b
-eq_from a b e = grind (arith, nat_tests)
-
-module _ {M : Type 0} (kind : Annotations M) (limits : Limits) (checks : ChecksTargets limits) where
+module _ {M : Type 0} (domain : Annotations M) (parameters : Parameters) (checks : ChecksTargets parameters) where
   module _ (state : State M) (line session : ℕ) (has : HasLog state) where
     -- a session whose transaction is another one now
     left : (now : Option ℕ) (active : Option (Active M)) → now ≡ transaction_of active → (s : ℕ)
@@ -219,11 +216,11 @@ module _ {M : Type 0} (kind : Annotations M) (limits : Limits) (checks : ChecksT
       stayed : (next : Active M) → next.transaction ≡ active.transaction → (s : ℕ) → transaction_in s state.entries ≡ transaction_of (cond (s == session) (Some next) (state.active s))
       stayed next same s =
           (elim (s == session) as (λ b. (s == session) ≡ b → transaction_in s state.entries ≡ transaction_of (cond b (Some next) (state.active s))) [
-            | true ↦ λ is. ap (λ n. transaction_in n state.entries) (eq_from s session is) ∙ own ∙ ap Some (sym same)
+            | true ↦ λ is. ap (λ n. transaction_in n state.entries) (eqb-true s session is) ∙ own ∙ ap Some (sym same)
             | false ↦ λ is. has.active s
           ]) refl
 
-      ran : (command : Command) (statement : Statement) → HasTarget (length state.catalogue) statement → (refusal : Option Refusal) → HasLog (e.ran kind state line session active command statement refusal).0
+      ran : (command : Command) (statement : Statement) → HasTarget (length state.catalogue) statement → (refusal : Option Refusal) → HasLog (e.ran domain state line session active command statement refusal).0
       ran command statement there (Some refusal) = has
       ran command statement there None = record {
         catalogue = has.catalogue;
@@ -232,36 +229,36 @@ module _ {M : Type 0} (kind : Annotations M) (limits : Limits) (checks : ChecksT
         tables = (there, has.tables);
       }
 
-      running : (command : Command) (refusal : Option Refusal) (checked : Result Statement Refusal) → limits.checked state.catalogue command ≡ checked
-          → HasLog (e.running kind state line session active command limits refusal checked).0
+      running : (command : Command) (refusal : Option Refusal) (checked : Result Statement Refusal) → parameters.checked state.catalogue command ≡ checked
+          → HasLog (e.running domain state line session active command parameters refusal checked).0
       running command (Some refusal) checked is = has
       running command None (Err refusal) is = has
       running command None (Ok statement) is =
           ran command statement (checks state.catalogue command statement is)
-          (refusal_of kind limits state.catalogue active.transaction (suc active.statements) statement (start_now state active))
+          (refusal_of domain parameters state.catalogue active.transaction (suc active.statements) statement (start_now state active))
 
-    answered : (active : Option (Active M)) → state.active session ≡ active → (action : Action) → HasLog (e.answered kind limits state line session active action).0
-    answered None free (Create table) = creating table (creation_refusal limits state.catalogue table) free
-    answered None free (Begin read_committed) = beginning read_committed (nat_le limits.transactions (transactions_in state.entries)) free
+    answered : (active : Option (Active M)) → state.active session ≡ active → (action : Action) → HasLog (e.answered domain parameters state line session active action).0
+    answered None free (Create table) = creating table (creation_refusal parameters state.catalogue table) free
+    answered None free (Begin read_committed) = beginning read_committed (nat_le parameters.transactions (transactions_in state.entries)) free
     answered None free Commit = has
     answered None free Rollback = has
     answered None free (Run command) = has
     answered (Some active) runs (Create table) = has
     answered (Some active) runs (Begin read_committed) = has
-    answered (Some active) runs Commit = committing active runs (conflict_of state active) (is_full limits state active)
+    answered (Some active) runs Commit = committing active runs (conflict_of state active) (is_full parameters state active)
     answered (Some active) runs Rollback = ended active runs RolledBack
     answered (Some active) runs (Run command) =
-        running active runs command (count_refusal limits active.statements (statements_in state.entries)) (limits.checked state.catalogue command) refl
+        running active runs command (count_refusal parameters active.statements (statements_in state.entries)) (parameters.checked state.catalogue command) refl
 
-  logged : (state : State M) (lines : List Line) → HasLog state → HasLog (after kind limits state lines)
+  logged : (state : State M) (lines : List Line) → HasLog state → HasLog (after domain parameters state lines)
   logged state [] has = has
   logged state (line ∷ lines) has =
-      logged (line_event kind limits state line).0 lines (answered state line.number line.session has (state.active line.session) refl (action_of line.command))
+      logged (line_event domain parameters state line).0 lines (answered state line.number line.session has (state.active line.session) refl (action_of line.command))
 
-  pub history_coherent : (lines : List Line) → IsCoherent (after kind limits start lines).entries
+  pub history_coherent : (lines : List Line) → IsCoherent (after domain parameters start lines).entries
   history_coherent lines =
-      let has : HasLog (after kind limits start lines) = logged start lines (record { catalogue = refl; sessions = tt; active = λ session. refl; tables = tt }) in
+      let has : HasLog (after domain parameters start lines) = logged start lines (record { catalogue = refl; sessions = tt; active = λ session. refl; tables = tt }) in
       record {
         sessions = has.sessions;
-        tables = subst (λ (tables : List Table). WritesTables (length tables) (after kind limits start lines).entries) (sym has.catalogue) has.tables;
+        tables = subst (λ (tables : List Table). WritesTables (length tables) (after domain parameters start lines).entries) (sym has.catalogue) has.tables;
       }

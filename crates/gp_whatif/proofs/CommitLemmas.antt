@@ -18,7 +18,7 @@ use Rattle.gp_txn.specs.Counts.{count_rows, count_spans}
 use Rattle.gp_txn.specs.Overlay.{PlainRow, carried_write}
 use Rattle.gp_txn.specs.Transactions.{HoldsOwn, Writes, no_table, table_at, view_at, writes_at}
 use Rattle.gp_txn.specs.declared.conflict.Conflict as late
-use Rattle.gp_txn.specs.declared.counting.TheConstants.{MAX_SPANS}
+use Rattle.gp_base.specs.declared.limit.TheConstants.{MAX_SPANS}
 use Rattle.gp_txn.specs.declared.error.CommitStop.{CommitStop}
 use Rattle.gp_txn.specs.declared.error.CommitStop.TheVariants as stop
 use Rattle.gp_machine.proofs.FoundLemmas.{shown_is}
@@ -38,7 +38,7 @@ use Rattle.gp_machine.specs.Replaying as m
 use Rattle.gp_machine.specs.Replaying.{CommitsInOrder, Replay, first_stop, rerun, upto_version, version_stop}
 use Rattle.gp_machine.specs.Represents.{Kept, Overlay, RepresentsActive, kept_start}
 use Rattle.gp_machine.specs.State.{Active, with_value}
-use Rattle.gp_log.specs.Limits.{limits}
+use Rattle.gp_log.specs.Parameters.{parameters}
 use Rattle.gp_log.specs.LogFacts.{tables_in}
 use Rattle.gp_whatif.specs.Remade.{HasRun, StopsAt, made_upto, seen_upto}
 use Rattle.gp_whatif.specs.Replays.{IsMade, IsReplayable, Stops, stop_upto}
@@ -53,17 +53,17 @@ no_spans versions place high = ap (λ (table : Versions). table.spans) (get_or-e
 
 -- ---- a stop stays
 
-stays : (entries : List Entry) (u more : ℕ) (due : m.ReplayStop) → stop_upto entries u ≡ Some due → stop_upto entries (more + u) ≡ Some due
-stays entries u zero due e = let is : zero + u ≡ u = omega arith in ap (stop_upto entries) is ∙ e
-stays entries u (suc more) due e =
+stays : (entries : List Entry) (u more : ℕ) (expected : m.ReplayStop) → stop_upto entries u ≡ Some expected → stop_upto entries (more + u) ≡ Some expected
+stays entries u zero expected e = let is : zero + u ≡ u = omega arith in ap (stop_upto entries) is ∙ e
+stays entries u (suc more) expected e =
     let is : suc more + u ≡ suc (more + u) = omega arith in
-    ap (stop_upto entries) is ∙ ap (λ s. option_or s (version_stop plain (log_of entries) limits (length (tables_in entries)) (more + u))) (stays entries u more due e)
+    ap (stop_upto entries) is ∙ ap (λ s. option_or s (version_stop plain (log_of entries) parameters (length (tables_in entries)) (more + u))) (stays entries u more expected e)
 
 pub stops_stay : (entries : List Entry) (u n : ℕ) → u ≤ n → (stop : ReplayStop) → Stops stop (stop_upto entries u) → Stops stop (stop_upto entries n)
 stops_stay entries u n l stop e = by stop e
   where
-    later : (due : m.ReplayStop) → stop_upto entries u ≡ Some due → stop_upto entries n ≡ Some due
-    later due e = let is : (n - u) + u ≡ n = omega arith in ap (stop_upto entries) (sym is) ∙ stays entries u (n - u) due e
+    later : (expected : m.ReplayStop) → stop_upto entries u ≡ Some expected → stop_upto entries n ≡ Some expected
+    later expected e = let is : (n - u) + u ≡ n = omega arith in ap (stop_upto entries) (sym is) ∙ stays entries u (n - u) expected e
 
     by : (stop : ReplayStop) → Stops stop (stop_upto entries u) → Stops stop (stop_upto entries n)
     by (code.Lost version other table id) e = later _ e
@@ -105,15 +105,15 @@ module _ (entries : List Entry) (ok : IsReplayable entries) (u : ℕ) (within : 
   order = commits_in_order entries ok.sessions
 
   again_seen : again ≡ seen_upto entries u n
-  again_seen = again_is plain log tables limits order u within (history entries ok u within versions made)
+  again_seen = again_is plain log tables parameters order u within (history entries ok u within versions made)
 
   -- ---- the stop of the run
 
-  run_stops : (s : RunStop) (k : ℕ) → k ≤ n → run_stop plain limits log t k replay.committed ≡ Some s → stop_upto entries (suc u) ≡ Some (m.Passes s)
+  run_stops : (s : RunStop) (k : ℕ) → k ≤ n → run_stop plain parameters log t k replay.committed ≡ Some s → stop_upto entries (suc u) ≡ Some (m.Passes s)
   run_stops s k l e =
       let is : (n - k) + k ≡ n = omega arith in
-      let last : run_stop plain limits log t n replay.committed ≡ Some s = ap (λ j. run_stop plain limits log t j replay.committed) (sym is) ∙ stop_stays entries ok u within versions made k (n - k) s e in
-      λ i. option_or (made.unstopped i) (first_stop (suc u) (last i) (least_conflict replay.written u again.written) (nat_lt limits.published (replay.rows + published_rows again tables)))
+      let last : run_stop plain parameters log t n replay.committed ≡ Some s = ap (λ j. run_stop plain parameters log t j replay.committed) (sym is) ∙ stop_stays entries ok u within versions made k (n - k) s e in
+      λ i. option_or (made.unstopped i) (first_stop (suc u) (last i) (least_conflict replay.written u again.written) (nat_lt parameters.published (replay.rows + published_rows again tables)))
 
   pub statement_stops : (k : ℕ) (l : k < n) (statement : Statement) (is : statement_at t (suc k) entries ≡ Some statement) (old : Writes) (ran : HasRun entries u versions k old)
       (stop : ReplayStop) → StopsAt stop (suc k) (statement_version t (suc k) entries) statement versions old → Stops stop (stop_upto entries (suc u))
@@ -188,10 +188,10 @@ module _ (entries : List Entry) (ok : IsReplayable entries) (u : ℕ) (within : 
 
     -- ---- the outcomes
 
-    abbrev due : Option RunStop → Option Conflict → Bool → Option m.ReplayStop
-    due stop conflict full = option_or None (first_stop (suc u) stop conflict full)
+    abbrev expected : Option RunStop → Option Conflict → Bool → Option m.ReplayStop
+    expected stop conflict full = option_or None (first_stop (suc u) stop conflict full)
 
-    none_due : IsFirstConflict (length versions) (lates_at writes.tables versions) None → (full : Bool) → nat_lt limits.published (replay.rows + published_rows again tables) ≡ full → stop_upto entries (suc u) ≡ due None None full
+    none_due : IsFirstConflict (length versions) (lates_at writes.tables versions) None → (full : Bool) → nat_lt parameters.published (replay.rows + published_rows again tables) ≡ full → stop_upto entries (suc u) ≡ expected None None full
     none_due none full is = λ i. option_or (made.unstopped i) (first_stop (suc u) (ran.unstopped i) (conflict_is None (shown_none none) i) (is i))
 
     pub committed : (new : List Versions) → length new ≡ length versions → txn.Commits (suc u) writes versions new → IsMade entries (suc u) new
@@ -215,6 +215,6 @@ module _ (entries : List Entry) (ok : IsReplayable entries) (u : ℕ) (within : 
     commit_stops (stop.Conflict version table id) cause =
         λ i. option_or (made.unstopped i) (first_stop (suc u) (ran.unstopped i)
         (conflict_is (Some (record { pair = record { table = table; identity = id }; version = version })) (shown_some (record { place = table; late = record { id = id; version = version } }) cause) i)
-        (nat_lt limits.published (replay.rows + published_rows again tables)))
+        (nat_lt parameters.published (replay.rows + published_rows again tables)))
     commit_stops stop.Full cause = none_due cause.0 true (lt-ltb MAX_SPANS (replay.rows + published_rows again tables) (subst (λ n. MAX_SPANS < n) left_is cause.1))
     commit_stops stop.NoMemory cause = tt

@@ -1,38 +1,18 @@
--- The statements of a log that fits a catalogue, or writes tables of it.
-use Rattle.std.proofs.Common.{◌≡◌, ℕ, suc, Bool, true, false, cond, List, [], ◌∷◌, length, sym, ap, ◌∙◌, subst, Some, None}
+-- The statements of a log that writes tables of a catalogue.
+use Rattle.std.proofs.Common.{◌≡◌, ℕ, suc, Bool, true, false, cond, List, [], ◌∷◌, length, subst, Some}
 use Rattle.std.specs.List.{list_all}
 use Rattle.std.specs.Prelude.{◌&&◌, ◌==◌}
 use Rattle.gp_base.specs.declared.table.Table.{Table}
-use Rattle.gp_algebra.specs.Fitting.{branches_fit, cond_fits, is_countable, is_there, row_fits, set_fits, statement_fits, width_of}
+use Rattle.gp_algebra.specs.Fitting.{branches_fit, cond_fits, is_countable, is_there, row_fits, set_fits, statement_fits}
+use Rattle.gp_algebra.specs.Statements.{width_of}
 use Rattle.gp_algebra.specs.Statements.{Statement, insert, insert_select, update, delete, read}
 use Rattle.gp_machine.specs.Entries.{Entry, Created, Began, Ran, Committed, Ended, statement_at, statement_count}
-use Rattle.gp_machine.specs.Limits.{HasTarget}
-use Rattle.gp_log.specs.LogFitting.{statements_fit}
+use Rattle.gp_machine.specs.CheckedTargets.{HasTarget}
 use Rattle.gp_whatif.specs.Replays.{WritesTables}
 use Rattle.std.proofs.lemmas.Bool.{and_parts, ltb-true}
+use Rattle.std.proofs.lemmas.Option.{none-some, same_Some}
 
-none_some : {X : Type 0} (x : X) → None ≡ Some x → ⊥
-none_some x e = cc
-
-some_equal : {X : Type 0} (x y : X) → Some x ≡ Some y → x ≡ y
-some_equal x y e = cc
-
--- each statement of a transaction fits
-pub statement_at_fits : (catalogue : List Table) (entries : List Entry) → statements_fit catalogue entries ≡ true → (t k : ℕ) (statement : Statement) →
-    statement_at t k entries ≡ Some statement → statement_fits catalogue statement ≡ true
-statement_at_fits catalogue [] fit t k statement e = absurd (none_some statement e)
-statement_at_fits catalogue (Created line session table ∷ older) fit t k statement e = statement_at_fits catalogue older fit t k statement e
-statement_at_fits catalogue (Began line session u level ∷ older) fit t k statement e = statement_at_fits catalogue older fit t k statement e
-statement_at_fits catalogue (Ran line session command u other ∷ older) fit t k statement e =
-    go ((u == t) && (suc (statement_count t older) == k)) e (statement_at_fits catalogue older ((and_parts (statement_fits catalogue other) (statements_fit catalogue older) fit).1) t k statement)
-  where
-    go : (b : Bool) → cond b (Some other) (statement_at t k older) ≡ Some statement → (statement_at t k older ≡ Some statement → statement_fits catalogue statement ≡ true) → statement_fits catalogue statement ≡ true
-    go true e before = ap (statement_fits catalogue) (sym (some_equal other statement e)) ∙ (and_parts (statement_fits catalogue other) (statements_fit catalogue older) fit).0
-    go false e before = before e
-statement_at_fits catalogue (Committed line session u ∷ older) fit t k statement e = statement_at_fits catalogue older fit t k statement e
-statement_at_fits catalogue (Ended line session end u ∷ older) fit t k statement e = statement_at_fits catalogue older fit t k statement e
-
--- and writes a table that is there
+-- a statement that fits writes a table that is there
 pub fits_target : (tables : List Table) (statement : Statement) → statement_fits tables statement ≡ true → HasTarget (length tables) statement
 fits_target tables (insert table rows) fits = ltb-true table (length tables) (and_parts (is_there tables table) (is_countable rows && list_all (row_fits (width_of tables table)) rows) fits).0
 fits_target tables (insert_select table select) fits = ltb-true table (length tables) (and_parts (is_there tables table) (branches_fit tables (width_of tables table) select) fits).0
@@ -41,14 +21,14 @@ fits_target tables (delete table c) fits = ltb-true table (length tables) (and_p
 fits_target tables (read select) fits = tt
 
 pub statement_at_target : (tables : ℕ) (entries : List Entry) → WritesTables tables entries → (t k : ℕ) (statement : Statement) → statement_at t k entries ≡ Some statement → HasTarget tables statement
-statement_at_target tables [] are t k statement e = absurd (none_some statement e)
+statement_at_target tables [] are t k statement e = absurd (none-some statement e)
 statement_at_target tables (Created line session table ∷ older) are t k statement e = statement_at_target tables older are t k statement e
 statement_at_target tables (Began line session u level ∷ older) are t k statement e = statement_at_target tables older are t k statement e
 statement_at_target tables (Ran line session command u other ∷ older) are t k statement e =
     go ((u == t) && (suc (statement_count t older) == k)) e (statement_at_target tables older are.1 t k statement)
   where
     go : (b : Bool) → cond b (Some other) (statement_at t k older) ≡ Some statement → (statement_at t k older ≡ Some statement → HasTarget tables statement) → HasTarget tables statement
-    go true e before = subst (HasTarget tables) (some_equal other statement e) are.0
+    go true e before = subst (HasTarget tables) (same_Some other statement e) are.0
     go false e before = before e
 statement_at_target tables (Committed line session u ∷ older) are t k statement e = statement_at_target tables older are t k statement e
 statement_at_target tables (Ended line session end u ∷ older) are t k statement e = statement_at_target tables older are t k statement e

@@ -6,11 +6,12 @@ use Rattle.gp_base.specs.declared.refusal.Refusal.{Refusal}
 use Rattle.gp_grammar.specs.Syntax as y
 use Rattle.gp_grammar.specs.Syntax.{Command, LogChange}
 use Rattle.gp_algebra.specs.Statements.{Statement}
-use Rattle.gp_machine.specs.Entries.{Entry, Created, Began, Ran, Committed, Ended}
-use Rattle.gp_machine.specs.Limits.{Limits}
+use Rattle.gp_machine.specs.Entries.{Entry, Created, Began, Ran, Committed, Ended, line_of, session_of}
+use Rattle.gp_machine.specs.Parameters.{Parameters}
 use Rattle.gp_machine.specs.Questions.{statement_refusal, transaction_refusal}
-use Rattle.gp_log.specs.Discipline.{IsLog, last_line, line_of, session_of}
-use Rattle.gp_whatif.specs.Changed.{CanDouble, LinesRise, changed, doubled, dropped_command, dropped_statement, is_at, is_step_of, nothing_at, rewritten, steps_refusal, tables_at_end, tables_before, with_added, with_other}
+use Rattle.gp_log.specs.Discipline.{IsLog, last_line}
+use Rattle.gp_whatif.specs.Changed.{changed, doubled, dropped_command, dropped_statement, is_at, is_step_of, rewritten, steps_refusal, tables_at_end, tables_before, with_added, with_other}
+use Rattle.gp_whatif.specs.ChangedForms.{CanDouble, LinesRise}
 
 line-doubled : (entry : Entry) → line_of (doubled entry) ≡ line_of entry + line_of entry
 line-doubled (Created line session table) = refl
@@ -30,13 +31,13 @@ doubled_rise (entry ∷ older) rise =
 
 -- ---- a log that keeps the rules of its entries
 
-pub lines_double : (limits : Limits) (entries : List Entry) → IsLog limits entries → CanDouble entries
-lines_double limits [] log = tt
-lines_double limits (entry ∷ older) log = ((let l = log.0.line in omega arith), lines_double limits older log.1)
+pub lines_double : (parameters : Parameters) (entries : List Entry) → IsLog parameters entries → CanDouble entries
+lines_double parameters [] log = tt
+lines_double parameters (entry ∷ older) log = ((let l = log.0.line in omega arith), lines_double parameters older log.1)
 
-pub logs_rise : (limits : Limits) (entries : List Entry) → IsLog limits entries → LinesRise entries
-logs_rise limits [] log = tt
-logs_rise limits (entry ∷ older) log = (log.0.rises, logs_rise limits older log.1)
+pub logs_rise : (parameters : Parameters) (entries : List Entry) → IsLog parameters entries → LinesRise entries
+logs_rise parameters [] log = tt
+logs_rise parameters (entry ∷ older) log = (log.0.rises, logs_rise parameters older log.1)
 
 -- ---- a statement in the place of another
 
@@ -93,21 +94,21 @@ IsSame one other = one ≡ other
 same-ok : (a b : List Entry) → IsSame (Ok a) (Ok b) → a ≡ b
 same-ok a b e = cc
 
-module _ (limits : Limits) (entries new : List Entry) (rise : LinesRise entries) where
-  put : (refusal : Option Refusal) (checked : Result Statement Refusal) (make : Statement → List Entry) → IsSame (rewritten limits entries refusal checked make) (Ok new)
-      → ((statement : Statement) → LinesRise (make statement)) → LinesRise new
+module _ (parameters : Parameters) (entries new : List Entry) (rise : LinesRise entries) where
+  put : {A : Type 0} (refusal : Option Refusal) (checked : Result A Refusal) (make : A → List Entry) → IsSame (rewritten parameters entries refusal checked make) (Ok new)
+      → ((given : A) → LinesRise (make given)) → LinesRise new
   put (Some refusal) checked make e each = absurd cc
   put None (Err refusal) make e each = absurd cc
-  put None (Ok statement) make e each = subst LinesRise (same-ok (make statement) new e) (each statement)
+  put None (Ok given) make e each = subst LinesRise (same-ok (make given) new e) (each given)
 
-  pub lines_rise : (change : LogChange) → changed limits entries change ≡ Ok new → LinesRise new
+  pub lines_rise : (change : LogChange) → changed parameters entries change ≡ Ok new → LinesRise new
   lines_rise (y.drop t k) e =
-      put (option_or (transaction_refusal t entries) (statement_refusal t k entries)) (Ok (nothing_at 0)) (λ statement. with_other t k dropped_command dropped_statement (map doubled entries)) e
-      (λ statement. other_rise t k dropped_command dropped_statement (map doubled entries) (doubled_rise entries rise))
+      put (option_or (transaction_refusal t entries) (statement_refusal t k entries)) (Ok (tt {0})) (λ nothing. with_other t k dropped_command dropped_statement (map doubled entries)) e
+      (λ nothing. other_rise t k dropped_command dropped_statement (map doubled entries) (doubled_rise entries rise))
   lines_rise (y.replace t k command) e =
-      put (option_or (transaction_refusal t entries) (statement_refusal t k entries)) (limits.checked (tables_before t k entries) command)
+      put (option_or (transaction_refusal t entries) (statement_refusal t k entries)) (parameters.checked (tables_before t k entries) command)
       (λ statement. with_other t k (λ own. command) (λ own. statement) (map doubled entries)) e
       (λ statement. other_rise t k (λ own. command) (λ own. statement) (map doubled entries) (doubled_rise entries rise))
   lines_rise (y.add t command) e =
-      put (option_or (transaction_refusal t entries) (steps_refusal limits entries t)) (limits.checked (tables_at_end t entries) command) (λ statement. with_added t command statement (map doubled entries)) e
+      put (option_or (transaction_refusal t entries) (steps_refusal parameters entries t)) (parameters.checked (tables_at_end t entries) command) (λ statement. with_added t command statement (map doubled entries)) e
       (λ statement. (added_rise t command statement entries rise).0)

@@ -8,9 +8,10 @@ use Rattle.gp_base.specs.declared.row_id.TheConstants.{MAX_NODES}
 use Rattle.gp_base.specs.Identities.{Identity}
 use Rattle.gp_algebra.specs.Effects.{Written, step, wrote, is_over_rows, is_over_nodes}
 use Rattle.gp_algebra.specs.Statements.{Select, Statement, read}
-use Rattle.gp_exec.specs.declared.limit.TheConstants.{MAX_TABLE_ROWS}
+use Rattle.gp_base.specs.declared.limit.TheConstants.{MAX_TABLE_ROWS}
 use Rattle.gp_versions.specs.Commits.{AreBelow}
-use Rattle.gp_versions.specs.Spans.{AreWhole, NoOverlap, Versions, row_of, rows_at, spans_at}
+use Rattle.gp_versions.specs.Spans.{Versions, row_of, rows_at, spans_at}
+use Rattle.gp_versions.specs.TableSpans.{AreWhole, NoOverlap}
 use Rattle.gp_versions.specs.declared.span.Span.{Span}
 use Rattle.gp_txn.specs.Applying.{Wrote, has_too_many_nodes, has_too_many_rows}
 use Rattle.gp_txn.specs.Bases.{base_after, base_of, refreshed, table_view}
@@ -19,7 +20,6 @@ use Rattle.gp_txn.specs.Transactions.{AreOthers, AreThere, HoldsOthers, IsUnwrit
 use Rattle.gp_txn.specs.declared.overlay.TableWrites.{TableWrites}
 use Rattle.gp_machine.proofs.ActiveLemmas.{IsOver}
 use Rattle.gp_machine.proofs.BaseLemmas.{base_more}
-use Rattle.gp_machine.proofs.Made.{eq_from}
 use Rattle.gp_machine.proofs.OverlayLemmas.{shown_at}
 use Rattle.gp_machine.proofs.ReplayLemmas.{before_again, history_made}
 use Rattle.gp_machine.proofs.SpanCommit.{others_spans}
@@ -34,11 +34,12 @@ use Rattle.gp_machine.specs.Represents as machine
 use Rattle.gp_machine.specs.Represents.{Overlay, RepresentsActive, base_among}
 use Rattle.gp_machine.specs.Runs.{run_before, stepped}
 use Rattle.gp_machine.specs.State.{Active}
-use Rattle.gp_log.specs.Limits.{limits}
+use Rattle.gp_log.specs.Parameters.{parameters}
 use Rattle.gp_log.specs.LogFacts.{tables_in}
 use Rattle.gp_whatif.specs.Remade.{HasRun, Ran, made_upto, seen_upto}
 use Rattle.gp_whatif.specs.Replays.{IsMade, IsReplayable}
 use Rattle.gp_log.proofs.KeptSessions.{commits_in_order}
+use Rattle.std.proofs.lemmas.Bool.{eqb-true}
 
 -- ---- the writes of a transaction, as the history machine sees them
 
@@ -64,7 +65,7 @@ view_same versions writes k version place =
     (refreshed (writes_at place writes.tables) (rows_below (writes_at place writes.tables) (table_at place versions).spans) (rows_at plain version (table_at place versions).spans))
     ≡ cond b (view_rows (writes_at place writes.tables) (rows_at plain version (table_at place versions).spans))
     (refreshed (writes_at place writes.tables) (rows_below (writes_at place writes.tables) (table_at place versions).spans) (rows_at plain version (table_at place versions).spans))) [
-      | true ↦ λ is. ap (λ v. view_rows (writes_at place writes.tables) (rows_at plain v (table_at place versions).spans)) (sym (eq_from version (writes_at place writes.tables).version is))
+      | true ↦ λ is. ap (λ v. view_rows (writes_at place writes.tables) (rows_at plain v (table_at place versions).spans)) (sym (eqb-true version (writes_at place writes.tables).version is))
       | false ↦ λ is. refl
     ] refl
 
@@ -169,7 +170,7 @@ module _ (entries : List Entry) (ok : IsReplayable entries) (u : ℕ) (within : 
   order = commits_in_order entries ok.sessions
 
   pub history : IsHistory plain cut replay.committed replay.written
-  history = history_made plain log tables limits order u (omega arith) made.unstopped
+  history = history_made plain log tables parameters order u (omega arith) made.unstopped
 
   reads : (k : ℕ) → k ≤ n → statement_version t k entries ≤ u
   reads k l = order.order u k within l
@@ -245,10 +246,10 @@ module _ (entries : List Entry) (ok : IsReplayable entries) (u : ℕ) (within : 
         ∙ shown_at cut replay.committed replay.written history (active_at old.read_committed k) (over_at old.read_committed k (omega arith)) (spans_of versions) old.begin (overlay_of old k) (represents k old ran)
         now (order.later u k within more) (reads (suc k) more) (λ place. held now place (reads (suc k) more)) place) i
 
-    stop_is : run_stop plain limits log t (suc k) replay.committed ≡ statement_stop plain limits t (suc k) (Some statement) start
+    stop_is : run_stop plain parameters log t (suc k) replay.committed ≡ statement_stop plain parameters t (suc k) (Some statement) start
     stop_is =
-        (λ i. option_or (ran.unstopped i) (statement_stop plain limits t (suc k) (is i) (run_before plain log t k replay.committed)))
-        ∙ ap (statement_stop plain limits t (suc k) (Some statement)) (before_again plain log tables limits order u within history k more)
+        (λ i. option_or (ran.unstopped i) (statement_stop plain parameters t (suc k) (is i) (run_before plain log t k replay.committed)))
+        ∙ ap (statement_stop plain parameters t (suc k) (Some statement)) (before_again plain log tables parameters order u within history k more)
 
     rows_is : (b : Bool) → has_too_many_rows (suc k) now statement versions old ≡ b → is_over_rows plain MAX_TABLE_ROWS t (suc k) statement start ≡ b
     rows_is b e = sym (λ i. is_over_rows plain MAX_TABLE_ROWS (ran.t_is i) (suc k) statement (seen_before i)) ∙ e
@@ -278,16 +279,16 @@ module _ (entries : List Entry) (ok : IsReplayable entries) (u : ℕ) (within : 
       unstopped = stop_is ∙ (λ i. stop_by (rows_is false r.few_rows i) (nodes_is false r.few_nodes i));
     }
 
-    pub over_rows : has_too_many_rows (suc k) now statement versions old ≡ true → run_stop plain limits log t (suc k) replay.committed ≡ Some (OverRows t (suc k))
+    pub over_rows : has_too_many_rows (suc k) now statement versions old ≡ true → run_stop plain parameters log t (suc k) replay.committed ≡ Some (OverRows t (suc k))
     over_rows many = stop_is ∙ ap (λ b. stop_by b (is_over_nodes plain MAX_NODES t (suc k) statement start)) (rows_is true many)
 
-    pub over_nodes : has_too_many_rows (suc k) now statement versions old ≡ false → has_too_many_nodes (suc k) now statement versions old ≡ true → run_stop plain limits log t (suc k) replay.committed ≡ Some (OverNodes t (suc k))
+    pub over_nodes : has_too_many_rows (suc k) now statement versions old ≡ false → has_too_many_nodes (suc k) now statement versions old ≡ true → run_stop plain parameters log t (suc k) replay.committed ≡ Some (OverNodes t (suc k))
     over_nodes few many = stop_is ∙ (λ i. stop_by (rows_is false few i) (nodes_is true many i))
 
   -- a run that stops stays stopped
-  pub stop_stays : (k more : ℕ) (stop : RunStop) → run_stop plain limits log t k replay.committed ≡ Some stop → run_stop plain limits log t (more + k) replay.committed ≡ Some stop
-  stop_stays k zero stop e = let is : zero + k ≡ k = omega arith in ap (λ n. run_stop plain limits log t n replay.committed) is ∙ e
+  pub stop_stays : (k more : ℕ) (stop : RunStop) → run_stop plain parameters log t k replay.committed ≡ Some stop → run_stop plain parameters log t (more + k) replay.committed ≡ Some stop
+  stop_stays k zero stop e = let is : zero + k ≡ k = omega arith in ap (λ n. run_stop plain parameters log t n replay.committed) is ∙ e
   stop_stays k (suc more) stop e =
       let is : suc more + k ≡ suc (more + k) = omega arith in
-      ap (λ n. run_stop plain limits log t n replay.committed) is
-      ∙ ap (λ s. option_or s (statement_stop plain limits t (suc (more + k)) (log.statement t (suc (more + k))) (run_before plain log t (more + k) replay.committed))) (stop_stays k more stop e)
+      ap (λ n. run_stop plain parameters log t n replay.committed) is
+      ∙ ap (λ s. option_or s (statement_stop plain parameters t (suc (more + k)) (log.statement t (suc (more + k))) (run_before plain log t (more + k) replay.committed))) (stop_stays k more stop e)

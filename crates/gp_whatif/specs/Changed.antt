@@ -1,6 +1,5 @@
 -- Part of the statement: a log with one statement of a transaction that committed dropped, replaced or added.
-use Rattle.std.specs.Prelude.{◌≡◌, ℕ, suc, ◌+◌, ◌^◌, ◌<◌, ◌==◌, ◌&&◌, nat_le, Bool, true, false, List, [], ◌∷◌, map, Option, Some, None, Result, Ok, Err, if◌then◌else◌}
-use Rattle.std.specs.List.{AllByRecursion}
+use Rattle.std.specs.Prelude.{ℕ, suc, ◌+◌, ◌==◌, ◌&&◌, ◌||◌, nat_le, Bool, List, [], ◌∷◌, map, Option, Some, None, Result, Ok, Err, if◌then◌else◌}
 use Rattle.std.specs.Option.{option_or}
 use Rattle.gp_base.specs.declared.cell.Cell.TheVariants as cell
 use Rattle.gp_base.specs.declared.limit.Limit.TheVariants as limit
@@ -10,13 +9,10 @@ use Rattle.gp_base.specs.declared.table.Table.{Table}
 use Rattle.gp_expr.specs.Expressions.{constant}
 use Rattle.gp_grammar.specs.Syntax as y
 use Rattle.gp_grammar.specs.Syntax.{Command, LogChange}
-use Rattle.gp_algebra.specs.Fitting.{statement_fits}
 use Rattle.gp_algebra.specs.Statements.{Statement, insert, insert_select, update, delete, read}
-use Rattle.gp_check.specs.Checking.{checked}
-use Rattle.gp_machine.specs.Entries.{Entry, Created, Began, Ran, Committed, Ended, statement_count}
-use Rattle.gp_machine.specs.Limits.{Limits}
+use Rattle.gp_machine.specs.Entries.{Entry, Created, Began, Ran, Committed, Ended, at_newest, is_begin, is_of, is_statement, is_statement_at, line_of, session_of, statement_count}
+use Rattle.gp_machine.specs.Parameters.{Parameters}
 use Rattle.gp_machine.specs.Questions.{statement_refusal, transaction_refusal}
-use Rattle.gp_log.specs.Discipline.{last_line, line_of, session_of}
 use Rattle.gp_log.specs.LogFacts.{tables_in}
 
 -- ---- a statement that is dropped
@@ -51,23 +47,15 @@ is_at t k u older = (u == t) && (suc (statement_count t older) == k)
 
 -- the BEGIN or a statement of a transaction: the newest of these is its last entry before its COMMIT
 abbrev pub is_step_of : ℕ → Entry → Bool
-is_step_of t (Began line session u level) = u == t
-is_step_of t (Ran line session command u statement) = u == t
-is_step_of t _ = false
+is_step_of t entry = (is_begin entry || is_statement entry) && is_of t entry
 
 -- the tables created before statement k
 abbrev pub tables_before : ℕ → ℕ → List Entry → List Table
-tables_before t k [] = []
-tables_before t k (Created line session table ∷ older) = tables_before t k older
-tables_before t k (Began line session u level ∷ older) = tables_before t k older
-tables_before t k (Ran line session command u statement ∷ older) = if is_at t k u older then tables_in older else tables_before t k older
-tables_before t k (Committed line session u ∷ older) = tables_before t k older
-tables_before t k (Ended line session end u ∷ older) = tables_before t k older
+tables_before t k = at_newest (is_statement_at t k) (λ entry older. tables_in older) []
 
 -- the tables created before the line after the last entry before the COMMIT
 abbrev pub tables_at_end : ℕ → List Entry → List Table
-tables_at_end t [] = []
-tables_at_end t (entry ∷ older) = if is_step_of t entry then tables_in older else tables_at_end t older
+tables_at_end t = at_newest (λ entry older. is_step_of t entry) (λ entry older. tables_in older) []
 
 -- ---- the changed log
 
@@ -82,12 +70,9 @@ doubled (Ended line session end t) = Ended (line + line) session end t
 -- statement k by another
 abbrev pub with_other : ℕ → ℕ → (Command → Command) → (Statement → Statement) → List Entry → List Entry
 with_other t k command statement [] = []
-with_other t k command statement (Created line session table ∷ older) = Created line session table ∷ with_other t k command statement older
-with_other t k command statement (Began line session u level ∷ older) = Began line session u level ∷ with_other t k command statement older
 with_other t k command statement (Ran line session own u now ∷ older) =
     if is_at t k u older then Ran line session (command own) u (statement now) ∷ older else Ran line session own u now ∷ with_other t k command statement older
-with_other t k command statement (Committed line session u ∷ older) = Committed line session u ∷ with_other t k command statement older
-with_other t k command statement (Ended line session end u ∷ older) = Ended line session end u ∷ with_other t k command statement older
+with_other t k command statement (entry ∷ older) = entry ∷ with_other t k command statement older
 
 -- one statement more, in the session of the entry before it
 abbrev pub with_added : ℕ → Command → Statement → List Entry → List Entry
@@ -96,52 +81,24 @@ with_added t command statement (entry ∷ older) =
     if is_step_of t entry then Ran (suc (line_of entry)) (session_of entry) command t statement ∷ entry ∷ older
     else entry ∷ with_added t command statement older
 
-module _ (limits : Limits) (entries : List Entry) where
-  -- by the refusal of the log, and by the check
-  abbrev pub rewritten : Option Refusal → Result Statement Refusal → (Statement → List Entry) → Result (List Entry) Refusal
+module _ (parameters : Parameters) (entries : List Entry) where
+  -- by the refusal of the log, and by the check, which gives the statement that is put into the log
+  abbrev pub rewritten : {A : Type 0} → Option Refusal → Result A Refusal → (A → List Entry) → Result (List Entry) Refusal
   rewritten (Some refusal) checked put = Err refusal
   rewritten None (Err refusal) put = Err refusal
-  rewritten None (Ok statement) put = Ok (put statement)
+  rewritten None (Ok given) put = Ok (put given)
 
   abbrev pub steps_refusal : ℕ → Option Refusal
-  steps_refusal t = if nat_le limits.steps (statement_count t entries) then Some (E14 limit.Steps) else None
+  steps_refusal t = if nat_le parameters.steps (statement_count t entries) then Some (E14 limit.Steps) else None
 
-  -- the changed log, or the first refusal
+  -- the changed log, or the first refusal; a statement that is dropped needs no check
   abbrev pub changed : LogChange → Result (List Entry) Refusal
   changed (y.drop t k) =
-      rewritten (option_or (transaction_refusal t entries) (statement_refusal t k entries)) (Ok (nothing_at 0))
-      (λ statement. with_other t k dropped_command dropped_statement (map doubled entries))
+      rewritten (option_or (transaction_refusal t entries) (statement_refusal t k entries)) (Ok (tt {0}))
+      (λ nothing. with_other t k dropped_command dropped_statement (map doubled entries))
   changed (y.replace t k command) =
-      rewritten (option_or (transaction_refusal t entries) (statement_refusal t k entries)) (limits.checked (tables_before t k entries) command)
+      rewritten (option_or (transaction_refusal t entries) (statement_refusal t k entries)) (parameters.checked (tables_before t k entries) command)
       (λ statement. with_other t k (λ own. command) (λ own. statement) (map doubled entries))
   changed (y.add t command) =
-      rewritten (option_or (transaction_refusal t entries) (steps_refusal t)) (limits.checked (tables_at_end t entries) command)
+      rewritten (option_or (transaction_refusal t entries) (steps_refusal t)) (parameters.checked (tables_at_end t entries) command)
       (λ statement. with_added t command statement (map doubled entries))
-
-  -- a statement of the change that passes the check on the tables before it fits all tables of the log
-  abbrev pub ChecksFit : LogChange → Type 0
-  ChecksFit (y.drop t k) = Unit {0}
-  ChecksFit (y.replace t k command) =
-      (statement : Statement) → limits.checked (tables_before t k entries) command ≡ Ok statement → statement_fits (tables_in entries) statement ≡ true
-  ChecksFit (y.add t command) =
-      (statement : Statement) → limits.checked (tables_at_end t entries) command ≡ Ok statement → statement_fits (tables_in entries) statement ≡ true
-
--- every statement of a log is what the check makes of its command over the tables before it
-abbrev pub AreChecked : List Entry → Type 0
-AreChecked [] = Unit {0}
-AreChecked (Created line session table ∷ older) = AreChecked older
-AreChecked (Began line session t level ∷ older) = AreChecked older
-AreChecked (Ran line session command t statement ∷ older) = (checked (tables_in older) command ≡ Ok statement) × AreChecked older
-AreChecked (Committed line session t ∷ older) = AreChecked older
-AreChecked (Ended line session end t ∷ older) = AreChecked older
-
--- ---- lines
-
--- twice each line is a number of 32 bits, and so is the next one
-abbrev pub CanDouble : List Entry → Type 0
-CanDouble = AllByRecursion (λ (entry : Entry). line_of entry < 2 ^ 31)
-
--- the line of each entry is above that of the one before it
-abbrev pub LinesRise : List Entry → Type 0
-LinesRise [] = Unit {0}
-LinesRise (entry ∷ older) = (last_line older < line_of entry) × LinesRise older

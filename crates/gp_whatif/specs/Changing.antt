@@ -20,14 +20,14 @@ use Rattle.gp_whatif.specs.declared.error.ChangeStop.TheVariants.{NoMemory, Refu
 
 -- the changed log, or the first refusal; running out of memory says nothing
 abbrev pub Changes : Result Logged ChangeStop → Result (List m.Entry) Refusal → Type 0
-Changes (Ok new) due = due ≡ Ok (log_view new.entries)
-Changes (Err (Refused refusal)) due = due ≡ Err refusal
-Changes (Err NoMemory) due = Unit {0}
+Changes (Ok new) expected = expected ≡ Ok (log_view new.entries)
+Changes (Err (Refused refusal)) expected = expected ≡ Err refusal
+Changes (Err NoMemory) expected = Unit {0}
 
 -- nothing, or the refusal
 abbrev pub IsRefused : {A : Type 0} → Result A Refusal → Option Refusal → Type 0
-IsRefused (Ok found) due = due ≡ None
-IsRefused (Err refusal) due = due ≡ Some refusal
+IsRefused (Ok found) expected = expected ≡ None
+IsRefused (Err refusal) expected = expected ≡ Some refusal
 
 -- ---- entries
 
@@ -63,9 +63,9 @@ pub record SameStep (new old : Entry) : Type 0 where
 -- ---- the check of the statement
 
 abbrev pub IsChecked : Result Stmt ChangeStop → Result Statement Refusal → Type 0
-IsChecked (Ok stmt) due = due ≡ Ok (statement_view stmt)
-IsChecked (Err (Refused refusal)) due = due ≡ Err refusal
-IsChecked (Err NoMemory) due = Unit {0}
+IsChecked (Ok stmt) expected = expected ≡ Ok (statement_view stmt)
+IsChecked (Err (Refused refusal)) expected = expected ≡ Err refusal
+IsChecked (Err NoMemory) expected = Unit {0}
 
 -- ---- where a statement is added
 

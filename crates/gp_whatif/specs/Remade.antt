@@ -1,7 +1,8 @@
 -- Machinery: a transaction that runs again.
 use Rattle.std.specs.Prelude.{◌≡◌, ◌≢◌, ◌⊎◌, ℕ, suc, ◌≤◌, Bool, true, false, List, length, None}
 use Rattle.gp_base.specs.Annotated.{plain}
-use Rattle.gp_base.specs.Identities.{Identity, transaction_of}
+use Rattle.gp_base.specs.Identities.{Identity}
+use Rattle.gp_base.specs.IdentityParts.{transaction_of}
 use Rattle.gp_algebra.specs.Effects.{step, wrote}
 use Rattle.gp_algebra.specs.Statements.{Statement, read}
 use Rattle.gp_versions.specs.Spans.{Versions}
@@ -13,7 +14,7 @@ use Rattle.gp_machine.specs.Points.{run_stop}
 use Rattle.gp_machine.specs.Reading.{Seen, seen_by}
 use Rattle.gp_machine.specs.Replaying.{Replay, replayed, upto_version}
 use Rattle.gp_machine.specs.Represents.{base_among}
-use Rattle.gp_log.specs.Limits.{limits}
+use Rattle.gp_log.specs.Parameters.{parameters}
 use Rattle.gp_log.specs.LogFacts.{tables_in}
 use Rattle.gp_whatif.specs.declared.error.ReplayStop.{ReplayStop}
 use Rattle.gp_whatif.specs.declared.error.ReplayStop.TheVariants.{Lost, Rows, Ancestry, Full, NoMemory}
@@ -70,4 +71,4 @@ pub record HasRun (entries : List Entry) (u : ℕ) (versions : List Versions) (k
   pub base : (place : ℕ) (id : Identity) → transaction_of id ≢ committer_of (suc u) entries
       → base_at writes.tables versions place id ≡ base_among place id (seen_upto entries u k).written
   pub there : HoldsThere writes.tables versions
-  pub unstopped : run_stop plain limits (log_of entries) (committer_of (suc u) entries) k (made_upto entries u).committed ≡ None
+  pub unstopped : run_stop plain parameters (log_of entries) (committer_of (suc u) entries) k (made_upto entries u).committed ≡ None

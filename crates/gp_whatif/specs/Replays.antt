@@ -3,12 +3,12 @@ use Rattle.std.specs.Prelude.{◌≡◌, ℕ, true, List, [], ◌∷◌, length,
 use Rattle.gp_base.specs.Annotated.{plain}
 use Rattle.gp_versions.specs.Spans.{Versions}
 use Rattle.gp_txn.specs.Transactions.{table_at}
-use Rattle.gp_machine.specs.Entries.{Entry, Created, Began, Ran, Committed, Ended, log_of}
-use Rattle.gp_machine.specs.Limits.{HasTarget}
+use Rattle.gp_machine.specs.Entries.{Entry, Ran, log_of}
+use Rattle.gp_machine.specs.CheckedTargets.{HasTarget}
 use Rattle.gp_machine.specs.Points.{OverRows, OverNodes}
 use Rattle.gp_machine.specs.Replaying as m
 use Rattle.gp_machine.specs.Replaying.{replay_stop, replayed_spans}
-use Rattle.gp_log.specs.Limits.{limits}
+use Rattle.gp_log.specs.Parameters.{parameters}
 use Rattle.gp_log.specs.LogFacts.{tables_in}
 use Rattle.gp_log.specs.LogFitting.{statements_fit}
 use Rattle.gp_log.specs.Sessions.{KeepsSessions}
@@ -23,11 +23,8 @@ pub record IsReplayable (entries : List Entry) : Type 0 where
 -- each statement that writes, writes one of the first tables, this many
 abbrev pub WritesTables : ℕ → List Entry → Type 0
 WritesTables tables [] = Unit {0}
-WritesTables tables (Created line session table ∷ older) = WritesTables tables older
-WritesTables tables (Began line session t level ∷ older) = WritesTables tables older
 WritesTables tables (Ran line session command t statement ∷ older) = HasTarget tables statement × WritesTables tables older
-WritesTables tables (Committed line session t ∷ older) = WritesTables tables older
-WritesTables tables (Ended line session end t ∷ older) = WritesTables tables older
+WritesTables tables (_ ∷ older) = WritesTables tables older
 
 -- A log whose commits, made again, are a history, whatever its check passed: it keeps its sessions, and its statements write its tables.
 pub record IsCoherent (entries : List Entry) : Type 0 where
@@ -36,15 +33,15 @@ pub record IsCoherent (entries : List Entry) : Type 0 where
 
 -- the first stop of the commits of a log, up to this version
 abbrev pub stop_upto : List Entry → ℕ → Option m.ReplayStop
-stop_upto entries u = replay_stop plain (log_of entries) limits (length (tables_in entries)) u
+stop_upto entries u = replay_stop plain (log_of entries) parameters (length (tables_in entries)) u
 
 -- what stops; running out of memory may stop any replay
 abbrev pub Stops : ReplayStop → Option m.ReplayStop → Type 0
-Stops (Lost version other table id) due = due ≡ Some (m.Loses version (record { pair = record { table = table; identity = id }; version = other }))
-Stops (Rows t k) due = due ≡ Some (m.Passes (OverRows t k))
-Stops (Ancestry t k) due = due ≡ Some (m.Passes (OverNodes t k))
-Stops Full due = due ≡ Some m.Fills
-Stops NoMemory due = Unit {0}
+Stops (Lost version other table id) expected = expected ≡ Some (m.Loses version (record { pair = record { table = table; identity = id }; version = other }))
+Stops (Rows t k) expected = expected ≡ Some (m.Passes (OverRows t k))
+Stops (Ancestry t k) expected = expected ≡ Some (m.Passes (OverNodes t k))
+Stops Full expected = expected ≡ Some m.Fills
+Stops NoMemory expected = Unit {0}
 
 -- the row versions of the first versions of the log, this many, none of which stops
 pub record IsMade (entries : List Entry) (u : ℕ) (versions : List Versions) : Type 0 where

@@ -10,12 +10,14 @@ ghost use Rattle.gp_grammar.specs.Syntax.{is_statement};
 ghost use Rattle.gp_machine.specs.Entries as m;
 ghost use Rattle.gp_machine.specs.Questions.{statement_refusal, transaction_refusal};
 ghost use Rattle.gp_syntax.specs.Views.{change_view, command_view};
+ghost use Rattle.gp_log.specs.Contents.{entries, tables};
 ghost use Rattle.gp_log.specs.Kinds.{CreatesNew, created_by};
-ghost use Rattle.gp_log.specs.Limits.{limits};
+ghost use Rattle.gp_log.specs.Parameters.{parameters};
 ghost use Rattle.gp_log.specs.LogFacts.{tables_in};
 ghost use Rattle.gp_log.specs.Logs.{entry_view, log_view};
 ghost use Rattle.gp_whatif.specs.Changed as c;
-ghost use Rattle.gp_whatif.specs.Changed.{CanDouble, changed, doubled, dropped_command, dropped_statement, is_step_of, steps_refusal, tables_before, with_added, with_other};
+ghost use Rattle.gp_whatif.specs.Changed.{changed, doubled, dropped_command, dropped_statement, is_step_of, steps_refusal, tables_before, with_added, with_other};
+ghost use Rattle.gp_whatif.specs.ChangedForms.{CanDouble};
 ghost use Rattle.gp_whatif.specs.Changing.{Changes, IsChecked, IsLastStep, IsRefused, Numbers, SameStep, edited, is_last, is_own, step_of};
 ghost use Rattle.gp_whatif.specs.Replays.{IsReplayable};
 
@@ -34,8 +36,8 @@ use std::alloc::Global;
 
 /// What has become of a transaction, where no transaction is active.
 fn fate(log: &Log, t: u32) -> Fate
-    requires { (0 < t) × (t ≤ m.transactions_in (log_view log.now.entries)) }
-    ensures { result ≡ m.fate_of t (log_view log.now.entries) }
+    requires { (0 < t) × (t ≤ m.transactions_in (entries log.now)) }
+    ensures { result ≡ m.fate_of t (entries log.now) }
 {
     match log.fate(t) {
         Some(fate) => fate,
@@ -45,7 +47,7 @@ fn fate(log: &Log, t: u32) -> Fate
 
 /// The transaction of this number, which has to be one that committed.
 fn committed(log: &Log, t: u64) -> Result<u32, Refusal>
-    ensures refusal { IsRefused result (transaction_refusal t (log_view log.now.entries)) }
+    ensures refusal { IsRefused result (transaction_refusal t (entries log.now)) }
     ensures same { IfOk result (λ number. number ≡ t) }
 {
     if t == 0 || t > u64::from(log.transactions()) {
@@ -63,10 +65,10 @@ fn committed(log: &Log, t: u64) -> Result<u32, Refusal>
 
 /// The statement of this number, which the transaction has to have.
 fn numbered(log: &Log, t: u32, k: u64) -> Result<u32, Refusal>
-    ensures refusal { IsRefused result (statement_refusal t k (log_view log.now.entries)) }
+    ensures refusal { IsRefused result (statement_refusal t k (entries log.now)) }
     ensures same { IfOk result (λ number. number ≡ k) }
     ensures first { IfOk result (λ number. 0 < number) }
-    ensures most { IfOk result (λ number. number ≤ m.statement_count t (log_view log.now.entries)) }
+    ensures most { IfOk result (λ number. number ≤ m.statement_count t (entries log.now)) }
 {
     let count = u64::from(log.statement_count(t));
     if k == 0 || k > count {
@@ -80,8 +82,8 @@ fn numbered(log: &Log, t: u32, k: u64) -> Result<u32, Refusal>
 
 /// Stops where the transaction has as many statements as it may have.
 fn check_steps(log: &Log, t: u32) -> Result<(), Refusal>
-    ensures refusal { IsRefused result (steps_refusal limits (log_view log.now.entries) t) }
-    ensures few { OnOk result (m.statement_count t (log_view log.now.entries) < MAX_STEPS) }
+    ensures refusal { IsRefused result (steps_refusal parameters (entries log.now) t) }
+    ensures few { OnOk result (m.statement_count t (entries log.now) < MAX_STEPS) }
 {
     if log.statement_count(t) >= MAX_STEPS {
         return Err(Refusal::E14 {
@@ -116,9 +118,9 @@ fn is_step(entry: &Entry, t: u32) -> bool
 /// The place of statement k of a transaction.
 fn place_of(log: &Log, t: u32, k: u32) -> u32
     requires first { 0 < k }
-    requires most { k ≤ m.statement_count t (log_view log.now.entries) }
+    requires most { k ≤ m.statement_count t (entries log.now) }
     ensures within { result ≤ length log.now.entries }
-    ensures tables { tables_before t k (log_view log.now.entries)
+    ensures tables { tables_before t k (entries log.now)
         ≡ tables_in (log_view (take result log.now.entries)) }
 {
     for place in 0..log.len() {
@@ -301,10 +303,9 @@ fn copy_replaced(
 
 /// The log with statement k of a transaction dropped.
 fn with_dropped(alloc: Global, log: &Log, t: u32, k: u32) -> Result<Log, NoMemory>
-    requires lines { CanDouble (log_view log.now.entries) }
-    ensures { IfOk result (λ new. log_view new.entries
-        ≡ with_other t k dropped_command dropped_statement
-        (map c.doubled (log_view log.now.entries))) }
+    requires lines { CanDouble (entries log.now) }
+    ensures { IfOk result (λ new. entries new ≡ with_other t k dropped_command dropped_statement
+        (map c.doubled (entries log.now))) }
 {
     // Its tables are few and have different names. That is known of them where it is asked for their number.
     let _count = log.catalog().len();
@@ -325,10 +326,10 @@ fn with_replaced(
     command: &Command,
     stmt: &Stmt,
 ) -> Result<Log, NoMemory>
-    requires lines { CanDouble (log_view log.now.entries) }
-    ensures { IfOk result (λ new. log_view new.entries
+    requires lines { CanDouble (entries log.now) }
+    ensures { IfOk result (λ new. entries new
         ≡ with_other t k (λ own. command_view command.now) (λ own. statement_view stmt.now)
-        (map c.doubled (log_view log.now.entries))) }
+        (map c.doubled (entries log.now))) }
 {
     // Its tables are few and have different names. That is known of them where it is asked for their number.
     let _count = log.catalog().len();
@@ -397,12 +398,12 @@ fn with_extra(
     command: &Command,
     stmt: &Stmt,
 ) -> Result<Log, NoMemory>
-    requires lines { CanDouble (log_view log.now.entries) }
-    requires few { m.statement_count t (log_view log.now.entries) < MAX_STEPS }
+    requires lines { CanDouble (entries log.now) }
+    requires few { m.statement_count t (entries log.now) < MAX_STEPS }
     requires last { IsLastStep t log.now.entries (length log.now.entries) last }
-    ensures { IfOk result (λ new. log_view new.entries
+    ensures { IfOk result (λ new. entries new
         ≡ with_added t (command_view command.now) (statement_view stmt.now)
-        (map c.doubled (log_view log.now.entries))) }
+        (map c.doubled (entries log.now))) }
 {
     if log.len() == u32::MAX {
         // One entry more could not be counted.
@@ -443,10 +444,10 @@ fn checked_at(alloc: Global, log: &Log, place: u32, command: &Command) -> Result
 
 /// The log with statement k of a transaction dropped, if they are there.
 fn drop_statement(alloc: Global, log: &Log, t: u64, k: u64) -> Result<Log, ChangeStop>
-    requires lines { CanDouble (log_view log.now.entries) }
-    ensures changed { Changes result (changed limits (log_view log.now.entries) (y.drop t k)) }
-    ensures replayable { IsReplayable (log_view log.now.entries)
-        → IfOk result (λ new. IsReplayable (log_view new.entries)) }
+    requires lines { CanDouble (entries log.now) }
+    ensures changed { Changes result (changed parameters (entries log.now) (y.drop t k)) }
+    ensures replayable { IsReplayable (entries log.now)
+        → IfOk result (λ new. IsReplayable (entries new)) }
 {
     let t = committed(log, t)?;
     let k = numbered(log, t, k)?;
@@ -461,14 +462,13 @@ fn replace_statement(
     k: u64,
     command: &Command,
 ) -> Result<Log, ChangeStop>
-    requires lines { CanDouble (log_view log.now.entries) }
+    requires lines { CanDouble (entries log.now) }
     requires statement { is_statement (command_view command.now) ≡ true }
-    ensures changed { Changes result (changed limits (log_view log.now.entries)
+    ensures changed { Changes result (changed parameters (entries log.now)
         (y.replace t k (command_view command.now))) }
-    ensures replayable { IsReplayable (log_view log.now.entries)
-        → tables_are_valid (tables_in (log_view log.now.entries)) ≡ true
+    ensures replayable { IsReplayable (entries log.now) → tables_are_valid (tables log.now) ≡ true
         → is_valid (command_view command.now) ≡ true
-        → IfOk result (λ new. IsReplayable (log_view new.entries)) }
+        → IfOk result (λ new. IsReplayable (entries new)) }
 {
     let t = committed(log, t)?;
     let k = numbered(log, t, k)?;
@@ -478,14 +478,13 @@ fn replace_statement(
 
 /// The log with a statement added to a transaction, if it is there and has room, and the check takes the statement.
 fn add_statement(alloc: Global, log: &Log, t: u64, command: &Command) -> Result<Log, ChangeStop>
-    requires lines { CanDouble (log_view log.now.entries) }
+    requires lines { CanDouble (entries log.now) }
     requires statement { is_statement (command_view command.now) ≡ true }
-    ensures changed { Changes result (changed limits (log_view log.now.entries)
+    ensures changed { Changes result (changed parameters (entries log.now)
         (y.add t (command_view command.now))) }
-    ensures replayable { IsReplayable (log_view log.now.entries)
-        → tables_are_valid (tables_in (log_view log.now.entries)) ≡ true
+    ensures replayable { IsReplayable (entries log.now) → tables_are_valid (tables log.now) ≡ true
         → is_valid (command_view command.now) ≡ true
-        → IfOk result (λ new. IsReplayable (log_view new.entries)) }
+        → IfOk result (λ new. IsReplayable (entries new)) }
 {
     let t = committed(log, t)?;
     check_steps(log, t)?;
@@ -506,14 +505,12 @@ fn add_statement(alloc: Global, log: &Log, t: u64, command: &Command) -> Result<
 /// statement that is dropped or replaced, E14 if it has [`gp_log::MAX_STEPS`] statements where one is added; and then the
 /// first refusal of the [check](gp_check::check) of the new statement against the tables that were created before its line.
 pub fn change(alloc: Global, log: &Log, change: &LogChange) -> Result<Log, ChangeStop>
-    requires lines { CanDouble (log_view log.now.entries) }
+    requires lines { CanDouble (entries log.now) }
     requires statement { has_statement (change_view change.now) ≡ true }
-    ensures changed { Changes result (changed limits (log_view log.now.entries)
-        (change_view change.now)) }
-    ensures replayable { IsReplayable (log_view log.now.entries)
-        → tables_are_valid (tables_in (log_view log.now.entries)) ≡ true
+    ensures changed { Changes result (changed parameters (entries log.now) (change_view change.now)) }
+    ensures replayable { IsReplayable (entries log.now) → tables_are_valid (tables log.now) ≡ true
         → change_is_valid (change_view change.now) ≡ true
-        → IfOk result (λ new. IsReplayable (log_view new.entries)) }
+        → IfOk result (λ new. IsReplayable (entries new)) }
 {
     match change {
         LogChange::Drop { t, k } => drop_statement(alloc, log, *t, *k),

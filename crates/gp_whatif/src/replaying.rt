@@ -6,10 +6,9 @@ ghost use Rattle.gp_algebra.specs.Statements.{Statement};
 ghost use Rattle.gp_algebra.specs.Views.{statement_view};
 ghost use Rattle.gp_txn.specs.Transactions.{HoldsOthers, table_at};
 ghost use Rattle.gp_machine.specs.Entries.{begin_version, committer_of, statement_at, statement_count, statement_version, transactions_in, versions_in};
-ghost use Rattle.gp_log.specs.LogFacts.{tables_in};
-ghost use Rattle.gp_log.specs.Logs.{log_view};
 ghost use Rattle.gp_whatif.specs.Remade.{HasRun, Ran, StopsAt, can_run};
 ghost use Rattle.gp_whatif.specs.Replays.{IsMade, IsReplayable, Stops, stop_upto};
+ghost use Rattle.gp_log.specs.Contents.{entries};
 
 use crate::error::ReplayStop;
 use gp_algebra::Stmt;
@@ -50,9 +49,8 @@ fn run_statement(
 
 /// The version that a statement of the transaction read.
 fn version_read(log: &Log, t: u32, k: u32) -> u32
-    ensures { (statement : Statement)
-        → statement_at t k (log_view log.now.entries) ≡ Some statement
-        → result ≡ statement_version t k (log_view log.now.entries) }
+    ensures { (statement : Statement) → statement_at t k (entries log.now) ≡ Some statement
+        → result ≡ statement_version t k (entries log.now) }
 {
     match log.statement_version(t, k) {
         Some(version) => version,
@@ -69,17 +67,15 @@ fn run_next(
     versions: &[VersionTable],
 ) -> Result<(), ReplayStop>
     requires few { length versions.now ≤ MAX_TABLES }
-    requires replayable { IsReplayable (log_view log.now.entries) }
-    requires within { before < versions_in (log_view log.now.entries) }
-    requires made { IsMade (log_view log.now.entries) before versions.now }
+    requires replayable { IsReplayable (entries log.now) }
+    requires within { before < versions_in (entries log.now) }
+    requires made { IsMade (entries log.now) before versions.now }
     requires more { ran < statement_count
-        (committer_of (suc before) (log_view log.now.entries)) (log_view log.now.entries) }
+        (committer_of (suc before) (entries log.now)) (entries log.now) }
     requires few_statements { ran + 1 < 2 ^ 32 }
-    requires ran { HasRun (log_view log.now.entries) before versions.now ran active.old }
-    ensures ran { OnOk result
-        (HasRun (log_view log.now.entries) before versions.now (suc ran) active.new) }
-    ensures stop { IfErr result (λ stop.
-        Stops stop (stop_upto (log_view log.now.entries) (suc before))) }
+    requires ran { HasRun (entries log.now) before versions.now ran active.old }
+    ensures ran { OnOk result (HasRun (entries log.now) before versions.now (suc ran) active.new) }
+    ensures stop { IfErr result (λ stop. Stops stop (stop_upto (entries log.now) (suc before))) }
 {
     let t = active.t();
     let k = ran + 1;
@@ -92,8 +88,8 @@ fn run_next(
 /// The transaction that made a version.
 fn maker(log: &Log, version: u32) -> u32
     requires first { 1 ≤ version }
-    requires within { version ≤ versions_in (log_view log.now.entries) }
-    ensures { result ≡ committer_of version (log_view log.now.entries) }
+    requires within { version ≤ versions_in (entries log.now) }
+    ensures { result ≡ committer_of version (entries log.now) }
 {
     match log.committer(version) {
         Some(t) => t,
@@ -104,8 +100,8 @@ fn maker(log: &Log, version: u32) -> u32
 /// The version that a transaction began at.
 fn begin(log: &Log, t: u32) -> u32
     requires first { 1 ≤ t }
-    requires known { t ≤ transactions_in (log_view log.now.entries) }
-    ensures { result ≡ begin_version t (log_view log.now.entries) }
+    requires known { t ≤ transactions_in (entries log.now) }
+    ensures { result ≡ begin_version t (entries log.now) }
 {
     match log.begin_version(t) {
         Some(version) => version,
@@ -121,15 +117,13 @@ fn run_again(
     versions: &[VersionTable],
 ) -> Result<Active, ReplayStop>
     requires few { length versions.now ≤ MAX_TABLES }
-    requires replayable { IsReplayable (log_view log.now.entries) }
-    requires within { before < versions_in (log_view log.now.entries) }
+    requires replayable { IsReplayable (entries log.now) }
+    requires within { before < versions_in (entries log.now) }
     requires few_versions { before + 1 < 2 ^ 32 }
-    requires made { IsMade (log_view log.now.entries) before versions.now }
-    ensures ran { IfOk result (λ active. HasRun (log_view log.now.entries) before versions.now
-        (statement_count (committer_of (suc before) (log_view log.now.entries))
-        (log_view log.now.entries)) active) }
-    ensures stop { IfErr result (λ stop.
-        Stops stop (stop_upto (log_view log.now.entries) (suc before))) }
+    requires made { IsMade (entries log.now) before versions.now }
+    ensures ran { IfOk result (λ active. HasRun (entries log.now) before versions.now
+        (statement_count (committer_of (suc before) (entries log.now)) (entries log.now)) active) }
+    ensures stop { IfErr result (λ stop. Stops stop (stop_upto (entries log.now) (suc before))) }
 {
     let t = maker(log, before + 1);
     // The log tells which version each statement reads, so the kind of the transaction is not asked for.
@@ -148,16 +142,15 @@ fn commit_again(
     versions: &mut [VersionTable],
 ) -> Result<(), ReplayStop>
     requires few { length versions.old ≤ MAX_TABLES }
-    requires replayable { IsReplayable (log_view log.now.entries) }
-    requires within { before < versions_in (log_view log.now.entries) }
+    requires replayable { IsReplayable (entries log.now) }
+    requires within { before < versions_in (entries log.now) }
     requires few_versions { before + 1 < 2 ^ 32 }
-    requires made { IsMade (log_view log.now.entries) before versions.old }
-    requires ran { HasRun (log_view log.now.entries) before versions.old
-        (statement_count (committer_of (suc before) (log_view log.now.entries))
-        (log_view log.now.entries)) active.now }
-    ensures made { OnOk result (IsMade (log_view log.now.entries) (suc before) versions.new) }
-    ensures stop { IfErr result (λ stop.
-        Stops stop (stop_upto (log_view log.now.entries) (suc before))) }
+    requires made { IsMade (entries log.now) before versions.old }
+    requires ran { HasRun (entries log.now) before versions.old
+        (statement_count (committer_of (suc before) (entries log.now))
+        (entries log.now)) active.now }
+    ensures made { OnOk result (IsMade (entries log.now) (suc before) versions.new) }
+    ensures stop { IfErr result (λ stop. Stops stop (stop_upto (entries log.now) (suc before))) }
 {
     // The rows that it inserted are its own. That is known of it where it is asked for its number.
     let _t = active.t();
@@ -189,13 +182,12 @@ fn make_version(
     versions: &mut [VersionTable],
 ) -> Result<(), ReplayStop>
     requires few { length versions.old ≤ MAX_TABLES }
-    requires replayable { IsReplayable (log_view log.now.entries) }
-    requires within { before < versions_in (log_view log.now.entries) }
+    requires replayable { IsReplayable (entries log.now) }
+    requires within { before < versions_in (entries log.now) }
     requires few_versions { before + 1 < 2 ^ 32 }
-    requires made { IsMade (log_view log.now.entries) before versions.old }
-    ensures made { OnOk result (IsMade (log_view log.now.entries) (suc before) versions.new) }
-    ensures stop { IfErr result (λ stop.
-        Stops stop (stop_upto (log_view log.now.entries) (suc before))) }
+    requires made { IsMade (entries log.now) before versions.old }
+    ensures made { OnOk result (IsMade (entries log.now) (suc before) versions.new) }
+    ensures stop { IfErr result (λ stop. Stops stop (stop_upto (entries log.now) (suc before))) }
 {
     let active = run_again(alloc, log, before, versions)?;
     commit_again(&active, log, before, versions)
@@ -222,11 +214,11 @@ fn empty_tables(alloc: Global, count: u32) -> Result<Vec<VersionTable>, NoMemory
 /// or makes an identity of too many nodes, by the first such statement, and in one statement the rows first; else the
 /// commit is lost; else there would be too many row versions. Transactions that did not commit are not run.
 pub fn replay(alloc: Global, log: &Log) -> Result<Vec<VersionTable>, ReplayStop>
-    requires { IsReplayable (log_view log.now.entries) }
-    ensures made { IfOk result (λ versions. IsMade (log_view log.now.entries)
-        (versions_in (log_view log.now.entries)) versions.items) }
+    requires { IsReplayable (entries log.now) }
+    ensures made { IfOk result (λ versions. IsMade (entries log.now)
+        (versions_in (entries log.now)) versions.items) }
     ensures stop { IfErr result (λ stop. Stops stop
-        (stop_upto (log_view log.now.entries) (versions_in (log_view log.now.entries)))) }
+        (stop_upto (entries log.now) (versions_in (entries log.now)))) }
 {
     let mut versions = empty_tables(alloc, log.catalog().len())?;
     for before in 0..log.commits() {

@@ -9,7 +9,7 @@ use Rattle.gp_log.specs.Logs.{log_view}
 use Rattle.gp_whatif.specs.Remade.{Ran, StopsAt, can_run}
 use Rattle.gp_whatif.proofs.CodeLemmas.{fitting_runs}
 use Rattle.gp_whatif.proofs.CommitLemmas.{statement_stops}
-use Rattle.gp_whatif.proofs.FittingLogs.{statement_at_fits}
+use Rattle.gp_log.proofs.FittingLogs.{statement_at_fits}
 use Rattle.gp_whatif.proofs.RunLemmas.{next_ran, others}
 use Rattle.gp_whatif.proofs.replaying.run_next.Goals as goal
 

@@ -1,0 +1,42 @@
+-- What a changed log keeps: statements that fit and that the check passes, and lines that rise.
+use Rattle.std.specs.Prelude.{◌≡◌, ℕ, ◌^◌, ◌<◌, true, List, [], ◌∷◌, Ok}
+use Rattle.std.specs.List.{AllByRecursion}
+use Rattle.gp_grammar.specs.Syntax as y
+use Rattle.gp_grammar.specs.Syntax.{LogChange}
+use Rattle.gp_algebra.specs.Fitting.{statement_fits}
+use Rattle.gp_algebra.specs.Statements.{Statement}
+use Rattle.gp_check.specs.Checking.{checked}
+use Rattle.gp_machine.specs.Entries.{Entry, Created, Began, Ran, Committed, Ended, line_of}
+use Rattle.gp_machine.specs.Parameters.{Parameters}
+use Rattle.gp_log.specs.Discipline.{last_line}
+use Rattle.gp_log.specs.LogFacts.{tables_in}
+use Rattle.gp_whatif.specs.Changed.{tables_at_end, tables_before}
+
+module _ (parameters : Parameters) (entries : List Entry) where
+  -- a statement of the change that passes the check on the tables before it fits all tables of the log
+  abbrev pub ChecksFit : LogChange → Type 0
+  ChecksFit (y.drop t k) = Unit {0}
+  ChecksFit (y.replace t k command) =
+      (statement : Statement) → parameters.checked (tables_before t k entries) command ≡ Ok statement → statement_fits (tables_in entries) statement ≡ true
+  ChecksFit (y.add t command) =
+      (statement : Statement) → parameters.checked (tables_at_end t entries) command ≡ Ok statement → statement_fits (tables_in entries) statement ≡ true
+
+-- every statement of a log is what the check makes of its command over the tables before it
+abbrev pub AreChecked : List Entry → Type 0
+AreChecked [] = Unit {0}
+AreChecked (Created line session table ∷ older) = AreChecked older
+AreChecked (Began line session t level ∷ older) = AreChecked older
+AreChecked (Ran line session command t statement ∷ older) = (checked (tables_in older) command ≡ Ok statement) × AreChecked older
+AreChecked (Committed line session t ∷ older) = AreChecked older
+AreChecked (Ended line session end t ∷ older) = AreChecked older
+
+-- ---- lines
+
+-- twice each line is a number of 32 bits, and so is the next one
+abbrev pub CanDouble : List Entry → Type 0
+CanDouble = AllByRecursion (λ (entry : Entry). line_of entry < 2 ^ 31)
+
+-- the line of each entry is above that of the one before it
+abbrev pub LinesRise : List Entry → Type 0
+LinesRise [] = Unit {0}
+LinesRise (entry ∷ older) = (last_line older < line_of entry) × LinesRise older
