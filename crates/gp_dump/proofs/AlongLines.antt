@@ -2,22 +2,22 @@
 use Rattle.std.proofs.Common.{◌≡◌, ℕ, zero, List, [], ◌∷◌, ◌++◌, refl, sym, subst}
 use Rattle.gp_base.specs.Annotated.{Annotations}
 use Rattle.gp_machine.specs.Event.{Line, after, line_event}
-use Rattle.gp_machine.specs.Limits.{Limits}
+use Rattle.gp_machine.specs.Parameters.{Parameters}
 use Rattle.gp_machine.specs.State.{State, start}
 use Rattle.gp_log.specs.ScriptLines.{AreLinesAfter, AreScriptLines, IsScriptLine}
 
-module _ {M : Type 0} (kind : Annotations M) (limits : Limits) where
-  after_more : (state : State M) (done : List Line) (line : Line) → after kind limits state (done ++ line ∷ []) ≡ (line_event kind limits (after kind limits state done) line).0
+module _ {M : Type 0} (domain : Annotations M) (parameters : Parameters) where
+  after_more : (state : State M) (done : List Line) (line : Line) → after domain parameters state (done ++ line ∷ []) ≡ (line_event domain parameters (after domain parameters state done) line).0
   after_more state [] line = refl
-  after_more state (one ∷ done) line = after_more (line_event kind limits state one).0 done line
+  after_more state (one ∷ done) line = after_more (line_event domain parameters state one).0 done line
 
   module _ (Holds : ℕ → State M → Type 0)
-      (keeps : (done : List Line) (last : ℕ) (line : Line) → IsScriptLine last line → Holds last (after kind limits start done) → Holds line.number (line_event kind limits (after kind limits start done) line).0) where
-    from : (done : List Line) (last : ℕ) (lines : List Line) → AreLinesAfter last lines → Holds last (after kind limits start done) → (newest : ℕ) × Holds newest (after kind limits (after kind limits start done) lines)
+      (keeps : (done : List Line) (last : ℕ) (line : Line) → IsScriptLine last line → Holds last (after domain parameters start done) → Holds line.number (line_event domain parameters (after domain parameters start done) line).0) where
+    from : (done : List Line) (last : ℕ) (lines : List Line) → AreLinesAfter last lines → Holds last (after domain parameters start done) → (newest : ℕ) × Holds newest (after domain parameters (after domain parameters start done) lines)
     from done last [] are h = (last, h)
     from done last (line ∷ lines) are h =
-        subst (λ state. (newest : ℕ) × Holds newest (after kind limits state lines)) (after_more start done line)
+        subst (λ state. (newest : ℕ) × Holds newest (after domain parameters state lines)) (after_more start done line)
         (from (done ++ line ∷ []) line.number lines are.1 (subst (Holds line.number) (sym (after_more start done line)) (keeps done last line are.0 h)))
 
-    pub along : (lines : List Line) → AreScriptLines lines → Holds zero start → (newest : ℕ) × Holds newest (after kind limits start lines)
+    pub along : (lines : List Line) → AreScriptLines lines → Holds zero start → (newest : ℕ) × Holds newest (after domain parameters start lines)
     along lines are h = from [] zero lines are h

@@ -9,12 +9,13 @@ use Rattle.gp_check.specs.Faults.{table_refusal}
 use Rattle.gp_grammar.specs.Syntax as y
 use Rattle.gp_grammar.specs.Syntax.{is_statement}
 use Rattle.gp_machine.specs.Actions as a
-use Rattle.gp_machine.specs.Actions.{action_of}
+use Rattle.gp_machine.specs.Actions.{action_of, allowed}
 use Rattle.gp_machine.specs.Entries as m
 use Rattle.gp_log.specs.declared.entry.Entry.{Entry}
 use Rattle.gp_log.specs.declared.entry.What.{What}
-use Rattle.gp_log.specs.Discipline.{doing, last_line, line_of, losing, transaction_in}
-use Rattle.gp_log.specs.Limits.{limits}
+use Rattle.gp_machine.specs.Entries.{line_of}
+use Rattle.gp_log.specs.Discipline.{doing, last_line, losing, transaction_in}
+use Rattle.gp_log.specs.Parameters.{parameters}
 use Rattle.gp_log.specs.Logs.{entry_view, log_view, what_view}
 use Rattle.gp_log.specs.declared.entry.What.TheVariants as what
 use Rattle.gp_log.proofs.EntryLemmas.{log-pushed}
@@ -147,15 +148,15 @@ statement-runs (y.delete table cond) is = refl
 statement-runs (y.select query) is = refl
 
 -- the ends of a transaction
-pub commit-ends : (older : List m.Entry) (line session : ℕ) (active : Option ℕ) → doing limits older line session active a.Commit ≡ ended line session active what.Commit
+pub commit-ends : (older : List m.Entry) (line session : ℕ) (active : Option ℕ) → doing parameters older line session (allowed active a.Commit) ≡ ended line session active what.Commit
 commit-ends older line session None = refl
 commit-ends older line session (Some t) = refl
 
-pub rollback-ends : (older : List m.Entry) (line session : ℕ) (active : Option ℕ) → doing limits older line session active a.Rollback ≡ ended line session active what.Rollback
+pub rollback-ends : (older : List m.Entry) (line session : ℕ) (active : Option ℕ) → doing parameters older line session (allowed active a.Rollback) ≡ ended line session active what.Rollback
 rollback-ends older line session None = refl
 rollback-ends older line session (Some t) = refl
 
-pub lost-ends : (older : List m.Entry) (line session : ℕ) (active : Option ℕ) → losing limits older line session active ≡ ended line session active what.Lost
+pub lost-ends : (older : List m.Entry) (line session : ℕ) (active : Option ℕ) → losing parameters older line session active ≡ ended line session active what.Lost
 lost-ends older line session None = refl
 lost-ends older line session (Some t) = refl
 

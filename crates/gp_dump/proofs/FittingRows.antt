@@ -8,7 +8,7 @@ use Rattle.gp_base.specs.Annotated.{Annotations, Database}
 use Rattle.gp_base.specs.declared.refusal.Refusal.{Refusal}
 use Rattle.gp_base.specs.declared.table.Table.{Table}
 use Rattle.gp_grammar.specs.Canonical.{command_text}
-use Rattle.gp_grammar.specs.LineReading.{command_of}
+use Rattle.gp_grammar.specs.Reading.{command_of}
 use Rattle.gp_grammar.specs.Syntax as y
 use Rattle.gp_grammar.specs.Syntax.{Command}
 use Rattle.gp_algebra.specs.Effects.{Written}
@@ -16,7 +16,7 @@ use Rattle.gp_algebra.specs.Statements.{Statement}
 use Rattle.gp_check.specs.Checking.{refused_by}
 use Rattle.gp_check.specs.Faults.{first_refusal}
 use Rattle.gp_check.specs.Meaning.{statement_of}
-use Rattle.gp_machine.proofs.Distinct.{each_append, each_filter, each_map, each_weaker}
+use Rattle.gp_machine.proofs.Distinct.{each_filter, each_weaker}
 use Rattle.gp_machine.proofs.LimitLemmas.{counts_are_within}
 use Rattle.gp_machine.proofs.ReachedLemmas.{all_reached, value_cases, within_limits}
 use Rattle.gp_machine.specs.Actions.{Run, action_of}
@@ -28,11 +28,12 @@ use Rattle.gp_machine.specs.Event.{Line, after, answered, beginning, committing,
 use Rattle.gp_machine.specs.Reached.{CountsAreWithin, IsReached}
 use Rattle.gp_machine.specs.Reading.{Seen, started}
 use Rattle.gp_machine.specs.State.{Active, State, start, with_value}
-use Rattle.gp_log.specs.Limits.{limits}
+use Rattle.gp_log.specs.Parameters.{parameters}
 use Rattle.gp_log.specs.ScriptLines.{AreScriptLines}
 use Rattle.gp_dump.proofs.AlongLines.{along}
 use Rattle.gp_dump.proofs.ReadCommands.{read_valid, read_within}
 use Rattle.gp_dump.proofs.StepKinds.{AllFit, FitsRow, step_fits}
+use Rattle.gp_base.proofs.SmallLemmas.{each_append, each_map}
 
 pub record Fitting {M : Type 0} (state : State M) : Type 0 where
   pub committed : (version : ℕ) → AllFit state.catalogue (state.committed version)
@@ -80,7 +81,7 @@ some_active a b e = cc
 none_active : {M : Type 0} (a : Active M) → None ≡ Some a → ⊥
 none_active a e = cc
 
-module _ {M : Type 0} (kind : Annotations M) (state : State M) (line session : ℕ) (reached : IsReached kind limits state) (within : CountsAreWithin limits state) (fitting : Fitting state) where
+module _ {M : Type 0} (domain : Annotations M) (state : State M) (line session : ℕ) (reached : IsReached domain parameters state) (within : CountsAreWithin parameters state) (fitting : Fitting state) where
   -- the session has another view, or none
   views_with : (tables : List Table) (next : Option (Active M)) → ((active : Active M) → next ≡ Some active → AllFit tables active.seen.view) → ((s : ℕ) (active : Active M) → state.active s ≡ Some active → AllFit tables active.seen.view)
       → (s : ℕ) (active : Active M) → with_value session next state.active s ≡ Some active → AllFit tables active.seen.view
@@ -108,8 +109,8 @@ module _ {M : Type 0} (kind : Annotations M) (state : State M) (line session : �
     starts = started_fits state.catalogue active.version (version_now state active) (state.committed (version_now state active)) active.seen (fitting.committed (version_now state active)) (fitting.views session active e)
 
     run_it : (command : Command) → command_of (command_text command) ≡ Ok command → first_refusal state.catalogue command ≡ None → (refusal : Option Refusal)
-        → refusal_of kind limits state.catalogue active.transaction (suc active.statements) (statement_of state.catalogue command) (start_now state active) ≡ refusal
-        → Fitting (ran kind state line session active command (statement_of state.catalogue command) refusal).0
+        → refusal_of domain parameters state.catalogue active.transaction (suc active.statements) (statement_of state.catalogue command) (start_now state active) ≡ refusal
+        → Fitting (ran domain state line session active command (statement_of state.catalogue command) refusal).0
     run_it command read none (Some refusal) f = fitting
     run_it command read none None f =
         let r = reached.running session active e in
@@ -118,24 +119,24 @@ module _ {M : Type 0} (kind : Annotations M) (state : State M) (line session : �
         let few = within.transactions in
         let count = r.count in
         let steps = within.steps active.transaction in
-        let nodes = (within_limits kind limits state.catalogue active.transaction (suc active.statements) (statement_of state.catalogue command) (start_now state active) f).nodes in
+        let nodes = (within_limits domain parameters state.catalogue active.transaction (suc active.statements) (statement_of state.catalogue command) (start_now state active) f).nodes in
         record {
           committed = fitting.committed;
           views = views_with state.catalogue _
               (λ other is. subst (λ (a : Active M). AllFit state.catalogue a.seen.view) (some_active _ other is)
-              (step_fits kind state.catalogue active.transaction (suc active.statements) command (start_now state active) (omega (arith, positive), omega (arith, known, few)) (omega arith, omega (arith, count, steps)) none
+              (step_fits domain state.catalogue active.transaction (suc active.statements) command (start_now state active) (omega (arith, positive), omega (arith, known, few)) (omega arith, omega (arith, count, steps)) none
               (read_valid command read) (read_within command read) nodes starts))
               fitting.views;
         }
 
     check_it : (command : Command) → command_of (command_text command) ≡ Ok command → (refusal : Option Refusal) (checked : Result Statement Refusal) → refused_by (first_refusal state.catalogue command) (statement_of state.catalogue command) ≡ checked
-        → Fitting (running kind state line session active command limits refusal checked).0
+        → Fitting (running domain state line session active command parameters refusal checked).0
     check_it command read (Some refusal) checked is = fitting
     check_it command read None (Err refusal) is = fitting
     check_it command read None (Ok statement) is =
         let c = checked_is (first_refusal state.catalogue command) (statement_of state.catalogue command) statement is in
-        subst (λ s. Fitting (ran kind state line session active command s (refusal_of kind limits state.catalogue active.transaction (suc active.statements) s (start_now state active))).0) c.1
-        (run_it command read c.0 (refusal_of kind limits state.catalogue active.transaction (suc active.statements) (statement_of state.catalogue command) (start_now state active)) refl)
+        subst (λ s. Fitting (ran domain state line session active command s (refusal_of domain parameters state.catalogue active.transaction (suc active.statements) s (start_now state active))).0) c.1
+        (run_it command read c.0 (refusal_of domain parameters state.catalogue active.transaction (suc active.statements) (statement_of state.catalogue command) (start_now state active)) refl)
 
     commit_it : (lost : Option Conflict) (full : Bool) → Fitting (committing state line session active lost full).0
     commit_it (Some conflict) full = end_it active Lost
@@ -153,12 +154,12 @@ module _ {M : Type 0} (kind : Annotations M) (state : State M) (line session : �
             ⊎_elim (λ here. subst (AllFit state.catalogue) here.1 new) (λ there. subst (AllFit state.catalogue) there.1 (fitting.committed version))
             (value_cases (suc (versions_in state.entries)) (next_version (state.committed (versions_in state.entries)) active.seen.view (pairs active.seen.written)) state.committed version _ refl)
 
-    checks : (command : Command) → command_of (command_text command) ≡ Ok command → Fitting (answered kind limits state line session (Some active) (Run command)).0
-    checks command read = check_it command read (count_refusal limits active.statements (statements_in state.entries)) (limits.checked state.catalogue command) refl
+    checks : (command : Command) → command_of (command_text command) ≡ Ok command → Fitting (answered domain parameters state line session (Some active) (Run command)).0
+    checks command read = check_it command read (count_refusal parameters active.statements (statements_in state.entries)) (parameters.checked state.catalogue command) refl
 
-  outside : (command : Command) → Fitting (answered kind limits state line session None (action_of command)).0
-  outside (y.create table) = create_it table (creation_refusal limits state.catalogue table)
-  outside (y.begin read_committed) = begin_it read_committed (nat_le limits.transactions (transactions_in state.entries))
+  outside : (command : Command) → Fitting (answered domain parameters state line session None (action_of command)).0
+  outside (y.create table) = create_it table (creation_refusal parameters state.catalogue table)
+  outside (y.begin read_committed) = begin_it read_committed (nat_le parameters.transactions (transactions_in state.entries))
   outside y.Command.commit = fitting
   outside y.rollback = fitting
   outside (y.insert table rows) = fitting
@@ -167,10 +168,10 @@ module _ {M : Type 0} (kind : Annotations M) (state : State M) (line session : �
   outside (y.delete table cond) = fitting
   outside (y.select query) = fitting
 
-  inside : (active : Active M) → state.active session ≡ Some active → (command : Command) → command_of (command_text command) ≡ Ok command → Fitting (answered kind limits state line session (Some active) (action_of command)).0
+  inside : (active : Active M) → state.active session ≡ Some active → (command : Command) → command_of (command_text command) ≡ Ok command → Fitting (answered domain parameters state line session (Some active) (action_of command)).0
   inside active e (y.create table) read = fitting
   inside active e (y.begin read_committed) read = fitting
-  inside active e y.Command.commit read = commit_it active e (conflict_of state active) (is_full limits state active)
+  inside active e y.Command.commit read = commit_it active e (conflict_of state active) (is_full parameters state active)
   inside active e y.rollback read = end_it active RolledBack
   inside active e (y.insert table rows) read = checks active e (y.insert table rows) read
   inside active e (y.insert_select table query) read = checks active e (y.insert_select table query) read
@@ -178,15 +179,15 @@ module _ {M : Type 0} (kind : Annotations M) (state : State M) (line session : �
   inside active e (y.delete table cond) read = checks active e (y.delete table cond) read
   inside active e (y.select query) read = checks active e (y.select query) read
 
-  event_fits : (command : Command) → command_of (command_text command) ≡ Ok command → Fitting (answered kind limits state line session (state.active session) (action_of command)).0
+  event_fits : (command : Command) → command_of (command_text command) ≡ Ok command → Fitting (answered domain parameters state line session (state.active session) (action_of command)).0
   event_fits command read = go (state.active session) refl
     where
-      go : (active : Option (Active M)) → state.active session ≡ active → Fitting (answered kind limits state line session active (action_of command)).0
+      go : (active : Option (Active M)) → state.active session ≡ active → Fitting (answered domain parameters state line session active (action_of command)).0
       go None e = outside command
       go (Some active) e = inside active e command read
 
-pub all_fitting : {M : Type 0} (kind : Annotations M) (lines : List Line) → AreScriptLines lines → Fitting (after kind limits start lines)
-all_fitting kind lines are =
-    (along kind limits (λ last state. Fitting state)
-    (λ done last line is fitting. event_fits kind (after kind limits start done) line.number line.session (all_reached kind limits done) (counts_are_within kind limits done) fitting line.command is.command) lines are
+pub all_fitting : {M : Type 0} (domain : Annotations M) (lines : List Line) → AreScriptLines lines → Fitting (after domain parameters start lines)
+all_fitting domain lines are =
+    (along domain parameters (λ last state. Fitting state)
+    (λ done last line is fitting. event_fits domain (after domain parameters start done) line.number line.session (all_reached domain parameters done) (counts_are_within domain parameters done) fitting line.command is.command) lines are
     (record { committed = λ version place. tt; views = λ session active e. absurd (none_active active e) })).1

@@ -1,10 +1,9 @@
 -- The statements and the row versions of a well-formed dump fit its tables. What was checked fits the tables of its time, and what fits some tables fits
 -- them with more behind.
-use Rattle.std.proofs.Common.{◌≡◌, ◌<◌, ◌≤◌, ℕ, zero, suc, Bool, true, false, true≢false, ◌&&◌, ◌==◌, nat_le, nat_lt, List, [], ◌∷◌, ◌++◌, bytes_eq, codes, length, Option, Some, None, slice_get, if◌then◌else◌, Result, Ok, Err, refl, sym, ap, subst, arith, length-append}
+use Rattle.std.proofs.Common.{◌≡◌, ◌≤◌, ℕ, zero, suc, Bool, true, false, true≢false, nat_le, List, [], ◌∷◌, ◌++◌, bytes_eq, codes, length, Option, Some, None, if◌then◌else◌, Result, Ok, Err, refl, sym, ap, subst}
 use Rattle.std.specs.Prelude.{slice_index_or}
 use Rattle.std.specs.List.{AllByRecursion, list_all}
-use Rattle.std.specs.Option.{option_map_or}
-use Rattle.std.proofs.lemmas.Bool.{eq-eqb, lt-ltb, ltb-true}
+use Rattle.std.proofs.lemmas.Bool.{eq-eqb, and_from, and_parts}
 use Rattle.gp_base.specs.declared.cell.Cell.{Cell}
 use Rattle.gp_base.specs.declared.cell.Cell.TheVariants as cell
 use Rattle.gp_base.specs.declared.refusal.Refusal.{Refusal}
@@ -13,22 +12,24 @@ use Rattle.gp_base.specs.declared.table.Column.{Column}
 use Rattle.gp_base.specs.declared.table.Kind.{Kind}
 use Rattle.gp_base.specs.declared.table.Kind.TheVariants as kind
 use Rattle.gp_base.specs.declared.table.Table.{Table}
-use Rattle.gp_base.specs.Cells.{is_user_cell}
+use Rattle.gp_base.specs.UserCells.{is_user_cell}
 use Rattle.gp_base.specs.Identities.{Identity, identity, nodes}
 use Rattle.gp_grammar.specs.Canonical.{command_text}
-use Rattle.gp_grammar.specs.LineReading.{Fault, command_of}
+use Rattle.gp_grammar.specs.LineReading.{Fault}
+use Rattle.gp_grammar.specs.Reading.{command_of}
 use Rattle.gp_grammar.specs.Syntax as y
 use Rattle.gp_grammar.specs.Syntax.{Command, is_statement}
-use Rattle.gp_algebra.specs.Fitting.{branch_fits, branches_fit, cond_fits, expr_fits, is_countable, is_there, joined_width, optional_cond_fits, row_fits, select_width, set_fits, statement_fits, width_of}
-use Rattle.gp_algebra.specs.Statements.{Branch, Select, Statement, delete, insert, insert_select, read, update}
+use Rattle.gp_algebra.specs.Fitting.{row_fits, statement_fits}
+use Rattle.gp_algebra.specs.Statements.{Statement, width_of}
+use Rattle.gp_algebra.proofs.FittingMore.{statement_more}
 use Rattle.gp_check.specs.Checking.{checked}
 use Rattle.gp_check.specs.Faults.{first_refusal}
 use Rattle.gp_check.specs.Meaning.{statement_of}
 use Rattle.gp_check.specs.Valid.{is_valid, tables_are_valid}
-use Rattle.gp_check.proofs.FittingLemmas.{and_true, fits}
-use Rattle.gp_check.proofs.TypingLemmas.{both}
+use Rattle.gp_check.proofs.FittingLemmas.{fits}
 use Rattle.gp_check.proofs.ValidLemmas.{tables-added}
 use Rattle.gp_machine.specs.Actions as action
+use Rattle.gp_machine.specs.Actions.{allowed}
 use Rattle.gp_machine.specs.Entries.{Began, Committed, Created, Ended, Entry, Ran, statement_count, statements_in, transactions_in, versions_in}
 use Rattle.gp_machine.specs.Event.{count_refusal}
 use Rattle.gp_versions.specs.declared.span.Span.{Span}
@@ -36,82 +37,24 @@ use Rattle.gp_log.specs.Discipline as d
 use Rattle.gp_log.specs.Discipline.{Disorder, Does, IsLog, Loses, doing, next_entry, transaction_in}
 use Rattle.gp_log.specs.LogFacts.{tables_in}
 use Rattle.gp_log.specs.LogFitting.{SpanFits, SpansFit, statements_fit}
-use Rattle.gp_log.specs.Limits.{limits}
-use Rattle.gp_dumpline.specs.Forms.{IsReadable, if_canonical, said_of}
+use Rattle.gp_log.specs.Parameters.{parameters}
+use Rattle.gp_dumpline.specs.Forms.{if_canonical, said_of}
+use Rattle.gp_dumpline.specs.Rows.{IsReadable}
 use Rattle.gp_dumpline.specs.Texts.{said_text}
 use Rattle.gp_dump.specs.Dumps.{AreInPlace, AreOfTables, AreReadable, Dump, IsDump, fits_columns, is_of_kind}
+use Rattle.gp_dumpline.proofs.SaidLaws.{is-said}
 use Rattle.gp_dump.proofs.FittingRows.{checked_is}
 use Rattle.gp_dump.proofs.ReadCommands.{read_valid}
 
 -- ---- more tables behind
 
-get_before : {X : Type 0} (xs others : List X) (place : ℕ) → place < length xs → slice_get (xs ++ others) place ≡ slice_get xs place
-get_before [] others place less = absurd (omega (arith, less))
-get_before (x ∷ xs) others zero less = refl
-get_before (x ∷ xs) others (suc place) less = get_before xs others place (omega (arith, less))
-
 module _ (tables others : List Table) where
-  there : (place : ℕ) → is_there tables place ≡ true → is_there (tables ++ others) place ≡ true
-  there place is =
-      let less : place < length tables = ltb-true place (length tables) is in
-      let more = length-append tables others in
-      lt-ltb place (length (tables ++ others)) (omega (arith, less, more))
-
-  all_there : (places : List ℕ) → list_all (is_there tables) places ≡ true → list_all (is_there (tables ++ others)) places ≡ true
-  all_there [] all = refl
-  all_there (place ∷ places) all =
-      let are = both (is_there tables place) _ all in and_true _ _ (there place are.0) (all_there places are.1)
-
-  width_same : (place : ℕ) → is_there tables place ≡ true → width_of (tables ++ others) place ≡ width_of tables place
-  width_same place is =
-      ap (λ (found : Option Table). option_map_or (λ (table : Table). length table.cols) found 0)
-      (get_before tables others place (ltb-true place (length tables) is))
-
-  joined_same : (places : List ℕ) → list_all (is_there tables) places ≡ true → joined_width (tables ++ others) places ≡ joined_width tables places
-  joined_same [] all = refl
-  joined_same (place ∷ places) all =
-      let are = both (is_there tables place) _ all in rw (width_same place are.0, joined_same places are.1) refl
-
-  branch_more : (width : ℕ) (branch : Branch) → branch_fits tables width branch ≡ true → branch_fits (tables ++ others) width branch ≡ true
-  branch_more width branch fit =
-      let from = both (nat_lt 0 (length branch.from)) _ fit in
-      let known = both (list_all (is_there tables) branch.from) _ from.1 in
-      let some = both (nat_lt 0 (length branch.items)) _ known.1 in
-      let same = both (length branch.items == width) _ some.1 in
-      and_true _ _ from.0 (and_true _ _ (all_there branch.from known.0) (and_true _ _ some.0 (and_true _ _ same.0
-      (subst (λ n. list_all (expr_fits n) branch.items && optional_cond_fits n branch.cond ≡ true) (sym (joined_same branch.from known.0)) same.1))))
-
-  all_branches : (width : ℕ) (select : Select) → list_all (branch_fits tables width) select ≡ true → list_all (branch_fits (tables ++ others) width) select ≡ true
-  all_branches width [] all = refl
-  all_branches width (branch ∷ select) all =
-      let are = both (branch_fits tables width branch) _ all in and_true _ _ (branch_more width branch are.0) (all_branches width select are.1)
-
-  branches_more : (width : ℕ) (select : Select) → branches_fit tables width select ≡ true → branches_fit (tables ++ others) width select ≡ true
-  branches_more width select fit = let are = both (is_countable select) _ fit in and_true _ _ are.0 (all_branches width select are.1)
-
-  -- a fact of a table that is there, and of its width
-  at_width : (table : ℕ) (test : ℕ → Bool) → is_there tables table && test (width_of tables table) ≡ true
-      → is_there (tables ++ others) table && test (width_of (tables ++ others) table) ≡ true
-  at_width table test fit =
-      let are = both (is_there tables table) _ fit in
-      and_true _ _ (there table are.0) (subst (λ n. test n ≡ true) (sym (width_same table are.0)) are.1)
-
-  statement_more : (statement : Statement) → statement_fits tables statement ≡ true → statement_fits (tables ++ others) statement ≡ true
-  statement_more (insert table rows) fit = at_width table (λ n. is_countable rows && list_all (row_fits n) rows) fit
-  statement_more (insert_select table select) fit =
-      let are = both (is_there tables table) _ fit in
-      and_true _ _ (there table are.0)
-      (subst (λ n. branches_fit (tables ++ others) n select ≡ true) (sym (width_same table are.0)) (branches_more (width_of tables table) select are.1))
-  statement_more (update table sets cond) fit = at_width table (λ n. list_all (set_fits n) sets && cond_fits n cond) fit
-  statement_more (delete table cond) fit = at_width table (λ n. cond_fits n cond) fit
-  statement_more (read select) fit = branches_more (select_width select) select fit
-
   entries_more : (entries : List Entry) → statements_fit tables entries ≡ true → statements_fit (tables ++ others) entries ≡ true
   entries_more [] fit = refl
   entries_more (Created line session table ∷ older) fit = entries_more older fit
   entries_more (Began line session t read_committed ∷ older) fit = entries_more older fit
   entries_more (Ran line session command t statement ∷ older) fit =
-      let are = both (statement_fits tables statement) _ fit in and_true _ _ (statement_more statement are.0) (entries_more older are.1)
+      let are = and_parts (statement_fits tables statement) _ fit in and_from _ _ (statement_more tables others statement are.0) (entries_more older are.1)
   entries_more (Committed line session t ∷ older) fit = entries_more older fit
   entries_more (Ended line session end t ∷ older) fit = entries_more older fit
 
@@ -141,31 +84,31 @@ said_valid command said = read_valid command (go (bytes_eq (command_text command
 
 module _ (older : List Entry) (line session : ℕ) (command : Command) (t : ℕ) (statement : Statement) where
   abbrev Follows : Option ℕ → action.Action → Type 0
-  Follows active done = doing limits older line session active done ≡ Ok (Ran line session command t statement)
+  Follows active done = doing parameters older line session (allowed active done) ≡ Ok (Ran line session command t statement)
 
   was_checked : (active : Option ℕ) → Follows active (action.Run command) → checked (tables_in older) command ≡ Ok statement
   was_checked None e = cc
-  was_checked (Some own) e = go (count_refusal limits (statement_count own older) (statements_in older)) (checked (tables_in older) command) e
+  was_checked (Some own) e = go (count_refusal parameters (statement_count own older) (statements_in older)) (checked (tables_in older) command) e
     where
       go : (refusal : Option Refusal) (found : Result Statement Refusal)
-          → d.running limits older line session own command refusal found ≡ Ok (Ran line session command t statement) → found ≡ Ok statement
+          → d.running parameters older line session own command refusal found ≡ Ok (Ran line session command t statement) → found ≡ Ok statement
       go (Some refusal) found e = cc
       go None (Err refusal) e = cc
       go None (Ok found) e = cc
 
   no_table : (active : Option ℕ) (table : Table) → Follows active (action.Create table) → ⊥
   no_table (Some own) table e = cc
-  no_table None table e = go (nat_le limits.tables (length (tables_in older))) (limits.created (tables_in older) table) e
+  no_table None table e = go (nat_le parameters.tables (length (tables_in older))) (parameters.created (tables_in older) table) e
     where
       go : (full : Bool) (refusal : Option Refusal)
-          → (if full then Err Disorder else d.creating limits older line session table refusal) ≡ Ok (Ran line session command t statement) → ⊥
+          → (if full then Err Disorder else d.creating parameters older line session table refusal) ≡ Ok (Ran line session command t statement) → ⊥
       go true refusal e = cc
       go false (Some refusal) e = cc
       go false None e = cc
 
   no_begin : (read_committed : Bool) (active : Option ℕ) → Follows active (action.Begin read_committed) → ⊥
   no_begin read_committed (Some own) e = cc
-  no_begin read_committed None e = go (nat_le limits.transactions (transactions_in older)) e
+  no_begin read_committed None e = go (nat_le parameters.transactions (transactions_in older)) e
     where
       go : (full : Bool) → (if full then Err Disorder else Ok (Began line session (suc (transactions_in older)) read_committed)) ≡ Ok (Ran line session command t statement) → ⊥
       go true e = cc
@@ -186,7 +129,7 @@ module _ (older : List Entry) (line session : ℕ) (command : Command) (t : ℕ)
       subst (λ made. statement_fits (tables_in older) made ≡ true) is.1 (fits (tables_in older) command columns kind valid is.0)
 
 ran_fits : (older : List Entry) (line session : ℕ) (command : Command) (t : ℕ) (statement : Statement)
-    → next_entry limits older line session (Does command) ≡ Ok (Ran line session command t statement)
+    → next_entry parameters older line session (Does command) ≡ Ok (Ran line session command t statement)
     → is_valid command ≡ true → tables_are_valid (tables_in older) ≡ true → statement_fits (tables_in older) statement ≡ true
 ran_fits older line session (y.create table) t statement e valid columns = absurd (no_table older line session _ t statement (transaction_in session older) table e)
 ran_fits older line session (y.begin read_committed) t statement e valid columns = absurd (no_begin older line session _ t statement read_committed (transaction_in session older) e)
@@ -205,18 +148,18 @@ ran_fits older line session (y.select query) t statement e valid columns =
 
 log_valid : (entries : List Entry) → AreReadable entries → tables_are_valid (tables_in entries) ≡ true
 log_valid [] readable = refl
-log_valid (Created line session table ∷ older) readable = tables-added (tables_in older) table (log_valid older readable.1) (said_valid (y.create table) readable.0)
+log_valid (Created line session table ∷ older) readable = tables-added (tables_in older) table (log_valid older readable.1) (said_valid (y.create table) (is-said (Does (y.create table)) readable.0))
 log_valid (Began line session t read_committed ∷ older) readable = log_valid older readable.1
 log_valid (Ran line session command t statement ∷ older) readable = log_valid older readable.1
 log_valid (Committed line session t ∷ older) readable = log_valid older readable.1
 log_valid (Ended line session end t ∷ older) readable = log_valid older readable.1
 
-log_fits : (entries : List Entry) → IsLog limits entries → AreReadable entries → statements_fit (tables_in entries) entries ≡ true
+log_fits : (entries : List Entry) → IsLog parameters entries → AreReadable entries → statements_fit (tables_in entries) entries ≡ true
 log_fits [] log readable = refl
 log_fits (Created line session table ∷ older) log readable = entries_more (tables_in older) (table ∷ []) older (log_fits older log.1 readable.1)
 log_fits (Began line session t read_committed ∷ older) log readable = log_fits older log.1 readable.1
 log_fits (Ran line session command t statement ∷ older) log readable =
-    and_true _ _ (ran_fits older line session command t statement log.0.follows (said_valid command readable.0) (log_valid older readable.1))
+    and_from _ _ (ran_fits older line session command t statement log.0.follows (said_valid command (is-said (Does command) readable.0)) (log_valid older readable.1))
     (log_fits older log.1 readable.1)
 log_fits (Committed line session t ∷ older) log readable = log_fits older log.1 readable.1
 log_fits (Ended line session end t ∷ older) log readable = log_fits older log.1 readable.1
@@ -238,16 +181,16 @@ user_cells [] [] fit = refl
 user_cells [] (x ∷ row) fit = absurd (true≢false (sym fit))
 user_cells (col ∷ cols) [] fit = refl
 user_cells (col ∷ cols) (x ∷ row) fit =
-    let are = both (is_of_kind col.kind x) _ fit in and_true _ _ (user_cell col.kind x are.0) (user_cells cols row are.1)
+    let are = and_parts (is_of_kind col.kind x) _ fit in and_from _ _ (user_cell col.kind x are.0) (user_cells cols row are.1)
 
 cells_fit : (cols : List Column) (row : List Cell) → fits_columns cols row ≡ true → row_fits (length cols) row ≡ true
-cells_fit cols row fit = and_true _ _ (eq-eqb (length row) (length cols) (same cols row fit)) (user_cells cols row fit)
+cells_fit cols row fit = and_from _ _ (eq-eqb (length row) (length cols) (same cols row fit)) (user_cells cols row fit)
   where
     same : (cols : List Column) (row : List Cell) → fits_columns cols row ≡ true → length row ≡ length cols
     same [] [] fit = refl
     same [] (x ∷ row) fit = absurd (true≢false (sym fit))
     same (col ∷ cols) [] fit = absurd (true≢false (sym fit))
-    same (col ∷ cols) (x ∷ row) fit = ap suc (same cols row (both (is_of_kind col.kind x) _ fit).1)
+    same (col ∷ cols) (x ∷ row) fit = ap suc (same cols row (and_parts (is_of_kind col.kind x) _ fit).1)
 
 small : (id : Identity) → IsReadable id → nodes id ≤ MAX_NODES
 small (identity t k n ids) readable = readable.1.1.1.0

@@ -1,12 +1,12 @@
 -- The formats of a dump, and the logs that the first one cannot hold.
 use Rattle.std.proofs.Common.{◌≡◌, ℕ, zero, suc, ◌+◌, ◌≤◌, Bool, true, false, not, ◌||◌, List, [], ◌∷◌, length, take, Some, refl, sym, ap, ◌∙◌, arith, inl, inr}
 use Rattle.std.specs.Prelude.{slice_get}
-use Rattle.std.proofs.lemmas.Bool.{cases_Bool, false≢true}
+use Rattle.std.proofs.lemmas.Bool.{cases_Bool, false≢true, or_parts}
 use Rattle.gp_machine.specs.Entries as m
 use Rattle.gp_log.specs.declared.entry.Entry.{Entry}
 use Rattle.gp_log.specs.Discipline.{said_by}
 use Rattle.gp_log.specs.Logs.{entry_view, log_view}
-use Rattle.gp_dumpline.specs.Forms.{begins_read_committed, is_said_in}
+use Rattle.gp_dumpline.specs.Said.{begins_read_committed, is_said_in}
 use Rattle.gp_dump.specs.Dumps.{has_read_committed}
 use Rattle.gp_dump.proofs.DisciplineLemmas.{taken-back}
 
@@ -21,14 +21,10 @@ all-said : (entries : List m.Entry) → AreSaidIn true entries
 all-said [] = tt
 all-said (entry ∷ older) = (refl, all-said older)
 
-or-none : (a b : Bool) → a || b ≡ false → (a ≡ false) × (b ≡ false)
-or-none true b e = absurd (false≢true (sym e))
-or-none false b e = (refl, e)
-
 first-said : (entries : List m.Entry) → has_read_committed entries ≡ false → AreSaidIn false entries
 first-said [] none = tt
 first-said (entry ∷ older) none =
-    let w = or-none (begins_read_committed (said_by entry)) (has_read_committed older) none in
+    let w = or_parts (begins_read_committed (said_by entry)) (has_read_committed older) none in
     (ap not w.0, first-said older w.1)
 
 first-none : (entries : List m.Entry) → AreSaidIn false entries → has_read_committed entries ≡ false

@@ -1,8 +1,7 @@
 -- The dump of every history is well formed.
-use Rattle.std.proofs.Common.{◌≡◌, ◌<◌, ◌≤◌, ℕ, zero, suc, ◌+◌, nat_lt, true, List, [], ◌∷◌, ◌++◌, length, map, take, Some, None, slice_get, get_or, refl, sym, ap, subst, ◌∙◌, arith, ◌⊎◌, inl, inr}
+use Rattle.std.proofs.Common.{◌≡◌, ◌<◌, ◌≤◌, ℕ, zero, suc, ◌+◌, List, [], ◌∷◌, ◌++◌, length, map, take, Some, None, slice_get, get_or, refl, sym, ap, subst, ◌∙◌, arith, ◌⊎◌, inl, inr}
 use Rattle.std.specs.Prelude.{sum}
 use Rattle.std.specs.List.{AllByRecursion, fold}
-use Rattle.std.proofs.lemmas.Bool.Decides.{nat_tests}
 use Rattle.std.proofs.lemmas.List.{map-append, take_all}
 use Rattle.std.proofs.lemmas.Option.{slice_get_cases}
 use Rattle.gp_base.specs.Annotated.{Annotations, plain}
@@ -21,25 +20,24 @@ use Rattle.gp_machine.proofs.ReachedLemmas.{all_reached}
 use Rattle.gp_machine.proofs.SpanLaws.{each_span, spans_apart, spans_below, spans_whole}
 use Rattle.gp_machine.specs.Entries.{log_of, versions_in}
 use Rattle.gp_machine.specs.Event.{Line, after}
-use Rattle.gp_machine.specs.HistorySpans.{span_count, state_spans}
-use Rattle.gp_machine.specs.Limits.{ChecksTargets, HasTarget}
+use Rattle.gp_machine.specs.HistorySpans.{state_spans}
+use Rattle.gp_machine.specs.SpanCounts.{span_count}
+use Rattle.gp_machine.specs.CheckedTargets.{ChecksTargets, HasTarget}
 use Rattle.gp_machine.specs.Reached.{IsReached}
 use Rattle.gp_machine.specs.State.{State, start}
-use Rattle.gp_log.specs.Limits.{limits}
+use Rattle.gp_log.specs.Parameters.{parameters}
 use Rattle.gp_dump.specs.Dumps.{AreInPlace, AreOfTables, IsDump, dump_of, spans_in, spans_in_order}
 use Rattle.gp_log.specs.ScriptLines.{AreScriptLines}
 use Rattle.gp_dump.proofs.FittingRows.{Fitting, all_fitting, checked_is}
 use Rattle.gp_dump.proofs.LoggedLines.{all_logged}
 use Rattle.gp_dump.proofs.RowPlaces.{all_in_place, sorted_length, spans_begin}
 use Rattle.gp_dump.proofs.StepKinds.{Fits, FitsRow}
+use Rattle.std.proofs.lemmas.Bool.{ltb-true}
 
 -- ---- the check passes only statements whose table is there
 
 target : (tables : List Table) (name : Bytes) → table_fault tables name ≡ None → number_of_table tables name < length tables
-target tables name none = below (number_of_table tables name) (length tables) (known tables name none)
-  where
-    below : (a b : ℕ) → nat_lt a b ≡ true → a < b
-    below a b e = grind (arith, nat_tests)
+target tables name none = ltb-true (number_of_table tables name) (length tables) (known tables name none)
 
 has_target : (tables : List Table) (command : Command) → first_refusal tables command ≡ None → HasTarget (length tables) (statement_of tables command)
 has_target tables (y.insert name rows) none = target tables name (none_of (table_fault tables name) _ none).0
@@ -52,7 +50,7 @@ has_target tables (y.begin read_committed) none = tt
 has_target tables y.Command.commit none = tt
 has_target tables y.rollback none = tt
 
-pub checks_targets : ChecksTargets limits
+pub checks_targets : ChecksTargets parameters
 checks_targets tables command statement e =
     let c = checked_is (first_refusal tables command) (statement_of tables command) statement e in
     subst (HasTarget (length tables)) c.1 (has_target tables command c.0)
@@ -88,7 +86,7 @@ take_one_more (y ∷ xs) zero x e = ap (λ z. z ∷ []) (same e)
     same e = cc
 take_one_more (y ∷ xs) (suc n) x e = ap (λ zs. y ∷ zs) (take_one_more xs n x e)
 
-module _ {M : Type 0} (kind : Annotations M) (state : State M) (reached : IsReached kind limits state) (fitting : Fitting state) where
+module _ {M : Type 0} (domain : Annotations M) (state : State M) (reached : IsReached domain parameters state) (fitting : Fitting state) where
   spans_fit : (table : ℕ) → AllByRecursion (λ (span : Span). Fits state.catalogue table span.id span.row) (state_spans state table)
   spans_fit table =
       each_span (versions_in state.entries) state.committed state.written table (λ (span : Span). Fits state.catalogue table span.id span.row) (FitsRow state.catalogue table) (λ from row l f. f)
@@ -97,7 +95,7 @@ module _ {M : Type 0} (kind : Annotations M) (state : State M) (reached : IsReac
   one_table : (place : ℕ) (table : Table) → slice_get state.catalogue place ≡ Some table → AreInPlace table.cols (versions_in state.entries) [] (sorted_by span_cmp (state_spans state place))
   one_table place table there =
       all_in_place state.catalogue place table there (versions_in state.entries) (state_spans state place)
-      (spans_apart kind (log_of state.entries) state.committed state.written reached.history place) (spans_whole (versions_in state.entries) state.committed state.written place)
+      (spans_apart domain (log_of state.entries) state.committed state.written reached.history place) (spans_whole (versions_in state.entries) state.committed state.written place)
       (spans_below (versions_in state.entries) state.committed state.written place) (spans_begin (versions_in state.entries) state.committed state.written place (versions_in state.entries)) (spans_fit place)
 
   first_tables : (tables : ℕ) → tables ≤ length state.catalogue → AreOfTables (take tables state.catalogue) (versions_in state.entries) (map (sorted_by span_cmp) (spans_in_order state tables))
@@ -118,23 +116,23 @@ module _ {M : Type 0} (kind : Annotations M) (state : State M) (reached : IsReac
       subst (λ tables. AreOfTables tables (versions_in state.entries) (map (sorted_by span_cmp) (spans_in_order state (length state.catalogue)))) (take_all (length state.catalogue) state.catalogue (omega arith))
       (first_tables (length state.catalogue) (omega arith))
 
-pub dumps_are_well_formed : (lines : List Line) → AreScriptLines lines → IsDump (dump_of (after plain limits start lines))
+pub dumps_are_well_formed : (lines : List Line) → AreScriptLines lines → IsDump (dump_of (after plain parameters start lines))
 dumps_are_well_formed lines are =
-    let state : State (Unit {0}) = after plain limits start lines in
-    let logged = (all_logged plain limits lines are).1 in
-    let within = counts_are_within plain limits lines in
+    let state : State (Unit {0}) = after plain parameters start lines in
+    let logged = (all_logged plain parameters lines are).1 in
+    let within = counts_are_within plain parameters lines in
     let few = within.lines in
     let tables = within.tables in
     let transactions = within.transactions in
     let statements = within.statements in
     let rows = within.rows in
     let count = counted state (length state.catalogue) in
-    let published = (all_counted plain limits checks_targets lines).count in
+    let published = (all_counted plain parameters checks_targets lines).count in
     record {
       few_entries = omega (arith, few, tables, transactions, statements);
       log = logged.log;
       commands = logged.readable;
       few_spans = omega (arith, rows, count, published);
       spans = subst (λ tables. AreOfTables tables (versions_in state.entries) (map (sorted_by span_cmp) (spans_in_order state (length state.catalogue)))) (sym logged.tables)
-          (all_tables plain state (all_reached plain limits lines) (all_fitting plain lines are));
+          (all_tables plain state (all_reached plain parameters lines) (all_fitting plain lines are));
     }

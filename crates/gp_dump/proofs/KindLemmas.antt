@@ -21,8 +21,9 @@ use Rattle.gp_check.specs.Scopes.{Source, Scope, ColumnName, place_behind, may_b
 use Rattle.gp_check.specs.Typing.{kind_type, agrees, common_type, typed_if, is_condition, choice_type, column_type, type_of}
 use Rattle.gp_check.specs.Meaning.{column_expr, expr_of, cond_of}
 use Rattle.gp_check.specs.Valid.{term_is_valid}
-use Rattle.gp_check.proofs.TypingLemmas.{both}
 use Rattle.gp_dump.specs.Dumps.{is_of_kind}
+use Rattle.std.proofs.lemmas.Option.{same_Some}
+use Rattle.std.proofs.lemmas.Bool.{and_parts}
 
 -- ---- cells of a type
 
@@ -157,14 +158,11 @@ found_fits scope name row place f e = only_fits row (filter_map (place_in name) 
 
 -- ---- terms
 
-some_type : (a b : TermType) → Some a ≡ Some b → a ≡ b
-some_type a b e = cc
-
 no_type : (a : TermType) → None ≡ Some a → ⊥
 no_type a e = cc
 
 typed : (b : Bool) (type a : TermType) → typed_if b type ≡ Some a → type ≡ a
-typed true type a e = some_type type a e
+typed true type a e = same_Some type a e
 typed false type a e = absurd (no_type a e)
 
 agreed : (b : Bool) (type a : TermType) → typed_if b type ≡ Some a → b ≡ true
@@ -178,7 +176,7 @@ module _ (scope : Scope) (row : List Cell) (fits : FitsScope scope row) where
   column_fits : (name : ColumnName) (r : Resolution) (a : TermType) → resolution scope name ≡ r → column_type r ≡ Some a → fits_type a (value (column_expr r) row) ≡ true
   column_fits name Absent a is e = absurd (no_type a e)
   column_fits name Ambiguous a is e = absurd (no_type a e)
-  column_fits name (Found place) a is e = fits_as (kind_type place.kind) a _ (some_type _ a e) (kind_fits place.kind (column place.number row) ∙ found_fits scope name row place fits is)
+  column_fits name (Found place) a is e = fits_as (kind_type place.kind) a _ (same_Some _ a e) (kind_fits place.kind (column place.number row) ∙ found_fits scope name row place fits is)
 
   choice_fits : (b : Bool) (o p : Option TermType) (a : TermType) (test : Bool) (x z : Cell) → ((a : TermType) → o ≡ Some a → fits_type a x ≡ true) → ((a : TermType) → p ≡ Some a → fits_type a z ≡ true)
       → (if b then choice_type o p else None) ≡ Some a → fits_type a (if test then x else z) ≡ true
@@ -189,9 +187,9 @@ module _ (scope : Scope) (row : List Cell) (fits : FitsScope scope row) where
   choice_fits true (Some c) (Some d) a false x z f g e = fits_as (common_type c d) a z (typed (agrees c d) _ a e) (second_common c d z (agreed (agrees c d) _ a e) (g d refl))
 
   pub value_fits : (x : Term) (a : TermType) → term_is_valid x ≡ true → type_of scope x ≡ Some a → fits_type a (value (expr_of scope x) row) ≡ true
-  value_fits y.null a v e = fits_as Null a _ (some_type Null a e) refl
-  value_fits (y.int n) a v e = fits_as Int a _ (some_type Int a e) v
-  value_fits (y.text bytes) a v e = fits_as Text a _ (some_type Text a e) v
+  value_fits y.null a v e = fits_as Null a _ (same_Some Null a e) refl
+  value_fits (y.int n) a v e = fits_as Int a _ (same_Some Int a e) v
+  value_fits (y.text bytes) a v e = fits_as Text a _ (same_Some Text a e) v
   value_fits (y.col item name) a v e = column_fits (record { item = item; col = name }) (resolution scope (record { item = item; col = name })) a refl e
   value_fits (y.binary op.Add x z) a v e = fits_as Int a _ (typed _ Int a e) (on_numbers_fits ◌+ℤ◌ (value (expr_of scope x) row) (value (expr_of scope z) row))
   value_fits (y.binary op.Sub x z) a v e = fits_as Int a _ (typed _ Int a e) (on_numbers_fits ◌-ℤ◌ (value (expr_of scope x) row) (value (expr_of scope z) row))
@@ -209,6 +207,6 @@ module _ (scope : Scope) (row : List Cell) (fits : FitsScope scope row) where
   value_fits (y.is_null x wanted) a v e = fits_as Condition a _ (typed _ Condition a e) refl
   value_fits (y.is_true x wanted) a v e = fits_as Condition a _ (typed _ Condition a e) refl
   value_fits (y.case x z u) a v e =
-      let w = both (term_is_valid z) (term_is_valid u) (both (term_is_valid x) (term_is_valid z && term_is_valid u) v).1 in
+      let w = and_parts (term_is_valid z) (term_is_valid u) (and_parts (term_is_valid x) (term_is_valid z && term_is_valid u) v).1 in
       choice_fits (is_condition (type_of scope x)) (type_of scope z) (type_of scope u) a (holds (truth (cond_of scope x) row)) (value (expr_of scope z) row) (value (expr_of scope u) row)
       (λ a is. value_fits z a w.0 is) (λ a is. value_fits u a w.1 is) e

@@ -11,12 +11,13 @@ use Rattle.gp_base.specs.Identities.{identity_cmp}
 use Rattle.gp_base.specs.IdentityOrder.{identity_cmp_total}
 use Rattle.gp_base.specs.Order.{insert_sorted, sorted_by}
 use Rattle.gp_versions.specs.declared.span.Span.{Span}
-use Rattle.gp_versions.specs.Spans.{AreWhole, NoOverlap, span_cmp}
+use Rattle.gp_versions.specs.Spans.{span_cmp}
+use Rattle.gp_versions.specs.TableSpans.{AreWhole, NoOverlap}
 use Rattle.gp_dump.specs.declared.dump.Dump as code
 use Rattle.gp_dump.specs.declared.error.DumpStop.{DumpStop}
 use Rattle.gp_dump.specs.Dumps.{AreInPlace, AreOfTables, Dump, IsDump, WellFormed, dump_text, dump_with, has_read_committed, written_text}
 use Rattle.gp_dump.specs.Reading.{Continues}
-use Rattle.gp_dump.specs.Rules.{Fails, Holds, Verdict, fault_in, first_fault, verdict_on}
+use Rattle.gp_dump.specs.Verdicts.{Fails, Holds, Verdict, fault_in, first_fault, verdict_on}
 use Rattle.gp_dump.specs.Views.{dump_view}
 use Rattle.gp_dump.proofs.PlaceLemmas.{Follows, in-place-apart, rows-follow}
 use Rattle.gp_dump.proofs.LineLemmas.{line-laws, log-lawful}

@@ -6,6 +6,7 @@ pub mod PlaceLemmas
 pub mod ReadLemmas
 pub mod RowLemmas
 pub mod LawLemmas
+pub mod FaultLemmas
 pub mod LineLemmas
 pub mod RoundTrip
 pub mod SortLemmas

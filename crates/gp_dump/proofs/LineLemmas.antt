@@ -2,7 +2,7 @@
 use Rattle.std.proofs.Common.{◌≡◌, ℕ, suc, ◌+◌, ◌<◌, ◌≤◌, Bool, true, false, cond, leb, ltb, List, [], ◌∷◌, ◌++◌, length, Option, Some, None, Result, Ok, Err, inl, inr, refl, sym, ap, subst, ◌∙◌, arith, codes}
 use Rattle.std.specs.List.{AllByRecursion, list_all}
 use Rattle.std.specs.Str.{bytes_eq}
-use Rattle.std.proofs.lemmas.Bool.{cases_Bool, false≢true, le-leb, leb-true, lt-ltb, ltb-true}
+use Rattle.std.proofs.lemmas.Bool.{cases_Bool, false≢true, le-leb, leb-true, lt-ltb, ltb-true, and_parts}
 use Rattle.gp_base.specs.declared.cell.Cell.{Cell}
 use Rattle.gp_base.specs.declared.cell.Cell.TheVariants as cell
 use Rattle.gp_base.specs.declared.refusal.Refusal.{Refusal}
@@ -10,33 +10,37 @@ use Rattle.gp_base.specs.declared.table.Column.{Column}
 use Rattle.gp_base.specs.declared.table.Kind.{Kind}
 use Rattle.gp_base.specs.declared.table.Kind.TheVariants as kind
 use Rattle.gp_base.specs.declared.table.Table.{Table}
-use Rattle.gp_base.specs.Cells.{is_user_cell}
+use Rattle.gp_base.specs.UserCells.{is_user_cell}
 use Rattle.gp_base.specs.Names.{is_name}
 use Rattle.gp_grammar.specs.Canonical.{command_text}
-use Rattle.gp_grammar.specs.LineReading.{Fault, command_of}
+use Rattle.gp_grammar.specs.LineReading.{Fault}
+use Rattle.gp_grammar.specs.Reading.{command_of}
 use Rattle.gp_grammar.specs.Syntax as y
 use Rattle.gp_grammar.specs.Syntax.{Command}
 use Rattle.gp_algebra.specs.Statements.{Statement}
 use Rattle.gp_versions.specs.declared.span.Span.{Span}
-use Rattle.gp_txn.specs.declared.counting.TheConstants.{MAX_SPANS}
-use Rattle.gp_machine.specs.Actions.{Create, Begin, Commit, Rollback, Run, action_of}
-use Rattle.gp_machine.specs.Entries.{Entry, RolledBack, Lost, Created, Began, Ran, Committed, Ended, statement_count, statements_in, transactions_in, versions_in}
+use Rattle.gp_base.specs.declared.limit.TheConstants.{MAX_SPANS}
+use Rattle.gp_machine.specs.Actions.{Create, Begin, Commit, Rollback, Run, action_of, allowed}
+use Rattle.gp_machine.proofs.EntryCounts.{count-most}
+use Rattle.gp_machine.specs.Entries.{Entry, RolledBack, Lost, Created, Began, Ran, Committed, Ended, is_commit, line_of, session_of, statement_count, statements_in, transactions_in, versions_in}
 use Rattle.gp_machine.specs.Event.{count_refusal}
 use Rattle.gp_log.specs.declared.limit.TheConstants.{MAX_ENTRIES}
-use Rattle.gp_log.specs.Discipline.{Said, Does, Loses, Flaw, Disorder, creating, doing, last_line, line_of, losing, next_entry, running, said_by, session_of, transaction_in}
+use Rattle.gp_log.specs.Discipline.{Said, Does, Loses, Flaw, Disorder, creating, doing, last_line, losing, next_entry, running, said_by, transaction_in}
 use Rattle.gp_log.specs.LogFacts.{tables_in}
-use Rattle.gp_log.specs.Limits.{limits}
+use Rattle.gp_log.specs.Parameters.{parameters}
 use Rattle.gp_dumpline.specs.Numbers.{beyond_versions}
-use Rattle.gp_dumpline.specs.Forms.{HasForm, IsVersion, LogLine, if_canonical, is_readable_cell, is_said_in, log_line_of, said_of, section_of, span_of}
+use Rattle.gp_dumpline.specs.Forms.{HasForm, IsVersion, LogLine, if_canonical, log_line_of, said_of, section_of, span_of}
+use Rattle.gp_dumpline.specs.Said.{is_said_in}
+use Rattle.gp_dumpline.specs.Rows.{is_readable_cell}
 use Rattle.gp_dumpline.specs.Texts.{entry_text, log_line_text, said_text, section_text, span_text}
 use Rattle.gp_check.proofs.ValidLemmas.{command-read}
 use Rattle.gp_dumpline.proofs.LogLineLaws.{count-again, count-takes, log_line-again, log_line-takes, section-again as section_form-again, section-takes as section_form-takes}
 use Rattle.gp_dumpline.proofs.OneLine.{count-one_line, end-one_line, entry-one_line, header-one_line, section-one_line, span-one_line}
-use Rattle.gp_dumpline.proofs.SaidLaws.{command-name, said-takes}
+use Rattle.gp_dumpline.proofs.SaidLaws.{command-name, is-said, said-takes}
 use Rattle.gp_dumpline.proofs.SpanLaws.{span-again, span-takes}
 use Rattle.gp_dump.specs.Dumps.{AreReadable, IsRow, ends_within, fits_columns, is_in_place, is_of_kind}
-use Rattle.gp_dump.specs.Rules.{◌>>=◌, log_rule, row_rule, rule, rule_holds, rule_next, section_rule}
-use Rattle.gp_dump.proofs.PlaceLemmas.{both-true, place-end, place-last}
+use Rattle.gp_dump.proofs.PlaceLemmas.{place-end, place-last}
+use Rattle.gp_dump.specs.Verdicts.{◌>>=◌, log_rule, row_rule, rule, rule_holds, rule_next, section_rule}
 use Rattle.gp_dump.proofs.RoundTrip.{AreLawful, IsEntry, LineLaws, LogsAreLawful, TableLaws}
 
 -- ---- the steps of a rule
@@ -68,38 +72,38 @@ module _ (older : List Entry) (line session : ℕ) where
   unless-flaw true flaw r entry e = absurd cc
   unless-flaw false flaw r entry e = e
 
-  creating-parts : (table : Table) (o : Option Refusal) (entry : Entry) → creating limits older line session table o ≡ Ok entry → HasParts line session (Does (y.create table)) entry
+  creating-parts : (table : Table) (o : Option Refusal) (entry : Entry) → creating parameters older line session table o ≡ Ok entry → HasParts line session (Does (y.create table)) entry
   creating-parts table (Some refusal) entry e = absurd cc
   creating-parts table None entry e = parts-of (Created line session table) entry (Does (y.create table)) (record { line_is = refl; session_is = refl; said_is = refl }) (cc)
 
-  running-parts : (t : ℕ) (command : Command) (o : Option Refusal) (r : Result Statement Refusal) (entry : Entry) → running limits older line session t command o r ≡ Ok entry → HasParts line session (Does command) entry
+  running-parts : (t : ℕ) (command : Command) (o : Option Refusal) (r : Result Statement Refusal) (entry : Entry) → running parameters older line session t command o r ≡ Ok entry → HasParts line session (Does command) entry
   running-parts t command (Some refusal) r entry e = absurd cc
   running-parts t command None (Err refusal) entry e = absurd cc
   running-parts t command None (Ok statement) entry e = parts-of (Ran line session command t statement) entry (Does command) (record { line_is = refl; session_is = refl; said_is = refl }) (cc)
 
-  create-parts : (table : Table) (active : Option ℕ) (entry : Entry) → doing limits older line session active (Create table) ≡ Ok entry → HasParts line session (Does (y.create table)) entry
-  create-parts table None entry e = creating-parts table (limits.created (tables_in older) table) entry (unless-flaw (leb limits.tables (length (tables_in older))) Disorder _ entry e)
+  create-parts : (table : Table) (active : Option ℕ) (entry : Entry) → doing parameters older line session (allowed active (Create table)) ≡ Ok entry → HasParts line session (Does (y.create table)) entry
+  create-parts table None entry e = creating-parts table (parameters.created (tables_in older) table) entry (unless-flaw (leb parameters.tables (length (tables_in older))) Disorder _ entry e)
   create-parts table (Some t) entry e = absurd cc
 
-  begin-parts : (read_committed : Bool) (active : Option ℕ) (entry : Entry) → doing limits older line session active (Begin read_committed) ≡ Ok entry → HasParts line session (Does (y.begin read_committed)) entry
+  begin-parts : (read_committed : Bool) (active : Option ℕ) (entry : Entry) → doing parameters older line session (allowed active (Begin read_committed)) ≡ Ok entry → HasParts line session (Does (y.begin read_committed)) entry
   begin-parts read_committed None entry e =
-      let is : Ok (Began line session (suc (transactions_in older)) read_committed) ≡ Ok entry = unless-flaw (leb limits.transactions (transactions_in older)) Disorder _ entry e in
+      let is : Ok (Began line session (suc (transactions_in older)) read_committed) ≡ Ok entry = unless-flaw (leb parameters.transactions (transactions_in older)) Disorder _ entry e in
       parts-of (Began line session (suc (transactions_in older)) read_committed) entry (Does (y.begin read_committed)) (record { line_is = refl; session_is = refl; said_is = refl }) (cc)
   begin-parts read_committed (Some t) entry e = absurd cc
 
-  commit-parts : (active : Option ℕ) (entry : Entry) → doing limits older line session active Commit ≡ Ok entry → HasParts line session (Does y.Command.commit) entry
+  commit-parts : (active : Option ℕ) (entry : Entry) → doing parameters older line session (allowed active Commit) ≡ Ok entry → HasParts line session (Does y.Command.commit) entry
   commit-parts None entry e = absurd cc
   commit-parts (Some t) entry e = parts-of (Committed line session t) entry (Does y.Command.commit) (record { line_is = refl; session_is = refl; said_is = refl }) (cc)
 
-  rollback-parts : (active : Option ℕ) (entry : Entry) → doing limits older line session active Rollback ≡ Ok entry → HasParts line session (Does y.rollback) entry
+  rollback-parts : (active : Option ℕ) (entry : Entry) → doing parameters older line session (allowed active Rollback) ≡ Ok entry → HasParts line session (Does y.rollback) entry
   rollback-parts None entry e = absurd cc
   rollback-parts (Some t) entry e = parts-of (Ended line session RolledBack t) entry (Does y.rollback) (record { line_is = refl; session_is = refl; said_is = refl }) (cc)
 
-  run-parts : (command : Command) (active : Option ℕ) (entry : Entry) → doing limits older line session active (Run command) ≡ Ok entry → HasParts line session (Does command) entry
+  run-parts : (command : Command) (active : Option ℕ) (entry : Entry) → doing parameters older line session (allowed active (Run command)) ≡ Ok entry → HasParts line session (Does command) entry
   run-parts command None entry e = absurd cc
-  run-parts command (Some t) entry e = running-parts t command (count_refusal limits (statement_count t older) (statements_in older)) (limits.checked (tables_in older) command) entry e
+  run-parts command (Some t) entry e = running-parts t command (count_refusal parameters (statement_count t older) (statements_in older)) (parameters.checked (tables_in older) command) entry e
 
-  doing-parts : (command : Command) (active : Option ℕ) (entry : Entry) → doing limits older line session active (action_of command) ≡ Ok entry → HasParts line session (Does command) entry
+  doing-parts : (command : Command) (active : Option ℕ) (entry : Entry) → doing parameters older line session (allowed active (action_of command)) ≡ Ok entry → HasParts line session (Does command) entry
   doing-parts (y.create table) active entry e = create-parts table active entry e
   doing-parts (y.begin read_committed) active entry e = begin-parts read_committed active entry e
   doing-parts y.Command.commit active entry e = commit-parts active entry e
@@ -110,12 +114,12 @@ module _ (older : List Entry) (line session : ℕ) where
   doing-parts (y.delete table condition) active entry e = run-parts (y.delete table condition) active entry e
   doing-parts (y.select query) active entry e = run-parts (y.select query) active entry e
 
-  losing-parts : (active : Option ℕ) (entry : Entry) → losing limits older line session active ≡ Ok entry → HasParts line session Loses entry
+  losing-parts : (active : Option ℕ) (entry : Entry) → losing parameters older line session active ≡ Ok entry → HasParts line session Loses entry
   losing-parts None entry e = absurd cc
   losing-parts (Some t) entry e = parts-of (Ended line session Lost t) entry Loses (record { line_is = refl; session_is = refl; said_is = refl }) (cc)
 
   -- the next entry is that of the line, its session and what it says
-  pub next-parts : (said : Said) (entry : Entry) → next_entry limits older line session said ≡ Ok entry → HasParts line session said entry
+  pub next-parts : (said : Said) (entry : Entry) → next_entry parameters older line session said ≡ Ok entry → HasParts line session said entry
   next-parts (Does command) entry e = doing-parts command (transaction_in session older) entry e
   next-parts Loses entry e = losing-parts (transaction_in session older) entry e
 
@@ -136,7 +140,7 @@ record TookLine (second : Bool) (log : List Entry) (text : List ℕ) (entry : En
   said : Said
   said_is : said_of l.said ≡ Some said
   known : is_said_in second said ≡ true
-  follows : next_entry limits log l.line l.session said ≡ Ok entry
+  follows : next_entry parameters log l.line l.session said ≡ Ok entry
 
 entry-took : (second : Bool) (log : List Entry) (text : List ℕ) (entry : Entry) → log_rule second log text ≡ Ok entry → TookLine second log text entry
 unfolding log_rule
@@ -145,7 +149,7 @@ entry-took second log text entry e =
     let b = test-took 6 (ltb (last_line log) a.0.line) _ entry a.2 in
     let c = some-took 7 (said_of a.0.said) _ entry b.1 in
     let f = test-took 7 (is_said_in second c.0) _ entry c.2 in
-    let d = next-took (next_entry limits log a.0.line a.0.session c.0) entry f.1 in
+    let d = next-took (next_entry parameters log a.0.line a.0.session c.0) entry f.1 in
     record { l = a.0; is = a.1; above = b.0; said = c.0; said_is = c.1; known = f.0; follows = d }
 
 entry-taken : (second : Bool) (log : List Entry) (text : List ℕ) (entry : Entry) → log_rule second log text ≡ Ok entry → (text ≡ entry_text entry) × IsEntry second log entry
@@ -155,8 +159,8 @@ entry-taken second log text entry e =
     let parts = next-parts log t.l.line t.l.session t.said entry t.follows in
     let said-text : t.l.said ≡ said_text (said_by entry) = said-takes t.l.said t.said t.said_is ∙ ap said_text (sym parts.said_is) in
     let said : said_of (said_text (said_by entry)) ≡ Some (said_by entry) = ap said_of (sym said-text) ∙ t.said_is ∙ ap (λ (x : Said). Some x) (sym parts.said_is) in
-    let follows : next_entry limits log (line_of entry) (session_of entry) (said_by entry) ≡ Ok entry =
-    (λ i. next_entry limits log (parts.line_is i) (parts.session_is i) (parts.said_is i)) ∙ t.follows in
+    let follows : next_entry parameters log (line_of entry) (session_of entry) (said_by entry) ≡ Ok entry =
+    (λ i. next_entry parameters log (parts.line_is i) (parts.session_is i) (parts.said_is i)) ∙ t.follows in
     let text-is : text ≡ entry_text entry = form.is ∙ (λ i. log_line_text (sym parts.line_is i) (sym parts.session_is i) (said-text i)) in (
       text-is,
       record {
@@ -212,7 +216,7 @@ all-cells f holds [] [] is = refl
 all-cells f holds [] (c ∷ cells) is = absurd (false≢true is)
 all-cells f holds (col ∷ cols) [] is = absurd (false≢true is)
 all-cells f holds (col ∷ cols) (c ∷ cells) is =
-    let a = both-true (is_of_kind col.kind c) (fits_columns cols cells) is in
+    let a = and_parts (is_of_kind col.kind c) (fits_columns cols cells) is in
     rw (holds col.kind c a.0) (all-cells f holds cols cells a.1)
 
 some-cells : (cols : List Column) (cells : List Cell) → fits_columns cols cells ≡ true → 1 ≤ length cols → 1 ≤ length cells
@@ -222,7 +226,7 @@ some-cells (col ∷ cols) (c ∷ cells) is some = omega arith
 
 ends-at-version : (versions from : ℕ) (to : Option ℕ) → versions ≤ MAX_ENTRIES → ends_within versions from to ≡ true → IsVersion to
 ends-at-version versions from None few is = tt
-ends-at-version versions from (Some to) few is = omega (arith, few, leb-true to versions (both-true (ltb from to) (leb to versions) is).1)
+ends-at-version versions from (Some to) few is = omega (arith, few, leb-true to versions (and_parts (ltb from to) (leb to versions) is).1)
 
 begins-at-version : (versions from : ℕ) → versions ≤ MAX_ENTRIES → leb from versions ≡ true → from < beyond_versions
 begins-at-version versions from few is = omega (arith, few, leb-true from versions is)
@@ -325,12 +329,7 @@ said-command text command e = elim (cases_Bool (bytes_eq text (codes "LOST"))) [
 
 -- a log has no more versions than entries
 versions-few : (log : List Entry) → versions_in log ≤ length log
-versions-few [] = omega arith
-versions-few (Created line session table ∷ older) = omega (arith, versions-few older)
-versions-few (Began line session t read_committed ∷ older) = omega (arith, versions-few older)
-versions-few (Ran line session ran t statement ∷ older) = omega (arith, versions-few older)
-versions-few (Committed line session t ∷ older) = omega (arith, versions-few older)
-versions-few (Ended line session end t ∷ older) = omega (arith, versions-few older)
+versions-few = count-most is_commit
 
 -- a table that a CREATE TABLE creates has a column
 table-columns : (text : List ℕ) (table : Table) → command_of text ≡ Ok (y.create table) → 1 ≤ length table.cols
@@ -347,7 +346,7 @@ all-behind P (y ∷ xs) x all last = (all.0, all-behind P xs x all.1 last)
 
 tables-named : (log : List Entry) → AreReadable log → AllByRecursion IsNamed (tables_in log)
 tables-named [] are = tt
-tables-named (Created line session table ∷ older) are = all-behind IsNamed (tables_in older) table (tables-named older are.1) (named-by line session table are.0)
+tables-named (Created line session table ∷ older) are = all-behind IsNamed (tables_in older) table (tables-named older are.1) (named-by line session table (is-said (Does (y.create table)) are.0))
 tables-named (Began line session t read_committed ∷ older) are = tables-named older are.1
 tables-named (Ran line session ran t statement ∷ older) are = tables-named older are.1
 tables-named (Committed line session t ∷ older) are = tables-named older are.1

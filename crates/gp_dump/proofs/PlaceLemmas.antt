@@ -1,24 +1,20 @@
 -- Row lines in their places are spans that never overlap and that are empty nowhere.
-use Rattle.std.proofs.Common.{◌≡◌, ◌⊎◌, inl, inr, ℕ, ◌<◌, ◌≤◌, Bool, true, false, ◌&&◌, ◌||◌, List, [], ◌∷◌, Option, Some, None, IsSomeAnd, refl, sym, ap, subst, ◌∙◌, arith, leb, ltb}
+use Rattle.std.proofs.Common.{◌≡◌, ◌⊎◌, inl, inr, ℕ, ◌<◌, ◌≤◌, Bool, true, false, ◌||◌, List, [], ◌∷◌, Option, Some, None, IsSomeAnd, refl, sym, ap, subst, ◌∙◌, arith, leb, ltb}
 use Rattle.std.specs.List.{AllByRecursion}
 use Rattle.std.specs.Ordering.{is_eq, is_lt}
 use Rattle.std.specs.declared.cmp.Ordering.{Ordering}
 use Rattle.std.specs.declared.cmp.Ordering.TheVariants.{Less, Equal, Greater}
-use Rattle.std.proofs.lemmas.Bool.{false≢true, leb-true, ltb-true}
+use Rattle.std.proofs.lemmas.Bool.{false≢true, leb-true, ltb-true, and_parts}
 use Rattle.gp_base.specs.declared.table.Column.{Column}
 use Rattle.gp_base.specs.Identities.{identity_cmp, same_identity}
 use Rattle.gp_base.specs.IdentityOrder.{identity_cmp_total}
 use Rattle.gp_base.proofs.IdentityLaws.{same_identity-is}
 use Rattle.gp_versions.proofs.SameLemmas.{same-exact}
 use Rattle.gp_versions.specs.declared.span.Span.{Span}
-use Rattle.gp_versions.specs.Spans.{AreWhole, IsApart, IsEndAbove, NoOverlap}
+use Rattle.gp_versions.specs.TableSpans.{AreWhole, IsApart, IsEndAbove, NoOverlap}
 use Rattle.gp_dump.specs.Dumps.{AreInPlace, ends_within, has_ended_by, is_after, is_in_place, is_next}
 
 -- ---- tests
-
-pub both-true : (a b : Bool) → (a && b) ≡ true → (a ≡ true) × (b ≡ true)
-both-true true b is = (refl, is)
-both-true false b is = absurd (false≢true is)
 
 either-true : (a b : Bool) → (a || b) ≡ true → (a ≡ true) ⊎ (b ≡ true)
 either-true true b is = inl refl
@@ -43,8 +39,8 @@ pub follows-after : (last span : Span) → is_after last span ≡ true → Follo
 follows-after last span is = elim (either-true (is_lt (identity_cmp last.id span.id)) _ is) [
   | inl less ↦ inl (less-is (identity_cmp last.id span.id) less)
   | inr later ↦
-      let a = both-true (same_identity last.id span.id) _ later in
-      let b = both-true (ltb last.from span.from) _ a.1 in
+      let a = and_parts (same_identity last.id span.id) _ later in
+      let b = and_parts (ltb last.from span.from) _ a.1 in
       inr (same-exact last.id span.id a.0, (ltb-true last.from span.from b.0, ended-by last.to span.from b.1))
 ]
 
@@ -69,16 +65,16 @@ all-follow last span [] first all = tt
 all-follow last span (next ∷ spans) first all = (follows-trans last span next first all.0, all-follow last span spans first all.1)
 
 pub place-first : (versions : ℕ) (before : List Span) (span : Span) → is_in_place versions before span ≡ true → leb 1 span.from ≡ true
-place-first versions before span is = (both-true (leb 1 span.from) _ is).0
+place-first versions before span is = (and_parts (leb 1 span.from) _ is).0
 
 pub place-last : (versions : ℕ) (before : List Span) (span : Span) → is_in_place versions before span ≡ true → leb span.from versions ≡ true
-place-last versions before span is = (both-true (leb span.from versions) _ (both-true (leb 1 span.from) _ is).1).0
+place-last versions before span is = (and_parts (leb span.from versions) _ (and_parts (leb 1 span.from) _ is).1).0
 
 pub place-end : (versions : ℕ) (before : List Span) (span : Span) → is_in_place versions before span ≡ true → ends_within versions span.from span.to ≡ true
-place-end versions before span is = (both-true (ends_within versions span.from span.to) _ (both-true (leb span.from versions) _ (both-true (leb 1 span.from) _ is).1).1).0
+place-end versions before span is = (and_parts (ends_within versions span.from span.to) _ (and_parts (leb span.from versions) _ (and_parts (leb 1 span.from) _ is).1).1).0
 
 pub place-next : (versions : ℕ) (before : List Span) (span : Span) → is_in_place versions before span ≡ true → is_next before span ≡ true
-place-next versions before span is = (both-true (ends_within versions span.from span.to) _ (both-true (leb span.from versions) _ (both-true (leb 1 span.from) _ is).1).1).1
+place-next versions before span is = (and_parts (ends_within versions span.from span.to) _ (and_parts (leb span.from versions) _ (and_parts (leb 1 span.from) _ is).1).1).1
 
 -- all row lines behind one follow it
 pub rows-follow : (cols : List Column) (versions : ℕ) (before : List Span) (last : Span) (spans : List Span) → AreInPlace cols versions (last ∷ before) spans → AllByRecursion (Follows last) spans
@@ -93,7 +89,7 @@ all-apart span (next ∷ spans) all = (follows-apart span next all.0, all-apart 
 
 whole-end : (versions from : ℕ) (to : Option ℕ) → ends_within versions from to ≡ true → IsEndAbove from to
 whole-end versions from None is = tt
-whole-end versions from (Some to) is = ltb-true from to (both-true (ltb from to) _ is).0
+whole-end versions from (Some to) is = ltb-true from to (and_parts (ltb from to) _ is).0
 
 pub place-whole : (versions : ℕ) (before : List Span) (span : Span) → is_in_place versions before span ≡ true → IsEndAbove span.from span.to
 place-whole versions before span is = whole-end versions span.from span.to (place-end versions before span is)

@@ -9,7 +9,8 @@ use Rattle.gp_grammar.specs.Capping.{capped_command}
 use Rattle.gp_grammar.specs.CommandGrammar.{IsCommand}
 use Rattle.gp_grammar.specs.CommandParsing.{command as parser}
 use Rattle.gp_grammar.specs.Limits.{command_shape, passed_limit}
-use Rattle.gp_grammar.specs.LineReading.{command_of, syntax}
+use Rattle.gp_grammar.specs.LineReading.{syntax}
+use Rattle.gp_grammar.specs.Reading.{command_of}
 use Rattle.gp_grammar.specs.Syntax.{Command}
 use Rattle.gp_grammar.proofs.LineLaws.{texts-read}
 use Rattle.gp_grammar.proofs.ParserLaws.{lawful-command}

@@ -18,7 +18,8 @@ use Rattle.gp_dump.specs.declared.error.LineStop.TheVariants as stop
 use Rattle.gp_dump.specs.Dumps.{Dump, spans_in}
 use Rattle.gp_dump.specs.Lines.{Line, Whole, Cut, Missing, lines_of}
 use Rattle.gp_dump.specs.Reading.{AreDue, Continues, LineFails, Stops, behind, stop_at, takes_text, verdict_from}
-use Rattle.gp_dump.specs.Rules.{◌>>=◌, Due, Header, Count, Logs, Sections, Rows, Nothing, Verdict, Holds, Fails, after_text, cols_of, end_verdict, header_line, log_rule, nothing_line, row_rule, rule, section_rule, text_of, then_verdict, verdict}
+use Rattle.gp_dump.specs.Rules.{Due, Header, Count, Logs, Sections, Rows, Nothing}
+use Rattle.gp_dump.specs.Verdicts.{◌>>=◌, Verdict, Holds, Fails, after_text, cols_of, end_verdict, header_line, log_rule, nothing_line, row_rule, rule, section_rule, text_of, then_verdict, verdict}
 
 -- ---- a line with a text
 

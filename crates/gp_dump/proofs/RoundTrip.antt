@@ -9,19 +9,22 @@ use Rattle.std.proofs.lemmas.Slice.Eq.{bytes_eq-Decides}
 use Rattle.gp_base.specs.declared.table.Column.{Column}
 use Rattle.gp_base.specs.declared.table.Table.{Table}
 use Rattle.gp_versions.specs.declared.span.Span.{Span}
-use Rattle.gp_txn.specs.declared.counting.TheConstants.{MAX_SPANS}
+use Rattle.gp_base.specs.declared.limit.TheConstants.{MAX_SPANS}
 use Rattle.gp_machine.specs.Entries.{Entry, versions_in}
 use Rattle.gp_log.specs.declared.limit.TheConstants.{MAX_ENTRIES}
 use Rattle.gp_log.specs.Discipline.{IsLog, IsNext, said_by}
 use Rattle.gp_log.specs.LogFacts.{tables_in}
-use Rattle.gp_log.specs.Limits.{limits}
-use Rattle.gp_dumpline.specs.Forms.{count_of, header_of, is_said_in, said_of}
+use Rattle.gp_log.specs.Parameters.{parameters}
+use Rattle.gp_dumpline.specs.Forms.{count_of, header_of, said_of}
+use Rattle.gp_dumpline.specs.Said.{is_said_in}
 use Rattle.gp_dumpline.specs.Texts.{count_text, end_text, entry_text, header, said_text, section_text, span_text}
 use Rattle.gp_dumpline.specs.Laws.{IsOneLine}
 use Rattle.gp_dumpline.proofs.HeaderLaws.{header-again as header_form-again, header-takes}
+use Rattle.gp_dumpline.proofs.SaidLaws.{is-said, said-is}
 use Rattle.gp_dump.specs.Dumps.{AreInPlace, AreOfTables, AreReadable, Dump, IsDump, IsRow, WellFormed, has_read_committed, line_text, section_texts, sections_texts, spans_in, texts_of}
 use Rattle.gp_dump.specs.Lines.{Line, Whole, Cut, Missing, lines_of, onto as put}
-use Rattle.gp_dump.specs.Rules.{◌>>=◌, Due, Header, Count, Logs, Sections, Rows, Nothing, Verdict, Holds, Fails, after_text, end_verdict, header_line, log_rule, nothing_line, row_rule, rule, rule_holds, section_rule, text_of, then_verdict, verdict, verdict_on}
+use Rattle.gp_dump.specs.Rules.{Due, Header, Count, Logs, Sections, Rows, Nothing}
+use Rattle.gp_dump.specs.Verdicts.{◌>>=◌, Verdict, Holds, Fails, after_text, end_verdict, header_line, log_rule, nothing_line, row_rule, rule, rule_holds, section_rule, text_of, then_verdict, verdict, verdict_on}
 use Rattle.gp_dump.proofs.FormatLemmas.{AreSaidIn, format-said, said-format}
 
 -- ---- items put in front of a list one after another, so that the last is first
@@ -37,7 +40,7 @@ whole_lines texts = map (λ (text : List ℕ). Whole text) texts
 
 -- an entry after these, of which the text can be read in this format
 pub record IsEntry (second : Bool) (log : List Entry) (entry : Entry) : Type 0 where
-  pub next : IsNext limits log entry
+  pub next : IsNext parameters log entry
   pub said : said_of (said_text (said_by entry)) ≡ Some (said_by entry)
   pub format : is_said_in second (said_by entry) ≡ true
 
@@ -185,7 +188,7 @@ header-again laws second number rest = rw ((laws.header second).utf8, header_for
 
 -- ---- the order of a log
 
-log-tail : (entries log : List Entry) → IsLog limits (onto entries log) → IsLog limits log
+log-tail : (entries log : List Entry) → IsLog parameters (onto entries log) → IsLog parameters log
 log-tail [] log is = is
 log-tail (entry ∷ entries) log is = (log-tail entries (entry ∷ log) is).1
 
@@ -197,24 +200,24 @@ said-tail : (second : Bool) (entries log : List Entry) → AreSaidIn second (ont
 said-tail second [] log are = are
 said-tail second (entry ∷ entries) log are = (said-tail second entries (entry ∷ log) are).1
 
-follow-from : (second : Bool) (entries log : List Entry) → IsLog limits (onto entries log) → AreReadable (onto entries log) → AreSaidIn second (onto entries log) → Follow second log entries
+follow-from : (second : Bool) (entries log : List Entry) → IsLog parameters (onto entries log) → AreReadable (onto entries log) → AreSaidIn second (onto entries log) → Follow second log entries
 follow-from second [] log is are said = tt
 follow-from second (entry ∷ entries) log is are said = (
   record {
     next = (log-tail entries (entry ∷ log) is).0;
-    said = (readable-tail entries (entry ∷ log) are).0;
+    said = is-said (said_by entry) (readable-tail entries (entry ∷ log) are).0;
     format = (said-tail second entries (entry ∷ log) said).0;
   },
   follow-from second entries (entry ∷ log) is are said,
 )
 
-log-from : (second : Bool) (entries log : List Entry) → Follow second log entries → IsLog limits log → IsLog limits (onto entries log)
+log-from : (second : Bool) (entries log : List Entry) → Follow second log entries → IsLog parameters log → IsLog parameters (onto entries log)
 log-from second [] log all is = is
 log-from second (entry ∷ entries) log all is = log-from second entries (entry ∷ log) all.1 (all.0.next, is)
 
 readable-from : (second : Bool) (entries log : List Entry) → Follow second log entries → AreReadable log → AreReadable (onto entries log)
 readable-from second [] log all are = are
-readable-from second (entry ∷ entries) log all are = readable-from second entries (entry ∷ log) all.1 (all.0.said, are)
+readable-from second (entry ∷ entries) log all are = readable-from second entries (entry ∷ log) all.1 (said-is (said_by entry) all.0.said, are)
 
 said-from : (second : Bool) (entries log : List Entry) → Follow second log entries → AreSaidIn second log → AreSaidIn second (onto entries log)
 said-from second [] log all are = are
@@ -251,7 +254,7 @@ lines-read laws second dump more lawful is said =
     let others : List Table = tables_in dump.entries in
     let log : onto entries [] ≡ dump.entries = onto-all entries ∙ reverse-reverse dump.entries in
     let back : reverse (onto dump.tables []) ≡ dump.tables = reverse-onto dump.tables in
-    let follow : Follow second [] entries = follow-from second entries [] (subst (IsLog limits) (sym log) is.log) (subst AreReadable (sym log) is.commands) (subst (AreSaidIn second) (sym log) said) in
+    let follow : Follow second [] entries = follow-from second entries [] (subst (IsLog parameters) (sym log) is.log) (subst AreReadable (sym log) is.commands) (subst (AreSaidIn second) (sym log) said) in
     let few : length entries ≤ MAX_ENTRIES = omega (arith, length-reverse dump.entries, is.few_entries) in
     let rest : List Line = whole_lines (sections_texts others dump.tables) ++ last_lines more in
     ap (λ (lines : List Line). verdict lines Header 1) (texts-lines second dump more)
@@ -513,7 +516,7 @@ lines-taken laws (first ∷ second ∷ lines) dump lawful e =
     let c = laws.count_taken t.text n.0 n.1 in
     let l = logs-taken laws h.second n.0 [] lines ((1 + 1) + 1) dump (subst (λ (due : Due). verdict lines due ((1 + 1) + 1) ≡ Holds dump) (sym n.2) t.holds) in
     let log : List Entry = onto l.entries [] in
-    let is-log : IsLog limits log = log-from h.second l.entries [] l.follow tt in
+    let is-log : IsLog parameters log = log-from h.second l.entries [] l.follow tt in
     let are-readable : AreReadable log = readable-from h.second l.entries [] l.follow tt in
     let said : AreSaidIn h.second log = said-from h.second l.entries [] l.follow tt in
     let length-is : length log ≡ length l.entries = ap length (onto-all l.entries) ∙ length-reverse l.entries in
@@ -602,7 +605,7 @@ texts-one-line : (laws : LineLaws) (second : Bool) (dump : Dump) → AreLawful (
 texts-one-line laws second dump lawful is said =
     let entries : List Entry = reverse dump.entries in
     let log : onto entries [] ≡ dump.entries = onto-all entries ∙ reverse-reverse dump.entries in
-    let follow : Follow second [] entries = follow-from second entries [] (subst (IsLog limits) (sym log) is.log) (subst AreReadable (sym log) is.commands) (subst (AreSaidIn second) (sym log) said) in
+    let follow : Follow second [] entries = follow-from second entries [] (subst (IsLog parameters) (sym log) is.log) (subst AreReadable (sym log) is.commands) (subst (AreSaidIn second) (sym log) said) in
     let sections : List (List ℕ) = sections_texts (tables_in dump.entries) dump.tables in (
       (laws.header second).free,
       (

@@ -15,10 +15,10 @@ use Rattle.gp_base.proofs.IdentityLaws.{same_identity-is}
 use Rattle.gp_machine.specs.Entries.{Entry, versions_in}
 use Rattle.gp_log.specs.LogFacts.{tables_in}
 use Rattle.gp_versions.specs.declared.span.Span.{Span}
-use Rattle.gp_versions.specs.Spans.{AreWhole, IsApart, IsEndAbove, NoOverlap}
+use Rattle.gp_versions.specs.TableSpans.{AreWhole, IsApart, IsEndAbove, NoOverlap}
 use Rattle.gp_dump.specs.Dumps.{has_ended_by, is_after, is_in_place}
 use Rattle.gp_dump.specs.Reading.{AreDue}
-use Rattle.gp_dump.specs.Rules.{cols_of}
+use Rattle.gp_dump.specs.Verdicts.{cols_of}
 use Rattle.gp_dump.proofs.PlaceLemmas.{Follows, follows-after, follows-apart, follows-trans, place-next, place-whole}
 
 -- ---- UTF-8

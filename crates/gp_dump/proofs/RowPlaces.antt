@@ -1,5 +1,5 @@
 -- The spans of a table of a history, in the order of a dump, are in their places: they rise strictly, and no span of a row reaches into its next.
-use Rattle.std.proofs.Common.{◌≡◌, ◌<◌, ◌≤◌, ℕ, zero, suc, true, false, true≢false, ◌&&◌, ◌||◌, ◌==◌, nat_lt, nat_le, cond, List, [], ◌∷◌, length, Option, Some, None, slice_get, if◌then◌else◌, refl, sym, ap, subst, ◌∙◌, arith, ◌⊎◌, inl, inr, ⊎_elim}
+use Rattle.std.proofs.Common.{◌≡◌, ◌<◌, ◌≤◌, ℕ, zero, suc, true, false, true≢false, ◌&&◌, ◌||◌, ◌==◌, nat_lt, cond, List, [], ◌∷◌, length, Option, Some, None, slice_get, if◌then◌else◌, refl, sym, ap, subst, ◌∙◌, arith, ◌⊎◌, inl, inr, ⊎_elim}
 use Rattle.std.specs.Prelude.{IsSomeAnd}
 use Rattle.std.specs.List.{AllByRecursion, filter}
 use Rattle.std.specs.declared.cmp.Ordering.{Ordering}
@@ -19,13 +19,16 @@ use Rattle.gp_base.specs.declared.table.Table.{Table}
 use Rattle.gp_algebra.specs.Effects.{Written}
 use Rattle.gp_versions.specs.declared.span.Span.{Span}
 use Rattle.gp_versions.specs.Commits.{AreBelow, IsBelow, IsEndBelow}
-use Rattle.gp_versions.specs.Spans.{AreWhole, IsApart, IsEndAbove, NoOverlap, span_cmp}
-use Rattle.gp_machine.proofs.Distinct.{each_all, each_append, each_both, each_map, each_weaker}
+use Rattle.gp_versions.specs.Spans.{span_cmp}
+use Rattle.gp_machine.proofs.Distinct.{each_all, each_both, each_weaker}
+use Rattle.gp_versions.specs.TableSpans.{AreWhole, IsApart, IsEndAbove, NoOverlap}
 use Rattle.gp_machine.specs.Committed.{is_written}
 use Rattle.gp_machine.specs.HistorySpans.{spans_from, spans_upto}
-use Rattle.gp_dumpline.specs.Forms.{IsReadable}
+use Rattle.gp_dumpline.specs.Rows.{IsReadable}
 use Rattle.gp_dump.specs.Dumps.{AreInPlace, ends_within, fits_columns, has_ended_by, is_after, is_next}
 use Rattle.gp_dump.proofs.StepKinds.{Fits}
+use Rattle.std.proofs.lemmas.Bool.{le-leb, lt-ltb}
+use Rattle.gp_base.proofs.SmallLemmas.{each_append, each_map}
 
 abbrev pub Pairwise : {X : Type 0} → (X → X → Type 0) → List X → Type 0
 Pairwise R [] = Unit {0}
@@ -34,12 +37,6 @@ Pairwise R (x ∷ xs) = AllByRecursion (R x) xs × Pairwise R xs
 pairwise_both : {X : Type 0} (P Q R : X → X → Type 0) → ((x y : X) → Q x y → R x y → P x y) → (xs : List X) → Pairwise Q xs → Pairwise R xs → Pairwise P xs
 pairwise_both P Q R g [] a b = tt
 pairwise_both P Q R g (x ∷ xs) a b = (each_both (P x) (Q x) (R x) (g x) xs a.0 b.0, pairwise_both P Q R g xs a.1 b.1)
-
-le_true : (a b : ℕ) → a ≤ b → nat_le a b ≡ true
-le_true a b l = grind (arith, nat_tests)
-
-lt_true : (a b : ℕ) → a < b → nat_lt a b ≡ true
-lt_true a b l = grind (arith, nat_tests)
 
 -- ---- in either order
 
@@ -58,7 +55,7 @@ apart_clear a b whole apart same = inl (go a.to whole (apart (ap (λ id. same_id
   where
     go : (to : Option ℕ) → IsEndAbove a.from to → IsSomeAnd to (λ to. to ≤ b.from) → (a.from < b.from) × (has_ended_by to b.from ≡ true)
     go None w s = absurd s
-    go (Some to) w s = (omega (arith, w, s), le_true to b.from s)
+    go (Some to) w s = (omega (arith, w, s), le-leb to b.from s)
 
 all_clear : (spans : List Span) → AreWhole spans → NoOverlap spans → Pairwise Clear spans
 all_clear [] whole apart = tt
@@ -160,7 +157,7 @@ below_after a b below clear = go (identity_cmp a.id b.id) refl below
         let same : a.id ≡ b.id = identity_cmp-exact a.id b.id e in
         let less : a.from < b.from = cmp_less a.from b.from l in
         let ends : has_ended_by a.to b.from ≡ true = ⊎_elim (λ x. x.1) (λ x. absurd (omega (arith, x.0, less))) (clear same) in
-        rw (ap (λ id. same_identity id b.id) same ∙ same_itself b.id, lt_true a.from b.from less) ends
+        rw (ap (λ id. same_identity id b.id) same ∙ same_itself b.id, lt-ltb a.from b.from less) ends
 
     go : (o : Ordering) → identity_cmp a.id b.id ≡ o → ordering_then o (nat_cmp a.from b.from) ≡ Less → (is_lt o || (same_identity a.id b.id && (nat_lt a.from b.from && has_ended_by a.to b.from))) ≡ true
     go Less e l = refl
@@ -186,7 +183,7 @@ record IsRight (cols : List Column) (versions : ℕ) (span : Span) : Type 0 wher
 
 ends : (versions from : ℕ) (to : Option ℕ) → IsEndAbove from to → IsEndBelow (suc versions) to → ends_within versions from to ≡ true
 ends versions from None above below = refl
-ends versions from (Some to) above below = rw (lt_true from to above) (le_true to versions (omega (arith, below)))
+ends versions from (Some to) above below = rw (lt-ltb from to above) (le-leb to versions (omega (arith, below)))
 
 in_place : (cols : List Column) (versions : ℕ) (before xs : List Span) → AllByRecursion (λ x. is_next before x ≡ true) xs → Pairwise (λ a b. is_after a b ≡ true) xs → AllByRecursion (IsRight cols versions) xs → AreInPlace cols versions before xs
 in_place cols versions before [] first all right = tt
@@ -197,7 +194,7 @@ in_place cols versions before (x ∷ xs) first all right =
       record {
         identity = r.identity;
         cells = r.cells;
-        place = rw (le_true 1 x.from f, le_true x.from versions (omega (arith, b)), ends versions x.from x.to r.whole r.below.1) first.0;
+        place = rw (le-leb 1 x.from f, le-leb x.from versions (omega (arith, b)), ends versions x.from x.to r.whole r.below.1) first.0;
       },
       in_place cols versions (x ∷ before) xs all.0 all.1 right.1,
     )

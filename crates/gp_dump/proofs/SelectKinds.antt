@@ -10,7 +10,7 @@ use Rattle.gp_base.specs.declared.table.Kind.{Kind}
 use Rattle.gp_base.specs.declared.table.Kind.TheVariants as kind
 use Rattle.gp_base.specs.declared.table.Table.{Table}
 use Rattle.gp_base.specs.Catalogs.{place_of}
-use Rattle.gp_base.specs.Cells.{is_user_cell}
+use Rattle.gp_base.specs.UserCells.{is_user_cell}
 use Rattle.gp_grammar.specs.Syntax as y
 use Rattle.gp_grammar.specs.Syntax.{Bytes, Term, Item, Items, Block}
 use Rattle.gp_algebra.specs.Answers.{values}
@@ -21,9 +21,10 @@ use Rattle.gp_check.specs.Faults.{table_fault, kind_types, scope_types, items_ty
 use Rattle.gp_check.specs.Meaning.{expr_of, exprs_of, columns_behind, number_of_table}
 use Rattle.gp_check.specs.Valid.{term_is_valid, items_are_valid}
 use Rattle.gp_check.proofs.FittingLemmas.{holds_if}
-use Rattle.gp_check.proofs.TypingLemmas.{both}
 use Rattle.gp_dump.specs.Dumps.{is_of_kind, fits_columns}
 use Rattle.gp_dump.proofs.KindLemmas.{FitsAt, FitsScope, agreeing_fits, fits_type, kind_fits, value_fits}
+use Rattle.std.proofs.lemmas.Bool.{and_parts}
+use Rattle.std.proofs.lemmas.Option.{same_Some}
 
 -- ---- rows
 
@@ -31,14 +32,14 @@ pub fits_length : (cols : List Column) (cells : List Cell) → fits_columns cols
 fits_length [] [] f = refl
 fits_length [] (x ∷ cells) f = absurd (true≢false (sym f))
 fits_length (col ∷ cols) [] f = absurd (true≢false (sym f))
-fits_length (col ∷ cols) (x ∷ cells) f = ap suc (fits_length cols cells (both (is_of_kind col.kind x) _ f).1)
+fits_length (col ∷ cols) (x ∷ cells) f = ap suc (fits_length cols cells (and_parts (is_of_kind col.kind x) _ f).1)
 
 -- a row among others
 pub row_fits_at : (cols : List Column) (cells front back : List Cell) (before : ℕ) → length front ≡ before → fits_columns cols cells ≡ true → FitsAt before cols (front ++ (cells ++ back))
 row_fits_at [] cells front back before l f = tt
 row_fits_at (col ∷ cols) [] front back before l f = absurd (true≢false (sym f))
 row_fits_at (col ∷ cols) (x ∷ cells) front back before l f =
-    let b = both (is_of_kind col.kind x) (fits_columns cols cells) f in (
+    let b = and_parts (is_of_kind col.kind x) (fits_columns cols cells) f in (
       subst (λ y. is_of_kind col.kind y ≡ true) (sym (get_or_at front x (cells ++ back) cell.Null before l)) b.0,
       subst (FitsAt (suc before) cols) (append_assoc front (x ∷ []) (cells ++ back))
           (row_fits_at cols cells (front ++ x ∷ []) back (suc before) (length-append front (x ∷ []) ∙ omega (arith, l)) b.1),
@@ -74,7 +75,7 @@ types_fit [] (o ∷ types) cells e f = absurd (true≢false (sym e))
 types_fit (col ∷ cols) [] cells e f = absurd (true≢false (sym e))
 types_fit (col ∷ cols) (o ∷ types) [] e f = absurd f
 types_fit (col ∷ cols) (o ∷ types) (x ∷ cells) e f =
-    let b = both (operands_agree (Some (kind_type col.kind)) o) (all_agree (kind_types cols) types) e in
+    let b = and_parts (operands_agree (Some (kind_type col.kind)) o) (all_agree (kind_types cols) types) e in
     rw (agreeing col.kind o x b.0 f.0) (types_fit cols types cells b.1 f.1)
 
 -- the cells of a VALUES row
@@ -97,8 +98,8 @@ given_fits [] [] e v = refl
 given_fits [] (x ∷ cells) e v = absurd (true≢false (sym e))
 given_fits (col ∷ cols) [] e v = absurd (true≢false (sym e))
 given_fits (col ∷ cols) (x ∷ cells) e v =
-    let b = both (agrees (kind_type col.kind) (cell_type x)) (cells_agree cols cells) e in
-    let w = both (is_user_cell x) (list_all is_user_cell cells) v in
+    let b = and_parts (agrees (kind_type col.kind) (cell_type x)) (cells_agree cols cells) e in
+    let w = and_parts (is_user_cell x) (list_all is_user_cell cells) v in
     rw (cell_fits col.kind x b.0 w.0) (given_fits cols cells b.1 w.1)
 
 -- ---- select lists
@@ -107,10 +108,7 @@ given_fits (col ∷ cols) (x ∷ cells) e v =
 columns_have : (before : ℕ) (cols : List Column) (row : List Cell) → FitsAt before cols row → HaveTypes (kind_types cols) (values (columns_behind before (length cols)) row)
 columns_have before [] row f = tt
 columns_have before (col ∷ cols) row f =
-    (λ a e. subst (λ a. fits_type a (get_or row before cell.Null) ≡ true) (same (kind_type col.kind) a e) (kind_fits col.kind (get_or row before cell.Null) ∙ f.0), columns_have (suc before) cols row f.1)
-  where
-    same : (a b : TermType) → Some a ≡ Some b → a ≡ b
-    same a b e = cc
+    (λ a e. subst (λ a. fits_type a (get_or row before cell.Null) ≡ true) (same_Some (kind_type col.kind) a e) (kind_fits col.kind (get_or row before cell.Null) ∙ f.0), columns_have (suc before) cols row f.1)
 
 -- the number of columns of a FROM
 abbrev total : List Table → List Item → ℕ
@@ -143,14 +141,14 @@ star_has tables before (item ∷ items) row f =
 terms_have : (scope : Scope) (row : List Cell) → FitsScope scope row → (terms : List Term) → list_all term_is_valid terms ≡ true → HaveTypes (map (type_of scope) terms) (values (map (expr_of scope) terms) row)
 terms_have scope row f [] v = tt
 terms_have scope row f (x ∷ terms) v =
-    let b = both (term_is_valid x) (list_all term_is_valid terms) v in
+    let b = and_parts (term_is_valid x) (list_all term_is_valid terms) v in
     (λ a e. value_fits scope row f x a b.0 e, terms_have scope row f terms b.1)
 
 pub items_have : (tables : List Table) (from : List Item) (row : List Cell) → FitsScope (scope_of tables from) row → (items : Items) → items_are_valid items ≡ true
     → HaveTypes (items_types (scope_of tables from) items) (values (exprs_of (scope_of tables from) items) row)
 items_have tables from row f y.star v =
     subst (λ n. HaveTypes (scope_types (scope_of tables from)) (values (columns_behind 0 n) row)) (sym (width_is tables 0 from ∙ omega arith)) (star_has tables 0 from row f)
-items_have tables from row f (y.list terms) v = terms_have (scope_of tables from) row f terms (both _ (list_all term_is_valid terms) v).1
+items_have tables from row f (y.list terms) v = terms_have (scope_of tables from) row f terms (and_parts _ (list_all term_is_valid terms) v).1
 
 -- ---- tables by name
 

@@ -19,9 +19,11 @@ use Rattle.gp_base.specs.Identities.{identity_cmp, same_identity}
 use Rattle.gp_base.specs.IdentityOrder.{identity_cmp-exact, identity_cmp_total}
 use Rattle.gp_base.specs.Order.{insert_sorted, sorted_by}
 use Rattle.gp_versions.specs.declared.span.Span.{Span}
-use Rattle.gp_versions.specs.Spans.{AreWhole, IsApart, IsEndAbove, NoOverlap, span_cmp}
+use Rattle.gp_versions.specs.Spans.{span_cmp}
+use Rattle.gp_versions.specs.TableSpans.{AreWhole, IsApart, IsEndAbove, NoOverlap}
 use Rattle.gp_versions.proofs.OrderLemmas.{places_total}
 use Rattle.gp_versions.proofs.SameLemmas.{same-itself}
+use Rattle.gp_base.proofs.OrderLemmas.{equal_from_is_eq}
 
 -- ---- results of a comparison
 
@@ -202,11 +204,6 @@ module _ {T : Type 0} (cmp : T → T → Ordering) (total : IsTotalOrder cmp) wh
 
 -- ---- the spans of a table do not tie
 
-eq-is : (o : Ordering) → is_eq o ≡ true → o ≡ Equal
-eq-is Less is = absurd (false≢true is)
-eq-is Equal is = refl
-eq-is Greater is = absurd (false≢true is)
-
 then-parts : (o p : Ordering) → is_eq (ordering_then o p) ≡ true → (is_eq o ≡ true) × (is_eq p ≡ true)
 then-parts Less p is = absurd (false≢true is)
 then-parts Equal p is = (refl, is)
@@ -215,7 +212,7 @@ then-parts Greater p is = absurd (false≢true is)
 tie-parts : (a b : Span) → is_eq (span_cmp a b) ≡ true → (a.id ≡ b.id) × (a.from ≡ b.from)
 tie-parts a b is =
     let parts = then-parts (identity_cmp a.id b.id) (nat_cmp a.from b.from) is in
-    (identity_cmp-exact a.id b.id (eq-is (identity_cmp a.id b.id) parts.0), exact_unsigned a.from b.from (eq-is (nat_cmp a.from b.from) parts.1))
+    (identity_cmp-exact a.id b.id (equal_from_is_eq (identity_cmp a.id b.id) parts.0), exact_unsigned a.from b.from (equal_from_is_eq (nat_cmp a.from b.from) parts.1))
 
 ends-early : (from : ℕ) (to : Option ℕ) → IsEndAbove from to → IsSomeAnd to (λ end. end ≤ from) → ⊥
 ends-early from None above some = some

@@ -1,6 +1,6 @@
 -- A checked statement keeps rows that fit the columns of their tables and have identities that can be read from their texts.
 use Rattle.std.proofs.Common.{◌≡◌, ◌<◌, ◌≤◌, ℕ, suc, ◌+◌, Bool, true, false, true≢false, ◌&&◌, ◌==◌, nat_lt, List, [], ◌∷◌, ◌++◌, length, map, get_or, ◌⊎◌, inl, inr, ⊎_elim, bytes_eq, Option, Some, None, slice_get, if◌then◌else◌, refl, sym, ap, subst, ◌∙◌, arith, append_assoc, length-append}
-use Rattle.std.specs.List.{list_all, list_any, flat_map, cons_option, AllByRecursion}
+use Rattle.std.specs.List.{list_all, list_any, cons_option, AllByRecursion}
 use Rattle.std.proofs.lemmas.Bool.Decides.{nat_tests}
 use Rattle.std.proofs.lemmas.Option.{slice_get_cases}
 use Rattle.gp_base.specs.declared.cell.Cell.{Cell}
@@ -11,7 +11,7 @@ use Rattle.gp_base.specs.declared.table.Kind.{Kind}
 use Rattle.gp_base.specs.declared.table.Table.{Table}
 use Rattle.gp_base.specs.declared.token.Token.TheVariants.{Updated}
 use Rattle.gp_base.specs.Annotated.{Annotations, Annotated, Database}
-use Rattle.gp_base.specs.Cells.{is_user_cell}
+use Rattle.gp_base.specs.UserCells.{is_user_cell}
 use Rattle.gp_base.specs.Identities.{Identity, identity, no_sources, nodes}
 use Rattle.gp_grammar.specs.declared.limits.TheConstants.{MAX_BRANCHES, MAX_COLUMNS, MAX_FROM, MAX_VALUES}
 use Rattle.gp_grammar.specs.Limits as l
@@ -32,20 +32,14 @@ use Rattle.gp_check.specs.Faults.{agree_with, all_agree, block_columns_fault, bl
 use Rattle.gp_check.specs.Meaning.{branch_of, column_number, expr_of, number_of_table, select_of, set_of, statement_of, where_of}
 use Rattle.gp_check.specs.Valid.{block_is_valid, condition_is_valid, is_valid, items_are_valid, set_is_valid}
 use Rattle.gp_check.proofs.FittingLemmas.{holds_if, known, none_of}
-use Rattle.gp_check.proofs.TypingLemmas.{both}
-use Rattle.gp_machine.proofs.Distinct.{each_append, each_filter, each_map, each_weaker, none_each, or_false}
-use Rattle.gp_dumpline.specs.Forms.{AreReadable, IsPart, IsReadable}
+use Rattle.gp_machine.proofs.Distinct.{each_filter, each_weaker, none_each}
+use Rattle.gp_dumpline.specs.Rows.{AreReadable, IsPart, IsReadable}
 use Rattle.gp_dumpline.specs.declared.identity.TheConstants.{MAX_PART}
 use Rattle.gp_dump.specs.Dumps.{fits_columns, is_of_kind}
 use Rattle.gp_dump.proofs.KindLemmas.{FitsAt, FitsScope, value_fits}
 use Rattle.gp_dump.proofs.SelectKinds.{agreeing, fits_length, given_fits, items_have, named, row_fits, row_fits_at, types_fit}
-
-pub each_flat_map : {X Y : Type 0} (P : Y → Type 0) (Q : X → Type 0) (f : X → List Y) → ((x : X) → Q x → AllByRecursion P (f x)) → (xs : List X) → AllByRecursion Q xs → AllByRecursion P (flat_map f xs)
-each_flat_map P Q f g [] all = tt
-each_flat_map P Q f g (x ∷ xs) all = each_append P (f x) (flat_map f xs) (g x all.0) (each_flat_map P Q f g xs all.1)
-
-eq_from : (a b : ℕ) → (a == b) ≡ true → a ≡ b
-eq_from a b e = grind (arith, nat_tests)
+use Rattle.std.proofs.lemmas.Bool.{and_parts, eqb-true, ltb-false, or_parts}
+use Rattle.gp_base.proofs.SmallLemmas.{each_append, each_flat_map, each_map}
 
 -- ---- rows of a table
 
@@ -91,19 +85,19 @@ module _ {M : Type 0} (tables : List Table) where
   with_rows_fit : (place : ℕ) (rows : List (Annotated M)) (db : Database M) → AllByRecursion (FitsRow tables place) rows → AllFit tables db → AllFit tables (with_rows place rows db)
   with_rows_fit place rows db f g other =
       elim (other == place) as (λ b. (other == place) ≡ b → AllByRecursion (FitsRow tables other) (if b then rows else db other)) [
-        | true ↦ λ is. subst (λ p. AllByRecursion (FitsRow tables p) rows) (sym (eq_from other place is)) f
+        | true ↦ λ is. subst (λ p. AllByRecursion (FitsRow tables p) rows) (sym (eqb-true other place is)) f
         | false ↦ λ is. g other
       ] refl
 
-module _ {M : Type 0} (kind : Annotations M) (tables : List Table) where
+module _ {M : Type 0} (domain : Annotations M) (tables : List Table) where
   -- ---- VALUES
 
   given_rows : (t k n most : ℕ) (name : Bytes) (rows : List (List Cell)) → table_fault tables name ≡ None → IsPart t → IsPart k → 1 ≤ n → most ≤ MAX_PART → n + length rows ≤ suc most
-      → list_all (cells_agree (columns_of tables name)) rows ≡ true → list_all (list_all is_user_cell) rows ≡ true → AllByRecursion (FitsRow tables (number_of_table tables name)) (given_from kind t k n rows)
+      → list_all (cells_agree (columns_of tables name)) rows ≡ true → list_all (list_all is_user_cell) rows ≡ true → AllByRecursion (FitsRow tables (number_of_table tables name)) (given_from domain t k n rows)
   given_rows t k n most name [] none pt pk low high l e v = tt
   given_rows t k n most name (cells ∷ rows) none pt pk low high l e v =
-      let b = both (cells_agree (columns_of tables name) cells) _ e in
-      let w = both (list_all is_user_cell cells) _ v in (
+      let b = and_parts (cells_agree (columns_of tables name) cells) _ e in
+      let w = and_parts (list_all is_user_cell cells) _ v in (
         target_row tables name (identity t k n no_sources) cells none (given_fits (columns_of tables name) cells b.0 w.0) (pt, (pk, ((low, omega (arith, l, high)), (omega arith, tt)))),
         given_rows t k (suc n) most name rows none pt pk (omega arith) high (omega (arith, l)) b.1 w.1,
       )
@@ -114,7 +108,7 @@ module _ {M : Type 0} (kind : Annotations M) (tables : List Table) where
   Chosen number scope front element = FitsScope scope (front ++ element.cells) × (AreReadable element.sources × (element.branch ≡ number))
 
   choices_fit : (number : ℕ) (db : Database M) → AllFit tables db → (items : List Item) → first_fault (λ (item : Item). table_fault tables item.table) items ≡ None → (before : ℕ) (front : List Cell) → length front ≡ before
-      → AllByRecursion (Chosen number (scope_behind before tables items) front) (choices kind number (map (λ (item : Item). number_of_table tables item.table) items) db)
+      → AllByRecursion (Chosen number (scope_behind before tables items) front) (choices domain number (map (λ (item : Item). number_of_table tables item.table) items) db)
   choices_fit number db fit [] none before front l = ((tt, (tt, refl)), tt)
   choices_fit number db fit (item ∷ items) none before front l =
       let n = none_of (table_fault tables item.table) _ none in
@@ -122,13 +116,13 @@ module _ {M : Type 0} (kind : Annotations M) (tables : List Table) where
     where
       one : (table_fault tables item.table ≡ None) × (first_fault (λ (item : Item). table_fault tables item.table) items ≡ None)
           → ((before : ℕ) (front : List Cell) → length front ≡ before
-          → AllByRecursion (Chosen number (scope_behind before tables items) front) (choices kind number (map (λ (item : Item). number_of_table tables item.table) items) db))
+          → AllByRecursion (Chosen number (scope_behind before tables items) front) (choices domain number (map (λ (item : Item). number_of_table tables item.table) items) db))
           → (row : Annotated M) → FitsRow tables (number_of_table tables item.table) row
-          → AllByRecursion (Chosen number (scope_behind before tables (item ∷ items)) front) (map (joined kind number row) (choices kind number (map (λ (item : Item). number_of_table tables item.table) items) db))
+          → AllByRecursion (Chosen number (scope_behind before tables (item ∷ items)) front) (map (joined domain number row) (choices domain number (map (λ (item : Item). number_of_table tables item.table) items) db))
       one n others row r =
           let f = row_columns tables item.table row.identity row.cells n.0 r in
           let width = fits_length (columns_of tables item.table) row.cells f in
-          each_map _ (Chosen number (scope_behind (before + length (columns_of tables item.table)) tables items) (front ++ row.cells)) (joined kind number row)
+          each_map _ (Chosen number (scope_behind (before + length (columns_of tables item.table)) tables items) (front ++ row.cells)) (joined domain number row)
           (λ element q. (
             (row_fits_at (columns_of tables item.table) row.cells front element.cells before l f, subst (FitsScope (scope_behind (before + length (columns_of tables item.table)) tables items)) (append_assoc front row.cells element.cells) q.0),
             ((r.readable, q.1.0), refl),
@@ -143,10 +137,10 @@ module _ {M : Type 0} (kind : Annotations M) (tables : List Table) where
     pub last : element.branch ≤ most
 
   block_fits : (cols : List Column) (most number : ℕ) (db : Database M) → AllFit tables db → 1 ≤ number → number ≤ most → (block : Block) → block_tables_fault tables block ≡ None → block_is_valid block ≡ true
-      → all_agree (kind_types cols) (block_types tables block) ≡ true → AllByRecursion (Given cols most) (chosen kind number (branch_of tables block) db)
+      → all_agree (kind_types cols) (block_types tables block) ≡ true → AllByRecursion (Given cols most) (chosen domain number (branch_of tables block) db)
   unfolding branch_of block_types
   block_fits cols most number db fit low high block none valid agree =
-      let v = both (items_are_valid block.items) _ (both _ (items_are_valid block.items && condition_is_valid block.cond) valid).1 in
+      let v = and_parts (items_are_valid block.items) _ (and_parts _ (items_are_valid block.items && condition_is_valid block.cond) valid).1 in
       each_map _ (Chosen number (scope_of tables block.from) []) _
       (λ element q. record {
         fits = types_fit cols _ _ agree (items_have tables block.from element.cells q.0 block.items v.0);
@@ -157,31 +151,28 @@ module _ {M : Type 0} (kind : Annotations M) (tables : List Table) where
       _ (each_filter _ (Chosen number (scope_of tables block.from) []) _ (λ element e q. q) _ (choices_fit number db fit block.from none 0 [] refl))
 
   answer_fits : (cols : List Column) (most number : ℕ) (db : Database M) → AllFit tables db → 1 ≤ number → (query : Query) → number + length query ≤ suc most → query_tables_fault tables query ≡ None → list_all block_is_valid query ≡ true
-      → agree_with (kind_types cols) (map (block_types tables) query) ≡ true → AllByRecursion (Given cols most) (answer_from kind number (select_of tables query) db)
+      → agree_with (kind_types cols) (map (block_types tables) query) ≡ true → AllByRecursion (Given cols most) (answer_from domain number (select_of tables query) db)
   answer_fits cols most number db fit low [] high none valid agree = tt
   answer_fits cols most number db fit low (block ∷ query) high none valid agree =
       let n = none_of (block_tables_fault tables block) _ none in
-      let v = both (block_is_valid block) _ valid in
-      let a = both (all_agree (kind_types cols) (block_types tables block)) _ agree in
-      each_append _ (chosen kind number (branch_of tables block) db) (answer_from kind (suc number) (select_of tables query) db)
+      let v = and_parts (block_is_valid block) _ valid in
+      let a = and_parts (all_agree (kind_types cols) (block_types tables block)) _ agree in
+      each_append _ (chosen domain number (branch_of tables block) db) (answer_from domain (suc number) (select_of tables query) db)
       (block_fits cols most number db fit low (omega (arith, high)) block n.0 v.0 a.0)
       (answer_fits cols most (suc number) db fit (omega arith) query (omega (arith, high)) n.1 v.1 a.1)
 
   -- the rows that are inserted for them
   made_rows : (t k most : ℕ) (name : Bytes) → table_fault tables name ≡ None → IsPart t → IsPart k → most ≤ MAX_PART → (elements : List (Element M)) → AllByRecursion (Given (columns_of tables name) most) elements
-      → list_any (λ (row : Annotated M). nat_lt MAX_NODES (nodes row.identity)) (map (made kind t k) elements) ≡ false → AllByRecursion (FitsRow tables (number_of_table tables name)) (map (made kind t k) elements)
+      → list_any (λ (row : Annotated M). nat_lt MAX_NODES (nodes row.identity)) (map (made domain t k) elements) ≡ false → AllByRecursion (FitsRow tables (number_of_table tables name)) (map (made domain t k) elements)
   made_rows t k most name none pt pk high [] all few = tt
   made_rows t k most name none pt pk high (element ∷ elements) all few =
-      let f = none_each (λ (row : Annotated M). nat_lt MAX_NODES (nodes row.identity)) (map (made kind t k) (element ∷ elements)) few in
+      let f = none_each (λ (row : Annotated M). nat_lt MAX_NODES (nodes row.identity)) (map (made domain t k) (element ∷ elements)) few in
       let g : Given (columns_of tables name) most element = all.0 in
       let l = g.last in (
         target_row tables name (identity t k element.branch element.sources) element.cells none g.fits
-            (pt, (pk, ((g.first, omega (arith, l, high)), (upto MAX_NODES (nodes (identity t k element.branch element.sources)) f.0, g.sources)))),
-        made_rows t k most name none pt pk high elements all.1 (or_false (nat_lt MAX_NODES (nodes (identity t k element.branch element.sources))) _ few).1,
+            (pt, (pk, ((g.first, omega (arith, l, high)), (ltb-false MAX_NODES (nodes (identity t k element.branch element.sources)) f.0, g.sources)))),
+        made_rows t k most name none pt pk high elements all.1 (or_parts (nat_lt MAX_NODES (nodes (identity t k element.branch element.sources))) _ few).1,
       )
-    where
-      upto : (a b : ℕ) → nat_lt a b ≡ false → b ≤ a
-      upto a b e = grind (arith, nat_tests)
 
 -- ---- UPDATE
 
@@ -237,7 +228,7 @@ assigned_fits sets row before (col ∷ cols) all f =
         elim (set.col == suc before) as (λ b. (set.col == suc before) ≡ b → is_of_kind col.kind (value (set_or (if b then Some set.expr else set_for (suc before) sets) (e.col (suc before))) row) ≡ true) [
           | true ↦ λ is.
               let s : FitsSet before (col ∷ cols) row set = all.0 in
-              subst (λ k. is_of_kind k (value set.expr row) ≡ true) (seen_here before col cols set.col s.kind (eq_from set.col (suc before) is) s.seen) s.fits
+              subst (λ k. is_of_kind k (value set.expr row) ≡ true) (seen_here before col cols set.col s.kind (eqb-true set.col (suc before) is) s.seen) s.fits
           | false ↦ λ is. one sets all.1
         ] refl
 
@@ -262,8 +253,8 @@ module _ (tables : List Table) (name : Bytes) (row : List Cell) (fits : FitsScop
   sets_fit_columns : (sets : List SetTerm) → list_all (set_is_typed (target_scope tables name)) sets ≡ true → list_all set_is_valid sets ≡ true → AllByRecursion (FitsSet 0 (columns_of tables name) row) (map (set_of (target_scope tables name)) sets)
   sets_fit_columns [] typed valid = tt
   sets_fit_columns (set ∷ sets) typed valid =
-      let e = both (set_is_typed (target_scope tables name) set) _ typed in
-      let v = both (set_is_valid set) _ valid in
+      let e = and_parts (set_is_typed (target_scope tables name) set) _ typed in
+      let v = and_parts (set_is_valid set) _ valid in
       (set_fits_column set e.0 v.0, sets_fit_columns sets e.1 v.1)
 
 -- ---- the limits on blocks and tuples
@@ -271,11 +262,8 @@ module _ (tables : List Table) (name : Bytes) (row : List Cell) (fits : FitsScop
 few_blocks : (shape : Shape) → passed_limit shape ≡ None → (shape.branches ≤ MAX_BRANCHES) × (shape.values ≤ MAX_VALUES)
 few_blocks shape none =
     let f = go (some_above MAX_COLUMNS shape.columns) (some_above MAX_FROM shape.from) (nat_lt MAX_BRANCHES shape.branches) (nat_lt MAX_VALUES shape.values) _ none in
-    (upto MAX_BRANCHES shape.branches f.0, upto MAX_VALUES shape.values f.1)
+    (ltb-false MAX_BRANCHES shape.branches f.0, ltb-false MAX_VALUES shape.values f.1)
   where
-    upto : (a b : ℕ) → nat_lt a b ≡ false → b ≤ a
-    upto a b e = grind (arith, nat_tests)
-
     go : (c f b v : Bool) (rest : Option Limit) → (if c then Some l.columns else (if f then Some l.from else (if b then Some l.branches else (if v then Some l.values else rest)))) ≡ None → (b ≡ false) × (v ≡ false)
     go true f b v rest e = cc
     go false true b v rest e = cc
@@ -285,9 +273,9 @@ few_blocks shape none =
 
 -- ---- statements
 
-module _ {M : Type 0} (kind : Annotations M) (tables : List Table) where
+module _ {M : Type 0} (domain : Annotations M) (tables : List Table) where
   changed_fits : (t k : ℕ) (name : Bytes) (sets : List SetTerm) (c : Cond) (row : Annotated M) → table_fault tables name ≡ None → list_all (set_is_typed (target_scope tables name)) sets ≡ true → list_all set_is_valid sets ≡ true
-      → FitsRow tables (number_of_table tables name) row → FitsRow tables (number_of_table tables name) (changed kind t k (map (set_of (target_scope tables name)) sets) c row)
+      → FitsRow tables (number_of_table tables name) row → FitsRow tables (number_of_table tables name) (changed domain t k (map (set_of (target_scope tables name)) sets) c row)
   changed_fits t k name sets c row none typed valid r = go (passes c row.cells) refl
     where
       cols : List Column
@@ -302,41 +290,41 @@ module _ {M : Type 0} (kind : Annotations M) (tables : List Table) where
           (assigned_fits (map (set_of (target_scope tables name)) sets) row.cells 0 (columns_of tables name)
           (sets_fit_columns tables name row.cells (row_fits (columns_of tables name) row.cells f, tt) sets typed valid) (row_fits (columns_of tables name) row.cells f))
 
-      go : (b : Bool) → passes c row.cells ≡ b → FitsRow tables (number_of_table tables name) (changed kind t k (map (set_of (target_scope tables name)) sets) c row)
-      go true is = subst (λ b. FitsRow tables (number_of_table tables name) (if b then record { identity = row.identity; cells = assigned (map (set_of (target_scope tables name)) sets) row.cells; mark = true; annotation = kind.times row.annotation (kind.token (Updated t k)) } else row)) (sym is)
+      go : (b : Bool) → passes c row.cells ≡ b → FitsRow tables (number_of_table tables name) (changed domain t k (map (set_of (target_scope tables name)) sets) c row)
+      go true is = subst (λ b. FitsRow tables (number_of_table tables name) (if b then record { identity = row.identity; cells = assigned (map (set_of (target_scope tables name)) sets) row.cells; mark = true; annotation = domain.times row.annotation (domain.token (Updated t k)) } else row)) (sym is)
           (target_row tables name row.identity _ none new r.readable)
-      go false is = subst (λ b. FitsRow tables (number_of_table tables name) (if b then record { identity = row.identity; cells = assigned (map (set_of (target_scope tables name)) sets) row.cells; mark = true; annotation = kind.times row.annotation (kind.token (Updated t k)) } else row)) (sym is) r
+      go false is = subst (λ b. FitsRow tables (number_of_table tables name) (if b then record { identity = row.identity; cells = assigned (map (set_of (target_scope tables name)) sets) row.cells; mark = true; annotation = domain.times row.annotation (domain.token (Updated t k)) } else row)) (sym is) r
 
   pub step_fits : (t k : ℕ) (command : Command) (db : Database M) → IsPart t → IsPart k → first_refusal tables command ≡ None → is_valid command ≡ true → passed_limit (command_shape command) ≡ None
-      → is_over_nodes kind MAX_NODES t k (statement_of tables command) db ≡ false → AllFit tables db → AllFit tables (step kind t k (statement_of tables command) db)
+      → is_over_nodes domain MAX_NODES t k (statement_of tables command) db ≡ false → AllFit tables db → AllFit tables (step domain t k (statement_of tables command) db)
   step_fits t k (y.insert name rows) db pt pk none valid shape few fit =
       let n = none_of (table_fault tables name) _ none in
       let w = none_of (unless (widths_agree tables (y.insert name rows)) E15) _ n.1 in
       let typed : list_all (cells_agree (columns_of tables name)) rows ≡ true = holds_if _ E07 w.1 in
-      let v = both (is_countable rows) _ valid in
+      let v = and_parts (is_countable rows) _ valid in
       let l = (few_blocks (command_shape (y.insert name rows)) shape).1 in
       with_rows_fit tables (number_of_table tables name) _ db
-      (each_append _ (db (number_of_table tables name)) (given_from kind t k 1 rows) (fit (number_of_table tables name))
-      (given_rows kind tables t k 1 MAX_VALUES name rows n.0 pt pk (omega arith) (omega arith) (omega (arith, l)) typed v.1)) fit
+      (each_append _ (db (number_of_table tables name)) (given_from domain t k 1 rows) (fit (number_of_table tables name))
+      (given_rows domain tables t k 1 MAX_VALUES name rows n.0 pt pk (omega arith) (omega arith) (omega (arith, l)) typed v.1)) fit
   step_fits t k (y.insert_select name query) db pt pk none valid shape few fit =
       let n = none_of (or_else (table_fault tables name) (query_tables_fault tables query)) _ none in
       let known = none_of (table_fault tables name) _ n.0 in
       let names = none_of (first_fault items_fault query) _ n.1 in
       let cols = none_of (first_fault (block_columns_fault tables) query) _ names.1 in
       let w = none_of (unless (widths_agree tables (y.insert_select name query)) E15) _ cols.1 in
-      let typed = both (query_is_typed tables query) (agree_with (kind_types (columns_of tables name)) (map (block_types tables) query)) (holds_if _ E07 w.1) in
-      let v = both (is_countable query) _ valid in
+      let typed = and_parts (query_is_typed tables query) (agree_with (kind_types (columns_of tables name)) (map (block_types tables) query)) (holds_if _ E07 w.1) in
+      let v = and_parts (is_countable query) _ valid in
       let l = (few_blocks (query_shape query) shape).0 in
       with_rows_fit tables (number_of_table tables name) _ db
       (each_append _ (db (number_of_table tables name)) _ (fit (number_of_table tables name))
-      (made_rows kind tables t k MAX_BRANCHES name known.0 pt pk (omega arith) (answer kind (select_of tables query) db)
-      (answer_fits kind tables (columns_of tables name) MAX_BRANCHES 1 db fit (omega arith) query (omega (arith, l)) known.1 v.1 typed.1) few)) fit
+      (made_rows domain tables t k MAX_BRANCHES name known.0 pt pk (omega arith) (answer domain (select_of tables query) db)
+      (answer_fits domain tables (columns_of tables name) MAX_BRANCHES 1 db fit (omega arith) query (omega (arith, l)) known.1 v.1 typed.1) few)) fit
   step_fits t k (y.update name sets cond) db pt pk none valid shape few fit =
       let n = none_of (table_fault tables name) _ none in
       let c = none_of (or_else (first_fault (set_fault (target_scope tables name)) sets) _) _ n.1 in
       let s = none_of (repeated_set sets) _ c.1 in
-      let typed = both (list_all (set_is_typed (target_scope tables name)) sets) _ (holds_if _ E07 s.1) in
-      let v = both (list_all set_is_valid sets) _ valid in
+      let typed = and_parts (list_all (set_is_typed (target_scope tables name)) sets) _ (holds_if _ E07 s.1) in
+      let v = and_parts (list_all set_is_valid sets) _ valid in
       with_rows_fit tables (number_of_table tables name) _ db
       (each_map _ (FitsRow tables (number_of_table tables name)) _ (λ row r. changed_fits t k name sets (where_of (target_scope tables name) cond) row n.0 typed.0 v.0 r) (db (number_of_table tables name)) (fit (number_of_table tables name))) fit
   step_fits t k (y.delete name cond) db pt pk none valid shape few fit =

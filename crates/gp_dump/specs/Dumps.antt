@@ -13,16 +13,17 @@ use Rattle.gp_base.specs.Identities.{identity_cmp, same_identity}
 use Rattle.gp_base.specs.Order.{sorted_by}
 use Rattle.gp_versions.specs.declared.span.Span.{Span}
 use Rattle.gp_versions.specs.Spans.{span_cmp}
-use Rattle.gp_txn.specs.declared.counting.TheConstants.{MAX_SPANS}
+use Rattle.gp_base.specs.declared.limit.TheConstants.{MAX_SPANS}
 use Rattle.gp_machine.specs.Entries.{Entry, versions_in}
 use Rattle.gp_machine.specs.HistorySpans.{state_spans}
 use Rattle.gp_machine.specs.State.{State}
 use Rattle.gp_log.specs.declared.limit.TheConstants.{MAX_ENTRIES}
 use Rattle.gp_log.specs.Discipline.{IsLog, said_by}
 use Rattle.gp_log.specs.LogFacts.{tables_in}
-use Rattle.gp_log.specs.Limits.{limits}
-use Rattle.gp_dumpline.specs.Forms.{begins_read_committed, said_of, IsReadable}
-use Rattle.gp_dumpline.specs.Texts.{header, count_text, entry_text, said_text, section_text, span_text, end_text}
+use Rattle.gp_log.specs.Parameters.{parameters}
+use Rattle.gp_dumpline.specs.Said.{IsSaid, begins_read_committed}
+use Rattle.gp_dumpline.specs.Rows.{IsReadable}
+use Rattle.gp_dumpline.specs.Texts.{header, count_text, entry_text, section_text, span_text, end_text}
 
 pub record Dump : Type 0 where
   -- the log, the newest entry first
@@ -139,7 +140,7 @@ AreOfTables (table ∷ others) versions (spans ∷ tables) =
 -- every command of the log can be read from its text
 abbrev pub AreReadable : List Entry → Type 0
 AreReadable [] = Unit {0}
-AreReadable (entry ∷ older) = (said_of (said_text (said_by entry)) ≡ Some (said_by entry)) × AreReadable older
+AreReadable (entry ∷ older) = IsSaid (said_by entry) × AreReadable older
 
 abbrev pub spans_in : List (List Span) → ℕ
 spans_in tables = sum (map (λ (spans : List Span). length spans) tables)
@@ -147,7 +148,7 @@ spans_in tables = sum (map (λ (spans : List Span). length spans) tables)
 -- a dump that keeps the rules
 pub record IsDump (dump : Dump) : Type 0 where
   pub few_entries : length dump.entries ≤ MAX_ENTRIES
-  pub log : IsLog limits dump.entries
+  pub log : IsLog parameters dump.entries
   pub commands : AreReadable dump.entries
   pub few_spans : spans_in dump.tables ≤ MAX_SPANS
   pub spans : AreOfTables (tables_in dump.entries) (versions_in dump.entries) dump.tables

@@ -1,6 +1,7 @@
 pub mod Lines
 pub mod Dumps
 pub mod Rules
+pub mod Verdicts
 pub mod Views
 pub mod Writing
 pub mod Reading

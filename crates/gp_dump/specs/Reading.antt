@@ -20,7 +20,8 @@ use Rattle.gp_dump.specs.declared.error.LineStop.TheVariants as line
 use Rattle.gp_dump.specs.declared.lines.Line as code
 use Rattle.gp_dump.specs.declared.lines.Line.TheVariants as l
 use Rattle.gp_dump.specs.Lines.{Line, Whole, Cut, Missing, lines_of}
-use Rattle.gp_dump.specs.Rules.{Due, Header, Count, Logs, Sections, Rows, Nothing, Verdict, Fails, cols_of, verdict}
+use Rattle.gp_dump.specs.Rules.{Due, Header, Count, Logs, Sections, Rows, Nothing}
+use Rattle.gp_dump.specs.Verdicts.{Verdict, Fails, cols_of, verdict}
 use Rattle.gp_dump.specs.Views.{tables_view}
 
 -- ---- lines

@@ -1,32 +1,21 @@
 -- Part of the statement: the rules of a dump, line by line, and the first that fails. Each rule has a number; on one line the least number counts.
-use Rattle.std.specs.Prelude.{ℕ, zero, suc, ◌+◌, Bool, true, false, List, [], ◌∷◌, length, reverse, Option, Some, None, Result, Ok, Err, nat_lt, nat_le, if◌then◌else◌, slice_get}
-use Rattle.std.specs.Str.{bytes_eq, is_utf8}
-use Rattle.gp_base.specs.declared.table.Column.{Column}
+use Rattle.std.specs.Prelude.{◌≡◌, ◌≢◌, ℕ, zero, suc, ◌+◌, ◌≤◌, ◌<◌, Bool, true, false, List, [], ◌∷◌, length, reverse, Some, None, Err, slice_get}
+use Rattle.std.specs.Str.{is_utf8}
+use Rattle.gp_base.specs.declared.cell.Cell.{Cell}
 use Rattle.gp_base.specs.declared.table.Table.{Table}
+use Rattle.gp_grammar.specs.declared.limits.TheConstants.{MAX_SESSION}
 use Rattle.gp_versions.specs.declared.span.Span.{Span}
-use Rattle.gp_txn.specs.declared.counting.TheConstants.{MAX_SPANS}
+use Rattle.gp_base.specs.declared.limit.TheConstants.{MAX_SPANS}
 use Rattle.gp_machine.specs.Entries.{Entry, versions_in}
-use Rattle.gp_log.specs.Discipline.{Flaw, Disorder, Unchecked, next_entry, last_line}
+use Rattle.gp_log.specs.declared.limit.TheConstants.{MAX_ENTRIES, MAX_LINE}
+use Rattle.gp_log.specs.Discipline.{Flaw, Disorder, IsNext, Said, Unchecked, last_line, next_entry, said_by}
 use Rattle.gp_log.specs.LogFacts.{tables_in}
-use Rattle.gp_log.specs.Limits.{limits}
-use Rattle.gp_dumpline.specs.Forms.{count_of, header_of, is_said_in, log_line_of, said_of, section_of, span_of}
-use Rattle.gp_dumpline.specs.Texts.{end_text}
-use Rattle.gp_dump.specs.Dumps.{Dump, fits_columns, is_in_place, spans_in}
+use Rattle.gp_log.specs.Parameters.{parameters}
+use Rattle.gp_dumpline.specs.Rows.{IsRowLine}
+use Rattle.gp_dumpline.specs.Said.{IsSaid, is_said_in}
+use Rattle.gp_dumpline.specs.Texts.{count_text, end_text, entry_text, header, log_line_text, said_text, section_text, span_text}
+use Rattle.gp_dump.specs.Dumps.{Dump, IsRow, fits_columns, spans_in}
 use Rattle.gp_dump.specs.Lines.{Line, Whole, Cut, Missing, lines_of}
-
-infixl 10 ◌>>=◌
-abbrev pub ◌>>=◌ : {A B F : Type 0} → Result A F → (A → Result B F) → Result B F
-(Ok x) >>= f = f x
-(Err e) >>= f = Err e
-
--- a rule that gives what it reads, and one that is a test
-abbrev pub rule : {A : Type 0} → ℕ → Option A → Result A ℕ
-rule number None = Err number
-rule number (Some x) = Ok x
-
-abbrev pub rule_holds : ℕ → Bool → Result (Unit {0}) ℕ
-rule_holds number true = Ok tt
-rule_holds number false = Err number
 
 -- ---- what is due next, given the lines before
 
@@ -43,128 +32,85 @@ pub data Due : Type 0 where
   -- no line: the dump has ended
   Nothing : Dump → Due
 
--- ---- the rules of a line
+-- all lines of the log, or of a table, are there: the next table is due, or the end of the dump, after these tables, the last one first
+pub data IsBetween : Due → List Entry → List (List Span) → Type 0 where
+  logged : (second : Bool) (log : List Entry) → IsBetween (Logs second zero log) log []
+  between : (log : List Entry) (tables : List (List Span)) → IsBetween (Sections log tables) log tables
+  filled : (log : List Entry) (tables : List (List Span)) (rows : List Span) → IsBetween (Rows zero log tables rows) log (reverse rows ∷ tables)
 
--- rules 1 and 3: a line is UTF-8, and is ended by a line feed
-abbrev pub text_of : Line → Result (List ℕ) ℕ
-text_of (Whole text) = if is_utf8 text then Ok text else Err 1
-text_of (Cut text) = if is_utf8 text then Err 3 else Err 1
-text_of Missing = Err 3
+-- the table that is due after these; none is where they are all
+abbrev pub IsNextTable : List Entry → List (List Span) → Table → Type 0
+IsNextTable log tables table = slice_get (tables_in log) (length tables) ≡ Some table
 
--- rule 2: the first line names a format; it comes before rule 3
-abbrev pub header_line : Line → Result Due ℕ
-header_line (Whole text) = if is_utf8 text then (rule 2 (header_of text) >>= (λ second. Ok (Count second))) else Err 1
-header_line (Cut text) = if is_utf8 text then (rule 2 (header_of text) >>= (λ second. Err 3)) else Err 1
-header_line Missing = Err 3
+-- ---- lines that keep the rules
+
+-- what a line leads to: this is due, the line has this text, and then this is due
+pub data Leads : Due → List ℕ → Due → Type 0 where
+  names_format : (second : Bool) (text : List ℕ) → text ≡ header second → Leads Header text (Count second)
+  counts : (second : Bool) (n : ℕ) (text : List ℕ) → n ≤ MAX_ENTRIES → text ≡ count_text n → Leads (Count second) text (Logs second n [])
+  logs : (second : Bool) (left : ℕ) (log : List Entry) (entry : Entry) (text : List ℕ) → IsNext parameters log entry → IsSaid (said_by entry) → is_said_in second (said_by entry) ≡ true
+      → text ≡ entry_text entry → Leads (Logs second (suc left) log) text (Logs second left (entry ∷ log))
+  begins_table : (due : Due) (log : List Entry) (tables : List (List Span)) (table : Table) (rows : ℕ) (text : List ℕ) → IsBetween due log tables → IsNextTable log tables table
+      → spans_in tables + rows ≤ MAX_SPANS → text ≡ section_text table.name rows → Leads due text (Rows rows log tables [])
+  adds_row : (left : ℕ) (log : List Entry) (tables : List (List Span)) (rows : List Span) (table : Table) (span : Span) (text : List ℕ) → IsNextTable log tables table
+      → IsRow table.cols (versions_in log) rows span → text ≡ span_text span → Leads (Rows (suc left) log tables rows) text (Rows left log tables (span ∷ rows))
+  ends : (due : Due) (log : List Entry) (tables : List (List Span)) (text : List ℕ) → IsBetween due log tables → slice_get (tables_in log) (length tables) ≡ None → text ≡ end_text
+      → Leads due text (Nothing (record { entries = log; tables = reverse tables }))
+
+-- ---- lines that break a rule
+
+-- a log line of this number and this session, which says this
+pub record IsLogLine (text : List ℕ) (line session : ℕ) (said : List ℕ) : Type 0 where
+  pub is : text ≡ log_line_text line session said
+  pub lines : (1 ≤ line) × (line ≤ MAX_LINE)
+  pub sessions : (1 ≤ session) × (session ≤ MAX_SESSION)
 
 -- rule 8 is on sessions and counts, rule 9 on names and types
 abbrev pub flaw_rule : Flaw → ℕ
 flaw_rule Disorder = 8
 flaw_rule Unchecked = 9
 
-abbrev pub rule_next : Result Entry Flaw → Result Entry ℕ
-rule_next (Ok entry) = Ok entry
-rule_next (Err flaw) = Err (flaw_rule flaw)
+-- the least rule that a line breaks: this is due, and the line has this text
+pub data Breaks : Due → List ℕ → ℕ → Type 0 where
+  no_format : (text : List ℕ) → ((second : Bool) → text ≢ header second) → Breaks Header text 2
+  no_count : (second : Bool) (text : List ℕ) → ((n : ℕ) → n ≤ MAX_ENTRIES → text ≢ count_text n) → Breaks (Count second) text 4
+  no_log_line : (second : Bool) (left : ℕ) (log : List Entry) (text : List ℕ) → ((line session : ℕ) (said : List ℕ) → ¬ IsLogLine text line session said) → Breaks (Logs second (suc left) log) text 5
+  no_later_line : (second : Bool) (left : ℕ) (log : List Entry) (text : List ℕ) (line session : ℕ) (said : List ℕ) → IsLogLine text line session said → line ≤ last_line log
+      → Breaks (Logs second (suc left) log) text 6
+  -- rule 7 is also on what the format has
+  says_nothing : (second : Bool) (left : ℕ) (log : List Entry) (text : List ℕ) (line session : ℕ) (said : List ℕ) → IsLogLine text line session said → last_line log < line
+      → ((x : Said) → IsSaid x → is_said_in second x ≡ true → said ≢ said_text x) → Breaks (Logs second (suc left) log) text 7
+  is_flawed : (second : Bool) (left : ℕ) (log : List Entry) (text : List ℕ) (line session : ℕ) (said : Said) (flaw : Flaw) → IsLogLine text line session (said_text said) → last_line log < line
+      → IsSaid said → is_said_in second said ≡ true → next_entry parameters log line session said ≡ Err flaw → Breaks (Logs second (suc left) log) text (flaw_rule flaw)
+  -- all tables together have few enough rows
+  no_table : (due : Due) (log : List Entry) (tables : List (List Span)) (table : Table) (text : List ℕ) → IsBetween due log tables → IsNextTable log tables table
+      → ((rows : ℕ) → spans_in tables + rows ≤ MAX_SPANS → text ≢ section_text table.name rows) → Breaks due text 10
+  no_row : (left : ℕ) (log : List Entry) (tables : List (List Span)) (rows : List Span) (text : List ℕ) → ((cells : List Cell) → ¬ IsRowLine text cells)
+      → Breaks (Rows (suc left) log tables rows) text 11
+  misfits : (left : ℕ) (log : List Entry) (tables : List (List Span)) (rows : List Span) (table : Table) (text : List ℕ) (cells : List Cell) → IsNextTable log tables table
+      → IsRowLine text cells → fits_columns table.cols cells ≡ false → Breaks (Rows (suc left) log tables rows) text 12
+  is_misplaced : (left : ℕ) (log : List Entry) (tables : List (List Span)) (rows : List Span) (table : Table) (text : List ℕ) (cells : List Cell) → IsNextTable log tables table
+      → IsRowLine text cells → fits_columns table.cols cells ≡ true → ((span : Span) → IsRow table.cols (versions_in log) rows span → text ≢ span_text span)
+      → Breaks (Rows (suc left) log tables rows) text 13
+  no_end : (due : Due) (log : List Entry) (tables : List (List Span)) (text : List ℕ) → IsBetween due log tables → slice_get (tables_in log) (length tables) ≡ None → text ≢ end_text → Breaks due text 14
+  goes_on : (dump : Dump) (text : List ℕ) → Breaks (Nothing dump) text 14
 
--- rules 5 to 9: a log line; rule 7 is on what it says, and on what the format has
-unfoldable pub log_rule : Bool → List Entry → List ℕ → Result Entry ℕ
-log_rule second log text = do
-  l ← rule 5 (log_line_of text)
-  above ← rule_holds 6 (nat_lt (last_line log) l.line)
-  said ← rule 7 (said_of l.said)
-  known ← rule_holds 7 (is_said_in second said)
-  rule_next (next_entry limits log l.line l.session said)
+-- The same of a line. Rule 1 is that it is UTF-8. Rule 3 is that a line feed ends it; it comes before all but rules 1 and 2.
+pub data LineBreaks : Due → Line → ℕ → Type 0 where
+  no_text : (due : Due) (text : List ℕ) → is_utf8 text ≡ false → LineBreaks due (Whole text) 1
+  no_cut_text : (due : Due) (text : List ℕ) → is_utf8 text ≡ false → LineBreaks due (Cut text) 1
+  breaks : (due : Due) (text : List ℕ) (f : ℕ) → is_utf8 text ≡ true → Breaks due text f → LineBreaks due (Whole text) f
+  unnamed : (text : List ℕ) → is_utf8 text ≡ true → Breaks Header text 2 → LineBreaks Header (Cut text) 2
+  unended : (due : Due) (text : List ℕ) → is_utf8 text ≡ true → (due ≡ Header → (second : Bool) × (text ≡ header second)) → LineBreaks due (Cut text) 3
+  missing : (due : Due) → ((dump : Dump) → due ≢ Nothing dump) → LineBreaks due Missing 3
 
--- rule 10: the beginning of a table; all tables together have few enough rows
-unfoldable pub section_rule : ℕ → Table → List ℕ → Result ℕ ℕ
-section_rule before table text = do
-  rows ← rule 10 (section_of table.name text)
-  few ← rule_holds 10 (nat_le (before + rows) MAX_SPANS)
-  Ok rows
+-- ---- the first fault
 
--- rules 11 to 13: a row line of a table with these columns
-unfoldable pub row_rule : List Column → ℕ → List Span → List ℕ → Result Span ℕ
-row_rule cols versions before text = do
-  span ← rule 11 (span_of text)
-  fits ← rule_holds 12 (fits_columns cols span.row)
-  placed ← rule_holds 13 (is_in_place versions before span)
-  Ok span
+-- the first fault in lines, of which the first has this number, where this is due: the number of the rule, and the number of the line
+pub data FaultIn : List Line → Due → ℕ → ℕ → ℕ → Type 0 where
+  here : (line : Line) (lines : List Line) (due : Due) (number f : ℕ) → LineBreaks due line f → FaultIn (line ∷ lines) due number f number
+  later : (text : List ℕ) (lines : List Line) (due next : Due) (number f at : ℕ) → Leads due text next → FaultIn lines next (number + 1) f at → FaultIn (Whole text ∷ lines) due number f at
 
--- rule 14: the last line
-abbrev pub end_rule : List ℕ → Result (Unit {0}) ℕ
-end_rule text = rule_holds 14 (bytes_eq text end_text)
-
--- ---- what is due after a line
-
--- a line that begins the next table, if there is one, or ends the dump
-abbrev pub section_line : List Entry → List (List Span) → Option Table → List ℕ → Result Due ℕ
-section_line log tables None text = end_rule text >>= (λ ended. Ok (Nothing (record { entries = log; tables = reverse tables })))
-section_line log tables (Some table) text = section_rule (spans_in tables) table text >>= (λ rows. Ok (Rows rows log tables []))
-
-abbrev pub next_section : List Entry → List (List Span) → List ℕ → Result Due ℕ
-next_section log tables text = section_line log tables (slice_get (tables_in log) (length tables)) text
-
--- the columns of the table whose rows are due
-abbrev pub cols_of : Option Table → List Column
-cols_of None = []
-cols_of (Some table) = table.cols
-
-abbrev pub row_line : ℕ → List Entry → List (List Span) → List Span → List ℕ → Result Due ℕ
-row_line left log tables rows text =
-    row_rule (cols_of (slice_get (tables_in log) (length tables))) (versions_in log) rows text >>= (λ span. Ok (Rows left log tables (span ∷ rows)))
-
--- a line that has a text: what is due after it, or the least rule that fails
-unfoldable pub after_text : Due → List ℕ → Result Due ℕ
-after_text Header text = Err 2
-after_text (Count second) text = rule 4 (count_of text) >>= (λ n. Ok (Logs second n []))
-after_text (Logs second zero log) text = next_section log [] text
-after_text (Logs second (suc left) log) text = log_rule second log text >>= (λ entry. Ok (Logs second left (entry ∷ log)))
-after_text (Sections log tables) text = next_section log tables text
-after_text (Rows zero log tables rows) text = next_section log (reverse rows ∷ tables) text
-after_text (Rows (suc left) log tables rows) text = row_line left log tables rows text
-after_text (Nothing dump) text = Err 14
-
--- after the end there is no line
-abbrev pub nothing_line : Line → Result (Unit {0}) ℕ
-nothing_line (Whole text) = if is_utf8 text then Err 14 else Err 1
-nothing_line (Cut text) = if is_utf8 text then Err 3 else Err 1
-nothing_line Missing = Ok tt
-
--- ---- the verdict
-
--- the dump that the lines hold, or the number of the rule that fails first, and the number of its line
-pub data Verdict : Type 0 where
-  Holds : Dump → Verdict
-  Fails : ℕ → ℕ → Verdict
-
-abbrev pub then_verdict : Result Due ℕ → ℕ → (Due → Verdict) → Verdict
-then_verdict (Ok due) number rest = rest due
-then_verdict (Err f) number rest = Fails f number
-
-abbrev pub end_verdict : Result (Unit {0}) ℕ → ℕ → Dump → Verdict
-end_verdict (Ok x) number dump = Holds dump
-end_verdict (Err f) number dump = Fails f number
-
--- the verdict on lines, of which the first has this number, given what is due
-unfoldable pub verdict : List Line → Due → ℕ → Verdict
-verdict [] due number = Fails 3 number
-verdict (line ∷ lines) Header number = then_verdict (header_line line) number (λ next. verdict lines next (number + 1))
-verdict (line ∷ lines) (Count second) number = then_verdict (text_of line >>= after_text (Count second)) number (λ next. verdict lines next (number + 1))
-verdict (line ∷ lines) (Logs second left log) number = then_verdict (text_of line >>= after_text (Logs second left log)) number (λ next. verdict lines next (number + 1))
-verdict (line ∷ lines) (Sections log tables) number =
-    then_verdict (text_of line >>= after_text (Sections log tables)) number (λ next. verdict lines next (number + 1))
-verdict (line ∷ lines) (Rows left log tables rows) number =
-    then_verdict (text_of line >>= after_text (Rows left log tables rows)) number (λ next. verdict lines next (number + 1))
-verdict (line ∷ lines) (Nothing dump) number = end_verdict (nothing_line line) number dump
-
--- the verdict on the bytes of a file
-abbrev pub verdict_on : List ℕ → Verdict
-verdict_on bytes = verdict (lines_of bytes) Header 1
-
--- the number of the rule that fails first, and the number of its line
-abbrev pub fault_in : Verdict → Option (ℕ × ℕ)
-fault_in (Holds dump) = None
-fault_in (Fails f line) = Some (f, line)
-
-abbrev pub first_fault : List ℕ → Option (ℕ × ℕ)
-first_fault bytes = fault_in (verdict_on bytes)
+-- the first fault of a file
+abbrev pub FirstFault : List ℕ → ℕ → ℕ → Type 0
+FirstFault bytes f line = FaultIn (lines_of bytes) Header 1 f line

@@ -6,13 +6,14 @@ ghost use Rattle.gp_base.specs.declared.catalog.TheConstants.{MAX_TABLES};
 ghost use Rattle.gp_base.specs.Catalogs.{place_of};
 ghost use Rattle.gp_grammar.specs.Syntax.{is_statement};
 ghost use Rattle.gp_check.specs.Valid.{table_is_valid};
+ghost use Rattle.gp_log.specs.Contents.{entries, tables};
 ghost use Rattle.gp_log.specs.Discipline as d;
 ghost use Rattle.gp_log.specs.Discipline.{doing};
 ghost use Rattle.gp_log.specs.Kinds.{IsAddable};
-ghost use Rattle.gp_log.specs.LogFacts.{tables_in};
-ghost use Rattle.gp_log.specs.Limits.{limits};
-ghost use Rattle.gp_log.specs.Logs.{entry_view, log_view};
+ghost use Rattle.gp_log.specs.Parameters.{parameters};
+ghost use Rattle.gp_log.specs.Logs.{entry_view};
 ghost use Rattle.gp_machine.specs.Actions as action;
+ghost use Rattle.gp_machine.specs.Actions.{allowed};
 ghost use Rattle.gp_machine.specs.Entries.{Created, Ran, statement_count};
 ghost use Rattle.gp_syntax.specs.Views.{command_view};
 ghost use Rattle.gp_dump.specs.Reading.{CreatesValid, GivesEntry, ended};
@@ -30,7 +31,7 @@ use std::alloc::Global;
 /// The transaction of the session that has not ended, if it has one.
 #[tactic(auto, using(crate::proofs::DisciplineLemmas::session_steps))]
 fn transaction_in(log: &Log, session: u32) -> Option<u32>
-    ensures { result ≡ d.transaction_in session (log_view log.now.entries) }
+    ensures { result ≡ d.transaction_in session (entries log.now) }
 {
     let mut place = log.len();
     while place > 0 {
@@ -50,10 +51,9 @@ fn transaction_in(log: &Log, session: u32) -> Option<u32>
 /// Checks a new table, in a session with this transaction or none.
 fn check_create(log: &Log, active: Option<u32>, table: &Table) -> Result<(), EntryStop>
     ensures entry { (line session : ℕ) → GivesEntry (λ _. Created line session table.now) result
-        (doing limits (log_view log.now.entries) line session active (action.Create table.now)) }
-    ensures room { OnOk result (length (tables_in (log_view log.now.entries)) < MAX_TABLES) }
-    ensures new { OnOk result
-        (place_of table.now.name (tables_in (log_view log.now.entries)) ≡ None) }
+        (doing parameters (entries log.now) line session (allowed active (action.Create table.now))) }
+    ensures room { OnOk result (length (tables log.now) < MAX_TABLES) }
+    ensures new { OnOk result (place_of table.now.name (tables log.now) ≡ None) }
 {
     let catalog = log.catalog();
     if active.is_some() || catalog.len() >= MAX_TABLES {
@@ -75,8 +75,8 @@ fn create(
     table: Table,
 ) -> Result<Entry, EntryStop>
     ensures entry { GivesEntry entry_view result
-        (doing limits (log_view log.now.entries) line session active (action.Create table)) }
-    ensures new { IfOk result (λ entry. IsAddable (log_view log.now.entries) entry) }
+        (doing parameters (entries log.now) line session (allowed active (action.Create table))) }
+    ensures new { IfOk result (λ entry. IsAddable (entries log.now) entry) }
     ensures valid { table_is_valid table ≡ true → IfOk result (λ entry. CreatesValid entry.what) }
 {
     match check_create(log, active, &table) {
@@ -98,10 +98,9 @@ fn begin(
     active: Option<u32>,
     read_committed: bool,
 ) -> Result<Entry, EntryStop>
-    ensures entry { GivesEntry entry_view result
-        (doing limits (log_view log.now.entries) line session active
-        (action.Begin read_committed)) }
-    ensures new { IfOk result (λ entry. IsAddable (log_view log.now.entries) entry) }
+    ensures entry { GivesEntry entry_view result (doing parameters (entries log.now) line session (allowed active
+        (action.Begin read_committed))) }
+    ensures new { IfOk result (λ entry. IsAddable (entries log.now) entry) }
     ensures valid { IfOk result (λ entry. CreatesValid entry.what) }
 {
     let begun = log.transactions();
@@ -133,10 +132,9 @@ fn check_run(
     requires { is_statement (command_view command.now) ≡ true }
     ensures entry { (line session : ℕ) → GivesEntry
         (λ run. Ran line session (command_view command.now) run.t (statement_view run.stmt)) result
-        (doing limits (log_view log.now.entries) line session active
-        (action.Run (command_view command.now))) }
-    ensures number { IfOk result
-        (λ run. run.k ≡ suc (statement_count run.t (log_view log.now.entries))) }
+        (doing parameters (entries log.now) line session (allowed active
+        (action.Run (command_view command.now)))) }
+    ensures number { IfOk result (λ run. run.k ≡ suc (statement_count run.t (entries log.now))) }
 {
     let Some(t) = active else {
         return Err(EntryStop::Disorder);
@@ -166,10 +164,9 @@ fn statement(
     command: Command,
 ) -> Result<Entry, EntryStop>
     requires { is_statement (command_view command) ≡ true }
-    ensures entry { GivesEntry entry_view result
-        (doing limits (log_view log.now.entries) line session active
-        (action.Run (command_view command))) }
-    ensures new { IfOk result (λ entry. IsAddable (log_view log.now.entries) entry) }
+    ensures entry { GivesEntry entry_view result (doing parameters (entries log.now) line session (allowed active
+        (action.Run (command_view command)))) }
+    ensures new { IfOk result (λ entry. IsAddable (entries log.now) entry) }
     ensures valid { IfOk result (λ entry. CreatesValid entry.what) }
 {
     match check_run(alloc, log, active, &command) {
@@ -209,8 +206,8 @@ pub fn next_entry(
     said: Said,
 ) -> Result<Entry, EntryStop>
     ensures entry { GivesEntry entry_view result
-        (d.next_entry limits (log_view log.now.entries) line session (said_view said)) }
-    ensures new { IfOk result (λ entry. IsAddable (log_view log.now.entries) entry) }
+        (d.next_entry parameters (entries log.now) line session (said_view said)) }
+    ensures new { IfOk result (λ entry. IsAddable (entries log.now) entry) }
     ensures valid { IsValid said → IfOk result (λ entry. CreatesValid entry.what) }
 {
     let active = transaction_in(log, session);

@@ -2,9 +2,10 @@
 
 ghost use Rattle.std.specs.Prelude.{◌≡◌, ℕ, List, Some, None};
 ghost use Rattle.std.specs.List.{AllByRecursion};
-ghost use Rattle.gp_versions.specs.Spans.{AreWhole, NoOverlap};
+ghost use Rattle.gp_versions.specs.TableSpans.{AreWhole, NoOverlap};
 ghost use Rattle.gp_dump.specs.Dumps.{Dump, IsDump, WellFormed, dump_text, dump_with, has_read_committed, written_text};
-ghost use Rattle.gp_dump.specs.Rules.{Holds, first_fault, verdict_on};
+ghost use Rattle.gp_dump.specs.Rules.{FirstFault};
+ghost use Rattle.gp_dump.specs.Verdicts.{Holds, first_fault, verdict_on};
 
 /// The rules, line by line, take exactly the texts of dumps that keep the rules, each as its dump.
 pub fn well_formed_dumps_are_read()
@@ -12,6 +13,14 @@ pub fn well_formed_dumps_are_read()
         → WellFormed bytes dump → verdict_on bytes ≡ Holds dump }
     ensures only { (bytes : List ℕ) (dump : Dump)
         → verdict_on bytes ≡ Holds dump → WellFormed bytes dump }
+{}
+
+/// A file fails a rule first, by the verdict on its lines, exactly where the rules say so.
+pub fn first_faults_are_found()
+    ensures found { (bytes : List ℕ) (f line : ℕ)
+        → first_fault bytes ≡ Some (f, line) → FirstFault bytes f line }
+    ensures only { (bytes : List ℕ) (f line : ℕ)
+        → FirstFault bytes f line → first_fault bytes ≡ Some (f, line) }
 {}
 
 /// A text is the text of one dump at most, and its dump has one text in each format. A text without a fault is that of a dump,

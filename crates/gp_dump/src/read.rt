@@ -2,19 +2,21 @@
 
 ghost use Rattle.std.specs.Prelude.{◌≡◌, ◌<◌, ◌≤◌, ◌+◌, ◌∷◌, [], ℕ, Bool, true, List, length, reverse, IfOk, Ok, Err};
 ghost use Rattle.gp_check.specs.Valid.{tables_are_valid};
+ghost use Rattle.gp_log.specs.Contents.{entries, tables};
 ghost use Rattle.gp_log.specs.declared.limit.TheConstants.{MAX_ENTRIES};
 ghost use Rattle.gp_log.specs.Kinds.{IsAddable};
 ghost use Rattle.gp_log.specs.LogFacts.{tables_in};
-ghost use Rattle.gp_log.specs.Logs.{entry_view, log_view};
+ghost use Rattle.gp_log.specs.Logs.{entry_view};
 ghost use Rattle.gp_machine.specs.Entries as m;
-ghost use Rattle.gp_txn.specs.declared.counting.TheConstants.{MAX_SPANS};
+ghost use Rattle.gp_base.specs.declared.limit.TheConstants.{MAX_SPANS};
 ghost use Rattle.gp_versions.specs.declared.span.Span as spec;
-ghost use Rattle.gp_versions.specs.Spans.{AreWhole, NoOverlap};
+ghost use Rattle.gp_versions.specs.TableSpans.{AreWhole, NoOverlap};
 ghost use Rattle.gp_dump.specs.declared.dump.TheConstants.{MAX_DUMP_LENGTH};
 ghost use Rattle.gp_dump.specs.Dumps as d;
 ghost use Rattle.gp_dump.specs.Dumps.{IsDump, is_in_place, spans_in};
 ghost use Rattle.gp_dump.specs.Reading.{AreDue, Continues, CreatesValid, tables_before, takes_text, verdict_from};
-ghost use Rattle.gp_dump.specs.Rules.{Due, Header, Count, Logs, Sections, Rows, Nothing, Holds, after_text, then_verdict, verdict_on};
+ghost use Rattle.gp_dump.specs.Rules.{Due, Header, Count, Logs, Sections, Rows, Nothing};
+ghost use Rattle.gp_dump.specs.Verdicts.{Holds, after_text, then_verdict, verdict_on};
 ghost use Rattle.gp_dump.specs.Views.{dump_view};
 
 use crate::dump::{Dump, MAX_DUMP_LENGTH};
@@ -129,10 +131,9 @@ fn next_entry<'a>(
     requires { rest.number + length rest.bytes.now ≤ MAX_DUMP_LENGTH + 1 }
     ensures verdict { (left next : ℕ) → left ≡ next + 1 → Continues result
         (λ x. verdict_from x.1.bytes.now
-        (Logs second next (entry_view x.0 ∷ log_view log.now.entries)) x.1.number)
-        (verdict_from rest.entry.bytes.now (Logs second left (log_view log.now.entries))
-        rest.entry.number) }
-    ensures new { IfOk result (λ x. IsAddable (log_view log.now.entries) x.0) }
+        (Logs second next (entry_view x.0 ∷ entries log.now)) x.1.number)
+        (verdict_from rest.entry.bytes.now (Logs second left (entries log.now)) rest.entry.number) }
+    ensures new { IfOk result (λ x. IsAddable (entries log.now) x.0) }
     ensures valid { IfOk result (λ x. CreatesValid x.0.what) }
     ensures room { IfOk result (λ x. x.1.number + length x.1.bytes.now ≤ MAX_DUMP_LENGTH + 1) }
 {
@@ -154,11 +155,10 @@ fn read_log(
     requires room { rest.number + length rest.bytes.now ≤ MAX_DUMP_LENGTH + 1 }
     requires few { count ≤ MAX_ENTRIES }
     ensures verdict { Continues result
-        (λ x. verdict_from x.1.bytes.now (Sections (log_view x.0.entries) []) x.1.number)
+        (λ x. verdict_from x.1.bytes.now (Sections (entries x.0) []) x.1.number)
         (verdict_from rest.entry.bytes.now (Logs second count []) rest.entry.number) }
     ensures room { IfOk result (λ x. x.1.number + length x.1.bytes.now ≤ MAX_DUMP_LENGTH + 1) }
-    ensures valid { IfOk result
-        (λ x. tables_are_valid (tables_in (log_view x.0.entries)) ≡ true) }
+    ensures valid { IfOk result (λ x. tables_are_valid (tables x.0) ≡ true) }
 {
     let mut log = Log::new(alloc);
     let mut rest = rest;
@@ -239,13 +239,11 @@ fn next_table<'a>(
 ) -> Result<(VersionTable, Rest<'a>), DumpStop>
     requires room { rest.number + length rest.bytes.now ≤ MAX_DUMP_LENGTH + 1 }
     requires few { before ≤ MAX_SPANS }
-    requires due { place < length (tables_in (log_view log.now.entries)) }
+    requires due { place < length (tables log.now) }
     ensures verdict { (tables : List (List spec.Span)) → length tables ≡ place
-        → before ≡ spans_in tables → Continues result
-        (λ x. verdict_from x.1.bytes.now
-        (Sections (log_view log.now.entries) (x.0.spans ∷ tables)) x.1.number)
-        (verdict_from rest.entry.bytes.now (Sections (log_view log.now.entries) tables)
-        rest.entry.number) }
+        → before ≡ spans_in tables → Continues result (λ x. verdict_from x.1.bytes.now
+        (Sections (entries log.now) (x.0.spans ∷ tables)) x.1.number)
+        (verdict_from rest.entry.bytes.now (Sections (entries log.now) tables) rest.entry.number) }
     ensures few { IfOk result (λ x. before + length x.0.spans ≤ MAX_SPANS) }
     ensures room { IfOk result (λ x. x.1.number + length x.1.bytes.now ≤ MAX_DUMP_LENGTH + 1) }
 {
@@ -269,13 +267,10 @@ fn read_tables<'a>(
     rest: Rest<'a>,
 ) -> Result<(Vec<VersionTable>, Rest<'a>), DumpStop>
     requires { rest.number + length rest.bytes.now ≤ MAX_DUMP_LENGTH + 1 }
-    ensures verdict { Continues result
-        (λ x. verdict_from x.1.bytes.now
-        (Sections (log_view log.now.entries) (tables_before x.0.items)) x.1.number)
-        (verdict_from rest.entry.bytes.now (Sections (log_view log.now.entries) [])
-        rest.entry.number) }
-    ensures all { IfOk result
-        (λ x. length x.0.items ≡ length (tables_in (log_view log.now.entries))) }
+    ensures verdict { Continues result (λ x. verdict_from x.1.bytes.now
+        (Sections (entries log.now) (tables_before x.0.items)) x.1.number)
+        (verdict_from rest.entry.bytes.now (Sections (entries log.now) []) rest.entry.number) }
+    ensures all { IfOk result (λ x. length x.0.items ≡ length (tables log.now)) }
     ensures room { IfOk result (λ x. x.1.number + length x.1.bytes.now ≤ MAX_DUMP_LENGTH + 1) }
 {
     let mut tables = Vec::new(alloc);
@@ -328,10 +323,8 @@ fn read_end(rest: Rest<'_>) -> Result<(), DumpStop>
 fn read_lines(alloc: Global, bytes: &[u8]) -> Result<Dump, DumpStop>
     requires { length bytes.now ≤ MAX_DUMP_LENGTH }
     ensures exact { Continues result (λ dump. Holds (dump_view dump)) (verdict_on bytes.now) }
-    ensures tables { IfOk result
-        (λ dump. length dump.versions ≡ length (tables_in (log_view dump.log.entries))) }
-    ensures valid { IfOk result
-        (λ dump. tables_are_valid (tables_in (log_view dump.log.entries)) ≡ true) }
+    ensures tables { IfOk result (λ dump. length dump.versions ≡ length (tables dump.log)) }
+    ensures valid { IfOk result (λ dump. tables_are_valid (tables dump.log) ≡ true) }
 {
     let (second, rest) = read_header(Rest { bytes, number: 1 })?;
     let (count, rest) = read_count(rest)?;
@@ -350,10 +343,8 @@ pub fn read_dump(alloc: Global, bytes: &[u8]) -> Result<Dump, DumpStop>
     requires { length bytes.now ≤ MAX_DUMP_LENGTH }
     ensures exact { Continues result (λ dump. Holds (dump_view dump)) (verdict_on bytes.now) }
     ensures rules { IfOk result (λ dump. IsDump (dump_view dump)) }
-    ensures tables { IfOk result
-        (λ dump. length dump.versions ≡ length (tables_in (log_view dump.log.entries))) }
-    ensures valid { IfOk result
-        (λ dump. tables_are_valid (tables_in (log_view dump.log.entries)) ≡ true) }
+    ensures tables { IfOk result (λ dump. length dump.versions ≡ length (tables dump.log)) }
+    ensures valid { IfOk result (λ dump. tables_are_valid (tables dump.log) ≡ true) }
 {
     read_lines(alloc, bytes)
 }

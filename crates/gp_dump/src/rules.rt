@@ -1,23 +1,24 @@
 //! The rules of single lines.
 
 ghost use Rattle.std.specs.Prelude.{◌≡◌, ◌+◌, ◌≤◌, true, length, reverse, IfOk, MatchOption, MatchResult, Ok, Err};
-ghost use Rattle.gp_base.specs.Cells.{AreInRange, IsInRange};
-ghost use Rattle.gp_txn.specs.declared.counting.TheConstants.{MAX_SPANS};
+ghost use Rattle.gp_base.specs.declared.limit.TheConstants.{MAX_SPANS};
+ghost use Rattle.gp_log.specs.Contents.{entries};
+ghost use Rattle.gp_base.specs.CellForms.{AreInRange, IsInRange};
 ghost use Rattle.gp_log.specs.Discipline as d;
 ghost use Rattle.gp_log.specs.Kinds.{IsAddable};
-ghost use Rattle.gp_log.specs.Logs.{entry_view, log_view};
+ghost use Rattle.gp_log.specs.Logs.{entry_view};
 ghost use Rattle.gp_dump.specs.declared.dump.TheConstants.{MAX_DUMP_LENGTH};
 ghost use Rattle.gp_dump.specs.Dumps as r;
 ghost use Rattle.gp_dump.specs.Reading.{CreatesValid, GivesLine, line_view};
-ghost use Rattle.gp_dump.specs.Rules.{Count, header_line, log_rule, nothing_line, row_rule, section_rule};
+ghost use Rattle.gp_dump.specs.Rules.{Count};
+ghost use Rattle.gp_dump.specs.Verdicts.{header_line, log_rule, nothing_line, row_rule, section_rule};
 
 use crate::discipline::next_entry;
 use crate::error::LineStop;
 use crate::lines::{Line, is_text};
-use gp_base::{Cell, Column, Kind, Table, is_user_text};
+use gp_base::{Cell, Column, Kind, MAX_SPANS, Table, is_user_text};
 use gp_dumpline::{parse_header, parse_log_line, parse_said, parse_section, parse_span};
 use gp_log::{Entry, Log};
-use gp_txn::MAX_SPANS;
 use gp_versions::Span;
 use std::alloc::Global;
 use std::cmp::Ordering;
@@ -66,7 +67,7 @@ pub fn nothing_fault(line: Line<'_>) -> Option<u8>
 
 /// The number of the newest line of a log, or 0 if there is none.
 fn last_line(log: &Log) -> u32
-    ensures { result ≡ d.last_line (log_view log.now.entries) }
+    ensures { result ≡ d.last_line (entries log.now) }
 {
     let count = log.len();
     if count == 0 {
@@ -77,12 +78,11 @@ fn last_line(log: &Log) -> u32
 }
 
 /// The entry of a log line, in the first format or in the second.
-#[tactic(auto, using(crate::proofs::RuleLemmas::said_steps), unfolding(crate::specs::Rules::log_rule))]
+#[tactic(auto, using(crate::proofs::RuleLemmas::said_steps), unfolding(crate::specs::Verdicts::log_rule))]
 pub fn log_line(alloc: Global, second: bool, log: &Log, text: &[u8]) -> Result<Entry, LineStop>
     requires { length text.now ≤ MAX_DUMP_LENGTH }
-    ensures value { GivesLine entry_view result
-        (log_rule second (log_view log.now.entries) text.now) }
-    ensures new { IfOk result (λ entry. IsAddable (log_view log.now.entries) entry) }
+    ensures value { GivesLine entry_view result (log_rule second (entries log.now) text.now) }
+    ensures new { IfOk result (λ entry. IsAddable (entries log.now) entry) }
     ensures valid { IfOk result (λ entry. CreatesValid entry.what) }
 {
     let Some(line) = parse_log_line(text) else {
@@ -108,7 +108,7 @@ pub fn log_line(alloc: Global, second: bool, log: &Log, text: &[u8]) -> Result<E
 }
 
 /// The number of rows in the first line of a table, given how many rows there are in the tables before.
-#[tactic(auto, unfolding(crate::specs::Rules::section_rule))]
+#[tactic(auto, unfolding(crate::specs::Verdicts::section_rule))]
 pub fn section_line(before: u32, table: &Table, text: &[u8]) -> Result<u32, LineStop>
     requires { before ≤ MAX_SPANS }
     ensures value { GivesLine (λ rows. rows) result (section_rule before table.now text.now) }
@@ -209,7 +209,7 @@ fn is_in_place(versions: u32, before: &[Span], span: &Span) -> bool
 }
 
 /// The span of a row line, given the columns of its table, the number of versions, and the spans before.
-#[tactic(auto, unfolding(crate::specs::Rules::row_rule))]
+#[tactic(auto, unfolding(crate::specs::Verdicts::row_rule))]
 pub fn row_line(
     alloc: Global,
     cols: &[Column],

@@ -4,12 +4,11 @@ ghost use Rattle.std.specs.Prelude.{◌≡◌, ◌++◌, ◌<◌, IfOk, OnOk, le
 ghost use Rattle.std.specs.List.{All, flat_map};
 ghost use Rattle.gp_base.specs.Order.{sorted_by};
 ghost use Rattle.gp_versions.specs.Spans.{span_cmp};
-ghost use Rattle.gp_log.specs.LogFacts.{tables_in};
-ghost use Rattle.gp_log.specs.Logs.{log_view};
 ghost use Rattle.gp_dumpline.specs.Texts.{count_text, end_text, header};
 ghost use Rattle.gp_dump.specs.Dumps.{dump_with, has_read_committed, line_text, section_texts, sections_texts, written_text};
 ghost use Rattle.gp_dump.specs.Views.{tables_view};
 ghost use Rattle.gp_dump.specs.Writing.{log_line_text, ordered, place_text, row_line_text};
+ghost use Rattle.gp_log.specs.Contents.{entries, tables};
 
 use gp_base::{Catalog, NoMemory, Table};
 use gp_dumpline::{
@@ -22,7 +21,7 @@ use std::alloc::Global;
 /// Whether BEGIN READ COMMITTED is in the log.
 #[tactic(auto, using(crate::proofs::FormatLemmas::format_steps))]
 fn has_read_committed(log: &Log) -> bool
-    ensures { result ≡ has_read_committed (log_view log.now.entries) }
+    ensures { result ≡ has_read_committed (entries log.now) }
 {
     let mut place = log.len();
     while place > 0 {
@@ -152,9 +151,9 @@ fn write_end(out: &mut Vec<u8>) -> Result<(), NoMemory>
 /// The dump of a log and of the row versions of its tables: the text that [`crate::read_dump`] reads, in the second format only
 /// if BEGIN READ COMMITTED is in the log. The only error is to run out of memory.
 pub fn write_dump(alloc: Global, log: &Log, versions: &[VersionTable]) -> Result<Vec<u8>, NoMemory>
-    requires same { length versions.now ≡ length (tables_in (log_view log.now.entries)) }
+    requires same { length versions.now ≡ length (tables log.now) }
     ensures text { IfOk result (λ text. text.items
-        ≡ written_text (dump_with (log_view log.now.entries) (tables_view versions.now))) }
+        ≡ written_text (dump_with (entries log.now) (tables_view versions.now))) }
 {
     let mut out = Vec::new(alloc);
     write_head(alloc, has_read_committed(log), log.len(), &mut out)?;

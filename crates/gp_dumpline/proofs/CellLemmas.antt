@@ -8,6 +8,7 @@ use Rattle.gp_dumpline.specs.Numbers.{number_of, after_byte}
 use Rattle.gp_dumpline.specs.Digits.{greatest, saturating_number}
 use Rattle.gp_dumpline.specs.RowForms.{put, parts_of, unquoted, negative_of, integer_of, cell_of, further_cells, cells_in, cells_of}
 use Rattle.gp_dumpline.specs.CellParts.{puts, parts_behind, with_further}
+use Rattle.gp_base.proofs.SmallLemmas.{and_none}
 
 -- ---- parts
 
@@ -43,11 +44,7 @@ pub parts-quote : (i : ℕ) (inside : Bool) (text : List ℕ) → i < length tex
 parts-quote i inside text within quote = stepped i inside (not inside) text within (at-quote inside (get_or text i 0) (drop (i + 1) text) quote)
 
 pub parts-inside : (i : ℕ) (text : List ℕ) → i < length text → eqb (get_or text i 0) 39 ≡ false → parts_from (i + 1) true text ≡ parts_from i true text
-parts-inside i text within other = stepped i true true text within (at-plain true (get_or text i 0) (drop (i + 1) text) other (no (eqb (get_or text i 0) 44)))
-  where
-    no : (b : Bool) → (b && false) ≡ false
-    no true = refl
-    no false = refl
+parts-inside i text within other = stepped i true true text within (at-plain true (get_or text i 0) (drop (i + 1) text) other (and_none (eqb (get_or text i 0) 44)))
 
 pub parts-outside : (i : ℕ) (text : List ℕ) → i < length text → eqb (get_or text i 0) 39 ≡ false → eqb (get_or text i 0) 44 ≡ false → parts_from (i + 1) false text ≡ parts_from i false text
 parts-outside i text within other on = stepped i false false text within (at-plain false (get_or text i 0) (drop (i + 1) text) other (rw on refl))

@@ -10,13 +10,15 @@ use Rattle.gp_base.specs.declared.cell.Cell.{Cell}
 use Rattle.gp_base.specs.declared.cell.Cell.TheVariants.{Null, Int, Text, Id, Mark, Mono}
 use Rattle.gp_base.specs.Cells.{fits_number}
 use Rattle.gp_base.specs.Texts.{quoted_byte, cell_text, row_text}
-use Rattle.gp_dumpline.specs.Numbers.{is_digit, number_of, after_byte}
+use Rattle.gp_dumpline.specs.Numbers.{number_of, after_byte}
+use Rattle.gp_base.specs.Digits.{is_digit}
 use Rattle.gp_dumpline.specs.RowForms.{put, parts_of, unquoted, negative_of, integer_of, cell_of, further_cells, cells_in, cells_of}
 use Rattle.gp_dumpline.specs.CellParts.{puts}
-use Rattle.gp_dumpline.specs.Forms.{is_readable_cell}
+use Rattle.gp_dumpline.specs.Rows.{is_readable_cell}
 use Rattle.gp_dumpline.proofs.NumberLaws.{all_digits, digits_own, number-again, number-takes}
 use Rattle.gp_dumpline.proofs.PartLaws.{bind, byte-takes}
 use Rattle.gp_dumpline.proofs.CellLemmas.{puts-part, plain-unquoted}
+use Rattle.std.proofs.lemmas.Option.{none-some, same_Some}
 
 -- the texts of further cells, each behind a comma and a space
 abbrev pub others_text : List Cell → List ℕ
@@ -168,22 +170,16 @@ none_is : {A : Type 0} (b : Bool) (x : Option A) (y : A) → cond b x None ≡ S
 none_is true x y e = (refl, e)
 none_is false x y e = absurd cc
 
-some_is : {A : Type 0} (x y : A) → Some x ≡ Some y → x ≡ y
-some_is x y e = cc
-
-none_some : {A : Type 0} (y : A) → None ≡ Some y → ⊥
-none_some y e = cc
-
 mapped : {A B : Type 0} (f : A → B) (o : Option A) (y : B) → option_map f o ≡ Some y → (x : A) × (o ≡ Some x) × (f x ≡ y)
 mapped f None y e = absurd cc
 mapped f (Some x) y e = (x, refl, cc)
 
 unquoted-takes : (bytes value : List ℕ) → unquoted bytes ≡ Some value → bytes ≡ flat_map quoted_byte value ++ 39 ∷ []
-unquoted-takes [] value e = absurd (none_some value e)
+unquoted-takes [] value e = absurd (none-some value e)
 unquoted-takes (b ∷ []) value e =
     let c = none_is (eqb b 39) (Some []) value e in
     let first : b ≡ 39 = eqb-true b 39 c.0 in
-    let nothing : [] ≡ value = some_is [] value c.1 in
+    let nothing : [] ≡ value = same_Some [] value c.1 in
     ap (λ (x : ℕ). x ∷ []) first ∙ ap (λ (v : List ℕ). flat_map quoted_byte v ++ 39 ∷ []) nothing
 unquoted-takes (b ∷ c ∷ bytes) value e = elim (cases_Bool (eqb b 39)) [
   | inl quote ↦
@@ -213,14 +209,14 @@ record TakesInteger (text : List ℕ) (number : ℤ) : Type 0 where
   fits : fits_number number ≡ true
 
 negative-takes : (n : ℕ) (digits : List ℕ) (number : ℤ) → number_of digits ≡ Some n → negative_of n ≡ Some number → TakesInteger (45 ∷ digits) number
-negative-takes zero digits number is e = absurd (none_some number e)
+negative-takes zero digits number is e = absurd (none-some number e)
 negative-takes (suc n) digits number is e =
     let c = none_is (ltb n (2 ^ 63)) (Some (negsuc n)) number e in
     let small : n < 2 ^ 63 = ltb-true n (2 ^ 63) c.0 in
     let text : digits ≡ decimal (suc n) = number-takes digits (suc n) is (omega (arith, small)) in
     let fits : fits_number (negsuc n) ≡ true = and_from (leb n (2 ^ 63 - 1)) true (le-leb n (2 ^ 63 - 1) (omega (arith, small))) refl in
     let made : TakesInteger (45 ∷ digits) (negsuc n) = record { is = ap (λ (x : List ℕ). 45 ∷ x) text; fits = fits } in
-    subst (TakesInteger (45 ∷ digits)) (some_is (negsuc n) number c.1) made
+    subst (TakesInteger (45 ∷ digits)) (same_Some (negsuc n) number c.1) made
 
 positive-takes : (n : ℕ) (digits : List ℕ) (number : ℤ) → number_of digits ≡ Some n → cond (ltb n (2 ^ 63)) (Some (pos n)) None ≡ Some number → TakesInteger digits number
 positive-takes n digits number is e =
@@ -228,10 +224,10 @@ positive-takes n digits number is e =
     let small : n < 2 ^ 63 = ltb-true n (2 ^ 63) c.0 in
     let text : digits ≡ decimal n = number-takes digits n is (omega (arith, small)) in
     let made : TakesInteger digits (pos n) = record { is = text; fits = c.0 } in
-    subst (TakesInteger digits) (some_is (pos n) number c.1) made
+    subst (TakesInteger digits) (same_Some (pos n) number c.1) made
 
 integer-takes : (text : List ℕ) (number : ℤ) → integer_of text ≡ Some number → TakesInteger text number
-integer-takes [] number e = absurd (none_some number e)
+integer-takes [] number e = absurd (none-some number e)
 integer-takes (b ∷ bytes) number e = elim (cases_Bool (eqb b 45)) [
   | inl minus ↦
       let f = rw minus at e in
@@ -245,7 +241,7 @@ integer-takes (b ∷ bytes) number e = elim (cases_Bool (eqb b 45)) [
 
 pub cell-takes : (text : List ℕ) (cell : Cell) → cell_of text ≡ Some cell → TakesCell text cell
 unfolding cell_of
-cell-takes [] cell e = absurd (none_some cell e)
+cell-takes [] cell e = absurd (none-some cell e)
 cell-takes (b ∷ bytes) cell e = elim (cases_Bool (eqb b 39)) [
   | inl quote ↦
       let f = rw quote at e in
@@ -256,7 +252,7 @@ cell-takes (b ∷ bytes) cell e = elim (cases_Bool (eqb b 39)) [
     | inl null ↦
         let f = rw (other, null) at e in
         let made : TakesCell (b ∷ bytes) Null = record { is = (bytes_eq-Decides (b ∷ bytes) (codes "NULL")).0 null; readable = refl } in
-        subst (TakesCell (b ∷ bytes)) (some_is Null cell f) made
+        subst (TakesCell (b ∷ bytes)) (same_Some Null cell f) made
     | inr no_null ↦
         let f = rw (other, no_null) at e in
         let m = mapped (λ (x : ℤ). Int x) (integer_of (b ∷ bytes)) cell f in
@@ -310,7 +306,7 @@ record TakesFurther (parts : List (List ℕ)) (cells : List Cell) : Type 0 where
   readable : AreReadable cells
 
 further-takes : (parts : List (List ℕ)) (cells : List Cell) → further_cells parts ≡ Some cells → TakesFurther parts cells
-further-takes [] cells e = subst (TakesFurther []) (some_is [] cells e) (record { is = refl; readable = refl })
+further-takes [] cells e = subst (TakesFurther []) (same_Some [] cells e) (record { is = refl; readable = refl })
 further-takes (part ∷ parts) cells e =
     let c = bind (λ (cell : Cell). option_map (λ (cells : List Cell). cell ∷ cells) (further_cells parts)) (option_and_then cell_of (after_byte 32 part)) cells e in
     let inside = bind cell_of (after_byte 32 part) c.0 c.1 in
@@ -327,7 +323,7 @@ pub record TakesCells (text : List ℕ) (cells : List Cell) : Type 0 where
   pub readable : list_all is_readable_cell cells ≡ true
 
 parts-takes : (parts : List (List ℕ)) (cells : List Cell) → cells_in parts ≡ Some cells → TakesCells (rejoined parts) cells
-parts-takes [] cells e = absurd (none_some cells e)
+parts-takes [] cells e = absurd (none-some cells e)
 parts-takes (part ∷ parts) cells e =
     let c = bind (λ (cell : Cell). option_map (λ (cells : List Cell). cell ∷ cells) (further_cells parts)) (cell_of part) cells e in
     let m = mapped (λ (cells : List Cell). c.0 ∷ cells) (further_cells parts) cells c.2 in

@@ -1,42 +1,16 @@
 -- The numbers of an identity are read again in front of a text, and what is read is their text.
 use Rattle.std.proofs.Common.{◌≡◌, ℕ, ◌+◌, ◌*◌, ◌-◌, ◌^◌, ◌<◌, ◌≤◌, Bool, true, false, cond, leb, ◌&&◌, List, [], ◌∷◌, ◌++◌, length, get_or, Option, Some, None, refl, sym, ap, subst, ◌∙◌, arith, inl, inr}
 use Rattle.std.specs.Fmt.{decimal}
-use Rattle.std.specs.Int.{IsInRange}
 use Rattle.std.proofs.lemmas.Bool.{cases_Bool, and_parts, and_from, leb-true, le-leb, cond-true, false≢true}
-use Rattle.std.proofs.lemmas.Str.Parse.{IsNumeralModel, IsDigitsTest, FoldsDigits, numerals_by_fold}
 use Rattle.std.proofs.lemmas.Fmt.{digits_decimal, digits_value-decimal, decimal-digits_value, decimal_nonempty, first_decimal}
 use Rattle.gp_dumpline.specs.declared.identity.TheConstants.{MAX_PART}
-use Rattle.gp_dumpline.specs.Numbers.{is_digit, after_byte}
-use Rattle.gp_dumpline.specs.RowForms.{digits_at, if_part, part_at, numbers_at, Numbers}
-use Rattle.gp_dumpline.specs.Forms.{IsPart}
+use Rattle.gp_dumpline.specs.Numbers.{after_byte}
+use Rattle.gp_base.specs.Digits.{is_digit}
+use Rattle.gp_dumpline.specs.RowForms.{if_part, part_at, numbers_at, Numbers}
+use Rattle.gp_base.specs.Leaves.{digits_at}
+use Rattle.gp_dumpline.specs.Rows.{IsPart}
 use Rattle.gp_dumpline.proofs.PartLaws.{bind, byte-takes}
-
-abbrev all_digits : List ℕ → Bool
-all_digits [] = true
-all_digits (c ∷ cs) = is_digit c && all_digits cs
-
-abbrev fold : ℕ → List ℕ → ℕ
-fold n [] = n
-fold n (c ∷ cs) = fold (n * 10 + (c - 48)) cs
-
-in_range : (c : ℕ) → is_digit c ≡ true → IsInRange 48 57 c
-in_range c h = let p = and_parts (leb 48 c) (leb c 57) h in (leb-true 48 c p.0, leb-true c 57 p.1)
-
-range_in : (c : ℕ) → IsInRange 48 57 c → is_digit c ≡ true
-range_in c h = and_from (leb 48 c) (leb c 57) (le-leb 48 c h.0) (le-leb c 57 h.1)
-
-test : IsDigitsTest (λ ds. all_digits ds ≡ true)
-test = record {
-  empty = refl;
-  parts = λ c cs h. let p = and_parts (is_digit c) (all_digits cs) h in (in_range c p.0, p.1);
-  more = λ c cs h k. and_from (is_digit c) (all_digits cs) (range_in c h) k;
-}
-
-folds : FoldsDigits fold
-folds = record { empty = λ n. refl; more = λ n c cs h. refl }
-
-own : IsNumeralModel (λ ds. all_digits ds ≡ true) (fold 0)
-own = numerals_by_fold (λ ds. all_digits ds ≡ true) test fold folds
+use Rattle.gp_base.proofs.DigitLemmas.{all_digits, fold_on, in_range, own_on, range_in}
 
 -- the text does not begin with a digit
 abbrev pub IsAfterDigits : List ℕ → Type 0
@@ -47,13 +21,13 @@ digits_at-stop : (n : ℕ) (rest : List ℕ) → IsAfterDigits rest → digits_a
 digits_at-stop n [] after = refl
 digits_at-stop n (b ∷ rest) after = rw after refl
 
-digits_at-all : (n : ℕ) (ds rest : List ℕ) → all_digits ds ≡ true → IsAfterDigits rest → digits_at n (ds ++ rest) ≡ (fold n ds, rest)
+digits_at-all : (n : ℕ) (ds rest : List ℕ) → all_digits ds ≡ true → IsAfterDigits rest → digits_at n (ds ++ rest) ≡ (fold_on n ds, rest)
 digits_at-all n [] rest all after = digits_at-stop n rest after
 digits_at-all n (d ∷ ds) rest all after =
     let p = and_parts (is_digit d) (all_digits ds) all in
     rw p.0 (digits_at-all (n * 10 + (d - 48)) ds rest p.1 after)
 
-part-text : (n : ℕ) (ds rest : List ℕ) → ds ≡ decimal n → IsPart n → all_digits ds ≡ true → fold 0 ds ≡ n → 0 < length ds → 48 < get_or ds 0 0 → IsAfterDigits rest → part_at (ds ++ rest) ≡ Some (n, rest)
+part-text : (n : ℕ) (ds rest : List ℕ) → ds ≡ decimal n → IsPart n → all_digits ds ≡ true → fold_on 0 ds ≡ n → 0 < length ds → 48 < get_or ds 0 0 → IsAfterDigits rest → part_at (ds ++ rest) ≡ Some (n, rest)
 unfolding part_at
 part-text n [] rest is range all value some high after = absurd (omega (arith, some))
 part-text n (d ∷ ds) rest is range all value some high after =
@@ -66,7 +40,7 @@ part-text n (d ∷ ds) rest is range all value some high after =
 pub part-again : (n : ℕ) (rest : List ℕ) → IsPart n → IsAfterDigits rest → part_at (decimal n ++ rest) ≡ Some (n, rest)
 part-again n rest range after =
     let small : n < 2 ^ 64 = omega (arith, range.1) in
-    part-text n (decimal n) rest refl range (digits_decimal own n small) (digits_value-decimal own n small) (decimal_nonempty n small) (first_decimal n (omega (arith, range.0)) small) after
+    part-text n (decimal n) rest refl range (digits_decimal own_on n small) (digits_value-decimal own_on n small) (decimal_nonempty n small) (first_decimal n (omega (arith, range.0)) small) after
 
 -- ---- only its text is read
 
@@ -74,7 +48,7 @@ pub record TookDigits (n : ℕ) (bytes : List ℕ) (value : ℕ) (rest : List �
   pub ds : List ℕ
   pub all : all_digits ds ≡ true
   pub is : bytes ≡ ds ++ rest
-  pub valued : fold n ds ≡ value
+  pub valued : fold_on n ds ≡ value
   pub after : IsAfterDigits rest
 
 took : (n : ℕ) (bytes : List ℕ) → TookDigits n bytes (digits_at n bytes).0 (digits_at n bytes).1
@@ -100,23 +74,23 @@ chosen false x y e = absurd cc
 pub some_is : {A : Type 0} (x y : A) → Some x ≡ Some y → x ≡ y
 some_is x y e = cc
 
-fold-first : (d : ℕ) (ds : List ℕ) → 49 ≤ d → 1 ≤ fold 0 (d ∷ ds)
+fold-first : (d : ℕ) (ds : List ℕ) → 49 ≤ d → 1 ≤ fold_on 0 (d ∷ ds)
 fold-first d ds high = grows (0 * 10 + (d - 48)) ds (omega (arith, high))
   where
-    grows : (n : ℕ) (ds : List ℕ) → 1 ≤ n → 1 ≤ fold n ds
+    grows : (n : ℕ) (ds : List ℕ) → 1 ≤ n → 1 ≤ fold_on n ds
     grows n [] some = some
     grows n (c ∷ cs) some = grows (n * 10 + (c - 48)) cs (omega (arith, some))
 
-part-took : (b : ℕ) (bytes : List ℕ) (n : ℕ) (rest ds : List ℕ) → is_digit b ≡ true → 49 ≤ b → n ≤ MAX_PART → all_digits ds ≡ true → b ∷ bytes ≡ ds ++ rest → fold 0 ds ≡ n → IsAfterDigits rest → TakesPart (b ∷ bytes) n rest
+part-took : (b : ℕ) (bytes : List ℕ) (n : ℕ) (rest ds : List ℕ) → is_digit b ≡ true → 49 ≤ b → n ≤ MAX_PART → all_digits ds ≡ true → b ∷ bytes ≡ ds ++ rest → fold_on 0 ds ≡ n → IsAfterDigits rest → TakesPart (b ∷ bytes) n rest
 part-took b bytes n rest [] digit high most all is valued after =
     let stop : is_digit b ≡ false = subst IsAfterDigits (sym is) after in
     absurd (false≢true (sym stop ∙ digit))
 part-took b bytes n rest (d ∷ ds) digit high most all is valued after =
     let first : b ≡ d = ap (λ (x : List ℕ). get_or x 0 0) is in
     let up : 49 ≤ d = subst (λ (x : ℕ). 49 ≤ x) first high in
-    let some : 1 ≤ fold 0 (d ∷ ds) = fold-first d ds up in
-    let small : fold 0 (d ∷ ds) < 2 ^ 64 = omega (arith, valued, most) in
-    let written : decimal (fold 0 (d ∷ ds)) ≡ d ∷ ds = decimal-digits_value own (d ∷ ds) all (omega arith) (λ e. absurd (omega (arith, e, up))) small in
+    let some : 1 ≤ fold_on 0 (d ∷ ds) = fold-first d ds up in
+    let small : fold_on 0 (d ∷ ds) < 2 ^ 64 = omega (arith, valued, most) in
+    let written : decimal (fold_on 0 (d ∷ ds)) ≡ d ∷ ds = decimal-digits_value own_on (d ∷ ds) all (omega arith) (λ e. absurd (omega (arith, e, up))) small in
     let text : decimal n ≡ d ∷ ds = ap decimal (sym valued) ∙ written in
     record { is = is ∙ ap (λ (x : List ℕ). x ++ rest) (sym text); range = (omega (arith, some, valued), most) }
 

@@ -6,9 +6,9 @@ use Rattle.std.proofs.lemmas.Bool.{cases_Bool, and_parts, le-leb, leb-true, cond
 use Rattle.std.proofs.lemmas.List.{append-nil}
 use Rattle.gp_base.specs.declared.row_id.TheConstants.{MAX_NODES}
 use Rattle.gp_base.specs.Identities.{Identity, Sources, identity, no_sources, source, nodes, nodes_in, identity_text, sources_text, others_text}
-use Rattle.gp_dumpline.specs.Numbers.{is_digit}
+use Rattle.gp_base.specs.Digits.{is_digit}
 use Rattle.gp_dumpline.specs.RowForms.{Numbers, numbers_at, made, joined, identity_at, sources_at, others_at, identity_of, if_whole, most_steps}
-use Rattle.gp_dumpline.specs.Forms.{IsReadable, AreReadable, IsPart}
+use Rattle.gp_dumpline.specs.Rows.{IsReadable, AreReadable, IsPart}
 use Rattle.gp_dumpline.proofs.PartLaws.{IsFree, bind}
 use Rattle.gp_dumpline.proofs.NumberLaws.{all_digits, digits_own}
 use Rattle.gp_dumpline.proofs.IdentityNumbers.{IsAfterDigits, numbers-again, numbers-takes, TakesNumbers, chosen, some_is}

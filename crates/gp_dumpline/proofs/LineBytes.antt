@@ -1,22 +1,23 @@
 -- The lines of a dump are UTF-8 and have no line feed, where their texts are those of users.
-use Rattle.std.proofs.Common.{◌≡◌, ℕ, suc, ◌^◌, ◌<◌, ◌≤◌, ◌-◌, Bool, true, false, not, eqb, leb, ◌&&◌, ◌||◌, List, [], ◌∷◌, ◌++◌, length, Option, Some, None, refl, sym, ap, subst, ◌∙◌, arith, inl, inr, codes, lit<, ℤ, pos, negsuc}
+use Rattle.std.proofs.Common.{◌≡◌, ℕ, suc, ◌^◌, ◌<◌, ◌≤◌, ◌-◌, Bool, true, false, not, eqb, leb, ◌&&◌, List, [], ◌∷◌, ◌++◌, length, Option, Some, None, refl, sym, ap, subst, ◌∙◌, arith, inl, inr, codes, lit<, ℤ, pos, negsuc}
 use Rattle.std.specs.Char.{is_ascii_control}
 use Rattle.std.specs.Fmt.{decimal, signed_decimal}
 use Rattle.std.specs.List.{flat_map, list_all, list_any}
 use Rattle.std.specs.Str.{IsUtf8, is_utf8}
 use Rattle.std.specs.Str.Lossy.{utf8_valid_len}
-use Rattle.std.proofs.lemmas.Bool.{cases_Bool, false≢true, and_parts, leb-true, ltb-true, eqb-true, ne_eqb}
+use Rattle.std.proofs.lemmas.Bool.{cases_Bool, false≢true, and_parts, leb-true, ltb-true, eqb-true, ne_eqb, not-true, or_parts}
 use Rattle.std.proofs.lemmas.List.{append-nil}
 use Rattle.std.proofs.lemmas.Str.{IsUtf8-append, IsUtf8-nil, is_utf8-from_IsUtf8}
 use Rattle.gp_base.specs.declared.cell.Cell.{Cell}
 use Rattle.gp_base.specs.declared.cell.Cell.TheVariants.{Null, Int, Text, Id, Mark, Mono}
 use Rattle.gp_base.specs.declared.text.TheConstants.{MAX_TEXT_LENGTH}
-use Rattle.gp_base.specs.Cells.{is_user_cell, is_user_text, fits_number}
+use Rattle.gp_base.specs.Cells.{is_user_text, fits_number}
+use Rattle.gp_base.specs.UserCells.{is_user_cell}
 use Rattle.gp_base.specs.Identities.{identity_text}
 use Rattle.gp_base.specs.Texts.{quoted_byte, cell_text, row_text}
 use Rattle.gp_versions.specs.declared.span.Span.{Span}
 use Rattle.gp_grammar.proofs.Utf8Lemmas.{ascii-cons}
-use Rattle.gp_dumpline.specs.Numbers.{is_digit}
+use Rattle.gp_base.specs.Digits.{is_digit}
 use Rattle.gp_dumpline.specs.Forms.{IsVersion, HasForm}
 use Rattle.gp_dumpline.specs.Texts.{to_text, span_text}
 use Rattle.gp_dumpline.proofs.NumberLaws.{all_digits, digits_own}
@@ -95,23 +96,15 @@ quoted-free (b ∷ text) free = elim (cases_Bool (eqb b 39)) [
 control-free : (text : List ℕ) → list_any is_ascii_control text ≡ false → IsFree 10 text
 control-free [] none = tt
 control-free (b ∷ text) none =
-    let p = parts (is_ascii_control b) (list_any is_ascii_control text) none in
+    let p = or_parts (is_ascii_control b) (list_any is_ascii_control text) none in
     (ne_eqb b 10 (λ e. absurd (false≢true (sym p.0 ∙ ap is_ascii_control e))), control-free text p.1)
-  where
-    parts : (a b : Bool) → (a || b) ≡ false → (a ≡ false) × (b ≡ false)
-    parts true b e = absurd (false≢true (sym e))
-    parts false b e = (refl, e)
-
-not-false : (b : Bool) → not b ≡ true → b ≡ false
-not-false true e = absurd (false≢true e)
-not-false false e = refl
 
 user-line : (text : List ℕ) → is_user_text text ≡ true → IsLine (flat_map quoted_byte text)
 user-line text is =
     let p = and_parts (eqb (utf8_valid_len text) (length text)) (leb (length text) MAX_TEXT_LENGTH && not (list_any is_ascii_control text)) is in
     let q = and_parts (leb (length text) MAX_TEXT_LENGTH) (not (list_any is_ascii_control text)) p.1 in
     let utf8 = valid-utf8 text (eqb-true (utf8_valid_len text) (length text) p.0) in
-    record { utf8 = quoted-utf8 text utf8; free = quoted-free text (control-free text (not-false (list_any is_ascii_control text) q.1)) }
+    record { utf8 = quoted-utf8 text utf8; free = quoted-free text (control-free text (not-true (list_any is_ascii_control text) q.1)) }
 
 integer-line : (number : ℤ) (rest : List ℕ) → fits_number number ≡ true → IsLine rest → IsLine (signed_decimal number ++ rest)
 integer-line (pos n) rest fits l = number-line n rest (omega (arith, ltb-true n (2 ^ 63) fits)) l

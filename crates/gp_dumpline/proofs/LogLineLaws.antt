@@ -4,7 +4,7 @@ use Rattle.std.specs.Fmt.{decimal}
 use Rattle.std.proofs.lemmas.Bool.{cases_Bool, eqb-false, ne_eqb}
 use Rattle.std.proofs.lemmas.List.{append-nil}
 use Rattle.gp_grammar.specs.declared.limits.TheConstants.{MAX_SESSION}
-use Rattle.gp_txn.specs.declared.counting.TheConstants.{MAX_SPANS}
+use Rattle.gp_base.specs.declared.limit.TheConstants.{MAX_SPANS}
 use Rattle.gp_log.specs.declared.limit.TheConstants.{MAX_LINE, MAX_ENTRIES}
 use Rattle.gp_dumpline.specs.Numbers.{number_up_to, cut_at, behind_words}
 use Rattle.gp_dumpline.specs.Forms.{LogLine, count_of, log_line_of, section_of}

@@ -1,17 +1,19 @@
 -- The decimal text of a number is read as this number, and only this text is.
-use Rattle.std.proofs.Common.{◌≡◌, ℕ, zero, suc, ◌+◌, ◌*◌, ◌-◌, ◌^◌, ◌<◌, ◌≤◌, Bool, true, false, cond, leb, eqb, ◌&&◌, List, [], ◌∷◌, get_or, Option, Some, None, option_and_then, refl, sym, ap, subst, ◌∙◌, arith, inl, inr}
+use Rattle.std.proofs.Common.{◌≡◌, ℕ, zero, suc, ◌+◌, ◌*◌, ◌-◌, ◌^◌, ◌<◌, ◌≤◌, Bool, true, false, cond, leb, eqb, not, ◌&&◌, List, [], ◌∷◌, get_or, Option, Some, None, option_and_then, refl, sym, ap, subst, ◌∙◌, arith, inl, inr}
 use Rattle.std.specs.Prelude.{min}
 use Rattle.std.specs.Option.{option_map}
 use Rattle.std.specs.Fmt.{decimal}
 use Rattle.std.specs.Int.{IsInRange}
-use Rattle.std.proofs.lemmas.Bool.{cases_Bool, and_parts, and_from, leb-true, le-leb, cond-true, eqb-false, ne_eqb}
+use Rattle.std.proofs.lemmas.Bool.{cases_Bool, and_parts, and_from, leb-true, le-leb, cond-true, eqb-false, ne_eqb, not-true}
 use Rattle.std.proofs.lemmas.Str.Parse.{IsNumeralModel, IsDigitsTest, FoldsDigits, numerals_by_fold}
 use Rattle.std.proofs.lemmas.Fmt.{digits_decimal, digits_value-decimal, decimal-digits_value, first_decimal, decimal_digit}
-use Rattle.gp_dumpline.specs.Numbers.{is_digit, read_on, number_of, number_up_to, beyond_versions, version_of}
+use Rattle.gp_dumpline.specs.Numbers.{read_on, number_of, number_up_to, beyond_versions, version_of}
+use Rattle.std.proofs.lemmas.Option.{same_Some}
+use Rattle.gp_dumpline.specs.Rows.{is_numeral}
+use Rattle.gp_base.specs.Digits.{are_digits, is_digit}
 
 abbrev pub all_digits : List ℕ → Bool
-all_digits [] = true
-all_digits (c ∷ cs) = is_digit c && all_digits cs
+all_digits digits = are_digits digits
 
 abbrev pub fold : ℕ → List ℕ → ℕ
 fold n [] = n
@@ -83,6 +85,28 @@ number-takes (d ∷ c ∷ ds) n e small = elim (cases_Bool (eqb d 48)) [
 pub digits_own : (n : ℕ) → n < 2 ^ 64 → all_digits (decimal n) ≡ true
 digits_own n small = digits_decimal own n small
 
+-- ---- numbers of any length
+
+pub numeral-digits : (text : List ℕ) → is_numeral text ≡ true → all_digits text ≡ true
+numeral-digits [] e = refl
+numeral-digits (d ∷ []) e = and_from (is_digit d) true e refl
+numeral-digits (d ∷ c ∷ ds) e = (and_parts (are_digits (d ∷ c ∷ ds)) (not (eqb d 48)) e).0
+
+pub numeral-read : (text : List ℕ) → is_numeral text ≡ true → (n : ℕ) × (number_of text ≡ Some n)
+numeral-read [] e = absurd cc
+numeral-read (d ∷ []) e = (fold 0 (d ∷ []), read-digits 0 (d ∷ []) (numeral-digits (d ∷ []) e))
+numeral-read (d ∷ c ∷ ds) e =
+    let other : eqb d 48 ≡ false = not-true (eqb d 48) (and_parts (are_digits (d ∷ c ∷ ds)) (not (eqb d 48)) e).1 in
+    (fold 0 (d ∷ c ∷ ds), rw other (read-digits 0 (d ∷ c ∷ ds) (numeral-digits (d ∷ c ∷ ds) e)))
+
+pub read-numeral : (text : List ℕ) (n : ℕ) → number_of text ≡ Some n → is_numeral text ≡ true
+read-numeral [] n e = absurd (none_some n e)
+read-numeral (d ∷ []) n e = (and_parts (is_digit d) true (digits-read 0 (d ∷ []) n e).0).0
+read-numeral (d ∷ c ∷ ds) n e = elim (cases_Bool (eqb d 48)) [
+  | inl lead ↦ let f = rw lead at e in absurd (none_some n f)
+  | inr other ↦ let f = rw other at e in and_from (are_digits (d ∷ c ∷ ds)) (not (eqb d 48)) (digits-read 0 (d ∷ c ∷ ds) n f).0 (ap not other)
+]
+
 -- ---- numbers up to a greatest one
 
 pub up_to-again : (most n : ℕ) → n ≤ most → n < 2 ^ 64 → number_up_to most (decimal n) ≡ Some n
@@ -104,13 +128,21 @@ up_to-takes most text n small e = go (number_of text) refl e
 
 -- ---- versions
 
-some_number : (m n : ℕ) → Some m ≡ Some n → m ≡ n
-some_number m n e = cc
-
 pub version-again : (n : ℕ) → n < 2 ^ 32 → version_of (decimal n) ≡ Some n
 version-again n small =
     let e : min n beyond_versions ≡ n = omega arith in
     ap (option_map (λ (k : ℕ). min k beyond_versions)) (number-again n (omega arith)) ∙ ap (λ (k : ℕ). Some k) e
+
+-- a version of any length
+pub numeral-version : (text : List ℕ) → is_numeral text ≡ true → (n : ℕ) × (version_of text ≡ Some n)
+numeral-version text is = let n = numeral-read text is in (min n.0 beyond_versions, ap (option_map (λ (k : ℕ). min k beyond_versions)) n.1)
+
+pub version-numeral : (text : List ℕ) (n : ℕ) → version_of text ≡ Some n → is_numeral text ≡ true
+version-numeral text n e = go (number_of text) refl e
+  where
+    go : (o : Option ℕ) → number_of text ≡ o → option_map (λ (k : ℕ). min k beyond_versions) o ≡ Some n → is_numeral text ≡ true
+    go None f g = absurd (none_some n g)
+    go (Some m) f g = read-numeral text m f
 
 pub version-takes : (text : List ℕ) (n : ℕ) → version_of text ≡ Some n → n < beyond_versions → text ≡ decimal n
 version-takes text n e small = go (number_of text) refl e
@@ -118,6 +150,6 @@ version-takes text n e small = go (number_of text) refl e
     go : (o : Option ℕ) → number_of text ≡ o → option_map (λ (k : ℕ). min k beyond_versions) o ≡ Some n → text ≡ decimal n
     go None f g = absurd (none_some n g)
     go (Some m) f g =
-        let e : min m beyond_versions ≡ n = some_number (min m beyond_versions) n g in
+        let e : min m beyond_versions ≡ n = same_Some (min m beyond_versions) n g in
         let same : m ≡ n = omega arith in
         number-takes text m f (omega arith) ∙ ap decimal same

@@ -4,14 +4,14 @@ use Rattle.std.specs.List.{list_all}
 use Rattle.std.proofs.lemmas.Bool.{and_parts, false≢true, ne_eqb}
 use Rattle.std.proofs.lemmas.Bool.Decides.{nat_tests}
 use Rattle.gp_base.specs.declared.name.TheConstants.{MAX_NAME_LENGTH}
-use Rattle.gp_base.specs.Cells.{is_user_cell}
+use Rattle.gp_base.specs.UserCells.{is_user_cell}
 use Rattle.gp_base.specs.Names.{is_lower_letter, is_name, is_name_byte, is_reserved}
 use Rattle.gp_grammar.specs.declared.limits.TheConstants.{MAX_SESSION}
 use Rattle.gp_versions.specs.declared.span.Span.{Span}
-use Rattle.gp_txn.specs.declared.counting.TheConstants.{MAX_SPANS}
+use Rattle.gp_base.specs.declared.limit.TheConstants.{MAX_SPANS}
 use Rattle.gp_log.specs.declared.limit.TheConstants.{MAX_LINE, MAX_ENTRIES}
-use Rattle.gp_machine.specs.Entries.{Entry}
-use Rattle.gp_log.specs.Discipline.{line_of, session_of, said_by}
+use Rattle.gp_machine.specs.Entries.{Entry, line_of, session_of}
+use Rattle.gp_log.specs.Discipline.{said_by}
 use Rattle.gp_dumpline.specs.Forms.{HasForm, said_of}
 use Rattle.gp_dumpline.specs.Laws.{IsOneLine}
 use Rattle.gp_dumpline.specs.Texts.{header, count_text, said_text, entry_text, section_text, span_text, end_text}

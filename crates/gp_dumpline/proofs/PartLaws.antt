@@ -6,7 +6,8 @@ use Rattle.std.specs.List.{AllByRecursion}
 use Rattle.std.proofs.lemmas.Bool.{cases_Bool, and_parts, leb-true, eqb-true, ne_eqb}
 use Rattle.std.proofs.lemmas.List.{take-append-drop, take_at}
 use Rattle.std.proofs.lemmas.Slice.Eq.{bytes_eq-Decides}
-use Rattle.gp_dumpline.specs.Numbers.{is_digit, cut_at, behind_words, after_byte}
+use Rattle.gp_dumpline.specs.Numbers.{cut_at, behind_words, after_byte}
+use Rattle.gp_base.specs.Digits.{is_digit}
 use Rattle.gp_dumpline.proofs.NumberLaws.{all_digits}
 
 -- the parts of a chain of readers

@@ -3,7 +3,8 @@ use Rattle.std.proofs.Common.{◌≡◌, ℕ, ◌+◌, ◌*◌, ◌-◌, ◌^◌
 use Rattle.std.specs.Option.{option_map}
 use Rattle.std.proofs.lemmas.Bool.{cases_Bool}
 use Rattle.std.proofs.lemmas.List.{drop_more, take_more, drop_all, append-nil}
-use Rattle.gp_dumpline.specs.Numbers.{is_digit, cut_at}
+use Rattle.gp_dumpline.specs.Numbers.{cut_at}
+use Rattle.gp_base.specs.Digits.{is_digit}
 use Rattle.gp_dumpline.specs.Digits.{greatest, saturating_on}
 
 min-step : (n m d most : ℕ) → min n most ≡ min m most → min (10 * n + d) most ≡ min (10 * m + d) most

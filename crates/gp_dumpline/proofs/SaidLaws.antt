@@ -10,7 +10,8 @@ use Rattle.gp_lexer.specs.declared.lexeme.Lexeme.{Lexeme}
 use Rattle.gp_lexer.specs.declared.lexeme.Lexeme.TheVariants.{Symbol as Sign}
 use Rattle.gp_lexer.specs.declared.lexeme.Symbol.TheVariants as s
 use Rattle.gp_lexer.specs.Layout.{next_gap, empty_page, laid_out}
-use Rattle.gp_lexer.specs.Lexemes.{AreProper, spelled, symbol_text}
+use Rattle.gp_lexer.specs.Lexemes.{spelled, symbol_text}
+use Rattle.gp_lexer.specs.ProperLexemes.{AreProper}
 use Rattle.gp_lexer.specs.Lexing as lex
 use Rattle.gp_lexer.proofs.LayoutLemmas.{added, written-added}
 use Rattle.gp_lexer.proofs.ProperLemmas.{lexemes-proper}
@@ -21,7 +22,8 @@ use Rattle.gp_grammar.specs.CommandGrammar.{IsCommand, IsSessionCommand, IsScrip
 use Rattle.gp_grammar.specs.CommandParsing as c
 use Rattle.gp_grammar.specs.CommandParsing.{command}
 use Rattle.gp_grammar.specs.Limits.{command_shape}
-use Rattle.gp_grammar.specs.LineReading.{Fault, command_of, script_line_of}
+use Rattle.gp_grammar.specs.LineReading.{Fault}
+use Rattle.gp_grammar.specs.Reading.{command_of, script_line_of}
 use Rattle.gp_grammar.specs.Syntax as y
 use Rattle.gp_grammar.specs.Syntax.{Lexemes, Bytes, Command, ScriptLine, Query}
 use Rattle.gp_grammar.proofs.CanonicalLaws.{derived-read, lexed-lexemes, text-utf8, text-one_line}
@@ -32,6 +34,7 @@ use Rattle.gp_grammar.proofs.Utf8Lemmas.{symbols-utf8}
 use Rattle.gp_log.specs.Discipline.{Said, Does, Loses}
 use Rattle.gp_log.proofs.LineCommands.{line-command}
 use Rattle.gp_dumpline.specs.Forms.{if_canonical, said_of}
+use Rattle.gp_dumpline.specs.Said.{IsSaid}
 use Rattle.gp_dumpline.specs.Texts.{said_text}
 use Rattle.gp_dumpline.proofs.LineBytes.{IsLine, tested-free, words-alone}
 
@@ -108,7 +111,7 @@ command-said x is = elim (cases_Bool (bytes_eq (command_text x) (codes "LOST")))
   | inr other ↦ rw (other, is, (bytes_eq-Decides (command_text x) (command_text x)).1 refl) refl
 ]
 
-said-command : (x : Command) → said_of (said_text (Does x)) ≡ Some (Does x) → command_of (command_text x) ≡ Ok x
+pub said-command : (x : Command) → said_of (said_text (Does x)) ≡ Some (Does x) → command_of (command_text x) ≡ Ok x
 unfolding said_of
 said-command x e = elim (cases_Bool (bytes_eq (command_text x) (codes "LOST"))) [
   | inl lost ↦ absurd (not-lost x ((bytes_eq-Decides (command_text x) (codes "LOST")).0 lost))
@@ -199,3 +202,13 @@ said-line Loses e = words-alone (codes "LOST") refl
 said-line (Does x) e =
     let r = said-command x e in
     record { utf8 = text-utf8 (command_text x) x r; free = tested-free (command_text x) (text-one_line (command_text x) x r) }
+
+-- ---- what can be said
+
+pub said-is : (said : Said) → said_of (said_text said) ≡ Some said → IsSaid said
+said-is Loses e = tt
+said-is (Does x) e = (texts-read command IsCommand capped_command command_shape lawful-command commands-fair (command_text x) x).0 (said-command x e)
+
+pub is-said : (said : Said) → IsSaid said → said_of (said_text said) ≡ Some said
+is-said Loses is = lost-said
+is-said (Does x) is = command-said x ((texts-read command IsCommand capped_command command_shape lawful-command commands-fair (command_text x) x).1 is)

@@ -2,11 +2,12 @@
 use Rattle.std.proofs.Common.{◌≡◌, ℕ, false, List, Some, None, Result, Ok, Err, refl, sym, subst, codes}
 use Rattle.std.specs.Str.{bytes_eq}
 use Rattle.gp_base.specs.declared.refusal.Refusal.{Refusal}
-use Rattle.gp_grammar.specs.LineReading.{Fault, command_of}
+use Rattle.gp_grammar.specs.LineReading.{Fault}
+use Rattle.gp_grammar.specs.Reading.{command_of}
 use Rattle.gp_grammar.specs.Syntax.{Command}
 use Rattle.gp_syntax.specs.declared.error.ReadStop.{ReadStop}
 use Rattle.gp_syntax.specs.declared.error.ReadStop.TheVariants.{Refused}
-use Rattle.gp_syntax.specs.Refusals.{Returns, refusal_in}
+use Rattle.gp_syntax.specs.ReadResults.{Returns, refusal_in}
 use Rattle.gp_syntax.specs.Views.{command_view}
 use Rattle.gp_dumpline.specs.Forms.{if_canonical, said_of}
 

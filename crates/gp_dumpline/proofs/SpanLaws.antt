@@ -1,5 +1,5 @@
 -- A row line is read as the span that it was written from, and only its text is. It is UTF-8 and has no line feed where its texts are those of users.
-use Rattle.std.proofs.Common.{◌≡◌, ℕ, ◌<◌, true, List, [], ◌∷◌, ◌++◌, Option, Some, None, option_and_then, refl, sym, ap, subst, ◌∙◌, arith, inl, inr, codes, lit<}
+use Rattle.std.proofs.Common.{◌≡◌, ◌⊎◌, ℕ, ◌<◌, Bool, true, false, cond, List, [], ◌∷◌, ◌++◌, Option, Some, None, option_and_then, refl, sym, ap, subst, ◌∙◌, arith, inl, inr, codes, lit<}
 use Rattle.std.specs.Option.{option_map}
 use Rattle.std.specs.Fmt.{decimal}
 use Rattle.std.specs.Str.{bytes_eq}
@@ -13,8 +13,9 @@ use Rattle.gp_versions.specs.declared.span.Span.{Span}
 use Rattle.gp_dumpline.specs.Numbers.{version_of, beyond_versions, cut_at}
 use Rattle.gp_dumpline.specs.RowForms.{identity_of, cells_of}
 use Rattle.gp_dumpline.specs.Forms.{to_of, RowLine, row_line_of, span_in, span_of, IsVersion, HasForm}
+use Rattle.gp_dumpline.specs.Rows.{IsReadable, IsRowLine, is_numeral}
 use Rattle.gp_dumpline.specs.Texts.{to_text, span_text}
-use Rattle.gp_dumpline.proofs.NumberLaws.{all_digits, digits_own, version-again, version-takes}
+use Rattle.gp_dumpline.proofs.NumberLaws.{all_digits, digits_own, numeral-digits, numeral-version, version-again, version-numeral, version-takes}
 use Rattle.gp_dumpline.proofs.PartLaws.{IsFree, bind, cut-again, cut-takes, digits-free}
 use Rattle.gp_dumpline.proofs.IdentityTexts.{whole-again, whole-takes, identity-free}
 use Rattle.gp_dumpline.proofs.CellTexts.{cells-again, cells-takes}
@@ -131,4 +132,75 @@ span-takes text span e from to =
     record {
       is = t.is ∙ (λ i. id.is i ++ 32 ∷ (first i ++ 32 ∷ (last i ++ 32 ∷ row.is i))) ∙ sym (joined (identity_text span.id) (decimal span.from) (to_text span.to) (row_text span.row));
       form = record { identity = id.valid; from = from; to = to; some = row.some; cells = row.readable };
+    }
+
+-- ---- row lines with versions of any length
+
+to-numeral : (text : List ℕ) (to : Option ℕ) → to_of text ≡ Some to → (is_numeral text ≡ true) ⊎ (text ≡ codes "-")
+to-numeral text to e = elim (cases_Bool (bytes_eq text (codes "-"))) [
+  | inl same ↦ inr ((bytes_eq-Decides text (codes "-")).0 same)
+  | inr other ↦ let f = rw other at e in inl (go (version_of text) refl f)
+]
+  where
+    go : (o : Option ℕ) → version_of text ≡ o → option_map (λ (n : ℕ). Some n) o ≡ Some to → is_numeral text ≡ true
+    go None g h = absurd (none_to to h)
+    go (Some n) g h = version-numeral text n g
+
+-- a row line that is read has this form
+pub span-line : (text : List ℕ) (span : Span) → span_of text ≡ Some span → IsRowLine text span.row
+span-line text span e =
+    let l = bind span_in (row_line_of text) span e in
+    let t = row_line-takes text l.0 l.1 in
+    let p = span_in-takes l.0 span l.2 in
+    let id = whole-takes l.0.id span.id p.id in
+    let row = cells-takes l.0.cells span.row p.row in
+    record {
+      id = span.id;
+      from = t.from;
+      to = t.to;
+      is = t.is ∙ (λ i. id.is i ++ 32 ∷ (t.from ++ 32 ∷ (t.to ++ 32 ∷ row.is i))) ∙ sym (joined (identity_text span.id) t.from t.to (row_text span.row));
+      identity = id.valid;
+      begins = version-numeral t.from l.0.from t.from_is;
+      ends = to-numeral t.to l.0.to t.to_is;
+      some = row.some;
+      cells = row.readable;
+    }
+
+to-read : (text : List ℕ) → (is_numeral text ≡ true) ⊎ (text ≡ codes "-") → (to : Option ℕ) × (to_of text ≡ Some to)
+to-read text (inr hyphen) = (None, subst (λ (bytes : List ℕ). to_of bytes ≡ Some None) (sym hyphen) refl)
+to-read text (inl digits) = by (bytes_eq text (codes "-")) refl
+  where
+    by : (b : Bool) → bytes_eq text (codes "-") ≡ b → (to : Option ℕ) × (cond b (Some None) (option_map (λ (n : ℕ). Some n) (version_of text)) ≡ Some to)
+    by true same = (None, refl)
+    by false other = let n = numeral-version text digits in (Some n.0, ap (option_map (λ (n : ℕ). Some n)) n.1)
+
+to_free : (text : List ℕ) → (is_numeral text ≡ true) ⊎ (text ≡ codes "-") → IsFree 32 text
+to_free text (inr hyphen) = subst (IsFree 32) (sym hyphen) (refl, tt)
+to_free text (inl digits) = digits-free 32 text (lit< tt) (numeral-digits text digits)
+
+row_line-read : (id : Identity) (from to : List ℕ) (row : List Cell) (begin : ℕ) (end : Option ℕ) → IsReadable id → IsFree 32 from → IsFree 32 to → version_of from ≡ Some begin → to_of to ≡ Some end
+    → row_line_of (identity_text id ++ 32 ∷ (from ++ 32 ∷ (to ++ 32 ∷ row_text row))) ≡ Some (record { id = identity_text id; from = begin; to = end; cells = row_text row })
+unfolding row_line_of
+row_line-read id from to row begin end readable first second version stop =
+    let one = cut-again 32 (identity_text id) (from ++ 32 ∷ (to ++ 32 ∷ row_text row)) (identity-free 32 id (lit< tt) readable) in
+    let two = cut-again 32 from (to ++ 32 ∷ row_text row) first in
+    let three = cut-again 32 to (row_text row) second in
+    rw (one, two, three, version, stop) refl
+
+pub record ReadsRow (text : List ℕ) (row : List Cell) : Type 0 where
+  pub span : Span
+  pub is : span_of text ≡ Some span
+  pub cells : span.row ≡ row
+
+-- and a text of this form is read
+pub line-span : (text : List ℕ) (row : List Cell) → IsRowLine text row → ReadsRow text row
+line-span text row line =
+    let begin = numeral-version line.from line.begins in
+    let end = to-read line.to line.ends in
+    let whole : text ≡ identity_text line.id ++ 32 ∷ (line.from ++ 32 ∷ (line.to ++ 32 ∷ row_text row)) = line.is ∙ joined (identity_text line.id) line.from line.to (row_text row) in
+    let parts = row_line-read line.id line.from line.to row begin.0 end.0 line.identity (digits-free 32 line.from (lit< tt) (numeral-digits line.from line.begins)) (to_free line.to line.ends) begin.1 end.1 in
+    record {
+      span = record { id = line.id; from = begin.0; to = end.0; row = row };
+      is = ap span_of whole ∙ ap (option_and_then span_in) parts ∙ rw (whole-again line.id line.identity, cells-again row line.some line.cells) refl;
+      cells = refl;
     }

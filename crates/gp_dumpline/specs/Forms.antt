@@ -1,25 +1,22 @@
--- Part of the statement: what the lines of a dump are read as. Each form is the inverse of its text in Texts, as the law `forms_are_texts` says.
+-- Machinery: what the lines of a dump are read as. Each form is the inverse of its text in Texts, as the law `forms_are_texts` says.
 use Rattle.std.specs.List.{list_all}
-use Rattle.std.specs.Prelude.{◌≡◌, ◌<◌, ◌≤◌, ℕ, Bool, true, false, ◌||◌, not, List, length, Option, Some, None, Result, Ok, Err, option_and_then, if◌then◌else◌, ◌==◌, codes}
+use Rattle.std.specs.Prelude.{◌≡◌, ◌<◌, ◌≤◌, ℕ, Bool, true, false, ◌||◌, List, length, Option, Some, None, Result, Ok, Err, option_and_then, if◌then◌else◌, ◌==◌, codes}
 use Rattle.std.specs.Option.{option_map}
 use Rattle.std.specs.Str.{bytes_eq}
 use Rattle.gp_base.specs.declared.cell.Cell.{Cell}
-use Rattle.gp_base.specs.declared.cell.Cell.TheVariants as cell
-use Rattle.gp_base.specs.declared.row_id.TheConstants.{MAX_NODES}
-use Rattle.gp_base.specs.Cells.{fits_number}
-use Rattle.gp_base.specs.Identities.{Identity, Sources, identity, no_sources, source, nodes}
+use Rattle.gp_base.specs.Identities.{Identity}
 use Rattle.gp_grammar.specs.declared.limits.TheConstants.{MAX_SESSION}
 use Rattle.gp_grammar.specs.Canonical.{command_text}
-use Rattle.gp_grammar.specs.LineReading.{Fault, command_of}
-use Rattle.gp_grammar.specs.Syntax as y
+use Rattle.gp_grammar.specs.LineReading.{Fault}
+use Rattle.gp_grammar.specs.Reading.{command_of}
 use Rattle.gp_grammar.specs.Syntax.{Command}
 use Rattle.gp_versions.specs.declared.span.Span.{Span}
-use Rattle.gp_txn.specs.declared.counting.TheConstants.{MAX_SPANS}
+use Rattle.gp_base.specs.declared.limit.TheConstants.{MAX_SPANS}
 use Rattle.gp_log.specs.declared.limit.TheConstants.{MAX_LINE, MAX_ENTRIES}
 use Rattle.gp_log.specs.Discipline.{Said, Does, Loses}
-use Rattle.gp_dumpline.specs.declared.identity.TheConstants.{MAX_PART}
 use Rattle.gp_dumpline.specs.Numbers.{number_up_to, version_of, beyond_versions, cut_at, behind_words}
 use Rattle.gp_dumpline.specs.RowForms.{identity_of, cells_of}
+use Rattle.gp_dumpline.specs.Rows.{IsReadable, is_readable_cell}
 use Rattle.gp_dumpline.specs.Texts.{header}
 
 -- ---- the first line
@@ -55,15 +52,6 @@ if_canonical text (Ok command) = if bytes_eq (command_text command) text then So
 
 unfoldable pub said_of : List ℕ → Option Said
 said_of text = if bytes_eq text (codes "LOST") then Some Loses else if_canonical text (command_of text)
-
--- BEGIN READ COMMITTED, which a log of the first format cannot say
-abbrev pub begins_read_committed : Said → Bool
-begins_read_committed (Does (y.begin read_committed)) = read_committed
-begins_read_committed _ = false
-
--- a format has what a log line says
-abbrev pub is_said_in : Bool → Said → Bool
-is_said_in second said = second || not (begins_read_committed said)
 
 -- ---- tables
 
@@ -107,26 +95,7 @@ span_in line =
 abbrev pub span_of : List ℕ → Option Span
 span_of text = option_and_then span_in (row_line_of text)
 
--- ---- what has a text of these forms
-
-abbrev pub IsPart : ℕ → Type 0
-IsPart n = (1 ≤ n) × (n ≤ MAX_PART)
-
--- an identity whose numbers are in their range, and that has not too many nodes
-abbrev mutual
-  pub IsReadable : Identity → Type 0
-  IsReadable (identity t k n ids) = IsPart t × (IsPart k × (IsPart n × ((nodes (identity t k n ids) ≤ MAX_NODES) × AreReadable ids)))
-
-  pub AreReadable : Sources → Type 0
-  AreReadable no_sources = Unit {0}
-  AreReadable (source id ids) = IsReadable id × AreReadable ids
-
--- NULL, a number of 64 bits with sign, or a text
-abbrev pub is_readable_cell : Cell → Bool
-is_readable_cell cell.Null = true
-is_readable_cell (cell.Int number) = fits_number number
-is_readable_cell (cell.Text text) = true
-is_readable_cell cell = false
+-- ---- the spans that have a text of this form
 
 abbrev pub IsVersion : Option ℕ → Type 0
 IsVersion None = Unit {0}

@@ -2,6 +2,8 @@ pub mod Numbers
 pub mod RowForms
 pub mod Forms
 pub mod Texts
+pub mod Rows
+pub mod Said
 pub mod Views
 pub mod Laws
 pub mod Digits

@@ -1,12 +1,10 @@
--- Part of the statement: numbers in the lines of a dump, and the parts of a line.
-use Rattle.std.specs.Prelude.{ℕ, ◌^◌, ◌+◌, ◌*◌, ◌-◌, Bool, ◌&&◌, List, [], ◌∷◌, length, take, drop, min, Option, Some, None, option_and_then, nat_le, if◌then◌else◌, ◌==◌}
+-- Machinery: numbers in the lines of a dump, and the parts of a line.
+use Rattle.std.specs.Prelude.{ℕ, ◌^◌, ◌+◌, ◌*◌, ◌-◌, List, [], ◌∷◌, length, take, drop, min, Option, Some, None, option_and_then, nat_le, if◌then◌else◌, ◌==◌}
 use Rattle.std.specs.Option.{option_map}
 use Rattle.std.specs.Str.{bytes_eq}
+use Rattle.gp_base.specs.Digits.{is_digit}
 
 -- ---- numbers
-
-abbrev pub is_digit : ℕ → Bool
-is_digit byte = nat_le 48 byte && nat_le byte 57
 
 -- the number that digits write behind a number; none where a byte is no digit
 abbrev pub read_on : ℕ → List ℕ → Option ℕ

@@ -1,20 +1,16 @@
--- Part of the statement: what the identity and the cells of a row line are read as. Each is the inverse of its text in gp_base.
-use Rattle.std.specs.Prelude.{◌^◌, ◌+◌, ◌*◌, ◌-◌, ℕ, ℤ, pos, negsuc, zero, suc, Bool, false, ◌&&◌, not, List, [], ◌∷◌, Option, Some, None, option_and_then, nat_lt, nat_le, if◌then◌else◌, ◌==◌, codes}
+-- Machinery: what the identity and the cells of a row line are read as. Each is the inverse of its text in gp_base.
+use Rattle.std.specs.Prelude.{◌^◌, ◌*◌, ℕ, ℤ, pos, negsuc, zero, suc, Bool, false, ◌&&◌, not, List, [], ◌∷◌, Option, Some, None, option_and_then, nat_lt, nat_le, if◌then◌else◌, ◌==◌, codes}
 use Rattle.std.specs.Option.{option_map}
 use Rattle.std.specs.Str.{bytes_eq}
+use Rattle.gp_base.specs.Leaves.{digits_at, if_there}
 use Rattle.gp_base.specs.declared.cell.Cell.{Cell}
 use Rattle.gp_base.specs.declared.cell.Cell.TheVariants as cell
 use Rattle.gp_base.specs.declared.row_id.TheConstants.{MAX_NODES}
 use Rattle.gp_base.specs.Identities.{Identity, Sources, identity, no_sources, source, nodes}
 use Rattle.gp_dumpline.specs.declared.identity.TheConstants.{MAX_PART}
-use Rattle.gp_dumpline.specs.Numbers.{is_digit, number_of, after_byte}
+use Rattle.gp_dumpline.specs.Numbers.{number_of, after_byte}
 
 -- ---- identities
-
--- the number of the digits in front, behind a number, and what is behind them
-abbrev pub digits_at : ℕ → List ℕ → ℕ × List ℕ
-digits_at number [] = (number, [])
-digits_at number (byte ∷ bytes) = if is_digit byte then digits_at (number * 10 + (byte - 48)) bytes else (number, byte ∷ bytes)
 
 abbrev pub if_part : ℕ × List ℕ → Option (ℕ × List ℕ)
 if_part x = if nat_le x.0 MAX_PART then Some x else None
@@ -45,11 +41,6 @@ made x y = if nat_le (nodes (identity x.t x.k x.n y.0)) MAX_NODES then Some (ide
 
 abbrev pub joined : Identity → Sources × List ℕ → Option (Sources × List ℕ)
 joined first y = Some (source first y.0, y.1)
-
--- what is done with a rest, where there is one
-abbrev pub if_there : {R : Type 0} → Option (List ℕ) → (List ℕ → Option R) → Option R → Option R
-if_there None f other = other
-if_there (Some rest) f other = f rest
 
 -- an identity in front, within so many steps
 unfoldable mutual

@@ -6,8 +6,8 @@ use Rattle.gp_base.specs.Identities.{identity_text}
 use Rattle.gp_base.specs.Texts.{row_text}
 use Rattle.gp_grammar.specs.Canonical.{command_text}
 use Rattle.gp_versions.specs.declared.span.Span.{Span}
-use Rattle.gp_machine.specs.Entries.{Entry}
-use Rattle.gp_log.specs.Discipline.{Said, Does, Loses, line_of, session_of, said_by}
+use Rattle.gp_machine.specs.Entries.{Entry, line_of, session_of}
+use Rattle.gp_log.specs.Discipline.{Said, Does, Loses, said_by}
 
 -- the first line, which names one of two formats; in the second one the log may have BEGIN READ COMMITTED
 abbrev pub header : Bool → List ℕ

@@ -5,8 +5,8 @@ ghost use Rattle.gp_dumpline.specs.Forms.{count_of, section_of};
 
 use crate::number::parse_number_up_to;
 use crate::part::behind_words;
+use gp_base::MAX_SPANS;
 use gp_log::MAX_ENTRIES;
-use gp_txn::MAX_SPANS;
 
 /// The number of log lines that the text announces: `log N`, at most [`MAX_ENTRIES`].
 pub fn parse_count(text: &[u8]) -> Option<u32>

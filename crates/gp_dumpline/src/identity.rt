@@ -1,9 +1,10 @@
 //! Identities in the lines of a dump.
 
 ghost use Rattle.std.specs.Prelude.{◌≡◌, ◌+◌, IfOk, MatchOption, min, None, Some};
-ghost use Rattle.gp_base.specs.Identities.{sources_of};
-ghost use Rattle.gp_dumpline.specs.Numbers.{is_digit};
-ghost use Rattle.gp_dumpline.specs.RowForms.{digits_at, identity_at, identity_of, numbers_at, others_at, part_at, sources_at};
+ghost use Rattle.gp_base.specs.IdentityParts.{sources_of};
+ghost use Rattle.gp_base.specs.Digits.{is_digit};
+ghost use Rattle.gp_dumpline.specs.RowForms.{identity_at, identity_of, numbers_at, others_at, part_at, sources_at};
+ghost use Rattle.gp_base.specs.Leaves.{digits_at};
 ghost use Rattle.gp_dumpline.specs.Sources.{behind};
 
 use crate::part::after_byte;

@@ -1,27 +1,31 @@
 //! Laws of the forms of lines: a text is read exactly where it is a text of what is read, and is UTF-8 without a line feed.
 
-ghost use Rattle.std.specs.Prelude.{◌≡◌, ◌==◌, ◌<◌, ◌≤◌, ℕ, Bool, List, Option, Some, Ok, true, false};
+ghost use Rattle.std.specs.Prelude.{◌≡◌, ◌↔◌, ◌==◌, ◌<◌, ◌≤◌, ℕ, Bool, List, Option, Some, Ok, true, false};
 ghost use Rattle.std.specs.List.{list_all, list_any};
 ghost use Rattle.std.specs.Str.{is_utf8};
+ghost use Rattle.gp_base.specs.declared.cell.Cell.{Cell};
 ghost use Rattle.gp_base.specs.declared.table.Table.{Table};
-ghost use Rattle.gp_base.specs.Cells.{is_user_cell};
+ghost use Rattle.gp_base.specs.UserCells.{is_user_cell};
 ghost use Rattle.gp_base.specs.Names.{is_name};
-ghost use Rattle.gp_grammar.specs.LineReading.{script_line_of};
+ghost use Rattle.gp_grammar.specs.Reading.{script_line_of};
 ghost use Rattle.gp_grammar.specs.Syntax as y;
 ghost use Rattle.gp_versions.specs.declared.span.Span.{Span};
-ghost use Rattle.gp_machine.specs.Entries.{Entry};
-ghost use Rattle.gp_log.specs.Discipline.{Does, Loses, Said, line_of, said_by, session_of};
+ghost use Rattle.gp_machine.specs.Entries.{Entry, line_of, session_of};
+ghost use Rattle.gp_log.specs.Discipline.{Does, Loses, Said, said_by};
 ghost use Rattle.gp_dumpline.specs.Forms.{HasForm, IsVersion, LogLine, count_of, header_of, log_line_of, said_of, section_of, span_of};
 ghost use Rattle.gp_dumpline.specs.Numbers.{beyond_versions};
+ghost use Rattle.gp_dumpline.specs.Rows.{IsRowLine};
+ghost use Rattle.gp_dumpline.specs.Said.{IsSaid};
 ghost use Rattle.gp_dumpline.specs.Texts.{count_text, end_text, entry_text, header, log_line_text, said_text, section_text, span_text};
 ghost use Rattle.gp_dumpline.specs.Laws.{IsOneLine};
 
+use gp_base::MAX_SPANS;
 use gp_grammar::MAX_SESSION;
 use gp_log::{MAX_ENTRIES, MAX_LINE};
-use gp_txn::MAX_SPANS;
 
 /// Each form of line is the inverse of its text: the text of a value within its limits is read as the value, and only this
-/// text is. For a row line this holds of versions below the greatest number of 32 bits, which stands for all above it.
+/// text is. For a row line this holds of versions below the greatest number of 32 bits, which stands for all above it: a row line
+/// whose versions are numbers of any length is read too, and no other text is.
 pub fn forms_are_texts()
     ensures header_again { (second : Bool) → header_of (header second) ≡ Some second }
     ensures header_taken { (text : List ℕ) (second : Bool) → header_of text ≡ Some second
@@ -46,11 +50,16 @@ pub fn forms_are_texts()
     ensures span_taken { (text : List ℕ) (span : Span) → span_of text ≡ Some span
         → span.from < beyond_versions → IsVersion span.to
         → (text ≡ span_text span) × HasForm span }
+    ensures row_again { (text : List ℕ) (row : List Cell) → IsRowLine text row
+        → (span : Span) × (span_of text ≡ Some span) × (span.row ≡ row) }
+    ensures row_taken { (text : List ℕ) (span : Span) → span_of text ≡ Some span
+        → IsRowLine text span.row }
 {}
 
-/// The command of a script line is read again from its canonical text, and so is what the other log lines say. A table that
-/// a log line creates has a name.
+/// What a log line can say is read from its text, and nothing else is. The command of a script line is read again from its
+/// canonical text, and so is what the other log lines say. A table that a log line creates has a name.
 pub fn said_lines_are_read_again()
+    ensures said { (said : Said) → (said_of (said_text said) ≡ Some said) ↔ IsSaid said }
     ensures command { (bytes : List ℕ) (line : y.ScriptLine) → script_line_of bytes ≡ Ok line
         → said_of (said_text (Does line.command)) ≡ Some (Does line.command) }
     ensures begin { (read_committed : Bool) → said_of (said_text (Does (y.begin read_committed)))

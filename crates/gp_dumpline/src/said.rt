@@ -6,7 +6,8 @@ ghost use Rattle.std.specs.Str.{bytes_eq};
 ghost use Rattle.gp_grammar.specs.Canonical.{command_text};
 ghost use Rattle.gp_log.specs.Discipline.{Does};
 ghost use Rattle.gp_syntax.specs.Views.{command_view};
-ghost use Rattle.gp_dumpline.specs.Forms.{begins_read_committed, is_said_in, said_of};
+ghost use Rattle.gp_dumpline.specs.Forms.{said_of};
+ghost use Rattle.gp_dumpline.specs.Said.{begins_read_committed, is_said_in};
 ghost use Rattle.gp_dumpline.specs.Views.{IsValid, said_view};
 
 use gp_base::NoMemory;

@@ -3,7 +3,7 @@
 ghost use Rattle.std.specs.Prelude.{◌≡◌, ◌++◌, IfOk, OnOk, OnErr, ℕ};
 ghost use Rattle.gp_log.specs.Discipline.{said_by};
 ghost use Rattle.gp_log.specs.Logs.{entry_view, what_view};
-ghost use Rattle.gp_dumpline.specs.Forms.{begins_read_committed};
+ghost use Rattle.gp_dumpline.specs.Said.{begins_read_committed};
 ghost use Rattle.gp_dumpline.specs.Texts.{count_text, entry_text, said_text, section_text, span_text, to_text};
 
 use crate::said::{LOST, begins};

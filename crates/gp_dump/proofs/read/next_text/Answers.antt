@@ -3,7 +3,7 @@ use Rattle.std.specs.Str.{is_utf8}
 use Rattle.gp_dump.specs.declared.lines.Line as code
 use Rattle.gp_dump.specs.Lines.{lines_of, Whole, Cut, Missing}
 use Rattle.gp_dump.specs.Reading.{behind, line_view}
-use Rattle.gp_dump.specs.Rules.{text_of}
+use Rattle.gp_dump.specs.Verdicts.{text_of}
 use Rattle.gp_dump.proofs.ReadLemmas.{text-whole, text-bad}
 use Rattle.gp_dump.proofs.read.next_text.Goals as goal
 use Rattle.gp_dump.proofs.read.next_text.Goals.{then-is_text-2, else-is_text-2}

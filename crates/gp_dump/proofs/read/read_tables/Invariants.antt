@@ -1,6 +1,6 @@
 use Rattle.std.proofs.Common.{◌≡◌, ◌≤◌, ◌+◌, [], length}
 use Rattle.gp_log.specs.Logs.{log_view}
-use Rattle.gp_txn.specs.declared.counting.TheConstants.{MAX_SPANS}
+use Rattle.gp_base.specs.declared.limit.TheConstants.{MAX_SPANS}
 use Rattle.gp_dump.specs.Dumps.{spans_in}
 use Rattle.gp_dump.specs.declared.dump.TheConstants.{MAX_DUMP_LENGTH}
 use Rattle.gp_dump.specs.Reading.{tables_before, verdict_from}

@@ -1,5 +1,5 @@
 use Rattle.std.proofs.Common.{◌≡◌, ◌∙◌, ◌+◌, ◌*◌, ◌-◌, min, sym, arith, get_or, true}
-use Rattle.gp_dumpline.specs.Numbers.{is_digit}
+use Rattle.gp_base.specs.Digits.{is_digit}
 use Rattle.gp_dumpline.proofs.IdentitySteps.{digits-more}
 use Rattle.gp_dumpline.proofs.identity.digits_at.Goals as goal
 

@@ -1,5 +1,5 @@
 use Rattle.std.proofs.Common.{◌≡◌, ◌≤◌, ◌-◌, drop, length}
-use Rattle.gp_dumpline.specs.RowForms.{digits_at}
+use Rattle.gp_base.specs.Leaves.{digits_at}
 use Rattle.gp_dumpline.proofs.IdentitySteps.{capped}
 use Rattle.gp_dumpline.proofs.identity.digits_at.Given as goal
 

@@ -40,3 +40,9 @@ pub returns-clause-span_taken : goal.returns-clause-span_taken
 returns-clause-span_taken c = λ text found is from to.
     let t = span.span-takes text found is from to in
     (t.is, t.form)
+
+pub returns-clause-row_again : goal.returns-clause-row_again
+returns-clause-row_again c = λ text row is. let read = span.line-span text row is in (read.span, read.is, read.cells)
+
+pub returns-clause-row_taken : goal.returns-clause-row_taken
+returns-clause-row_taken c = span.span-line

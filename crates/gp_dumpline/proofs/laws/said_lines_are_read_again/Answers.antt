@@ -1,6 +1,9 @@
 use Rattle.gp_dumpline.proofs.SaidLaws as said
 use Rattle.gp_dumpline.proofs.laws.said_lines_are_read_again.Goals as goal
 
+pub returns-clause-said : goal.returns-clause-said
+returns-clause-said c = λ x. (said.said-is x, said.is-said x)
+
 pub returns-clause-command : goal.returns-clause-command
 returns-clause-command c = said.line-said
 

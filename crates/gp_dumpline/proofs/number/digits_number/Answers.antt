@@ -1,6 +1,6 @@
 use Rattle.std.proofs.Common.{◌≡◌, ◌∙◌, ◌+◌, ◌*◌, ◌-◌, min, ap, sym, arith, get_or, true}
 use Rattle.std.proofs.lemmas.List.{drop_all}
-use Rattle.gp_dumpline.specs.Numbers.{is_digit}
+use Rattle.gp_base.specs.Digits.{is_digit}
 use Rattle.gp_dumpline.specs.Digits.{saturating_on, greatest}
 use Rattle.gp_dumpline.proofs.PartLemmas.{saturating-step, saturating-stop, saturating-end}
 use Rattle.gp_dumpline.proofs.number.digits_number.Goals as goal
