@@ -8,7 +8,8 @@ use Rattle.std.proofs.Math.ListN.{get_or-eq_default}
 use Rattle.gp_base.specs.Annotated.{plain}
 use Rattle.gp_base.specs.Identities.{Identity, same_identity}
 use Rattle.gp_versions.specs.Commits.{AreBelow, AreDistinct, IsEndBelow}
-use Rattle.gp_versions.specs.Spans.{AreWhole, NoOverlap, Versions, holds_at, is_before_end, later, later_end, least, spans_at, written_after}
+use Rattle.gp_versions.specs.Spans.{Versions, holds_at, is_before_end, spans_at}
+use Rattle.gp_versions.specs.TableSpans.{AreWhole, NoOverlap, later, later_end, least, written_after}
 use Rattle.gp_versions.specs.declared.span.Span.{Span}
 use Rattle.gp_txn.proofs.LostLemmas.{lost-first, not-lost-first}
 use Rattle.gp_txn.proofs.PairLemmas.{all-filter}
@@ -30,8 +31,9 @@ use Rattle.gp_machine.specs.Reached.{IsReached}
 use Rattle.gp_machine.specs.Represents.{Kept, Overlay, Represents, RepresentsActive, RepresentsSession}
 use Rattle.gp_machine.specs.State.{Active, State}
 use Rattle.gp_engine.specs.Engine.{Engine, kept_of, overlay_of, spans_of}
-use Rattle.gp_log.specs.Limits.{limits}
+use Rattle.gp_log.specs.Parameters.{parameters}
 use Rattle.gp_engine.specs.declared.running.Running.{Running}
+use Rattle.std.proofs.lemmas.Option.{same_Some}
 
 -- ---- the conflict that a commit finds is the one that the spans show
 
@@ -62,12 +64,12 @@ pub shows : (kept : Kept) (session : ℕ) (overlay : Overlay) (conflict : Option
 shows kept session overlay conflict is shown other also = subst (λ o. ShowsConflict kept o conflict) (same-some overlay other (sym is ∙ also)) shown
 
 -- so the engine finds the conflict of the history machine
-pub found : (state : State (Unit {0})) (kept : Kept) (session : ℕ) (overlay : Overlay) (conflict : Option conflicts.Conflict) → Represents kept state → IsReached plain limits state
+pub found : (state : State (Unit {0})) (kept : Kept) (session : ℕ) (overlay : Overlay) (conflict : Option conflicts.Conflict) → Represents kept state → IsReached plain parameters state
     → kept.sessions session ≡ Some overlay → ShowsConflict kept overlay conflict → FindsConflict kept state session (λ o. conflict)
-found state kept session overlay conflict represents reached is shown = machine.found limits state kept represents reached session (λ o. conflict) (shows kept session overlay conflict is shown)
+found state kept session overlay conflict represents reached is shown = machine.found parameters state kept represents reached session (λ o. conflict) (shows kept session overlay conflict is shown)
 
 -- the conflict that the commit of the session's transaction is lost by
-pub finds : (state : State (Unit {0})) (kept : Kept) (session : ℕ) (overlay : Overlay) (active : Active (Unit {0})) (conflict : Option conflicts.Conflict) → Represents kept state → IsReached plain limits state
+pub finds : (state : State (Unit {0})) (kept : Kept) (session : ℕ) (overlay : Overlay) (active : Active (Unit {0})) (conflict : Option conflicts.Conflict) → Represents kept state → IsReached plain parameters state
     → kept.sessions session ≡ Some overlay → state.active session ≡ Some active → ShowsConflict kept overlay conflict → conflict ≡ conflict_of state active
 finds state kept session overlay active conflict represents reached is runs shown =
     found state kept session overlay conflict represents reached is shown overlay active is runs (represented (kept.sessions session) (state.active session) is runs (represents.sessions session))
@@ -132,12 +134,9 @@ lates-within version above slots (span ∷ spans) others late within rest among 
 later-between : (from above version to : ℕ) → version < above → later from version ≡ Some to → IsBetween from above to
 later-between from above version to below is =
     elim (nat_lt from version) as (λ b. nat_lt from version ≡ b → cond b (Some version) None ≡ Some to → IsBetween from above to) [
-      | true ↦ λ l some. subst (IsBetween from above) (some-is version to some) (ltb-true from version l, below)
+      | true ↦ λ l some. subst (IsBetween from above) (same_Some version to some) (ltb-true from version l, below)
       | false ↦ λ l some. absurd cc
     ] refl is
-  where
-    some-is : (a b : ℕ) → Some a ≡ Some b → a ≡ b
-    some-is a b same = cc
 
 end-between : (from above to : ℕ) (end : Option ℕ) → IsEndBelow above end → later_end from end ≡ Some to → IsBetween from above to
 end-between from above to None below is = absurd cc

@@ -14,7 +14,8 @@ use Rattle.gp_algebra.specs.Statements.{Statement}
 use Rattle.gp_check.specs.Checking.{checked}
 use Rattle.gp_grammar.specs.Syntax.{Command}
 use Rattle.gp_versions.specs.Commits.{after_commit}
-use Rattle.gp_versions.specs.Spans.{AreWhole, NoOverlap, Versions}
+use Rattle.gp_versions.specs.Spans.{Versions}
+use Rattle.gp_versions.specs.TableSpans.{AreWhole, NoOverlap}
 use Rattle.gp_txn.specs.Counts.{count_spans}
 use Rattle.gp_txn.specs.Transactions.{no_table, snapshot_of, table_at, view_at, writes_at}
 use Rattle.gp_machine.specs.declared.reply.Reply.{Reply}
@@ -35,7 +36,7 @@ use Rattle.gp_engine.specs.declared.running.Running.{Running}
 use Rattle.gp_log.specs.LogFacts.{tables_in}
 use Rattle.gp_log.specs.Logs.{log_view}
 use Rattle.gp_engine.specs.Engine.{Engine, IsEngine, IsEngineOf, IsUnchanged, entries_of, kept_by, kept_of, newest_of, overlay_of, session_at, spans_of, statements_of, tables_of, transactions_of}
-use Rattle.gp_log.specs.Limits.{limits}
+use Rattle.gp_log.specs.Parameters.{parameters}
 use Rattle.gp_engine.specs.Methods as method
 use Rattle.gp_engine.specs.Methods.{DoesAt, Keeps, loses, meaning_of, overflows, publishes, refusal_at}
 use Rattle.gp_engine.proofs.ConflictLemmas.{found, shown_none, shown_some}
@@ -117,17 +118,17 @@ module _ (old new : Engine) (answer : Reply) (state : State (Unit {0})) (engine 
   abbrev next : Kept
   next = kept_of new
 
-  reached : IsReached plain limits state
-  reached = subst (IsReached plain limits) (sym engine.reached) (reached_after limits engine.lines)
+  reached : IsReached plain parameters state
+  reached = subst (IsReached plain parameters) (sym engine.reached) (reached_after parameters engine.lines)
 
   -- the sessions, where the one at the place has another transaction, or none
   put : (running : Option Running) (n : ℕ) → option_map overlay_of (session_at n (slice_set old.sessions place running)) ≡ with_value session (option_map overlay_of running) (λ m. option_map overlay_of (session_at m old.sessions)) n
   put running n = sessions-put old.sessions place running within n
 
-  refuses : (refusal : Refusal) → method.Refuses old new answer refusal → line.Refuses limits kept number session next answer refusal
+  refuses : (refusal : Refusal) → method.Refuses old new answer refusal → line.Refuses parameters kept number session next answer refusal
   refuses refusal r = (kept-unchanged old new r.0, r.1)
 
-  creates : (table : Table) (refusal : Option Refusal) → method.Creates old new answer number session table refusal → line.Creates limits kept number session next answer table refusal
+  creates : (table : Table) (refusal : Option Refusal) → method.Creates old new answer number session table refusal → line.Creates parameters kept number session next answer table refusal
   creates table (Some refusal) r = refuses refusal r
   creates table None r =
       let entries = entries_of old in
@@ -141,7 +142,7 @@ module _ (old new : Engine) (answer : Reply) (state : State (Unit {0})) (engine 
       }) in
       (kept-as new later (old.versions ++ r.added ∷ []) old.sessions r.keeps ∙ same, r.says)
 
-  begins : (kind full : Bool) → method.Begins old new answer number place kind full → line.Begins limits kept number session next answer kind full
+  begins : (kind full : Bool) → method.Begins old new answer number place kind full → line.Begins parameters kept number session next answer kind full
   begins kind true r = refuses (E14 limit.Transactions) r
   begins kind false starts =
       let begun = suc (transactions_of old) in
@@ -167,7 +168,7 @@ module _ (old new : Engine) (answer : Reply) (state : State (Unit {0})) (engine 
 
   -- the end of a transaction, where only the memory of the row versions has changed before
   ends : (left : Engine) → IsUnchanged old left → (running : Running) (end : End) (expected : Reply) → method.Clears left new place (Ended number session end running.active.t) → answer ≡ expected
-      → line.Ends limits kept number session next answer (overlay_of running) end expected
+      → line.Ends parameters kept number session next answer (overlay_of running) end expected
   ends left same running end expected clears says =
       let added = Ended number session end running.active.t in
       let cleared : kept_by (added ∷ entries_of left) left.versions (slice_set left.sessions place None) ≡ kept_by (added ∷ entries_of old) left.versions (slice_set old.sessions place None) =
@@ -196,7 +197,7 @@ module _ (old new : Engine) (answer : Reply) (state : State (Unit {0})) (engine 
     over version was (inr here) low = omega (arith, here)
 
     records : (statement : Statement) (refusal : Option Refusal) → method.RunsChecked old new answer number place running command statement refusal
-        → line.Applies limits kept number session next answer (overlay_of running) command statement refusal
+        → line.Applies parameters kept number session next answer (overlay_of running) command statement refusal
     records statement (Some refusal) r = refuses refusal r
     records statement None r =
         let later = Ran number session command running.active.t statement ∷ entries_of old in
@@ -225,11 +226,11 @@ module _ (old new : Engine) (answer : Reply) (state : State (Unit {0})) (engine 
         )
 
     runs : (refusal : Option Refusal) (meaning : Result Statement Refusal) → method.RunsAs old new answer number place running command (meaning_of refusal meaning)
-        → line.RunsStatement limits kept number session next answer (overlay_of running) command refusal meaning
+        → line.RunsStatement parameters kept number session next answer (overlay_of running) command refusal meaning
     runs (Some refusal) meaning r = refuses refusal r
     runs None (Err refusal) r = refuses refusal r
     runs None (Ok statement) r =
-        subst (line.Applies limits kept number session next answer (overlay_of running) command statement) (ap (refusal_of plain limits (tables_of old) running.active.t (suc running.statements) statement) (sym start-same))
+        subst (line.Applies parameters kept number session next answer (overlay_of running) command statement) (ap (refusal_of plain parameters (tables_of old) running.active.t (suc running.statements) statement) (sym start-same))
         (records statement (refusal_at old new answer number place running command statement) r)
 
   -- ---- the line
@@ -238,10 +239,10 @@ module _ (old new : Engine) (answer : Reply) (state : State (Unit {0})) (engine 
   record Leads (overlay : Option Overlay) (action : Action) : Type 0 where
     conflict : Overlay → Option machine.Conflict
     finds : FindsConflict kept state session conflict
-    does : Answers limits kept number session next answer conflict overlay action
+    does : Answers parameters kept number session next answer conflict overlay action
 
   -- an action that looks for no conflict
-  quiet : (overlay : Option Overlay) (action : Action) → Answers limits kept number session next answer (λ o. conflict_in state (state.active session)) overlay action → Leads overlay action
+  quiet : (overlay : Option Overlay) (action : Action) → Answers parameters kept number session next answer (λ o. conflict_in state (state.active session)) overlay action → Leads overlay action
   quiet overlay action does = record {
     conflict = λ o. conflict_in state (state.active session);
     finds = λ o active f e represents. ap (conflict_in state) e;
@@ -266,7 +267,7 @@ module _ (old new : Engine) (answer : Reply) (state : State (Unit {0})) (engine 
   commits running at (overflows own first many same says) = record {
     conflict = λ o. None;
     finds = found state kept session (overlay_of running) None engine.kept reached (ap (option_map overlay_of) at) (shown_none running old own apart whole first);
-    does = subst (λ full. line.Commits limits kept number session next answer (overlay_of running) None full) (sym (is_full old running sound.tables many)) (kept-unchanged old new same, says);
+    does = subst (λ full. line.Commits parameters kept number session next answer (overlay_of running) None full) (sym (is_full old running sound.tables many)) (kept-unchanged old new same, says);
   }
   commits running at (publishes own long made keeps says) =
       let later = Committed number session running.active.t ∷ entries_of old in
@@ -290,7 +291,7 @@ module _ (old new : Engine) (answer : Reply) (state : State (Unit {0})) (engine 
       record {
         conflict = λ o. None;
         finds = found state kept session (overlay_of running) None engine.kept reached (ap (option_map overlay_of) at) (shown_none running old own apart whole made.first);
-        does = subst (λ full. line.Commits limits kept number session next answer (overlay_of running) None full) (sym (has_room old running sound.tables made.few)) (
+        does = subst (λ full. line.Commits parameters kept number session next answer (overlay_of running) None full) (sym (has_room old running sound.tables made.few)) (
           published old running,
           writes_of old running own (sound.each session running at).there nothing,
           kept-as new later new.versions (slice_set old.sessions place None) keeps ∙ same,
@@ -299,8 +300,8 @@ module _ (old new : Engine) (answer : Reply) (state : State (Unit {0})) (engine 
       }
 
   leads : (found : Option Running) → get_or old.sessions place None ≡ found → (action : Action) → DoesAt old new answer number place found action → Leads (option_map overlay_of found) action
-  leads None at (Create table) r = quiet None (Create table) (creates table (creation_refusal limits (tables_of old) table) r)
-  leads None at (Begin kind) r = quiet None (Begin kind) (begins kind (nat_le limits.transactions (transactions_of old)) r)
+  leads None at (Create table) r = quiet None (Create table) (creates table (creation_refusal parameters (tables_of old) table) r)
+  leads None at (Begin kind) r = quiet None (Begin kind) (begins kind (nat_le parameters.transactions (transactions_of old)) r)
   leads None at Commit r = quiet None Commit (refuses E10 r)
   leads None at Rollback r = quiet None Rollback (refuses E10 r)
   leads None at (Run command) r = quiet None (Run command) (refuses E10 r)
@@ -310,18 +311,18 @@ module _ (old new : Engine) (answer : Reply) (state : State (Unit {0})) (engine 
   leads (Some running) at Rollback r =
       quiet (Some (overlay_of running)) Rollback (ends old (unchanged old) running RolledBack (reply.RolledBack running.active.t) r.0 r.1)
   leads (Some running) at (Run command) r =
-      quiet (Some (overlay_of running)) (Run command) (runs running at command (count_refusal limits running.statements (statements_of old)) (checked (tables_of old) command) r)
+      quiet (Some (overlay_of running)) (Run command) (runs running at command (count_refusal parameters running.statements (statements_of old)) (checked (tables_of old) command) r)
 
   -- the engine represents the state of the event, and its answer is the reply
   pub follows_at : (command : Command) → DoesAt old new answer number place (get_or old.sessions place None) (action_of command)
-      → IsEngineOf new (event plain limits state number session command).0 × (answer ≡ (event plain limits state number session command).1)
+      → IsEngineOf new (event plain parameters state number session command).0 × (answer ≡ (event plain parameters state number session command).1)
   follows_at command does =
       let lead = leads (get_or old.sessions place None) refl (action_of command) does in
-      let both = line_represented limits state kept engine.kept reached number session next answer lead.conflict lead.finds command lead.does in
+      let both = line_represented parameters state kept engine.kept reached number session next answer lead.conflict lead.finds command lead.does in
       let last : Line = record { number = number; session = session; command = command } in (
         record {
           lines = engine.lines ++ last ∷ [];
-          reached = ap (λ (s : State (Unit {0})). (event plain limits s number session command).0) engine.reached ∙ sym (after_last plain limits start engine.lines last);
+          reached = ap (λ (s : State (Unit {0})). (event plain parameters s number session command).0) engine.reached ∙ sym (after_last plain parameters start engine.lines last);
           kept = both.0;
         },
         both.1,

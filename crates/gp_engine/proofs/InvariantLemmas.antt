@@ -11,7 +11,7 @@ use Rattle.gp_base.specs.declared.limit.Limit.TheVariants as limit
 use Rattle.gp_base.specs.declared.refusal.Refusal.TheVariants.{E09, E10, E14}
 use Rattle.gp_base.specs.declared.table.Table.{Table}
 use Rattle.gp_base.specs.Annotated.{Database, plain}
-use Rattle.gp_base.specs.Identities.{transaction_of}
+use Rattle.gp_base.specs.IdentityParts.{transaction_of}
 use Rattle.gp_grammar.specs.Syntax as y
 use Rattle.gp_grammar.specs.Syntax.{Command}
 use Rattle.gp_check.specs.Valid.{is_valid}
@@ -32,22 +32,21 @@ use Rattle.gp_machine.specs.Entries.{End, Entry, RolledBack, Lost, Created, Bega
 use Rattle.gp_machine.specs.Event.{count_refusal, creation_refusal, target_of}
 use Rattle.gp_check.specs.Checking.{checked}
 use Rattle.gp_log.specs.declared.limit.TheConstants.{MAX_TRANSACTIONS, MAX_STATEMENTS}
-use Rattle.gp_log.specs.LogFacts.{ends_in, tables_in}
+use Rattle.gp_log.specs.LogFacts.{tables_in}
+use Rattle.gp_log.specs.LogCounts.{ends_in}
 use Rattle.gp_log.specs.Logs.{log_view}
 use Rattle.gp_log.proofs.CountLemmas.{log_view-length}
 use Rattle.gp_log.proofs.EntryLemmas.{entries-counted, versions-ended}
 use Rattle.gp_engine.specs.declared.running.Running.{Running}
 use Rattle.gp_engine.specs.Engine.{Engine, IsEngine, IsSession, IsSound, IsUnchanged, count_running, entries_of, newest_of, session_at, spans_of, statements_of, tables_of, transactions_of}
-use Rattle.gp_log.specs.Limits.{limits}
+use Rattle.gp_log.specs.Parameters.{parameters}
 use Rattle.gp_engine.specs.Methods.{Begins, Clears, Commits, Creates, DoesAt, HasPlace, Keeps, Records, Refuses, RunsAs, RunsChecked, is_read, loses, meaning_of, overflows, publishes, refusal_at}
 use Rattle.gp_engine.proofs.OverlayLemmas.{new_view, snapshot_first, snapshot_later}
 use Rattle.gp_engine.proofs.PublishLemmas.{committed_sound, session_left}
 use Rattle.gp_engine.proofs.SessionLemmas.{count-cleared, count-replaced, count-taken}
+use Rattle.std.proofs.lemmas.Option.{same_Some}
 
 -- ---- sessions
-
-some-is : {X : Type 0} (a b : X) → Some a ≡ Some b → a ≡ b
-some-is a b is = cc
 
 -- the transaction of a session, where that of the session at a place was replaced
 pub session-put : (sessions : List (Option Running)) (place : ℕ) (put : Option Running) → place < length sessions → (session : ℕ) (running : Running)
@@ -203,7 +202,7 @@ module _ (entries later : List Entry) (versions : List Versions) (sessions : Lis
       → (session : ℕ) (running : Running) → session_at session (slice_set sessions place (Some after)) ≡ Some running → IsSession later versions running
   sessions-stay committed begun counted mine session running at =
       elim (found session running at) [
-        | inl here ↦ subst (IsSession later versions) (some-is after running here.1) mine
+        | inl here ↦ subst (IsSession later versions) (same_Some after running here.1) mine
         | inr there ↦ session-stays entries later versions versions running (λ place. refl) (omega arith) committed begun (counted session running there.0 there.1) (kept.each session running there.1)
       ]
 
@@ -214,11 +213,11 @@ module _ (entries later : List Entry) (versions : List Versions) (sessions : Lis
         | inl here ↦
             elim (found other b second) [
               | inl both ↦ here.0 ∙ sym both.0
-              | inr there ↦ absurd (alone other b there.0 there.1 (sym equal ∙ ap (λ (running : Running). running.active.t) (sym (some-is after a here.1))))
+              | inr there ↦ absurd (alone other b there.0 there.1 (sym equal ∙ ap (λ (running : Running). running.active.t) (sym (same_Some after a here.1))))
             ]
         | inr there ↦
             elim (found other b second) [
-              | inl here ↦ absurd (alone session a there.0 there.1 (equal ∙ ap (λ (running : Running). running.active.t) (sym (some-is after b here.1))))
+              | inl here ↦ absurd (alone session a there.0 there.1 (equal ∙ ap (λ (running : Running). running.active.t) (sym (same_Some after b here.1))))
               | inr both ↦ kept.apart session other a b there.1 both.1 equal
             ]
       ]
@@ -396,13 +395,13 @@ module _ (old new : Engine) (answer : Reply) (line place : ℕ) (kept : IsEngine
   refused-engine : (refusal : Refusal) → Refuses old new answer refusal → IsEngine new
   refused-engine refusal r = unchanged_engine old new kept r.0
 
-  creates-engine : (session : ℕ) (table : Table) (refusal : Option Refusal) → is_valid (y.create table) ≡ true → creation_refusal limits (tables_of old) table ≡ refusal
+  creates-engine : (session : ℕ) (table : Table) (refusal : Option Refusal) → is_valid (y.create table) ≡ true → creation_refusal parameters (tables_of old) table ≡ refusal
       → Creates old new answer line session table refusal → IsEngine new
   creates-engine session table (Some refusal) valid is creates = refused-engine refusal creates
   creates-engine session table None valid is creates =
       keeps-sound new (Created line session table ∷ entries_of old) (old.versions ++ creates.added ∷ []) old.sessions creates.keeps
       (created_sound (entries_of old) old.versions old.sessions line session table creates.added kept valid
-      (leb-false MAX_TABLES (length (tables_of old)) (has-room (nat_le MAX_TABLES (length (tables_of old))) _ (limits.created (tables_of old) table) is)) creates.empty)
+      (leb-false MAX_TABLES (length (tables_of old)) (has-room (nat_le MAX_TABLES (length (tables_of old))) _ (parameters.created (tables_of old) table) is)) creates.empty)
 
   begins-engine : (kind full : Bool) → get_or old.sessions place None ≡ None → nat_le MAX_TRANSACTIONS (transactions_of old) ≡ full → Begins old new answer line place kind full → IsEngine new
   begins-engine kind true at is begins = refused-engine (E14 limit.Transactions) begins
@@ -434,17 +433,17 @@ module _ (old new : Engine) (answer : Reply) (line place : ℕ) (kept : IsEngine
     checked-engine command statement (Some refusal) below runs = refused-engine refusal runs
     checked-engine command statement None below runs = ran_sound old new answer line place running command statement kept within at below runs
 
-    counted-engine : (command : Command) (refusal : Option Refusal) (checked : Result Statement Refusal) → count_refusal limits running.statements (statements_of old) ≡ refusal
+    counted-engine : (command : Command) (refusal : Option Refusal) (checked : Result Statement Refusal) → count_refusal parameters running.statements (statements_of old) ≡ refusal
         → RunsAs old new answer line place running command (meaning_of refusal checked) → IsEngine new
     counted-engine command (Some refusal) checked is runs = refused-engine refusal runs
     counted-engine command None (Err refusal) is runs = refused-engine refusal runs
     counted-engine command None (Ok statement) is runs =
         checked-engine command statement (refusal_at old new answer line place running command statement)
-        (leb-false MAX_STATEMENTS (statements_of old) (all-below (nat_le limits.steps running.statements) (nat_le MAX_STATEMENTS (statements_of old)) _ _ is)) runs
+        (leb-false MAX_STATEMENTS (statements_of old) (all-below (nat_le parameters.steps running.statements) (nat_le MAX_STATEMENTS (statements_of old)) _ _ is)) runs
 
   action-engine : (session : Option Running) (action : Action) → get_or old.sessions place None ≡ session → ((table : Table) → action ≡ Create table → is_valid (y.create table) ≡ true)
       → DoesAt old new answer line place session action → IsEngine new
-  action-engine None (Create table) at valid does = creates-engine (suc place) table (creation_refusal limits (tables_of old) table) (valid table refl) refl does
+  action-engine None (Create table) at valid does = creates-engine (suc place) table (creation_refusal parameters (tables_of old) table) (valid table refl) refl does
   action-engine None (Begin kind) at valid does = begins-engine kind (nat_le MAX_TRANSACTIONS (transactions_of old)) at refl does
   action-engine None Commit at valid does = refused-engine E10 does
   action-engine None Rollback at valid does = refused-engine E10 does
@@ -454,7 +453,7 @@ module _ (old new : Engine) (answer : Reply) (line place : ℕ) (kept : IsEngine
   action-engine (Some running) Commit at valid does = commits-engine running at does
   action-engine (Some running) Rollback at valid does = ends-engine running at RolledBack running.active.t does.0
   action-engine (Some running) (Run command) at valid does =
-      counted-engine running at command (count_refusal limits running.statements (statements_of old)) (checked (tables_of old) command) refl does
+      counted-engine running at command (count_refusal parameters running.statements (statements_of old)) (checked (tables_of old) command) refl does
 
 -- the invariant holds after every line
 pub does_engine : (old new : Engine) (answer : Reply) (line place : ℕ) (command : Command) → IsEngine old → place < 64 → is_valid command ≡ true

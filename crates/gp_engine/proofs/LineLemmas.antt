@@ -19,7 +19,7 @@ use Rattle.gp_machine.specs.Recorded.{is_recorded}
 use Rattle.gp_engine.specs.declared.running.Running.{Running}
 use Rattle.gp_engine.specs.Engine.{Engine, Follows, IsEngine, IsUnchanged, entries_of, newest_of, statements_of, tables_of, transactions_of}
 use Rattle.gp_log.specs.declared.limit.TheConstants.{MAX_TRANSACTIONS}
-use Rattle.gp_log.specs.Limits.{limits}
+use Rattle.gp_log.specs.Parameters.{parameters}
 use Rattle.gp_engine.specs.Methods.{Begins, Commits, Creates, DoesAt, Outside, Runs, RunsAs, RunsChecked, loses, meaning_of, overflows, publishes, refusal_at}
 use Rattle.gp_engine.proofs.CommandLemmas.{statement-runs}
 use Rattle.gp_engine.proofs.FollowLemmas.{follows_at}
@@ -67,7 +67,7 @@ module _ (old new : Engine) (answer : Reply) (line place : ℕ) where
   begins-unchanged kind false r denied = recorded answer (reply.Began (suc (transactions_of old)) (newest_of old)) (is_recorded (Begin kind)) r.says refl denied
 
   outside-unchanged : (action : Action) → Outside old new answer line place action → is_recorded action answer ≡ false → IsUnchanged old new
-  outside-unchanged (Create table) does denied = creates-unchanged table (creation_refusal limits (tables_of old) table) does denied
+  outside-unchanged (Create table) does denied = creates-unchanged table (creation_refusal parameters (tables_of old) table) does denied
   outside-unchanged (Begin kind) does denied = begins-unchanged kind (nat_le MAX_TRANSACTIONS (transactions_of old)) does denied
   outside-unchanged Commit does denied = does.0
   outside-unchanged Rollback does denied = does.0
@@ -98,7 +98,7 @@ module _ (old new : Engine) (answer : Reply) (line place : ℕ) where
   does-unchanged (Some running) Commit does denied = commits-unchanged running does denied
   does-unchanged (Some running) Rollback does denied = recorded answer (reply.RolledBack running.active.t) (is_recorded Rollback) does.1 refl denied
   does-unchanged (Some running) (Run command) does denied =
-      runs-unchanged running command (meaning_of (count_refusal limits running.statements (statements_of old)) (checked (tables_of old) command)) does denied
+      runs-unchanged running command (meaning_of (count_refusal parameters running.statements (statements_of old)) (checked (tables_of old) command)) does denied
 
 pub unrecorded_line : (old new : Engine) (answer : Reply) (line place : ℕ) (command : Command)
     → DoesAt old new answer line place (get_or old.sessions place None) (action_of command) → is_recorded (action_of command) answer ≡ false → IsUnchanged old new

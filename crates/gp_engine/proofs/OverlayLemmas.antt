@@ -7,7 +7,6 @@ use Rattle.std.specs.Option.{is_none}
 use Rattle.gp_algebra.specs.Effects.{Written}
 use Rattle.gp_base.specs.Annotated.{plain}
 use Rattle.gp_base.specs.Identities.{Identity}
-use Rattle.gp_machine.proofs.Made.{eq_from}
 use Rattle.gp_machine.specs.Represents as machine
 use Rattle.gp_txn.specs.Bases.{base_after, base_of, refreshed, table_view}
 use Rattle.gp_txn.specs.Overlay.{PlainRow, base_writes, no_writes, rows_below, view_rows}
@@ -18,6 +17,7 @@ use Rattle.gp_versions.specs.Spans.{Versions, row_of, rows_at, spans_at}
 use Rattle.gp_versions.specs.declared.span.Span.{Span}
 use Rattle.gp_engine.specs.Engine.{overlay_of, spans_of}
 use Rattle.gp_engine.specs.declared.running.Running.{Running}
+use Rattle.std.proofs.lemmas.Bool.{eqb-true}
 
 -- what they show in a version
 pub view_same : (versions : List Versions) (running : Running) (version place : ℕ)
@@ -28,7 +28,7 @@ view_same versions running version place =
     (refreshed (writes_at place running.active.tables) (rows_below (writes_at place running.active.tables) (table_at place versions).spans) (rows_at plain version (table_at place versions).spans))
     ≡ cond b (view_rows (writes_at place running.active.tables) (rows_at plain version (table_at place versions).spans))
     (refreshed (writes_at place running.active.tables) (rows_below (writes_at place running.active.tables) (table_at place versions).spans) (rows_at plain version (table_at place versions).spans))) [
-      | true ↦ λ is. ap (λ v. view_rows (writes_at place running.active.tables) (rows_at plain v (table_at place versions).spans)) (sym (eq_from version (writes_at place running.active.tables).version is))
+      | true ↦ λ is. ap (λ v. view_rows (writes_at place running.active.tables) (rows_at plain v (table_at place versions).spans)) (sym (eqb-true version (writes_at place running.active.tables).version is))
       | false ↦ λ is. refl
     ] refl
 

@@ -9,14 +9,15 @@ use Rattle.std.proofs.Math.ListN.{get_or-eq_default}
 use Rattle.gp_base.specs.declared.cell.Cell.{Cell}
 use Rattle.gp_base.specs.declared.stored.Stored.{Stored}
 use Rattle.gp_base.specs.Annotated.{plain}
-use Rattle.gp_base.specs.Identities.{Identity, same_identity, transaction_of}
+use Rattle.gp_base.specs.Identities.{Identity, same_identity}
+use Rattle.gp_base.specs.IdentityParts.{transaction_of}
 use Rattle.gp_versions.specs.declared.span.Span.{Span}
 use Rattle.gp_versions.specs.declared.span.Write.{Write}
 use Rattle.gp_versions.specs.Commits.{AreBelow, after_commit, begun, ended}
 use Rattle.gp_versions.specs.Spans.{Versions}
 use Rattle.gp_versions.proofs.SameLemmas.{same-exact}
 use Rattle.gp_versions.proofs.SpanLemmas.{ended_id}
-use Rattle.gp_txn.specs.declared.counting.TheConstants.{MAX_SPANS}
+use Rattle.gp_base.specs.declared.limit.TheConstants.{MAX_SPANS}
 use Rattle.gp_txn.specs.declared.carried.Carried.{Carried}
 use Rattle.gp_txn.specs.declared.overlay.TableWrites.{TableWrites}
 use Rattle.gp_txn.specs.Committing as txn
@@ -28,7 +29,7 @@ use Rattle.gp_txn.specs.Transactions.{AreThere, HoldsOwn, HoldsThere, has_span, 
 use Rattle.gp_txn.proofs.AfterLemmas.{commit-bases, commit-count, commit-none, commit-rows, others-after, there-after}
 use Rattle.gp_txn.proofs.CommitLemmas.{inserted-own, slots-all}
 use Rattle.gp_txn.proofs.CountLemmas.{count-after}
-use Rattle.gp_txn.proofs.PairLemmas.{all-append, all-map, all-weaker}
+use Rattle.gp_txn.proofs.PairLemmas.{all-map, all-weaker}
 use Rattle.gp_machine.specs.Entries.{Entry, Committed, transactions_in, versions_in}
 use Rattle.gp_machine.specs.EngineLine.{marked_rows, rows_after}
 use Rattle.gp_machine.specs.Represents as machine
@@ -37,6 +38,7 @@ use Rattle.gp_engine.specs.declared.running.Running.{Running}
 use Rattle.gp_engine.specs.Engine.{Engine, IsSession, IsSound, kept_of, overlay_of, session_at, spans_of, tables_of}
 use Rattle.gp_engine.proofs.OverlayLemmas.{snapshot_later}
 use Rattle.gp_engine.proofs.SessionLemmas.{count-cleared}
+use Rattle.gp_base.proofs.SmallLemmas.{each_append}
 
 -- ---- what a commit writes to each table
 
@@ -138,7 +140,7 @@ module _ (P : Identity → Type 0) where
   pub ids_after : (version : ℕ) (writes : List Write) (spans : List Span) → AllByRecursion (λ (span : Span). P span.id) spans → AllByRecursion (λ (write : Write). P write.id) writes
       → AllByRecursion (λ (span : Span). P span.id) (after_commit version writes spans)
   ids_after version writes spans held wrote =
-      all-append (λ (span : Span). P span.id) (map (ended version writes) spans) (filter_map (begun version) writes)
+      each_append (λ (span : Span). P span.id) (map (ended version writes) spans) (filter_map (begun version) writes)
       (ids_ended version writes spans held) (ids_begun version writes wrote)
 
   id_there : (spans : List Span) (id : Identity) → AllByRecursion (λ (span : Span). P span.id) spans → has_span spans id ≡ true → P id
@@ -156,8 +158,8 @@ module _ (P : Identity → Type 0) where
   ids_written tables versions place held there own =
       let table = writes_at place tables in
       let spans = (table_at place versions).spans in
-      all-append (λ (write : Write). P write.id) (slot_writes table (rows_below table spans)) (map carried_write table.carried ++ map own_write table.own) (slots-all P table spans held)
-      (all-append (λ (write : Write). P write.id) (map carried_write table.carried) (map own_write table.own)
+      each_append (λ (write : Write). P write.id) (slot_writes table (rows_below table spans)) (map carried_write table.carried ++ map own_write table.own) (slots-all P table spans held)
+      (each_append (λ (write : Write). P write.id) (map carried_write table.carried) (map own_write table.own)
       (all-map carried_write (λ (row : Carried). has_span spans row.id ≡ true) (λ (write : Write). P write.id) (λ row is. id_there spans row.id held is) table.carried there)
       (all-map own_write (λ (stored : Stored). P stored.id) (λ (write : Write). P write.id) (λ stored is. is) table.own own))
 

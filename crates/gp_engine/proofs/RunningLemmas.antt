@@ -12,7 +12,7 @@ use Rattle.gp_txn.specs.Transactions.{snapshot_of, view_at}
 use Rattle.gp_machine.specs.declared.reply.Reply.{Reply}
 use Rattle.gp_machine.specs.declared.reply.Reply.TheVariants as reply
 use Rattle.gp_machine.specs.Event.{is_over_answer, reply_of, target_of}
-use Rattle.gp_log.specs.Limits.{limits}
+use Rattle.gp_log.specs.Parameters.{parameters}
 use Rattle.gp_engine.specs.Methods.{Applies, refusal_in}
 use Rattle.gp_engine.specs.declared.running.Running.{Running}
 
@@ -44,7 +44,7 @@ module _ (tables : List Table) (versions : List Versions) (newest : ℕ) (old ne
 
   -- where the reply is the number of the rows that it wrote, and it gives no answer
   accepts-write : (statement : Statement) → is_applicable (length versions) statement ≡ true
-      → is_over_answer plain limits.answer statement (view_at old.active.tables versions now) ≡ false
+      → is_over_answer plain parameters.answer statement (view_at old.active.tables versions now) ≡ false
       → reply.Wrote count ≡ reply_of plain old.active.t k statement (view_at old.active.tables versions now)
       → Wrote k now statement versions old.active new.active count → AppliesWrite statement
   accepts-write statement applicable few says wrote =

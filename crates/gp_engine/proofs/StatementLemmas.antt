@@ -15,7 +15,7 @@ use Rattle.gp_machine.specs.Entries.{Ran, statement_count, versions_in}
 use Rattle.gp_machine.specs.Event.{count_refusal, reply_of}
 use Rattle.gp_machine.specs.Replies.{is_refusal}
 use Rattle.gp_log.specs.declared.limit.TheConstants.{MAX_STATEMENTS, MAX_STEPS}
-use Rattle.gp_log.specs.Limits.{limits}
+use Rattle.gp_log.specs.Parameters.{parameters}
 use Rattle.gp_log.specs.LogFacts.{tables_in}
 use Rattle.gp_log.specs.Logs.{log_view}
 use Rattle.gp_log.specs.declared.entry.Entry.{Entry}
@@ -29,7 +29,7 @@ steps-below true full first second meaning statement is = absurd cc
 steps-below false full first second meaning statement is = refl
 
 -- a statement that is not refused by a count is below it
-pub few-steps : (own all : ℕ) (meaning : Result Statement Refusal) (statement : Statement) → meaning_of (count_refusal limits own all) meaning ≡ Ok statement → own < MAX_STEPS
+pub few-steps : (own all : ℕ) (meaning : Result Statement Refusal) (statement : Statement) → meaning_of (count_refusal parameters own all) meaning ≡ Ok statement → own < MAX_STEPS
 few-steps own all meaning statement is = leb-false MAX_STEPS own (steps-below (nat_le MAX_STEPS own) (nat_le MAX_STATEMENTS all) _ _ meaning statement is)
 
 -- the reply to a statement that passes no limit is no refusal
@@ -41,7 +41,7 @@ accepted-reply t k (delete table c) view = refl
 accepted-reply t k (read select) view = refl
 
 module _ (old new : Engine) (answer : Reply) (line place : ℕ) (running : Running) (command : Command) where
-  pub runs-as : (meaning : Result Statement Refusal) → meaning_of (count_refusal limits running.statements (statements_of old)) (checked (tables_of old) command) ≡ meaning
+  pub runs-as : (meaning : Result Statement Refusal) → meaning_of (count_refusal parameters running.statements (statements_of old)) (checked (tables_of old) command) ≡ meaning
       → RunsAs old new answer line place running command meaning → Runs old new answer line place running command
   runs-as meaning is runs = subst (RunsAs old new answer line place running command) (sym is) runs
 

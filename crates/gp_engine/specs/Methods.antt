@@ -2,10 +2,11 @@
 use Rattle.std.specs.Prelude.{◌≡◌, ◌≢◌, ◌⊎◌, ℕ, suc, ◌<◌, ◌≤◌, ◌-◌, Bool, true, false, ◌^◌, List, [], ◌∷◌, ◌++◌, length, slice_index_or, slice_set, nat_le, Option, Some, None, Result, Ok, Err}
 use Rattle.gp_base.specs.declared.limit.Limit.TheVariants as limit
 use Rattle.gp_base.specs.declared.refusal.Refusal.{Refusal}
-use Rattle.gp_base.specs.declared.refusal.Refusal.TheVariants.{E09, E10, E11, E14}
+use Rattle.gp_base.specs.declared.refusal.Refusal.TheVariants.{E11, E14}
 use Rattle.gp_base.specs.declared.table.Table.{Table}
 use Rattle.gp_base.specs.Annotated.{Database, plain}
-use Rattle.gp_base.specs.Identities.{Identity, transaction_of}
+use Rattle.gp_base.specs.Identities.{Identity}
+use Rattle.gp_base.specs.IdentityParts.{transaction_of}
 use Rattle.gp_algebra.specs.Effects.{step, wrote}
 use Rattle.gp_algebra.specs.Statements as s
 use Rattle.gp_algebra.specs.Statements.{Statement}
@@ -13,7 +14,7 @@ use Rattle.gp_versions.specs.Spans.{Versions}
 use Rattle.gp_txn.specs.declared.error.CommitStop.{CommitStop}
 use Rattle.gp_txn.specs.declared.error.CommitStop.TheVariants as stop
 use Rattle.gp_txn.specs.declared.conflict.Conflict.{Conflict}
-use Rattle.gp_txn.specs.declared.counting.TheConstants.{MAX_SPANS}
+use Rattle.gp_base.specs.declared.limit.TheConstants.{MAX_SPANS}
 use Rattle.gp_txn.specs.Committing as txn
 use Rattle.gp_txn.specs.Bases.{base_after}
 use Rattle.gp_txn.specs.Committing.{spans_left}
@@ -21,14 +22,15 @@ use Rattle.gp_txn.specs.Conflicts.{IsFirstConflict, lates_at}
 use Rattle.gp_txn.specs.Transactions.{Writes, HoldsOwn, HoldsThere, IsUnwritten, base_at, has_written, snapshot_of, view_at, writes_at}
 use Rattle.gp_machine.specs.declared.reply.Reply.{Reply}
 use Rattle.gp_machine.specs.declared.reply.Reply.TheVariants as reply
-use Rattle.gp_machine.specs.Actions.{Action, Create, Begin, Commit, Rollback, Run}
+use Rattle.gp_machine.specs.Actions as allow
+use Rattle.gp_machine.specs.Actions.{Action, Allowed, allowed}
 use Rattle.gp_machine.specs.Entries.{Entry, RolledBack, Lost, Created, Began, Ran, Committed, Ended, committer_of, statement_count}
 use Rattle.gp_machine.specs.Event.{count_refusal, creation_refusal, name_at, refusal_of, reply_of, target_of}
 use Rattle.gp_grammar.specs.Syntax.{Command}
 use Rattle.gp_check.specs.Checking.{checked}
 use Rattle.gp_log.specs.declared.limit.TheConstants.{MAX_TRANSACTIONS}
-use Rattle.gp_log.specs.Limits.{limits}
-use Rattle.gp_log.specs.LogFacts.{open_in}
+use Rattle.gp_log.specs.Parameters.{parameters}
+use Rattle.gp_log.specs.LogCounts.{open_in}
 use Rattle.gp_log.specs.Logs.{Logged, log_view}
 use Rattle.gp_engine.specs.declared.running.Running.{Running}
 use Rattle.gp_engine.specs.Engine.{Engine, IsUnchanged, entries_of, newest_of, statements_of, tables_of, transactions_of}
@@ -77,7 +79,7 @@ module _ (tables : List Table) (versions : List Versions) (newest : ℕ) (old ne
 
   -- what refuses it
   abbrev pub refusal_in : Statement → Option Refusal
-  refusal_in statement = refusal_of plain limits tables old.active.t (suc old.statements) statement start
+  refusal_in statement = refusal_of plain parameters tables old.active.t (suc old.statements) statement start
 
 -- ---- the engine
 
@@ -92,6 +94,14 @@ pub record Keeps (engine : Engine) (entries : List Entry) (held : List Versions)
   pub versions_are : engine.versions ≡ held
   pub sessions_are : engine.sessions ≡ running
 
+-- the transaction of the session at a place, if it has one
+abbrev pub running_at : Engine → ℕ → Option Running
+running_at engine place = slice_index_or engine.sessions place None
+
+-- what holds of it
+abbrev pub IfRuns : Engine → ℕ → (Running → Type 0) → Type 0
+IfRuns engine place P = (running : Running) → running_at engine place ≡ Some running → P running
+
 -- a transaction that runs can end: the log keeps memory for that
 pub record HasPlace (log : Logged) : Type 0 where
   pub few : length log.entries < 2 ^ 32 - 1
@@ -100,7 +110,7 @@ pub record HasPlace (log : Logged) : Type 0 where
 -- the transaction of the session at a place has one statement more than the log has of it
 pub record HasRun (engine : Engine) (place : ℕ) : Type 0 where
   pub running : Running
-  pub at : slice_index_or engine.sessions place None ≡ Some running
+  pub at : running_at engine place ≡ Some running
   pub count : running.statements ≡ suc (statement_count running.active.t (entries_of engine))
 
 -- a conflict is with a version below this one, in one of so many tables
@@ -182,7 +192,7 @@ module _ (old new : Engine) (answer : Reply) where
     -- what refuses it
     abbrev pub refusal_at : Statement → Option Refusal
     refusal_at statement =
-        refusal_of plain limits (tables_of old) running.active.t (suc running.statements) statement
+        refusal_of plain parameters (tables_of old) running.active.t (suc running.statements) statement
         (view_at running.active.tables old.versions (snapshot_of running.active (newest_of old)))
 
     abbrev pub RunsAs : Result Statement Refusal → Type 0
@@ -191,7 +201,7 @@ module _ (old new : Engine) (answer : Reply) where
 
     -- a statement, by the counts and by the check
     abbrev pub Runs : Type 0
-    Runs = RunsAs (meaning_of (count_refusal limits running.statements (statements_of old)) (checked (tables_of old) command))
+    Runs = RunsAs (meaning_of (count_refusal parameters running.statements (statements_of old)) (checked (tables_of old) command))
 
   -- COMMIT: it is lost by a conflict, or refused as the row versions would be too many, or makes the next version
   pub data Commits (line place : ℕ) (running : Running) : Type 0 where
@@ -207,24 +217,22 @@ module _ (old new : Engine) (answer : Reply) where
         → answer ≡ reply.Committed running.active.t (suc (newest_of old))
         → Commits line place running
 
-  -- an action in a session without a transaction
-  abbrev pub Outside : ℕ → ℕ → Action → Type 0
-  Outside line place (Create table) = Creates line (suc place) table (creation_refusal limits (tables_of old) table)
-  Outside line place (Begin read_committed) = Begins line place read_committed (nat_le MAX_TRANSACTIONS (transactions_of old))
-  Outside line place Commit = Refuses E10
-  Outside line place Rollback = Refuses E10
-  Outside line place (Run command) = Refuses E10
-
-  -- an action in a session with this transaction
-  abbrev pub Inside : ℕ → ℕ → Running → Action → Type 0
-  Inside line place running (Create table) = Refuses E09
-  Inside line place running (Begin read_committed) = Refuses E09
-  Inside line place running Commit = Commits line place running
-  Inside line place running Rollback =
+  -- what a session may do, or why it may not
+  abbrev pub Does : ℕ → ℕ → Result (Allowed Running) Refusal → Type 0
+  Does line place (Err refusal) = Refuses refusal
+  Does line place (Ok (allow.Creates table)) = Creates line (suc place) table (creation_refusal parameters (tables_of old) table)
+  Does line place (Ok (allow.Begins read_committed)) = Begins line place read_committed (nat_le MAX_TRANSACTIONS (transactions_of old))
+  Does line place (Ok (allow.Commits running)) = Commits line place running
+  Does line place (Ok (allow.RollsBack running)) =
       Clears old new place (Ended line (suc place) RolledBack running.active.t) × (answer ≡ reply.RolledBack running.active.t)
-  Inside line place running (Run command) = Runs line place running command
+  Does line place (Ok (allow.Runs running command)) = Runs line place running command
 
   -- an action in a session with this transaction, or without one
   abbrev pub DoesAt : ℕ → ℕ → Option Running → Action → Type 0
-  DoesAt line place None action = Outside line place action
-  DoesAt line place (Some running) action = Inside line place running action
+  DoesAt line place running action = Does line place (allowed running action)
+
+  abbrev pub Outside : ℕ → ℕ → Action → Type 0
+  Outside line place action = DoesAt line place None action
+
+  abbrev pub Inside : ℕ → ℕ → Running → Action → Type 0
+  Inside line place running action = DoesAt line place (Some running) action

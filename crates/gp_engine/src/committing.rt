@@ -1,6 +1,6 @@
 //! The end of a transaction.
 
-ghost use Rattle.std.specs.Prelude.{◌≡◌, ℕ, ◌<◌, ◌≤◌, suc, true, IfErr, IfOk, OnErr, OnOk, Some, length, slice_index_or, None};
+ghost use Rattle.std.specs.Prelude.{◌≡◌, ℕ, ◌<◌, ◌≤◌, suc, true, IfErr, IfOk, OnErr, OnOk, Some, length, None};
 ghost use Rattle.gp_txn.specs.Committing as txn;
 ghost use Rattle.gp_txn.specs.Committing.{HasCause, spans_left};
 ghost use Rattle.gp_txn.specs.Conflicts.{lates_at};
@@ -12,8 +12,7 @@ ghost use Rattle.gp_machine.specs.Event.{name_at};
 ghost use Rattle.gp_txn.specs.Transactions.{HoldsOthers, HoldsOwn, table_at};
 ghost use Rattle.gp_versions.specs.Commits.{AreBelow};
 ghost use Rattle.gp_engine.specs.Engine.{IsEngine, IsUnchanged, entries_of, newest_of, tables_of};
-ghost use Rattle.gp_engine.specs.Methods.{Clears, Commits, HasPlace, IsConflictBelow, Stops};
-ghost use Rattle.gp_engine.specs.declared.running.Running as spec;
+ghost use Rattle.gp_engine.specs.Methods.{Clears, Commits, HasPlace, IsConflictBelow, Stops, IfRuns};
 
 use crate::running::Running;
 use crate::state::State;
@@ -30,8 +29,7 @@ fn commit(running: &Running, versions: &mut [VersionTable], version: u32) -> Res
     requires first { 1 ≤ version }
     requires above { (table : ℕ) → AreBelow version (table_at table versions.old).spans }
     requires others { HoldsOthers running.now.active.t versions.old }
-    ensures ok { OnOk result
-        (txn.Commits version running.now.active versions.old versions.new) }
+    ensures ok { OnOk result (txn.Commits version running.now.active versions.old versions.new) }
     ensures cause { IfErr result (λ stop. HasCause stop (length versions.old)
         (lates_at running.now.active.tables versions.old)
         (spans_left running.now.active.tables versions.old)) }
@@ -46,12 +44,8 @@ impl State {
     /// The number of the transaction at a place, or 0 if there is none.
     pub fn number(&self, place: usize) -> u32
         requires { place < 64 }
-        ensures number { (running : spec.Running)
-            → slice_index_or self.now.sessions place None ≡ Some running
-            → result ≡ running.active.t }
-        ensures own { (running : spec.Running)
-            → slice_index_or self.now.sessions place None ≡ Some running
-            → HoldsOwn running.active }
+        ensures number { IfRuns self.now place (λ running. result ≡ running.active.t) }
+        ensures own { IfRuns self.now place (λ running. HoldsOwn running.active) }
     {
         match &self.sessions[place] {
             Some(running) => running.active.t(),
@@ -77,12 +71,10 @@ impl State {
     pub fn roll_back(&mut self, line: u32, place: usize) -> Reply
         requires place { place < 64 }
         requires room { HasPlace self.old.log }
-        ensures ended { (running : spec.Running)
-            → slice_index_or self.old.sessions place None ≡ Some running
-            → Clears self.old self.new place (Ended line (suc place) RolledBack running.active.t) }
-        ensures reply { (running : spec.Running)
-            → slice_index_or self.old.sessions place None ≡ Some running
-            → result ≡ Reply.RolledBack running.active.t }
+        ensures ended { IfRuns self.old place (λ running. Clears self.old self.new place
+            (Ended line (suc place) RolledBack running.active.t)) }
+        ensures reply { IfRuns self.old place (λ running. result
+            ≡ Reply.RolledBack running.active.t) }
     {
         let t = self.number(place);
         self.end(line, place, t, What::Rollback);
@@ -150,16 +142,14 @@ impl State {
         requires few { length self.old.versions ≤ MAX_TABLES }
         requires first { 1 ≤ version }
         requires above { (table : ℕ) → AreBelow version (table_at table self.old.versions).spans }
-        requires others { (running : spec.Running)
-            → slice_index_or self.old.sessions place None ≡ Some running
-            → HoldsOthers running.active.t self.old.versions }
-        ensures ok { OnOk result ((running : spec.Running)
-            → slice_index_or self.old.sessions place None ≡ Some running
-            → txn.Commits version running.active self.old.versions self.new.versions) }
-        ensures cause { IfErr result (λ stop. (running : spec.Running)
-            → slice_index_or self.old.sessions place None ≡ Some running
-            → HasCause stop (length self.old.versions) (lates_at running.active.tables self.old.versions)
-            (spans_left running.active.tables self.old.versions)) }
+        requires others { IfRuns self.old place
+            (λ running. HoldsOthers running.active.t self.old.versions) }
+        ensures ok { OnOk result (IfRuns self.old place
+            (λ running. txn.Commits version running.active self.old.versions self.new.versions)) }
+        ensures cause { IfErr result (λ stop. IfRuns self.old place
+            (λ running. HasCause stop (length self.old.versions)
+            (lates_at running.active.tables self.old.versions)
+            (spans_left running.active.tables self.old.versions))) }
         ensures bounds { IfErr result (IsConflictBelow version (length self.old.versions)) }
         ensures unchanged { OnErr result (IsUnchanged self.old self.new) }
         ensures log { self.new.log ≡ self.old.log }
@@ -202,9 +192,8 @@ impl State {
         requires place { place < 64 }
         requires engine { IsEngine self.old }
         requires room { HasPlace self.old.log }
-        ensures ok { IfOk result (λ reply. (running : spec.Running)
-            → slice_index_or self.old.sessions place None ≡ Some running
-            → Commits self.old self.new reply line place running) }
+        ensures ok { IfOk result (λ reply. IfRuns self.old place
+            (λ running. Commits self.old self.new reply line place running)) }
         ensures err { OnErr result (IsUnchanged self.old self.new) }
     {
         let version = self.log.commits() + 1;

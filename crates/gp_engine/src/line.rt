@@ -1,14 +1,13 @@
 //! One line of a session.
 
-ghost use Rattle.std.specs.Prelude.{◌≡◌, ◌<◌, true, false, None, Some, IfOk, IsOk, OnErr, IsSome, slice_index_or};
+ghost use Rattle.std.specs.Prelude.{◌≡◌, ◌<◌, true, false, IfOk, IsOk, OnErr, IsSome};
 ghost use Rattle.gp_check.specs.Valid.{is_valid};
 ghost use Rattle.gp_grammar.specs.Syntax as y;
 ghost use Rattle.gp_grammar.specs.Syntax.{is_statement};
 ghost use Rattle.gp_machine.specs.Actions.{action_of};
 ghost use Rattle.gp_syntax.specs.Views.{command_view};
 ghost use Rattle.gp_engine.specs.Engine.{IsEngine, IsUnchanged};
-ghost use Rattle.gp_engine.specs.Methods.{DoesAt, HasPlace, Inside, Outside};
-ghost use Rattle.gp_engine.specs.declared.running.Running as spec;
+ghost use Rattle.gp_engine.specs.Methods.{DoesAt, HasPlace, Inside, Outside, IfRuns, running_at};
 
 use crate::state::State;
 use gp_base::{NoMemory, Refusal};
@@ -49,10 +48,9 @@ impl State {
         requires engine { IsEngine self.old }
         requires room { HasPlace self.old.log }
         requires other { is_statement (command_view command.now) ≡ false }
-        ensures ok { IfOk result (λ reply. (running : spec.Running)
-            → slice_index_or self.old.sessions place None ≡ Some running
-            → Inside self.old self.new reply line place running
-            (action_of (command_view command.now))) }
+        ensures ok { IfOk result (λ reply. IfRuns self.old place
+            (λ running. Inside self.old self.new reply line place running
+            (action_of (command_view command.now)))) }
         ensures err { OnErr result (IsUnchanged self.old self.new) }
         ensures rollback { command_view command.now ≡ y.rollback → IsOk result }
     {
@@ -69,10 +67,10 @@ impl State {
     fn control(&mut self, line: u32, place: usize, command: &Command) -> Result<Reply, NoMemory>
         requires place { place < 64 }
         requires engine { IsEngine self.old }
-        requires other { IsSome (slice_index_or self.old.sessions place None)
+        requires other { IsSome (running_at self.old place)
             → is_statement (command_view command.now) ≡ false }
         ensures ok { IfOk result (λ reply. DoesAt self.old self.new reply line place
-            (slice_index_or self.old.sessions place None) (action_of (command_view command.now))) }
+            (running_at self.old place) (action_of (command_view command.now))) }
         ensures err { OnErr result (IsUnchanged self.old self.new) }
         ensures rollback { command_view command.now ≡ y.rollback → IsOk result }
     {
@@ -86,9 +84,9 @@ impl State {
     /// Whether a command is a statement in a session with a transaction.
     fn runs(&self, place: usize, command: &Command) -> bool
         requires place { place < 64 }
-        ensures there { result ≡ true → IsSome (slice_index_or self.now.sessions place None) }
+        ensures there { result ≡ true → IsSome (running_at self.now place) }
         ensures statement { result ≡ true → is_statement (command_view command.now) ≡ true }
-        ensures other { result ≡ false → IsSome (slice_index_or self.now.sessions place None)
+        ensures other { result ≡ false → IsSome (running_at self.now place)
             → is_statement (command_view command.now) ≡ false }
     {
         self.sessions[place].is_some() && is_statement(command)
@@ -100,7 +98,7 @@ impl State {
         requires engine { IsEngine self.old }
         requires valid { is_valid (command_view command) ≡ true }
         ensures ok { IfOk result (λ reply. DoesAt self.old self.new reply line place
-            (slice_index_or self.old.sessions place None) (action_of (command_view command))) }
+            (running_at self.old place) (action_of (command_view command))) }
         ensures err { OnErr result (IsUnchanged self.old self.new) }
         ensures rollback { command_view command ≡ y.rollback → IsOk result }
     {

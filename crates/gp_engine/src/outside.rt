@@ -2,7 +2,7 @@
 
 ghost use Rattle.std.specs.Prelude.{◌≡◌, ◌<◌, ◌-◌, ◌^◌, suc, nat_le, length, IfOk, OnErr};
 ghost use Rattle.gp_log.specs.Kinds.{CreatesNew};
-ghost use Rattle.gp_log.specs.Limits.{limits};
+ghost use Rattle.gp_log.specs.Parameters.{parameters};
 ghost use Rattle.gp_log.specs.declared.entry.What.TheVariants as what;
 ghost use Rattle.gp_log.specs.declared.limit.TheConstants.{MAX_TRANSACTIONS};
 ghost use Rattle.gp_machine.specs.Event.{creation_refusal};
@@ -22,7 +22,7 @@ impl State {
     /// The refusal of a new table, if there is one.
     fn creation_refusal(&self, table: &Table) -> Result<Option<Refusal>, NoMemory>
         ensures { IfOk result (λ refusal. refusal
-            ≡ creation_refusal limits (tables_of self.now) table.now) }
+            ≡ creation_refusal parameters (tables_of self.now) table.now) }
     {
         let catalog = self.log.catalog();
         if catalog.len() >= MAX_TABLES {
@@ -63,7 +63,7 @@ impl State {
         requires place { place < 64 }
         requires few { length self.old.log.entries < 2 ^ 32 - 1 }
         ensures ok { IfOk result (λ reply. Creates self.old self.new reply line (suc place) table.now
-            (creation_refusal limits (tables_of self.old) table.now)) }
+            (creation_refusal parameters (tables_of self.old) table.now)) }
         ensures err { OnErr result (self.new ≡ self.old) }
     {
         match self.creation_refusal(table)? {

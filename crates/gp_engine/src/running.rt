@@ -14,7 +14,7 @@ ghost use Rattle.gp_machine.specs.Event.{count_refusal, name_at, target_of};
 ghost use Rattle.gp_syntax.specs.Views.{command_view};
 ghost use Rattle.gp_txn.specs.Applying.{is_applicable, is_readable};
 ghost use Rattle.gp_txn.specs.Transactions.{HoldsOthers};
-ghost use Rattle.gp_log.specs.Limits.{limits};
+ghost use Rattle.gp_log.specs.Parameters.{parameters};
 ghost use Rattle.gp_engine.specs.Methods.{Applies, meaning_of, refusal_in};
 ghost use Rattle.gp_log.specs.declared.limit.TheConstants.{MAX_STATEMENTS, MAX_STEPS};
 
@@ -39,22 +39,9 @@ pub struct Running {
     pub statements: u32,
 }
 
-/// The table that a statement writes; a query writes none, and gives the first.
-fn target(stmt: &Stmt) -> u32
-    ensures { result ≡ target_of (statement_view stmt.now) }
-{
-    match stmt {
-        Stmt::Insert { table, .. } => *table,
-        Stmt::InsertSelect { table, .. } => *table,
-        Stmt::Update { table, .. } => *table,
-        Stmt::Delete { table, .. } => *table,
-        Stmt::Read { .. } => 0,
-    }
-}
-
 /// The refusal of one more statement, if its transaction has this many and the script that many.
 fn count_refusal(own: u32, all: u32) -> Option<Refusal>
-    ensures { result ≡ count_refusal limits own all }
+    ensures { result ≡ count_refusal parameters own all }
 {
     if own >= MAX_STEPS {
         return Some(Refusal::E14 {
@@ -75,7 +62,8 @@ fn too_many_rows(catalog: &Catalog, stmt: &Stmt) -> Result<Reply, NoMemory>
     ensures { IfOk result (λ reply. reply ≡ Reply.Refused (Refusal.E12
         (name_at (target_of (statement_view stmt.now)) catalog.now))) }
 {
-    let table = catalog.table(target(stmt)).name.clone()?;
+    let place = stmt.target().unwrap_or(0);
+    let table = catalog.table(place).name.clone()?;
     Ok(Reply::Refused(Refusal::E12 { table }))
 }
 
@@ -180,7 +168,7 @@ impl Running {
         requires valid { is_valid (command_view command.now) ≡ true }
         requires catalog { tables_are_valid catalog.now ≡ true }
         ensures checked { Checks statement_view result (meaning_of
-            (count_refusal limits self.now.statements all)
+            (count_refusal parameters self.now.statements all)
             (checked catalog.now (command_view command.now))) }
         ensures fits { IfOk result
             (λ stmt. statement_fits catalog.now (statement_view stmt) ≡ true) }

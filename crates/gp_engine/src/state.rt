@@ -2,7 +2,7 @@
 
 ghost use Rattle.std.specs.Prelude.{◌≡◌, ℕ, ◌<◌, ◌-◌, ◌^◌, [], suc, true, length, None, OnErr, OnOk, IsOk, slice_index_or};
 ghost use Rattle.gp_log.specs.Kinds.{CreatesNew, HasNextNumber, ends, is_statement};
-ghost use Rattle.gp_log.specs.LogFacts.{open_in};
+ghost use Rattle.gp_log.specs.LogCounts.{open_in};
 ghost use Rattle.gp_log.specs.Logs.{what_view};
 ghost use Rattle.gp_engine.specs.Engine.{entries_of, tables_of};
 ghost use Rattle.gp_engine.specs.Methods.{Appends};

@@ -1,6 +1,6 @@
 //! The statement of a line.
 
-ghost use Rattle.std.specs.Prelude.{◌≡◌, ℕ, ◌<◌, ◌-◌, ◌^◌, suc, true, false, IfErr, IfOk, OnErr, OnOk, IsSome, Some, None, length, slice_index_or};
+ghost use Rattle.std.specs.Prelude.{◌≡◌, ℕ, ◌<◌, ◌-◌, ◌^◌, suc, true, false, IfErr, IfOk, OnErr, OnOk, IsSome, Some, None, length};
 ghost use Rattle.gp_algebra.specs.Fitting.{statement_fits};
 ghost use Rattle.gp_algebra.specs.Views.{statement_view};
 ghost use Rattle.gp_check.specs.Checking.{checked};
@@ -12,11 +12,10 @@ ghost use Rattle.gp_machine.specs.Replies.{is_refusal};
 ghost use Rattle.gp_grammar.specs.Syntax as y;
 ghost use Rattle.gp_grammar.specs.Syntax.{is_statement};
 ghost use Rattle.gp_syntax.specs.Views.{command_view};
-ghost use Rattle.gp_log.specs.Limits.{limits};
+ghost use Rattle.gp_log.specs.Parameters.{parameters};
 ghost use Rattle.gp_log.specs.declared.limit.TheConstants.{MAX_STEPS};
 ghost use Rattle.gp_engine.specs.Engine.{IsEngine, IsUnchanged, statements_of, tables_of};
-ghost use Rattle.gp_engine.specs.Methods.{Appends, AppliesAt, HasRun, Runs, RunsChecked, meaning_of, refusal_at};
-ghost use Rattle.gp_engine.specs.declared.running.Running as spec;
+ghost use Rattle.gp_engine.specs.Methods.{Appends, AppliesAt, HasRun, Runs, RunsChecked, meaning_of, refusal_at, IfRuns, running_at};
 
 use crate::state::State;
 use gp_algebra::Stmt;
@@ -33,14 +32,12 @@ impl State {
         requires statement { is_statement (command_view command.now) ≡ true }
         requires valid { is_valid (command_view command.now) ≡ true }
         requires engine { IsEngine self.now }
-        ensures checked { (running : spec.Running)
-            → slice_index_or self.now.sessions place None ≡ Some running
-            → Checks statement_view result (meaning_of
-            (count_refusal limits running.statements (statements_of self.now))
-            (checked (tables_of self.now) (command_view command.now))) }
+        ensures checked { IfRuns self.now place (λ running. Checks statement_view result
+            (meaning_of (count_refusal parameters running.statements (statements_of self.now))
+            (checked (tables_of self.now) (command_view command.now)))) }
         ensures fits { IfOk result
             (λ stmt. statement_fits (tables_of self.now) (statement_view stmt) ≡ true) }
-        ensures there { OnOk result (IsSome (slice_index_or self.now.sessions place None)) }
+        ensures there { OnOk result (IsSome (running_at self.now place)) }
     {
         match &self.sessions[place] {
             None => Err(CheckStop::Refused(Refusal::E10)),
@@ -58,12 +55,10 @@ impl State {
         requires place { place < 64 }
         requires fits { statement_fits (tables_of self.old) (statement_view stmt.now) ≡ true }
         requires engine { IsEngine self.old }
-        requires count { (running : spec.Running)
-            → slice_index_or self.old.sessions place None ≡ Some running
-            → running.statements < MAX_STEPS }
-        ensures ok { IfOk result (λ reply. (running : spec.Running)
-            → slice_index_or self.old.sessions place None ≡ Some running
-            → AppliesAt self.old self.new reply place running (statement_view stmt.now)) }
+        requires count { IfRuns self.old place (λ running. running.statements < MAX_STEPS) }
+        ensures ok { IfOk result (λ reply. IfRuns self.old place
+            (λ running. AppliesAt self.old self.new reply place running
+            (statement_view stmt.now))) }
         ensures log { self.new.log ≡ self.old.log }
         ensures err { OnErr result (self.new ≡ self.old) }
     {
@@ -79,12 +74,10 @@ impl State {
         requires place { place < 64 }
         requires fits { statement_fits (tables_of self.old) (statement_view stmt.now) ≡ true }
         requires engine { IsEngine self.old }
-        requires count { (running : spec.Running)
-            → slice_index_or self.old.sessions place None ≡ Some running
-            → running.statements < MAX_STEPS }
-        ensures ok { IfOk result (λ reply. (running : spec.Running)
-            → slice_index_or self.old.sessions place None ≡ Some running
-            → AppliesAt self.old self.new reply place running (statement_view stmt.now)) }
+        requires count { IfRuns self.old place (λ running. running.statements < MAX_STEPS) }
+        ensures ok { IfOk result (λ reply. IfRuns self.old place
+            (λ running. AppliesAt self.old self.new reply place running
+            (statement_view stmt.now))) }
         ensures ready { OnOk result (self.new.log.ready ≡ true) }
         ensures log { self.new.log.entries ≡ self.old.log.entries }
         ensures err { OnErr result (IsUnchanged self.old self.new) }
@@ -96,9 +89,7 @@ impl State {
     /// The number of statements of the transaction at a place.
     fn steps(&self, place: usize) -> u32
         requires { place < 64 }
-        ensures { (running : spec.Running)
-            → slice_index_or self.now.sessions place None ≡ Some running
-            → result ≡ running.statements }
+        ensures { IfRuns self.now place (λ running. result ≡ running.statements) }
     {
         match &self.sessions[place] {
             Some(running) => running.statements,
@@ -112,10 +103,9 @@ impl State {
         requires few { length self.old.log.entries < 2 ^ 32 - 1 }
         requires ready { self.old.log.ready ≡ true }
         requires ran { HasRun self.old place }
-        ensures { (running : spec.Running)
-            → slice_index_or self.old.sessions place None ≡ Some running
-            → Appends self.old self.new (m.Ran line (suc place)
-            (command_view command) running.active.t (statement_view stmt)) }
+        ensures { IfRuns self.old place (λ running. Appends self.old self.new
+            (m.Ran line (suc place) (command_view command) running.active.t
+            (statement_view stmt))) }
     {
         let t = self.number(place);
         let k = self.steps(place);
@@ -130,22 +120,18 @@ impl State {
         requires place { place < 64 }
         requires fits { statement_fits (tables_of self.old) (statement_view stmt.now) ≡ true }
         requires engine { IsEngine self.old }
-        requires count { (running : spec.Running)
-            → slice_index_or self.old.sessions place None ≡ Some running
-            → running.statements < MAX_STEPS }
-        ensures applied { IfOk result (λ reply. (running : spec.Running)
-            → slice_index_or self.old.sessions place None ≡ Some running
-            → AppliesAt self.old self.new reply place running (statement_view stmt.now)) }
+        requires count { IfRuns self.old place (λ running. running.statements < MAX_STEPS) }
+        ensures applied { IfOk result (λ reply. IfRuns self.old place
+            (λ running. AppliesAt self.old self.new reply place running
+            (statement_view stmt.now))) }
         ensures accepted { IfOk result (λ reply. is_refusal reply ≡ false) }
         ensures ready { OnOk result (self.new.log.ready ≡ true) }
         ensures log { self.new.log.entries ≡ self.old.log.entries }
-        ensures refused { IfErr result (λ answer. IfOk answer (λ reply.
-            (line : ℕ) (command : y.Command) (running : spec.Running)
-            → slice_index_or self.old.sessions place None ≡ Some running
-            → RunsChecked self.old self.new reply line place running command
-            (statement_view stmt.now)
-            (refusal_at self.old self.new reply line place running command
-            (statement_view stmt.now)))) }
+        ensures refused { IfErr result (λ answer. IfOk answer
+            (λ reply. (line : ℕ) (command : y.Command) → IfRuns self.old place
+            (λ running. RunsChecked self.old self.new reply line place running command
+            (statement_view stmt.now) (refusal_at self.old self.new reply line place running command
+            (statement_view stmt.now))))) }
         ensures err { IfErr result (λ answer. OnErr answer (IsUnchanged self.old self.new)) }
     {
         match self.apply_reserved(place, stmt) {
@@ -169,18 +155,15 @@ impl State {
         stmt: Stmt,
     ) -> Result<Reply, NoMemory>
         requires place { place < 64 }
-        requires there { IsSome (slice_index_or self.old.sessions place None) }
+        requires there { IsSome (running_at self.old place) }
         requires fits { statement_fits (tables_of self.old) (statement_view stmt) ≡ true }
         requires engine { IsEngine self.old }
-        requires count { (running : spec.Running)
-            → slice_index_or self.old.sessions place None ≡ Some running
-            → running.statements < MAX_STEPS }
-        ensures ok { IfOk result (λ reply. (running : spec.Running)
-            → slice_index_or self.old.sessions place None ≡ Some running
-            → RunsChecked self.old self.new reply line place running (command_view command)
-            (statement_view stmt)
+        requires count { IfRuns self.old place (λ running. running.statements < MAX_STEPS) }
+        ensures ok { IfOk result (λ reply. IfRuns self.old place
+            (λ running. RunsChecked self.old self.new reply line place running
+            (command_view command) (statement_view stmt)
             (refusal_at self.old self.new reply line place running (command_view command)
-            (statement_view stmt))) }
+            (statement_view stmt)))) }
         ensures err { OnErr result (IsUnchanged self.old self.new) }
     {
         // A command and a statement have many parts, and each way out that owns them lets them all go: so there is one.
@@ -204,9 +187,8 @@ impl State {
         requires statement { is_statement (command_view command) ≡ true }
         requires valid { is_valid (command_view command) ≡ true }
         requires engine { IsEngine self.old }
-        ensures ok { IfOk result (λ reply. (running : spec.Running)
-            → slice_index_or self.old.sessions place None ≡ Some running
-            → Runs self.old self.new reply line place running (command_view command)) }
+        ensures ok { IfOk result (λ reply. IfRuns self.old place
+            (λ running. Runs self.old self.new reply line place running (command_view command))) }
         ensures err { OnErr result (IsUnchanged self.old self.new) }
     {
         match self.check_at(place, &command) {

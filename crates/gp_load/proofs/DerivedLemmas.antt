@@ -3,8 +3,9 @@ use Rattle.std.proofs.Common.{◌≡◌, ℕ, suc, pos, negsuc, ◌+◌, ◌-◌
 use Rattle.std.specs.Char.{is_ascii_control}
 use Rattle.std.specs.List.{AllByRecursion, flat_map, list_any}
 use Rattle.std.specs.Str.Lossy.{utf8_valid_len}
-use Rattle.std.proofs.lemmas.Bool.{cases_Bool, and_parts, eqb-false}
-use Rattle.gp_base.specs.Cells.{is_user_cell, is_user_text}
+use Rattle.std.proofs.lemmas.Bool.{cases_Bool, and_parts, eqb-false, not-true}
+use Rattle.gp_base.specs.Cells.{is_user_text}
+use Rattle.gp_base.specs.UserCells.{is_user_cell}
 use Rattle.gp_base.specs.Names.{is_name}
 use Rattle.gp_base.specs.declared.cell.Cell.{Cell}
 use Rattle.gp_base.specs.declared.cell.Cell.TheVariants as cell
@@ -22,7 +23,8 @@ use Rattle.gp_lexer.specs.declared.lexeme.Symbol.TheVariants as s
 use Rattle.gp_lexer.specs.declared.lexeme.Lexeme.{Lexeme}
 use Rattle.gp_lexer.specs.declared.lexeme.Lexeme.TheVariants.{Symbol as Sign, Word, Number, Big, Text}
 use Rattle.gp_lexer.specs.Layout.{empty_page, has_space, laid_out, next_gap, spaced}
-use Rattle.gp_lexer.specs.Lexemes.{AreProper, HasUtf8Text, HaveUtf8Texts, IsProper, spelled, symbol_text}
+use Rattle.gp_lexer.specs.Lexemes.{spelled, symbol_text}
+use Rattle.gp_lexer.specs.ProperLexemes.{AreProper, HasUtf8Text, HaveUtf8Texts, IsProper}
 use Rattle.gp_lexer.proofs.LayoutLemmas.{added, written-added}
 use Rattle.gp_lexer.proofs.SpellingLemmas.{name-parts}
 use Rattle.gp_grammar.specs.declared.limits.TheConstants.{MAX_COLUMNS, MAX_LINE_LENGTH, MAX_VALUES}
@@ -175,11 +177,7 @@ proper-usual = record {
     text-proper bytes e =
         let a = and_parts (eqb (utf8_valid_len bytes) (length bytes)) (leb (length bytes) MAX_TEXT_LENGTH && not (list_any is_ascii_control bytes)) e in
         let b = and_parts (leb (length bytes) MAX_TEXT_LENGTH) (not (list_any is_ascii_control bytes)) a.1 in
-        (leb-true (length bytes) MAX_TEXT_LENGTH b.0, plain-by (list_any is_ascii_control bytes) b.1)
-      where
-        plain-by : (b : Bool) → not b ≡ true → b ≡ false
-        plain-by true e = absurd cc
-        plain-by false e = refl
+        (leb-true (length bytes) MAX_TEXT_LENGTH b.0, not-true (list_any is_ascii_control bytes) b.1)
 
 utf8-usual : IsUsual HasUtf8Text
 utf8-usual = record {

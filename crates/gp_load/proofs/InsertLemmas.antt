@@ -1,13 +1,14 @@
 -- An INSERT of rows into the one table: its check, and the rows and identities that it makes.
-use Rattle.std.proofs.Common.{◌≡◌, ℕ, suc, ◌+◌, ◌<◌, ◌≤◌, Bool, true, false, cond, eqb, ltb, ◌&&◌, ◌||◌, List, [], ◌∷◌, ◌++◌, length, length-append, map, filter, None, Ok, refl, ap, ◌∙◌, eq-eqb, ne_eqb, le-ltb, arith}
+use Rattle.std.proofs.Common.{◌≡◌, ℕ, suc, ◌+◌, ◌<◌, ◌≤◌, Bool, true, false, cond, eqb, ltb, ◌&&◌, List, [], ◌∷◌, ◌++◌, length, length-append, map, filter, None, Ok, refl, ap, ◌∙◌, eq-eqb, ne_eqb, le-ltb, arith}
 use Rattle.std.specs.List.{AllByRecursion, list_all, list_any}
 use Rattle.std.specs.Str.{bytes_eq}
-use Rattle.std.proofs.lemmas.Bool.{and_parts, and_from}
+use Rattle.std.proofs.lemmas.Bool.{and_parts, and_from, eqb-true, or_left, or_right}
 use Rattle.std.proofs.lemmas.List.Folds.{list_any-append}
 use Rattle.std.proofs.lemmas.Map.Views.{any-filter_same}
 use Rattle.std.proofs.lemmas.Slice.Eq.{bytes_eq-Decides}
 use Rattle.gp_base.specs.Annotated.{Annotated, Database, plain}
-use Rattle.gp_base.specs.Identities.{Identity, identity, no_sources, nodes, same_identity, transaction_of}
+use Rattle.gp_base.specs.Identities.{Identity, identity, no_sources, nodes, same_identity}
+use Rattle.gp_base.specs.IdentityParts.{transaction_of}
 use Rattle.gp_base.specs.declared.cell.Cell.{Cell}
 use Rattle.gp_base.specs.declared.cell.Cell.TheVariants as cell
 use Rattle.gp_base.specs.declared.row_id.TheConstants.{MAX_NODES}
@@ -21,22 +22,19 @@ use Rattle.gp_algebra.specs.Statements as s
 use Rattle.gp_check.specs.Checking.{checked}
 use Rattle.gp_check.specs.Faults.{cells_agree}
 use Rattle.gp_check.specs.Typing.{agrees, cell_type, kind_type}
-use Rattle.gp_exec.specs.declared.limit.TheConstants.{MAX_TABLE_ROWS}
-use Rattle.gp_machine.proofs.Made.{eq_from, same_equal}
+use Rattle.gp_base.specs.declared.limit.TheConstants.{MAX_TABLE_ROWS}
+use Rattle.gp_machine.proofs.Made.{same_equal}
 use Rattle.gp_machine.specs.Bases.{Based, is_new, pairs}
 use Rattle.gp_machine.specs.Committed.{is_written, unmarked}
 use Rattle.gp_machine.specs.Event.{refusal_of}
-use Rattle.gp_log.specs.Limits.{limits}
+use Rattle.gp_log.specs.Parameters.{parameters}
 use Rattle.gp_csv.specs.Sheets.{is_cell_of, is_row_of}
+use Rattle.gp_base.proofs.SmallLemmas.{all_weaker}
 
 abbrev pub Row : Type 0
 Row = Annotated (Unit {0})
 
 -- ---- the rows of a sheet as rows of a VALUES
-
-all-weaker : {A : Type 0} (p q : A → Bool) → ((x : A) → p x ≡ true → q x ≡ true) → (xs : List A) → list_all p xs ≡ true → list_all q xs ≡ true
-all-weaker p q weaker [] all = refl
-all-weaker p q weaker (x ∷ xs) all = let h = and_parts (p x) (list_all p xs) all in and_from (q x) (list_all q xs) (weaker x h.0) (all-weaker p q weaker xs h.1)
 
 cell-agrees : (k : Kind) (c : Cell) → is_cell_of k c ≡ true → agrees (kind_type k) (cell_type c) ≡ true
 cell-agrees kind.Int cell.Null e = refl
@@ -72,8 +70,8 @@ pub checked-insert : (table : Table) (rows : List (List Cell)) → list_all (is_
 checked-insert table rows all =
     let name : bytes_eq table.name table.name ≡ true = (bytes_eq-Decides table.name table.name).1 refl in
     let widths : list_all (λ (row : List Cell). eqb (length row) (length table.cols)) rows ≡ true =
-    all-weaker (is_row_of table.cols) (λ (row : List Cell). eqb (length row) (length table.cols)) (λ row e. eq-eqb _ _ (row-width table.cols row e)) rows all in
-    let types : list_all (cells_agree table.cols) rows ≡ true = all-weaker (is_row_of table.cols) (cells_agree table.cols) (row-agrees table.cols) rows all in
+    all_weaker (is_row_of table.cols) (λ (row : List Cell). eqb (length row) (length table.cols)) (λ row e. eq-eqb _ _ (row-width table.cols row e)) rows all in
+    let types : list_all (cells_agree table.cols) rows ≡ true = all_weaker (is_row_of table.cols) (cells_agree table.cols) (row-agrees table.cols) rows all in
     rw (name, widths, types) refl
 
 -- ---- the rows that it makes
@@ -91,7 +89,7 @@ given-nodes t k n [] = refl
 given-nodes t k n (row ∷ rows) = given-nodes t k (suc n) rows
 
 pub not-refused : (tables : List Table) (t k : ℕ) (rows : List (List Cell)) (view : Database (Unit {0})) → length (view 0) + length rows ≤ MAX_TABLE_ROWS
-    → refusal_of plain limits tables t k (s.insert 0 rows) view ≡ None
+    → refusal_of plain parameters tables t k (s.insert 0 rows) view ≡ None
 not-refused tables t k rows view few =
     let count : length (view 0 ++ given_from plain t k 1 rows) ≡ length (view 0) + length (given_from plain t k 1 rows) = length-append (view 0) (given_from plain t k 1 rows) in
     let given = given-length t k 1 rows in
@@ -99,10 +97,6 @@ not-refused tables t k rows view few =
     rw (fits, given-nodes t k 1 rows) refl
 
 -- ---- the identities that it writes
-
-pub all-append : {A : Type 0} (P : A → Type 0) (xs ys : List A) → AllByRecursion P xs → AllByRecursion P ys → AllByRecursion P (xs ++ ys)
-all-append P [] ys all others = others
-all-append P (x ∷ xs) ys all others = (all.0, all-append P xs ys all.1 others)
 
 pub all-mapped : {A : Type 0} (P Q : A → Type 0) → ((x : A) → P x → Q x) → (xs : List A) → AllByRecursion P xs → AllByRecursion Q xs
 all-mapped P Q weaker [] all = tt
@@ -125,26 +119,18 @@ pub given-before : (t k n : ℕ) (rows : List (List Cell)) → AllByRecursion (I
 given-before t k n [] = tt
 given-before t k n (row ∷ rows) = (omega arith, given-before t k (suc n) rows)
 
-either : (a b : Bool) → b ≡ true → (a || b) ≡ true
-either true b e = refl
-either false b e = e
-
-first : (a b : Bool) → a ≡ true → (a || b) ≡ true
-first true b e = refl
-first false b e = absurd cc
-
 -- what is among some of the written rows is among all of them
 pub written-before : (written others : List Written) (row : Row) → IsWritten written row → IsWritten (written ++ others) row
-written-before written others row e = list_any-append _ written others ∙ first (is_written 0 row.identity written) (is_written 0 row.identity others) e
+written-before written others row e = list_any-append _ written others ∙ or_left (is_written 0 row.identity written) (is_written 0 row.identity others) e
 
 pub written-after : (written others : List Written) (row : Row) → IsWritten others row → IsWritten (written ++ others) row
-written-after written others row e = list_any-append _ written others ∙ either (is_written 0 row.identity written) (is_written 0 row.identity others) e
+written-after written others row e = list_any-append _ written others ∙ or_right (is_written 0 row.identity written) (is_written 0 row.identity others) e
 
 -- a pair of this row is new if the row was not written
 new-pair : (written : List Based) (id : Identity) → is_written 0 id (pairs written) ≡ false → (pair : Written) → (eqb pair.table 0 && same_identity pair.identity id) ≡ true → is_new written pair ≡ true
 new-pair written id fresh pair found =
     let h = and_parts (eqb pair.table 0) (same_identity pair.identity id) found in
-    let table : pair.table ≡ 0 = eq_from pair.table 0 h.0 in
+    let table : pair.table ≡ 0 = eqb-true pair.table 0 h.0 in
     let same : pair.identity ≡ id = same_equal pair.identity id h.1 in
     rw (table, same, fresh) refl
 
@@ -163,9 +149,9 @@ same-made t k n = rw (eq-eqb t t refl, eq-eqb k k refl, eq-eqb n n refl) refl
 pub given-written : (t k n : ℕ) (rows : List (List Cell)) → AllByRecursion (IsWritten (written_in 0 (given_from plain t k n rows))) (given_from plain t k n rows)
 given-written t k n [] = tt
 given-written t k n (row ∷ rows) = (
-  first (same_identity (identity t k n no_sources) (identity t k n no_sources)) _ (same-made t k n),
+  or_left (same_identity (identity t k n no_sources) (identity t k n no_sources)) _ (same-made t k n),
   all-mapped (IsWritten (written_in 0 (given_from plain t k (suc n) rows))) (IsWritten (written_in 0 (given_from plain t k n (row ∷ rows))))
-      (λ other e. either (same_identity (identity t k n no_sources) other.identity) (is_written 0 other.identity (written_in 0 (given_from plain t k (suc n) rows))) e)
+      (λ other e. or_right (same_identity (identity t k n no_sources) other.identity) (is_written 0 other.identity (written_in 0 (given_from plain t k (suc n) rows))) e)
       (given_from plain t k (suc n) rows) (given-written t k (suc n) rows),
 )
 

@@ -5,7 +5,7 @@ use Rattle.std.specs.List.{AllByRecursion, IsDistinct, list_all, list_any}
 use Rattle.std.specs.Str.{bytes_eq}
 use Rattle.std.proofs.Math.Nat.{div-add-mod, mod-lt}
 use Rattle.std.proofs.lemmas.Grind.{flat_map-append}
-use Rattle.std.proofs.lemmas.Bool.{cases_Bool, and_parts, eqb-false}
+use Rattle.std.proofs.lemmas.Bool.{cases_Bool, and_parts, eqb-false, or_from, or_parts}
 use Rattle.std.proofs.lemmas.List.Folds.{list_any-append}
 use Rattle.std.proofs.lemmas.Slice.Eq.{bytes_eq-Decides}
 use Rattle.gp_base.specs.Annotated.{plain}
@@ -17,15 +17,17 @@ use Rattle.gp_base.specs.declared.table.Kind.{Kind}
 use Rattle.gp_base.specs.declared.table.Kind.TheVariants as kind
 use Rattle.gp_base.specs.declared.table.Table.{Table}
 use Rattle.gp_grammar.specs.declared.limits.TheConstants.{MAX_LINE_LENGTH, MAX_VALUES}
-use Rattle.gp_lexer.proofs.SpellingLemmas.{none-of}
 use Rattle.gp_grammar.specs.Syntax as y
 use Rattle.gp_grammar.specs.Syntax.{Command}
 use Rattle.gp_check.specs.Faults.{repeated_behind}
 use Rattle.gp_machine.specs.State.{start}
-use Rattle.gp_log.specs.Limits.{limits}
+use Rattle.gp_log.specs.Parameters.{parameters}
 use Rattle.gp_script.specs.declared.script.TheConstants.{MAX_SCRIPT_LENGTH}
-use Rattle.gp_script.specs.History.{has_refusal, replies_from, state_after}
-use Rattle.gp_csv.specs.Scripts.{batches_of, commands_of, ended_line, fits_line, inserts_from, inserts_of, line_of, rows_in, script_of, script_text, transaction_break}
+use Rattle.gp_script.specs.History.{has_refusal}
+use Rattle.gp_script.specs.Scripts.{lines_as_read, replies_from, state_after}
+use Rattle.gp_script.proofs.ReadHistory.{is-script, replies-read, state-read}
+use Rattle.gp_csv.specs.Scripts.{batches_of, commands_of, ended_line, fits_line, inserts_from, inserts_of, line_of, script_of, script_text, transaction_break}
+use Rattle.gp_csv.specs.SheetForms.{rows_in}
 use Rattle.gp_csv.specs.Sheets.{IsSheet, column_names, is_cell_of, is_row_of}
 use Rattle.gp_csv.specs.declared.script.TheConstants.{MAX_INSERTS, MAX_ROWS, MAX_STEPS}
 use Rattle.gp_csv.specs.declared.sheet.Sheet.{Sheet}
@@ -33,10 +35,10 @@ use Rattle.gp_csv.proofs.LineLemmas.{HoldsAll, lines-hold-all}
 use Rattle.gp_csv.proofs.ValidLemmas.{from_map}
 use Rattle.gp_load.specs.Loading.{Loads, last_rows, table_of}
 use Rattle.gp_load.proofs.DerivedLemmas.{IsNamed, IsSome, IsUser, IsUserRow, begin-readable, begin-short, commit-readable, commit-short, create-readable, insert-readable}
-use Rattle.gp_load.proofs.InsertLemmas.{all-append}
 use Rattle.gp_load.proofs.ReadLemmas.{IsReadable}
 use Rattle.gp_load.proofs.StateLemmas.{Accepts, Idle, Plain, Running, begins, cells_in, commits, creates, inserts, newest}
-use Rattle.gp_load.proofs.TextLemmas.{either-false, lines-are, lines-lead}
+use Rattle.gp_load.proofs.TextLemmas.{lines-are, lines-lead}
+use Rattle.gp_base.proofs.SmallLemmas.{each_append}
 
 abbrev Rows : Type 0
 Rows = List (List Cell)
@@ -57,13 +59,13 @@ IsNew earlier name = list_any (λ (other : List ℕ). bytes_eq other name) earli
 new-other : (earlier : List (List ℕ)) (name : List ℕ) → IsNew earlier name → list_any (bytes_eq name) earlier ≡ false
 new-other [] name e = refl
 new-other (other ∷ earlier) name e =
-    let h = none-of (bytes_eq other name) (list_any (λ (z : List ℕ). bytes_eq z name) earlier) e in
-    either-false (bytes_eq name other) (list_any (bytes_eq name) earlier) (name-other other name h.0) (new-other earlier name h.1)
+    let h = or_parts (bytes_eq other name) (list_any (λ (z : List ℕ). bytes_eq z name) earlier) e in
+    or_from (bytes_eq name other) (list_any (bytes_eq name) earlier) (name-other other name h.0) (new-other earlier name h.1)
 
 new-snoc : (earlier : List (List ℕ)) (first name : List ℕ) → IsNew earlier name → bytes_eq first name ≡ false → IsNew (earlier ++ first ∷ []) name
 new-snoc earlier first name e f =
     list_any-append (λ (other : List ℕ). bytes_eq other name) earlier (first ∷ [])
-    ∙ either-false (list_any (λ (other : List ℕ). bytes_eq other name) earlier) (bytes_eq first name || false) e (either-false (bytes_eq first name) false f refl)
+    ∙ or_from (list_any (λ (other : List ℕ). bytes_eq other name) earlier) (bytes_eq first name || false) e (or_from (bytes_eq first name) false f refl)
 
 all-new : (earlier : List (List ℕ)) (first : List ℕ) (names : List (List ℕ)) → AllByRecursion (IsNew earlier) names → AllByRecursion (λ (name : List ℕ). bytes_eq first name ≡ false) names
     → AllByRecursion (IsNew (earlier ++ first ∷ [])) names
@@ -80,7 +82,7 @@ all_new : (names : List (List ℕ)) → AllByRecursion (IsNew []) names
 all_new [] = tt
 all_new (name ∷ names) = (refl, all_new names)
 
-not-refused : (table : Table) → IsDistinct bytes_eq (column_names table.cols) → limits.created [] table ≡ None
+not-refused : (table : Table) → IsDistinct bytes_eq (column_names table.cols) → parameters.created [] table ≡ None
 not-refused table different = rw (none-repeated [] (column_names table.cols) (all_new (column_names table.cols)) different) refl
 
 -- ---- batches
@@ -157,7 +159,7 @@ break-readable count = by (eqb (count % MAX_STEPS) 0)
 from-readable : (table : Table) (count : ℕ) (batches : List Rows) → AllByRecursion (IsBatch table) batches → AllByRecursion IsReadable (inserts_from table.name count batches)
 from-readable table count [] all = tt
 from-readable table count (batch ∷ batches) all =
-    all-append IsReadable (transaction_break count) (y.insert table.name batch ∷ inserts_from table.name (suc count) batches) (break-readable count) (all.0.readable, from-readable table (suc count) batches all.1)
+    each_append IsReadable (transaction_break count) (y.insert table.name batch ∷ inserts_from table.name (suc count) batches) (break-readable count) (all.0.readable, from-readable table (suc count) batches all.1)
 
 of-readable : (table : Table) (batches : List Rows) → AllByRecursion (IsBatch table) batches → AllByRecursion IsReadable (inserts_of table.name batches)
 of-readable table [] all = tt
@@ -243,7 +245,7 @@ module _ (table : Table) (all : Rows) (short : length all ≤ MAX_ROWS) where
       inserts table [] batch 1 0 0 0 line state (inserts_from table.name 1 batches ++ (y.Command.commit ∷ [])) Ends h (omega arith) (omega arith) (omega (arith, short, size)) good.0.rows
       (λ next l running. accepts-from 0 1 1 batch batches next l running (omega arith) (omega arith) (omega arith) (omega (arith, few)) same good.1)
 
-  accepts-all : (batches : List Rows) → limits.created [] table ≡ None → length batches ≤ MAX_INSERTS → rows_in batches ≡ all → AllByRecursion (IsBatch table) batches
+  accepts-all : (batches : List Rows) → parameters.created [] table ≡ None → length batches ≤ MAX_INSERTS → rows_in batches ≡ all → AllByRecursion (IsBatch table) batches
       → Accepts start 1 (y.create table ∷ y.begin false ∷ (inserts_of table.name batches ++ (y.Command.commit ∷ []))) Ends
   accepts-all batches named few same good =
       let rest : List Command = inserts_of table.name batches ++ (y.Command.commit ∷ []) in
@@ -329,16 +331,19 @@ loads-by name sheet batches named h holds =
     let good = batches-good table named some batches holds.fit (subst (λ (x : Rows). list_all (is_row_of sheet.cols) x ≡ true) (sym holds.kept) h.rows) in
     let readable : AllByRecursion IsReadable (commands_of name sheet batches) = (
       create-readable table named some (columns-named sheet.cols h.names) h.few,
-      (begin-readable, all-append IsReadable (inserts_of name batches) (y.Command.commit ∷ []) (of-readable table batches good) (commit-readable, tt)),
+      (begin-readable, each_append IsReadable (inserts_of name batches) (y.Command.commit ∷ []) (of-readable table batches good) (commit-readable, tt)),
     ) in
     let accepts = accepts-all table sheet.rows holds.counted batches (not-refused table h.different) holds.few holds.kept good in
     let leads = lines-lead start 1 (commands_of name sheet batches) (HasRows table sheet.rows) readable accepts in
     let same = lines-are (commands_of name sheet batches) readable in
+    let script : List ℕ = script_text (commands_of name sheet batches) in
     record {
       short = script-short table batches readable.0 good holds.few;
-      accepted = ap (λ (lines : List (ℕ × List ℕ)). has_refusal (replies_from plain start lines)) same ∙ leads.accepted;
-      table = ap (λ (lines : List (ℕ × List ℕ)). (state_after plain start lines).catalogue) same ∙ leads.final.catalogue;
-      rows = ap (λ (lines : List (ℕ × List ℕ)). last_rows (state_after plain start lines) 0) same ∙ leads.final.cells;
+      lines = lines_as_read script;
+      are = is-script script;
+      accepted = ap has_refusal (replies-read script) ∙ ap (λ (lines : List (ℕ × List ℕ)). has_refusal (replies_from plain start lines)) same ∙ leads.accepted;
+      table = ap (λ (state : Plain). state.catalogue) (state-read plain script) ∙ ap (λ (lines : List (ℕ × List ℕ)). (state_after plain start lines).catalogue) same ∙ leads.final.catalogue;
+      rows = ap (λ (state : Plain). last_rows state 0) (state-read plain script) ∙ ap (λ (lines : List (ℕ × List ℕ)). last_rows (state_after plain start lines) 0) same ∙ leads.final.cells;
     }
 
 pub loads-sheets : (name : List ℕ) (sheet : Sheet) (script : List ℕ) → is_name name ≡ true → IsSheet sheet → script_of name sheet ≡ Ok script → Loads name sheet script

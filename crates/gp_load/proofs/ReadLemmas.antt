@@ -11,8 +11,10 @@ use Rattle.gp_lexer.specs.declared.lexeme.Symbol.TheVariants as s
 use Rattle.gp_lexer.specs.declared.lexeme.Lexeme.{Lexeme}
 use Rattle.gp_lexer.specs.declared.lexeme.Lexeme.TheVariants.{Symbol as Sign, Word}
 use Rattle.gp_lexer.specs.Layout.{laid_out}
-use Rattle.gp_lexer.specs.Lexemes.{AreProper, HaveUtf8Texts, symbol_text}
-use Rattle.gp_lexer.specs.Lexing.{Lexed, Scanned, is_blank, lexed, lexed_at, lexed_from, lexeme_at, lexemes_of, reserved_word, sign_at, with_lexeme, word_at}
+use Rattle.gp_lexer.specs.Lexemes.{symbol_text}
+use Rattle.gp_lexer.specs.ProperLexemes.{AreProper, HaveUtf8Texts}
+use Rattle.gp_lexer.specs.Lexing.{Lexed, Scanned, is_blank, lexed, lexed_at, lexed_from, lexeme_at, reserved_word, sign_at, with_lexeme, word_at}
+use Rattle.gp_lexer.specs.LexResults.{lexemes_of}
 use Rattle.gp_lexer.proofs.LayoutLemmas.{lexemes_of-laid_out}
 use Rattle.gp_lexer.proofs.LineLemmas.{rest-shorter}
 use Rattle.gp_lexer.proofs.PrintableLemmas.{laid_out-plain, laid_out-utf8}
@@ -23,7 +25,7 @@ use Rattle.gp_grammar.specs.CommandGrammar as g
 use Rattle.gp_grammar.specs.CommandGrammar.{IsCommand, IsScriptLine, session_of}
 use Rattle.gp_grammar.specs.CommandParsing.{script_line}
 use Rattle.gp_grammar.specs.Limits.{command_shape, line_shape, passed_limit}
-use Rattle.gp_grammar.specs.LineReading.{script_line_of}
+use Rattle.gp_grammar.specs.Reading.{script_line_of}
 use Rattle.gp_grammar.specs.Syntax.{Command, Lexemes}
 use Rattle.gp_grammar.proofs.CanonicalCommandDepth.{command-shallow}
 use Rattle.gp_grammar.proofs.LineLaws.{lines-read}

@@ -1,5 +1,5 @@
 -- The lines of the script of a sheet, one after another: after each the table has the rows so far.
-use Rattle.std.proofs.Common.{◌≡◌, ℕ, suc, ◌+◌, ◌-◌, ◌<◌, ◌≤◌, Bool, true, false, cond, not, leb, List, [], ◌∷◌, ◌++◌, length, map, filter, Option, Some, None, Result, Ok, refl, sym, ap, subst, ◌∙◌, append_assoc, append-nil, eq-eqb, le-ltb, leb-true, arith}
+use Rattle.std.proofs.Common.{◌≡◌, ℕ, suc, ◌+◌, ◌-◌, ◌<◌, ◌≤◌, Bool, true, false, cond, not, leb, List, [], ◌∷◌, ◌++◌, length, map, filter, Option, Some, None, Result, Ok, refl, sym, ap, subst, ◌∙◌, append_assoc, append-nil, eq-eqb, le-ltb, arith}
 use Rattle.std.specs.List.{AllByRecursion, list_all}
 use Rattle.std.proofs.lemmas.List.{map-append}
 use Rattle.std.proofs.lemmas.List.Elements.{filter-append}
@@ -21,13 +21,14 @@ use Rattle.gp_machine.specs.Entries.{statements_in, transactions_in, versions_in
 use Rattle.gp_machine.specs.Event.{accepted, answered, beginning, began, committing, conflict_of, count_refusal, created, creating, event, is_full, published, published_rows, ran, refusal_of, running, seen_next, start_now, version_now}
 use Rattle.gp_machine.specs.Replies.{is_refusal}
 use Rattle.gp_machine.specs.State.{Active, State, start}
-use Rattle.gp_exec.specs.declared.limit.TheConstants.{MAX_TABLE_ROWS}
-use Rattle.gp_log.specs.Limits.{limits}
+use Rattle.gp_base.specs.declared.limit.TheConstants.{MAX_TABLE_ROWS, MAX_SPANS}
+use Rattle.gp_log.specs.Parameters.{parameters}
 use Rattle.gp_log.specs.declared.limit.TheConstants.{MAX_STATEMENTS, MAX_STEPS, MAX_TRANSACTIONS}
 use Rattle.gp_txn.proofs.PairLemmas.{all-filter}
-use Rattle.gp_txn.specs.declared.counting.TheConstants.{MAX_SPANS}
 use Rattle.gp_csv.specs.Sheets.{is_row_of}
-use Rattle.gp_load.proofs.InsertLemmas.{IsBefore, IsBy, IsWritten, Row, all-append, all-mapped, checked-insert, filter-few, given-before, given-by, given-cells, given-written, keeps-all, keeps-none, not-refused, not-written, unmarked-before, unmarked-cells, written-before, written-new}
+use Rattle.gp_load.proofs.InsertLemmas.{IsBefore, IsBy, IsWritten, Row, all-mapped, checked-insert, filter-few, given-before, given-by, given-cells, given-written, keeps-all, keeps-none, not-refused, not-written, unmarked-before, unmarked-cells, written-before, written-new}
+use Rattle.std.proofs.lemmas.Bool.{lt-leb}
+use Rattle.gp_base.proofs.SmallLemmas.{each_append}
 
 abbrev pub Plain : Type 0
 Plain = State (Unit {0})
@@ -44,9 +45,9 @@ newest state = state.committed (versions_in state.entries) 0
 -- from this state, none of the commands of session 1 from this line on is refused, and what they lead to has the property
 abbrev pub Accepts : Plain → ℕ → List Command → (Plain → Type 0) → Type 0
 Accepts state line [] P = P state
-Accepts state line (c ∷ cs) P = (is_refusal (event plain limits state line 1 c).1 ≡ false) × Accepts (event plain limits state line 1 c).0 (line + 1) cs P
+Accepts state line (c ∷ cs) P = (is_refusal (event plain parameters state line 1 c).1 ≡ false) × Accepts (event plain parameters state line 1 c).0 (line + 1) cs P
 
-accepts-by : (state : Plain) (line : ℕ) (c : Command) (cs : List Command) (P : Plain → Type 0) (out : Plain × Reply) → event plain limits state line 1 c ≡ out
+accepts-by : (state : Plain) (line : ℕ) (c : Command) (cs : List Command) (P : Plain → Type 0) (out : Plain × Reply) → event plain parameters state line 1 c ≡ out
     → is_refusal out.1 ≡ false → Accepts out.0 (line + 1) cs P → Accepts state line (c ∷ cs) P
 accepts-by state line c cs P out same answered others =
     subst (λ (o : Plain × Reply). (is_refusal o.1 ≡ false) × Accepts o.0 (line + 1) cs P) (sym same) (answered, others)
@@ -89,16 +90,9 @@ cells-length [] cells e = ap (λ (x : List (List Cell)). length x) e
 cells-length (row ∷ rows) [] e = absurd cc
 cells-length (row ∷ rows) (c ∷ cells) e = let same : cells_in rows ≡ cells = cc in ap suc (cells-length rows cells same)
 
-not-le : (a b : ℕ) → b < a → leb a b ≡ false
-not-le a b below = by (leb a b) refl
-  where
-    by : (x : Bool) → leb a b ≡ x → x ≡ false
-    by false e = refl
-    by true e = let le : a ≤ b = leb-true a b e in absurd (omega (arith, below, le))
-
 -- ---- CREATE TABLE
 
-pub creates : (table : Table) (line : ℕ) (cs : List Command) (P : Plain → Type 0) → limits.created [] table ≡ None
+pub creates : (table : Table) (line : ℕ) (cs : List Command) (P : Plain → Type 0) → parameters.created [] table ≡ None
     → ((next : Plain) (l : ℕ) → Idle table [] 0 0 0 next → Accepts next l cs P) → Accepts start line (y.create table ∷ cs) P
 creates table line cs P named others =
     accepts-by start line (y.create table) cs P (created start line 1 table, reply.Created 0) (ap (creating start line 1 table) named) refl
@@ -118,9 +112,9 @@ pub begins : (table : Table) (rows : List (List Cell)) (t n most line : ℕ) (st
     → ((next : Plain) (l : ℕ) → Running table rows (suc t) 0 n most next → Accepts next l cs P) → Accepts state line (y.begin false ∷ cs) P
 begins table rows t n most line state cs P h few others =
     let count = h.began in
-    let room : leb MAX_TRANSACTIONS (transactions_in state.entries) ≡ false = not-le MAX_TRANSACTIONS (transactions_in state.entries) (omega (arith, count, few)) in
+    let room : leb MAX_TRANSACTIONS (transactions_in state.entries) ≡ false = lt-leb MAX_TRANSACTIONS (transactions_in state.entries) (omega (arith, count, few)) in
     accepts-by state line (y.begin false) cs P (began state line 1 false, reply.Began (suc (transactions_in state.entries)) (versions_in state.entries))
-    (ap (λ (a : Option (Active (Unit {0}))). answered plain limits state line 1 a (Begin false)) h.idle ∙ ap (beginning state line 1 false) room) refl
+    (ap (λ (a : Option (Active (Unit {0}))). answered plain parameters state line 1 a (Begin false)) h.idle ∙ ap (beginning state line 1 false) room) refl
     (others (began state line 1 false) (line + 1) (record {
       catalogue = h.catalogue;
       active = record {
@@ -172,28 +166,28 @@ module _ (table : Table) (rows batch : List (List Cell)) (t k n most line : ℕ)
   start-is : start_now state a ≡ a.seen.view
   start-is = ap (λ b. cond b a.seen.view (merged (state.committed (version_now state a)) a.seen.view (pairs a.seen.written))) (eq-eqb (version_now state a) a.version now-is)
 
-  counts : count_refusal limits a.statements (statements_in state.entries) ≡ None
+  counts : count_refusal parameters a.statements (statements_in state.entries) ≡ None
   counts =
-      let x : leb MAX_STEPS a.statements ≡ false = not-le MAX_STEPS a.statements (let e = h.steps in omega (arith, e, steps)) in
-      let z : leb MAX_STATEMENTS (statements_in state.entries) ≡ false = not-le MAX_STATEMENTS (statements_in state.entries) (let e = h.statements in omega (arith, e, statements)) in
+      let x : leb MAX_STEPS a.statements ≡ false = lt-leb MAX_STEPS a.statements (let e = h.steps in omega (arith, e, steps)) in
+      let z : leb MAX_STATEMENTS (statements_in state.entries) ≡ false = lt-leb MAX_STATEMENTS (statements_in state.entries) (let e = h.statements in omega (arith, e, statements)) in
       rw (x, z) refl
 
-  checks : limits.checked state.catalogue command ≡ Ok (s.insert 0 batch)
+  checks : parameters.checked state.catalogue command ≡ Ok (s.insert 0 batch)
   checks = ap (λ (tables : List Table). checked tables command) h.catalogue ∙ checked-insert table batch fits
 
-  within : refusal_of plain limits state.catalogue a.transaction (suc a.statements) (s.insert 0 batch) (start_now state a) ≡ None
+  within : refusal_of plain parameters state.catalogue a.transaction (suc a.statements) (s.insert 0 batch) (start_now state a) ≡ None
   within =
-      ap (refusal_of plain limits state.catalogue a.transaction (suc a.statements) (s.insert 0 batch)) start-is
+      ap (refusal_of plain parameters state.catalogue a.transaction (suc a.statements) (s.insert 0 batch)) start-is
       ∙ not-refused state.catalogue a.transaction (suc a.statements) batch a.seen.view (let e = cells-length (a.seen.view 0) rows h.cells in omega (arith, e, few))
 
   abbrev next : Plain
   next = accepted plain state line 1 a command (s.insert 0 batch)
 
-  is-next : event plain limits state line 1 command ≡ (next, reply.Wrote (length (written_in 0 made)))
+  is-next : event plain parameters state line 1 command ≡ (next, reply.Wrote (length (written_in 0 made)))
   is-next =
-      ap (λ (x : Option (Active (Unit {0}))). answered plain limits state line 1 x (Run command)) h.is
-      ∙ ap (λ (x : Option _). running plain state line 1 a command limits x (limits.checked state.catalogue command)) counts
-      ∙ ap (λ (x : Result s.Statement _). running plain state line 1 a command limits None x) checks
+      ap (λ (x : Option (Active (Unit {0}))). answered plain parameters state line 1 x (Run command)) h.is
+      ∙ ap (λ (x : Option _). running plain state line 1 a command parameters x (parameters.checked state.catalogue command)) counts
+      ∙ ap (λ (x : Result s.Statement _). running plain state line 1 a command parameters None x) checks
       ∙ ap (ran plain state line 1 a command (s.insert 0 batch)) within
 
   all-based : version_now state a ≡ versions_in state.entries → (more : List Written) → AllByRecursion (λ (based : Based). based.base ≡ versions_in state.entries) (map (with_base (version_now state a)) more)
@@ -225,16 +219,16 @@ module _ (table : Table) (rows batch : List (List Cell)) (t k n most line : ℕ)
     cells = ap (λ (db : Database (Unit {0})). cells_in (db 0 ++ made)) start-is ∙ map-append (λ (row : Row). row.cells) (a.seen.view 0) made ∙ ap (λ (x : List (List Cell)). x ++ cells_in made) h.cells ∙ ap (λ (x : List (List Cell)). rows ++ x) (given-cells a.transaction (suc a.statements) 1 batch);
     before = h.before;
     own = subst (AllByRecursion (IsBy t)) (sym pairs-more)
-        (all-append (IsBy t) (pairs a.seen.written) first-written h.own
+        (each_append (IsBy t) (pairs a.seen.written) first-written h.own
         (all-filter (IsBy t) (is_new a.seen.written) (written_in 0 made) (subst (λ (x : ℕ). AllByRecursion (IsBy x) (written_in 0 made)) h.transaction (given-by a.transaction (suc a.statements) 1 batch))));
-    bases = all-append (λ (based : Based). based.base ≡ versions_in state.entries) a.seen.written (map (with_base (version_now state a)) first-written) h.bases
+    bases = each_append (λ (based : Based). based.base ≡ versions_in state.entries) a.seen.written (map (with_base (version_now state a)) first-written) h.bases
         (all-based (now-is ∙ h.version) first-written);
     wrote = subst (λ (x : List Written). AllByRecursion (IsWritten x) (h.new ++ made)) (sym pairs-more)
-        (all-append (IsWritten (pairs a.seen.written ++ first-written)) h.new made
+        (each_append (IsWritten (pairs a.seen.written ++ first-written)) h.new made
         (all-mapped (IsWritten (pairs a.seen.written)) (IsWritten (pairs a.seen.written ++ first-written)) (written-before (pairs a.seen.written) first-written) h.new h.wrote)
         (all-mapped (IsWritten (written_in 0 made)) (IsWritten (pairs a.seen.written ++ first-written)) (written-new a.seen.written (written_in 0 made)) made
         (given-written a.transaction (suc a.statements) 1 batch)));
-    recent = all-append (IsBefore (suc t)) h.new made h.recent (subst (λ (x : ℕ). AllByRecursion (IsBefore (suc x)) made) h.transaction (given-before a.transaction (suc a.statements) 1 batch));
+    recent = each_append (IsBefore (suc t)) h.new made h.recent (subst (λ (x : ℕ). AllByRecursion (IsBefore (suc x)) made) h.transaction (given-before a.transaction (suc a.statements) 1 batch));
     published = h.published;
   }
 
@@ -266,16 +260,16 @@ module _ (table : Table) (rows : List (List Cell)) (t k n most bound line : ℕ)
   count-done : published_rows own.seen (length state.catalogue) ≡ length (filter test (own.seen.view 0))
   count-done = let e = ap (λ (tables : List Table). published_rows own.seen (length tables)) h.catalogue in omega (arith, e)
 
-  not-full : is_full limits state own ≡ false
+  not-full : is_full parameters state own ≡ false
   not-full = le-ltb MAX_SPANS (state.rows + published_rows own.seen (length state.catalogue)) (let f = few-published in let g = h.published in let c = count-done in omega (arith, f, g, c, grows, room))
 
   abbrev done : Plain
   done = published state line 1 own
 
-  is-done : event plain limits state line 1 y.Command.commit ≡ (done, reply.Committed own.transaction (suc (versions_in state.entries)))
+  is-done : event plain parameters state line 1 y.Command.commit ≡ (done, reply.Committed own.transaction (suc (versions_in state.entries)))
   is-done =
-      ap (λ (x : Option (Active (Unit {0}))). answered plain limits state line 1 x Commit) h.is
-      ∙ ap (λ (x : Option _). committing state line 1 own x (is_full limits state own)) alone
+      ap (λ (x : Option (Active (Unit {0}))). answered plain parameters state line 1 x Commit) h.is
+      ∙ ap (λ (x : Option _). committing state line 1 own x (is_full parameters state own)) alone
       ∙ ap (committing state line 1 own None) not-full
 
   -- the rows of the newest version, which it did not write, and then its own
@@ -295,7 +289,7 @@ module _ (table : Table) (rows : List (List Cell)) (t k n most bound line : ℕ)
 
   before-done : AllByRecursion (IsBefore (suc t)) (newest done)
   before-done = subst (AllByRecursion (IsBefore (suc t))) (sym newest-is) (unmarked-before (suc t) (own.seen.view 0) (subst (AllByRecursion (IsBefore (suc t))) (sym h.view)
-      (all-append (IsBefore (suc t)) (newest state) h.new (all-mapped (IsBefore t) (IsBefore (suc t)) (λ row before. omega (arith, before)) (newest state) h.before) h.recent)))
+      (each_append (IsBefore (suc t)) (newest state) h.new (all-mapped (IsBefore t) (IsBefore (suc t)) (λ row before. omega (arith, before)) (newest state) h.before) h.recent)))
 
   pub commits : ((other : Plain) (l : ℕ) → Idle table rows t n bound other → Accepts other l cs P) → Accepts state line (y.Command.commit ∷ cs) P
   commits others =

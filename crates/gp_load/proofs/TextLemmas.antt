@@ -1,21 +1,23 @@
 -- The lines of a script's text are those of its commands, numbered from 1.
-use Rattle.std.proofs.Common.{◌≡◌, ℕ, zero, suc, ◌+◌, ◌-◌, ◌<◌, Bool, true, false, not, eqb, ◌&&◌, ◌||◌, List, [], ◌∷◌, ◌++◌, length, get_or, filter, refl, sym, ap, subst, ◌∙◌, append_assoc, eqb-true, arith}
+use Rattle.std.proofs.Common.{◌≡◌, ℕ, zero, suc, ◌+◌, ◌-◌, ◌<◌, Bool, true, false, not, eqb, ◌||◌, List, [], ◌∷◌, ◌++◌, length, get_or, filter, refl, sym, ap, subst, ◌∙◌, append_assoc, eqb-true, arith}
 use Rattle.std.specs.Char.{is_ascii_control}
 use Rattle.std.specs.List.{AllByRecursion, enumerate_from, list_any, onto_first, slice_split}
 use Rattle.std.specs.Str.Lines.{lines, lines_of_parts, strip_carriage_return}
 use Rattle.std.proofs.lemmas.List.Splits.{length-slice_split}
 use Rattle.gp_base.specs.Annotated.{plain}
-use Rattle.gp_lexer.proofs.SpellingLemmas.{none-of}
 use Rattle.gp_grammar.specs.Syntax.{Command}
 use Rattle.gp_syntax.specs.Lines.{is_answered, script_lines}
 use Rattle.gp_machine.specs.Event.{event}
 use Rattle.gp_machine.specs.declared.reply.Reply.{Reply}
 use Rattle.gp_machine.specs.Replies.{is_refusal}
-use Rattle.gp_log.specs.Limits.{limits}
-use Rattle.gp_script.specs.History.{has_refusal, line_outcome, outcome_of, replies_from, state_after}
+use Rattle.gp_log.specs.Parameters.{parameters}
+use Rattle.gp_script.specs.History.{has_refusal, outcome_of}
+use Rattle.gp_script.specs.Scripts.{line_outcome, replies_from, state_after}
 use Rattle.gp_csv.specs.Scripts.{line_of, script_text}
 use Rattle.gp_load.proofs.ReadLemmas.{IsReadable, line-plain, line-read}
 use Rattle.gp_load.proofs.StateLemmas.{Accepts, Plain}
+use Rattle.std.proofs.lemmas.Bool.{or_from, or_parts}
+use Rattle.gp_base.proofs.SmallLemmas.{and_none}
 
 -- ---- one line
 
@@ -26,7 +28,7 @@ is_feed byte = eqb byte 10
 plain-without : (c : ℕ) (text : List ℕ) → is_ascii_control c ≡ true → list_any is_ascii_control text ≡ false → list_any (λ b. eqb b c) text ≡ false
 plain-without c [] control e = refl
 plain-without c (b ∷ text) control e =
-    let h = none-of (is_ascii_control b) (list_any is_ascii_control text) e in
+    let h = or_parts (is_ascii_control b) (list_any is_ascii_control text) e in
     rw (other (eqb b c) refl h.0) (plain-without c text control h.1)
   where
     other : (x : Bool) → eqb b c ≡ x → is_ascii_control b ≡ false → eqb b c ≡ false
@@ -35,7 +37,7 @@ plain-without c (b ∷ text) control e =
 
 split-text : (text rest : List ℕ) → list_any is_feed text ≡ false → slice_split is_feed (text ++ (10 ∷ rest)) ≡ text ∷ slice_split is_feed rest
 split-text [] rest e = refl
-split-text (b ∷ text) rest e = let h = none-of (is_feed b) (list_any is_feed text) e in rw h.0 (ap (onto_first b) (split-text text rest h.1))
+split-text (b ∷ text) rest e = let h = or_parts (is_feed b) (list_any is_feed text) e in rw h.0 (ap (onto_first b) (split-text text rest h.1))
 
 parts-more : (part : List ℕ) (parts : List (List ℕ)) → 0 < length parts → lines_of_parts (part ∷ parts) ≡ strip_carriage_return part ∷ lines_of_parts parts
 parts-more part [] some = absurd (omega arith)
@@ -43,8 +45,8 @@ parts-more part (next ∷ parts) some = refl
 
 byte-other : (text : List ℕ) (i : ℕ) → list_any (λ b. eqb b 13) text ≡ false → eqb (get_or text i 0) 13 ≡ false
 byte-other [] i e = refl
-byte-other (b ∷ text) zero e = (none-of (eqb b 13) (list_any (λ b. eqb b 13) text) e).0
-byte-other (b ∷ text) (suc i) e = byte-other text i (none-of (eqb b 13) (list_any (λ b. eqb b 13) text) e).1
+byte-other (b ∷ text) zero e = (or_parts (eqb b 13) (list_any (λ b. eqb b 13) text) e).0
+byte-other (b ∷ text) (suc i) e = byte-other text i (or_parts (eqb b 13) (list_any (λ b. eqb b 13) text) e).1
 
 whole-line : (text : List ℕ) → list_any (λ b. eqb b 13) text ≡ false → strip_carriage_return text ≡ text
 whole-line text e = rw (byte-other text (length text - 1) e) refl
@@ -62,12 +64,8 @@ abbrev pub numbered : ℕ → List Command → List (ℕ × List ℕ)
 numbered number [] = []
 numbered number (c ∷ cs) = (number, line_of c) ∷ numbered (number + 1) cs
 
-and_false : (a : Bool) → (a && false) ≡ false
-and_false true = refl
-and_false false = refl
-
 line-answered : (c : Command) → is_answered (line_of c) ≡ true
-line-answered c = ap not (and_false _)
+line-answered c = ap not (and_none _)
 
 text-cons : (c : Command) (cs : List Command) → script_text (c ∷ cs) ≡ line_of c ++ (10 ∷ script_text cs)
 text-cons c cs = append_assoc (line_of c) (10 ∷ []) (script_text cs)
@@ -88,17 +86,13 @@ pub record Leads (state : Plain) (lines : List (ℕ × List ℕ)) (P : Plain →
   pub accepted : has_refusal (replies_from plain state lines) ≡ false
   pub final : P (state_after plain state lines)
 
-pub either-false : (a b : Bool) → a ≡ false → b ≡ false → (a || b) ≡ false
-either-false true b e f = absurd cc
-either-false false b e f = f
-
 pub lines-lead : (state : Plain) (number : ℕ) (cs : List Command) (P : Plain → Type 0) → AllByRecursion IsReadable cs → Accepts state number cs P → Leads state (numbered number cs) P
 lines-lead state number [] P all accepts = record { accepted = refl; final = accepts }
 lines-lead state number (c ∷ cs) P all accepts =
     let others : List (ℕ × List ℕ) = numbered (number + 1) cs in
-    let out : Plain × Reply = event plain limits state number 1 c in
+    let out : Plain × Reply = event plain parameters state number 1 c in
     let rest = lines-lead out.0 (number + 1) cs P all.1 accepts.1 in
     let same : line_outcome plain state (number, line_of c) ≡ out = ap (outcome_of plain state number) (line-read c all.0) in
     let both = subst (λ (o : Plain × Reply). ((is_refusal o.1 || has_refusal (replies_from plain o.0 others)) ≡ false) × P (state_after plain o.0 others)) (sym same)
-    (either-false (is_refusal out.1) (has_refusal (replies_from plain out.0 others)) accepts.0 rest.accepted, rest.final) in
+    (or_from (is_refusal out.1) (has_refusal (replies_from plain out.0 others)) accepts.0 rest.accepted, rest.final) in
     record { accepted = both.0; final = both.1 }

@@ -6,7 +6,7 @@ use Rattle.gp_base.specs.Annotated.{Annotated, plain}
 use Rattle.gp_base.specs.Names.{is_name}
 use Rattle.gp_machine.specs.Entries.{versions_in}
 use Rattle.gp_machine.specs.State.{State}
-use Rattle.gp_script.specs.History.{final_state, has_refusal, replies_of}
+use Rattle.gp_script.specs.History.{IsScript, ReadLine, has_refusal, last_state, replies_to}
 use Rattle.gp_script.specs.declared.script.TheConstants.{MAX_SCRIPT_LENGTH}
 use Rattle.gp_csv.specs.Faults.{Fault, result_map, result_then}
 use Rattle.gp_csv.specs.Sheets.{IsSheet, sheet_of}
@@ -25,9 +25,11 @@ table_of name sheet = record { name = name; cols = sheet.cols }
 -- table.
 pub record Loads (name : List ℕ) (sheet : Sheet) (script : List ℕ) : Type 0 where
   pub short : length script ≤ MAX_SCRIPT_LENGTH
-  pub accepted : has_refusal (replies_of script) ≡ false
-  pub table : (final_state plain script).catalogue ≡ table_of name sheet ∷ []
-  pub rows : last_rows (final_state plain script) 0 ≡ sheet.rows
+  pub lines : List ReadLine
+  pub are : IsScript script lines
+  pub accepted : has_refusal (replies_to lines) ≡ false
+  pub table : (last_state plain lines).catalogue ≡ table_of name sheet ∷ []
+  pub rows : last_rows (last_state plain lines) 0 ≡ sheet.rows
 
 -- so does the script of every sheet that can be a table, under every name
 abbrev pub LoadsSheets : Type 0

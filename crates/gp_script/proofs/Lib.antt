@@ -3,3 +3,4 @@ mod Progress
 mod ReadingLemmas
 mod ScriptLemmas
 mod ScriptLineLemmas
+pub mod ReadHistory

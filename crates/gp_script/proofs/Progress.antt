@@ -4,7 +4,8 @@ use Rattle.gp_base.specs.Annotated.{plain}
 use Rattle.gp_syntax.specs.Lines.{script_lines}
 use Rattle.gp_machine.specs.State.{State, start}
 use Rattle.gp_engine.specs.Engine.{Engine, IsEngineOf}
-use Rattle.gp_script.specs.History.{has_refusal, replies_from, replies_of, replies_text, state_after}
+use Rattle.gp_script.specs.History.{has_refusal, replies_text}
+use Rattle.gp_script.specs.Scripts.{replies_from, replies_of, state_after}
 
 -- The engine represents the state that the lines before leave, and the text so far with the replies to the remaining lines is the text of the
 -- script.

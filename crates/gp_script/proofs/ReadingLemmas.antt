@@ -12,10 +12,11 @@ use Rattle.gp_grammar.specs.CommandGrammar.{Closed, IsScriptLine, IsSessionComma
 use Rattle.gp_grammar.specs.CommandParsing.{script_line}
 use Rattle.gp_grammar.specs.Capping.{capped_line}
 use Rattle.gp_grammar.specs.Limits.{line_shape}
-use Rattle.gp_grammar.specs.LineReading.{script_line_of}
+use Rattle.gp_grammar.specs.Reading.{script_line_of}
 use Rattle.gp_grammar.proofs.LineLaws.{lines-read}
 use Rattle.gp_grammar.proofs.ParserLaws.{lawful-line}
 use Rattle.gp_grammar.proofs.ShapeLemmas.{lines-fair}
+use Rattle.gp_base.proofs.SmallLemmas.{left_true, right_true}
 
 -- a session of the engine
 abbrev IsInRange : ℕ → Type 0
@@ -24,19 +25,11 @@ IsInRange session = (1 ≤ session) × (session ≤ MAX_SESSION)
 digit-positive : (d : ℕ) → (is_ascii_digit d && true) ≡ true → nat_lt 48 d ≡ true → 1 ≤ digit_value d
 digit-positive d digit positive = grind (arith, nat_tests)
 
-and-left : (a b : Bool) → (a && b) ≡ true → a ≡ true
-and-left true b h = refl
-and-left false b h = h
-
-and-right : (a b : Bool) → (a && b) ≡ true → b ≡ true
-and-right true b h = h
-and-right false b h = absurd cc
-
 number-positive : (digits : Bytes) → is_number_without_zero digits ≡ true → 1 ≤ digits_value 10 digits
 number-positive [] h = absurd cc
 number-positive (d ∷ ds) h =
-    let all = and-left (all_ascii_digits (d ∷ ds)) (nat_lt 48 d) h in
-    let first = digit-positive d (ap (λ b. b && true) (and-left (is_ascii_digit d) (all_ascii_digits ds) all)) (and-right (all_ascii_digits (d ∷ ds)) (nat_lt 48 d) h) in
+    let all = left_true (all_ascii_digits (d ∷ ds)) (nat_lt 48 d) h in
+    let first = digit-positive d (ap (λ b. b && true) (left_true (is_ascii_digit d) (all_ascii_digits ds) all)) (right_true (all_ascii_digits (d ∷ ds)) (nat_lt 48 d) h) in
     omega (arith, first, digits_value-take-le 10 (d ∷ ds) 1 (omega arith))
 
 session-within : (valid few : Bool) (n session : ℕ) → (valid ≡ true → 1 ≤ n) → nat_le n MAX_SESSION ≡ few → cond (valid && few) (Some n) None ≡ Some session → IsInRange session

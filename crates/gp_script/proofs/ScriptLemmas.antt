@@ -9,18 +9,21 @@ use Rattle.gp_base.specs.declared.table.Table.{Table}
 use Rattle.gp_grammar.specs.Syntax.{ScriptLine}
 use Rattle.gp_grammar.specs.LineReading.{Fault}
 use Rattle.gp_syntax.specs.Lines.{script_lines}
-use Rattle.gp_syntax.specs.Refusals.{refusal_of, refusal_in}
+use Rattle.gp_syntax.specs.Refusals.{refusal_of}
+use Rattle.gp_syntax.specs.ReadResults.{refusal_in}
 use Rattle.gp_machine.specs.Replies.{is_refusal}
 use Rattle.gp_machine.specs.State.{State, start}
 use Rattle.gp_machine.specs.declared.reply.Reply.{Reply}
 use Rattle.gp_machine.specs.declared.reply.Reply.TheVariants as reply
 use Rattle.gp_engine.specs.Engine.{Engine, Follows, IsEngineOf, IsUnchanged, tables_of}
 use Rattle.gp_script.specs.Answering.{FollowsLine, FollowsRead}
-use Rattle.gp_script.specs.History.{final_state, has_refusal, line_outcome, replies_from, replies_of, replies_text, state_after}
+use Rattle.gp_script.specs.History.{has_refusal, replies_text}
+use Rattle.gp_script.specs.Scripts.{final_state, line_outcome, replies_from, replies_of, state_after}
 use Rattle.gp_script.specs.Replies.{line_text}
 use Rattle.gp_script.specs.Run.{HasRun}
 use Rattle.gp_engine.proofs.FollowLemmas.{engine-unchanged}
 use Rattle.gp_script.proofs.Progress.{IsProgress}
+use Rattle.gp_base.proofs.SmallLemmas.{or_nothing}
 
 pub on-err : {A E P : Type 0} (result : Result A E) → P → OnErr result P
 on-err (Ok a) p = tt
@@ -57,10 +60,6 @@ starts script engine lines represented whole = record {
   text_so_far = ap (λ (ls : List (ℕ × List ℕ)). replies_text (replies_from plain start ls)) whole;
   refused_so_far = ap (λ (ls : List (ℕ × List ℕ)). has_refusal (replies_from plain start ls)) whole;
 }
-
-or-nothing : (a : Bool) → (a || false) ≡ a
-or-nothing true = refl
-or-nothing false = refl
 
 or-again : (a b c : Bool) → ((a || b) || c) ≡ (a || (b || c))
 or-again true b c = refl
@@ -123,7 +122,7 @@ pub record IsDone (script : List ℕ) (left : Engine) (written : List ℕ) (fail
 pub ends : (script : List ℕ) (engine : Engine) (text : List ℕ) (refused : Bool) → IsProgress script engine [] text refused → IsDone script engine text refused
 ends script engine text refused way = record {
   text = sym (append-nil text) ∙ way.text_so_far;
-  refused = sym (or-nothing refused) ∙ way.refused_so_far;
+  refused = sym (or_nothing refused) ∙ way.refused_so_far;
   engine = subst (λ (state : State (Unit {0})). IsEngineOf engine state)
       (sym way.reached ∙ ap (state_after plain start) (sym (append-nil way.before) ∙ way.all)) way.represented;
 }

@@ -3,13 +3,14 @@ use Rattle.std.proofs.Common.{◌≡◌, ◌<◌, ◌≤◌, ℕ, suc, ◌+◌, 
 use Rattle.std.specs.Prelude.{◌==◌}
 use Rattle.std.specs.List.{enumerate_from, onto_first, slice_split}
 use Rattle.std.specs.Str.Lines.{lines, lines_of_parts}
-use Rattle.gp_grammar.specs.LineReading.{Fault, script_line_of}
+use Rattle.gp_grammar.specs.LineReading.{Fault}
+use Rattle.gp_grammar.specs.Reading.{script_line_of}
 use Rattle.gp_grammar.specs.Syntax.{ScriptLine}
 use Rattle.gp_syntax.specs.Lines.{is_answered, script_lines}
 use Rattle.gp_log.specs.declared.limit.TheConstants.{MAX_LINE}
 use Rattle.gp_log.specs.ScriptLines.{AreLinesAfter, AreScriptLines}
 use Rattle.gp_log.proofs.LineCommands.{line-command}
-use Rattle.gp_script.specs.History.{line_read, lines_read}
+use Rattle.gp_script.specs.Scripts.{line_read, lines_read}
 use Rattle.gp_script.proofs.ReadingLemmas.{read-range}
 
 -- ---- how many lines there are

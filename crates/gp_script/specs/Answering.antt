@@ -2,7 +2,8 @@
 use Rattle.std.specs.Prelude.{◌≡◌, ℕ, List, Result}
 use Rattle.gp_base.specs.Annotated.{plain}
 use Rattle.gp_grammar.specs.Syntax.{ScriptLine}
-use Rattle.gp_grammar.specs.LineReading.{Fault, script_line_of}
+use Rattle.gp_grammar.specs.LineReading.{Fault}
+use Rattle.gp_grammar.specs.Reading.{script_line_of}
 use Rattle.gp_machine.specs.State.{State}
 use Rattle.gp_machine.specs.declared.reply.Reply.{Reply}
 use Rattle.gp_engine.specs.Engine.{Engine, IsEngineOf}

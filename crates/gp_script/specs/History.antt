@@ -1,21 +1,31 @@
--- Part of the statement: the history of a script. Each of its lines is answered from the state that the lines before it left. Past
--- transactions are later replayed over this history (Arab and others, A Generic Provenance Middleware, TaPP 2014). Rows may have annotations of
--- any kind, which no reply depends on.
+-- Part of the statement: the history of a script. Each of its lines is answered from the state that the lines before it left: by the command that it is
+-- read as, or with the fault that it is refused for. Past transactions are later replayed over this history (Arab and others, A Generic Provenance
+-- Middleware, TaPP 2014). Rows may have annotations of any kind, which no reply depends on.
 use Rattle.std.specs.Prelude.{ℕ, Bool, List, [], ◌∷◌, Result, Ok, Err}
 use Rattle.std.specs.List.{flat_map, list_any}
 use Rattle.gp_base.specs.declared.table.Table.{Table}
 use Rattle.gp_base.specs.Annotated.{Annotations, plain}
+use Rattle.gp_grammar.specs.CommandGrammar.{IsScriptLine}
+use Rattle.gp_grammar.specs.Limits.{line_shape}
+use Rattle.gp_grammar.specs.LineReading.{Fault, AreReadAs}
 use Rattle.gp_grammar.specs.Syntax.{ScriptLine}
-use Rattle.gp_grammar.specs.LineReading.{Fault, script_line_of}
 use Rattle.gp_syntax.specs.Lines.{script_lines}
 use Rattle.gp_syntax.specs.Refusals.{refusal_of}
 use Rattle.gp_machine.specs.declared.reply.Reply.{Reply}
 use Rattle.gp_machine.specs.declared.reply.Reply.TheVariants as reply
-use Rattle.gp_machine.specs.Event.{Line, event}
+use Rattle.gp_machine.specs.Event.{event}
 use Rattle.gp_machine.specs.Replies.{is_refusal}
 use Rattle.gp_machine.specs.State.{State, start}
-use Rattle.gp_log.specs.Limits.{limits}
+use Rattle.gp_log.specs.Parameters.{parameters}
 use Rattle.gp_script.specs.Replies.{line_text}
+
+-- a line that gets a reply: its number, and the command that it is read as, or the fault that it is refused for
+abbrev pub ReadLine : Type 0
+ReadLine = ℕ × Result ScriptLine Fault
+
+-- these are the lines of the script. Every script has exactly one such list, by the law `lines_are_read_once` of the grammar.
+abbrev pub IsScript : List ℕ → List ReadLine → Type 0
+IsScript script lines = AreReadAs IsScriptLine line_shape (script_lines script) lines
 
 -- a reply, with the number of its line and the tables after that line
 pub record NumberedReply : Type 0 where
@@ -23,43 +33,30 @@ pub record NumberedReply : Type 0 where
   pub tables : List Table
   pub reply : Reply
 
-module _ {M : Type 0} (kind : Annotations M) where
-  -- the outcome of a line that is read as this; a fault in its text leaves the state unchanged
+module _ {M : Type 0} (domain : Annotations M) where
+  -- the outcome of a line; a fault in its text leaves the state unchanged
   abbrev pub outcome_of : State M → ℕ → Result ScriptLine Fault → State M × Reply
   outcome_of state number (Err fault) = (state, reply.Refused (refusal_of fault))
-  outcome_of state number (Ok line) = event kind limits state number line.session line.command
-
-  -- the outcome of a line: its number, and its bytes
-  abbrev pub line_outcome : State M → ℕ × List ℕ → State M × Reply
-  line_outcome state line = outcome_of state line.0 (script_line_of line.1)
+  outcome_of state number (Ok line) = event domain parameters state number line.session line.command
 
   -- the replies to these lines, and the state that they leave
-  abbrev pub replies_from : State M → List (ℕ × List ℕ) → List NumberedReply
-  replies_from state [] = []
-  replies_from state (line ∷ lines) =
-      let next = line_outcome state line in
-      record { number = line.0; tables = next.0.catalogue; reply = next.1 } ∷ replies_from next.0 lines
+  abbrev pub replies_along : State M → List ReadLine → List NumberedReply
+  replies_along state [] = []
+  replies_along state (line ∷ lines) =
+      let next = outcome_of state line.0 line.1 in
+      record { number = line.0; tables = next.0.catalogue; reply = next.1 } ∷ replies_along next.0 lines
 
-  abbrev pub state_after : State M → List (ℕ × List ℕ) → State M
-  state_after state [] = state
-  state_after state (line ∷ lines) = state_after (line_outcome state line).0 lines
+  abbrev pub state_along : State M → List ReadLine → State M
+  state_along state [] = state
+  state_along state (line ∷ lines) = state_along (outcome_of state line.0 line.1).0 lines
 
-  -- the state that a script leaves
-  abbrev pub final_state : List ℕ → State M
-  final_state script = state_after start (script_lines script)
+  -- the last state of a history
+  abbrev pub last_state : List ReadLine → State M
+  last_state lines = state_along start lines
 
--- the line that is read as this, if it is read
-abbrev pub line_read : ℕ → Result ScriptLine Fault → List Line
-line_read number (Err fault) = []
-line_read number (Ok line) = record { number = number; session = line.session; command = line.command } ∷ []
-
--- those of the lines that are read
-abbrev pub lines_read : List (ℕ × List ℕ) → List Line
-lines_read lines = flat_map (λ (line : ℕ × List ℕ). line_read line.0 (script_line_of line.1)) lines
-
--- the replies to the lines of a script, in order
-abbrev pub replies_of : List ℕ → List NumberedReply
-replies_of script = replies_from plain start (script_lines script)
+-- the replies of a history, in order
+abbrev pub replies_to : List ReadLine → List NumberedReply
+replies_to lines = replies_along plain start lines
 
 -- the text of a reply, with the number of its line
 abbrev pub numbered_text : NumberedReply → List ℕ

@@ -2,3 +2,4 @@ pub mod Answering
 pub mod History
 pub mod Replies
 pub mod Run
+pub mod Scripts

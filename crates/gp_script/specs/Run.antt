@@ -4,7 +4,7 @@ use Rattle.gp_base.specs.Annotated.{plain}
 use Rattle.gp_syntax.specs.Lines.{script_lines}
 use Rattle.gp_machine.specs.State.{start}
 use Rattle.gp_engine.specs.Engine.{Engine, IsEngineOf}
-use Rattle.gp_script.specs.History.{state_after}
+use Rattle.gp_script.specs.Scripts.{state_after}
 
 -- the engine represents the state that the first lines of the script leave, this many of those that get a reply
 pub record HasRun (script : List ℕ) (engine : Engine) : Type 0 where

@@ -1,27 +1,13 @@
 //! The texts of replies.
 
-ghost use Rattle.std.specs.Prelude.{◌≡◌, ◌++◌, IfOk, IfSome, OnOk, OnErr, string_bytes, List};
-ghost use Rattle.std.specs.List.{flat_map};
+ghost use Rattle.std.specs.Prelude.{◌≡◌, ◌++◌, IfOk, OnOk, OnErr, List};
 ghost use Rattle.gp_base.specs.declared.table.Table.{Table};
-ghost use Rattle.gp_script.specs.Replies.{line_text, row_line};
+ghost use Rattle.gp_script.specs.Replies.{line_text};
 ghost use Rattle.gp_machine.specs.Event.{name_at};
 
-use gp_base::{Catalog, NoMemory, Refusal, Row, Sequence, sort_rows, write_refusal, write_row};
+use gp_base::{Catalog, NoMemory, refused_text, rows_text, short_text};
 use gp_machine::Reply;
 use std::alloc::Global;
-use std::fmt::Display;
-
-/// Enough bytes for the text of a reply without rows.
-const SHORT_TEXT: usize = 64;
-
-/// What the value displays. A script may have millions of refused lines, so a short text takes one allocation.
-fn short_text<D: Display + Drop>(alloc: Global, value: D) -> Result<String, NoMemory>
-    ensures { IfOk result (λ text. IfSome (D.output value) (λ bytes. string_bytes text ≡ bytes)) }
-{
-    let mut text = String::with_capacity(alloc, SHORT_TEXT)?;
-    text.write(value)?;
-    Ok(text)
-}
 
 /// The name of the table at a place, or nothing if there is none.
 fn name_at(catalog: &Catalog, place: u32) -> &[u8]
@@ -81,44 +67,6 @@ fn rolled_back_text(alloc: Global, number: u32, t: u32) -> Result<Vec<u8>, NoMem
     Ok(text.into_bytes())
 }
 
-fn refused_text(alloc: Global, number: u32, refusal: &Refusal) -> Result<Vec<u8>, NoMemory>
-    ensures { IfOk result (λ text. (tables : List Table)
-        → text.items ≡ line_text number tables (Reply.Refused refusal.now)) }
-{
-    let mut text = short_text(alloc, format_args!("{number} "))?.into_bytes();
-    write_refusal(alloc, refusal, &mut text)?;
-    text.push(b'\n')?;
-    Ok(text)
-}
-
-/// Appends the rows, each on a line of its own.
-fn write_row_lines(alloc: Global, rows: &[Row], text: &mut Vec<u8>) -> Result<(), NoMemory>
-    ensures { OnOk result (text.new.items ≡ text.old.items ++ flat_map row_line rows.now) }
-{
-    for row in rows {
-        text.extend_from_slice(b"  ")?;
-        write_row(alloc, row, text)?;
-        text.push(b'\n')?;
-    }
-    Ok(())
-}
-
-fn rows_text(
-    alloc: Global,
-    number: u32,
-    catalog: &Catalog,
-    rows: Sequence<Row>,
-) -> Result<Vec<u8>, NoMemory>
-    ensures { IfOk result (λ text. text.items ≡ line_text number catalog.now (Reply.Rows rows)) }
-{
-    let mut rows = rows.into_vec();
-    let count = rows.len();
-    sort_rows(&mut rows)?;
-    let mut text = short_text(alloc, format_args!("{number} rows {count}\n"))?.into_bytes();
-    write_row_lines(alloc, &rows, &mut text)?;
-    Ok(text)
-}
-
 /// The reply to a line, with the line's number.
 fn line_text(
     alloc: Global,
@@ -132,7 +80,7 @@ fn line_text(
         Reply::Created { table } => created_text(alloc, number, catalog, table),
         Reply::Began { t, version } => began_text(alloc, number, t, version),
         Reply::Wrote { rows } => wrote_text(alloc, number, rows),
-        Reply::Rows(rows) => rows_text(alloc, number, catalog, rows),
+        Reply::Rows(rows) => rows_text(alloc, number, rows),
         Reply::Committed { t, version } => committed_text(alloc, number, t, version),
         Reply::RolledBack { t } => rolled_back_text(alloc, number, t),
         Reply::Refused(refusal) => refused_text(alloc, number, &refusal),

@@ -10,9 +10,10 @@ ghost use Rattle.gp_machine.specs.Recorded.{is_lost};
 ghost use Rattle.gp_machine.specs.State.{State, start};
 ghost use Rattle.gp_machine.specs.StateReannotation.{state_reannotated};
 ghost use Rattle.gp_machine.specs.declared.reply.Reply.TheVariants as reply;
-ghost use Rattle.gp_log.specs.Limits.{limits};
+ghost use Rattle.gp_log.specs.Parameters.{parameters};
 ghost use Rattle.gp_log.specs.ScriptLines.{AreScriptLines};
-ghost use Rattle.gp_script.specs.History.{NumberedReply, final_state, line_outcome, lines_read, replies_from, replies_of};
+ghost use Rattle.gp_script.specs.History.{NumberedReply};
+ghost use Rattle.gp_script.specs.Scripts.{final_state, line_outcome, lines_read, replies_from, replies_of};
 
 use crate::script::MAX_SCRIPT_LENGTH;
 use gp_machine::{accepted_lines_are_recorded, annotations_change_no_reply};
@@ -26,9 +27,9 @@ pub fn every_line_has_one_reply()
 
 /// A line that is refused leaves the state unchanged, unless it is a COMMIT that is lost.
 pub fn refused_lines_change_nothing<M>()
-    ensures unchanged { (kind : Annotations M) (state : State M) (line : ℕ × List ℕ)
-        (refusal : Refusal) → (line_outcome kind state line).1 ≡ reply.Refused refusal
-        → is_lost refusal ≡ false → (line_outcome kind state line).0 ≡ state }
+    ensures unchanged { (domain : Annotations M) (state : State M) (line : ℕ × List ℕ)
+        (refusal : Refusal) → (line_outcome domain state line).1 ≡ reply.Refused refusal
+        → is_lost refusal ≡ false → (line_outcome domain state line).0 ≡ state }
 {
     accepted_lines_are_recorded::<M>()
 }
@@ -36,8 +37,8 @@ pub fn refused_lines_change_nothing<M>()
 /// The state that a script leaves is the one that its lines lead to, of those that were read. So the laws of the history
 /// machine hold of it.
 pub fn scripts_lead_to_histories<M>()
-    ensures reached { (kind : Annotations M) (script : List ℕ)
-        → final_state kind script ≡ after kind limits start (lines_read (script_lines script)) }
+    ensures reached { (domain : Annotations M) (script : List ℕ)
+        → final_state domain script ≡ after domain parameters start (lines_read (script_lines script)) }
 {}
 
 /// The lines of a script that were read are lines of a script for the history machine: their numbers rise from 1 at the least,
@@ -49,10 +50,10 @@ pub fn lines_of_scripts_are_script_lines()
 
 /// The replies do not depend on annotations, and the state without annotations is the one with them, when they are forgotten.
 pub fn replies_have_no_annotations<M>()
-    ensures replies { (kind : Annotations M) (script : List ℕ)
-        → replies_from kind start (script_lines script) ≡ replies_of script }
-    ensures state { (kind : Annotations M) (script : List ℕ)
-        → final_state plain script ≡ state_reannotated forgotten (final_state kind script) }
+    ensures replies { (domain : Annotations M) (script : List ℕ)
+        → replies_from domain start (script_lines script) ≡ replies_of script }
+    ensures state { (domain : Annotations M) (script : List ℕ)
+        → final_state plain script ≡ state_reannotated forgotten (final_state domain script) }
 {
     annotations_change_no_reply::<M, ()>()
 }

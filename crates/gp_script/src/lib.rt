@@ -5,7 +5,8 @@
 //! reach the engine.
 //!
 //! In reading order: `display.rt` with [`write_reply`], the texts of replies, and `script.rt` with [`run_script`]. In `specs/`,
-//! `History` is the history of a script over the history machine, and `Replies` the texts. The functions of `laws.rt`, as
+//! `History` is the history of the lines that a script is read as, over the history machine, `Scripts` the same
+//! by the bytes of the script, and `Replies` the texts. The functions of `laws.rt`, as
 //! [`every_line_has_one_reply`], are laws of histories.
 //!
 //! ```text

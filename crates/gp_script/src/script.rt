@@ -5,7 +5,8 @@ ghost use Rattle.gp_base.specs.Annotated.{plain};
 ghost use Rattle.gp_machine.specs.State.{start};
 ghost use Rattle.gp_engine.specs.Engine.{IsEngineOf, IsUnchanged};
 ghost use Rattle.gp_script.specs.Answering.{FollowsLine};
-ghost use Rattle.gp_script.specs.History.{final_state, has_refusal, replies_of, replies_text};
+ghost use Rattle.gp_script.specs.History.{has_refusal, replies_text};
+ghost use Rattle.gp_script.specs.Scripts.{final_state, replies_of};
 ghost use Rattle.gp_script.specs.Run.{HasRun};
 
 use crate::display::write_reply;

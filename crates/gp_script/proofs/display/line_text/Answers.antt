@@ -10,8 +10,5 @@ returns-in-Wrote c = rw c.in-Wrote.is (IfOk-weaker c.wrote_text.result _ _ (λ t
 pub returns-in-Committed : goal.returns-in-Committed
 returns-in-Committed c = rw c.in-Committed.is (IfOk-weaker c.committed_text.result _ _ (λ text is. is c.args.catalog.now) c.committed_text.ensures)
 
-pub returns-in-Refused : goal.returns-in-Refused
-returns-in-Refused c = rw c.in-Refused.is (IfOk-weaker c.refused_text.result _ _ (λ text is. is c.args.catalog.now) c.refused_text.ensures)
-
 pub returns-in-RolledBack : goal.returns-in-RolledBack
 returns-in-RolledBack c = rw c.in-RolledBack.is (IfOk-weaker c.rolled_back_text.result _ _ (λ text is. is c.args.catalog.now) c.rolled_back_text.ensures)

@@ -1,4 +1,4 @@
-use Rattle.gp_grammar.specs.LineReading.{script_line_of}
+use Rattle.gp_grammar.specs.Reading.{script_line_of}
 use Rattle.gp_syntax.specs.Views.{line_view}
 use Rattle.gp_check.proofs.ValidLemmas.{line-read}
 use Rattle.gp_script.proofs.ReadingLemmas.{read-range}

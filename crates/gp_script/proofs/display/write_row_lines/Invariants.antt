@@ -1,8 +1,0 @@
-use Rattle.std.proofs.Common.{◌≡◌, ◌++◌, take}
-use Rattle.std.specs.List.{flat_map}
-use Rattle.gp_script.specs.Replies.{row_line}
-use Rattle.gp_script.proofs.display.write_row_lines.Given as goal
-
--- the lines of the rows so far
-abbrev pub invariant-loop-row : goal.invariant-loop-row
-invariant-loop-row l = l.text.items ≡ l.initial.text.items ++ flat_map row_line (take l.row-index l.rows)
