@@ -13,7 +13,7 @@ use Rattle.gp_algebra.specs.Statements.{Select}
 use Rattle.gp_exec.specs.Backends.{Executes, Given}
 use Rattle.gp_exec.specs.declared.error.ExecStop.{ExecStop}
 use Rattle.gp_exec.specs.declared.error.ExecStop.TheVariants as exec
-use Rattle.gp_log.specs.Limits.{limits}
+use Rattle.gp_log.specs.Parameters.{parameters}
 use Rattle.gp_log.specs.LogFacts.{tables_in}
 use Rattle.gp_log.specs.LogFitting.{SpansFit, statements_fit}
 use Rattle.gp_machine.specs.Entries.{Entry}
@@ -25,7 +25,8 @@ use Rattle.gp_versions.specs.declared.span.Span.{Span}
 use Rattle.gp_versions.specs.Spans.{Versions}
 use Rattle.gp_reenact.specs.Backends.{IsGivenOver, RefusedBy}
 use Rattle.gp_reenact.specs.declared.error.ReenactStop.TheVariants as stop
-use Rattle.gp_reenact.specs.Reenacting.{RunsOver, merged_at, spans_of, stopped, transaction_at}
+use Rattle.gp_reenact.specs.Reenacting.{RunsOver, spans_of, stopped, transaction_at}
+use Rattle.gp_reenact.specs.Programs.{merged_at}
 use Rattle.gp_reenact.proofs.BackendLemmas.{runs_over_same}
 use Rattle.gp_reenact.proofs.ReplayLemmas.{Replays, found_is, planned_replays, stop_is}
 use Rattle.gp_dump.specs.Views.{tables_view}
@@ -51,9 +52,9 @@ module _ (gives : PlainProgram → PlainEnvironment → Given → Type 0) (t : �
   shown_stop refusal exec.Answer is = cc
   shown_stop refusal exec.NoMemory is = absurd (cc)
 
-  pub refusal_is_answered : (refusal : Refusal) (due : Option Refusal) → due ≡ None → RefusedBy gives refusal due t program past → IsAnswered gives t program past (Refused refusal)
+  pub refusal_is_answered : (refusal : Refusal) (expected : Option Refusal) → expected ≡ None → RefusedBy gives refusal expected t program past → IsAnswered gives t program past (Refused refusal)
   refusal_is_answered refusal None known by = record { answer = Err by.stop; given = by.given; shown = shown_stop refusal by.stop by.is }
-  refusal_is_answered refusal (Some due) known by = absurd (cc)
+  refusal_is_answered refusal (Some expected) known by = absurd (cc)
 
 -- ---- over the executor
 
@@ -65,8 +66,8 @@ module _ (entries : List Entry) (versions : List Versions) (point : y.State) (se
   abbrev past : PlainEnvironment
   past = encoded (travels.as_of plain versions)
 
-  abbrev due : Result (List (Element (Unit {0}))) Refusal
-  due = rows_answer limits entries (spans_of versions) point select
+  abbrev expected : Result (List (Element (Unit {0}))) Refusal
+  expected = rows_answer parameters entries (spans_of versions) point select
 
   abbrev own : List (List Cell) → List (List Cell)
   own rows = rows
@@ -74,24 +75,24 @@ module _ (entries : List Entry) (versions : List Versions) (point : y.State) (se
   replays : Replays entries versions point select program
   replays = planned_replays entries versions select fit spans_fit fits point program refl known
 
-  shown_is : (answer : Given) (answered : Answered) → RunsOver own answer past program → Shows (transaction_at point) answer answered → answered ≡ of_elements due
-  shown_is (Ok rows) answered runs shown = shown ∙ in-order own rows due (found_is own entries versions point select program replays rows runs)
+  shown_is : (answer : Given) (answered : Answered) → RunsOver own answer past program → Shows (transaction_at point) answer answered → answered ≡ of_elements expected
+  shown_is (Ok rows) answered runs shown = shown ∙ in-order own rows expected (found_is own entries versions point select program replays rows runs)
   shown_is (Err (exec.Rows j)) answered runs shown =
-      shown ∙ refused own (E25 (transaction_at point) j) due (stop_is own entries versions point select program replays (exec.Rows j) runs)
+      shown ∙ refused own (E25 (transaction_at point) j) expected (stop_is own entries versions point select program replays (exec.Rows j) runs)
   shown_is (Err (exec.Ancestry j)) answered runs shown =
-      shown ∙ refused own (E26 (transaction_at point) j) due (stop_is own entries versions point select program replays (exec.Ancestry j) runs)
-  shown_is (Err exec.Answer) answered runs shown = shown ∙ refused own E27 due (stop_is own entries versions point select program replays exec.Answer runs)
+      shown ∙ refused own (E26 (transaction_at point) j) expected (stop_is own entries versions point select program replays (exec.Ancestry j) runs)
+  shown_is (Err exec.Answer) answered runs shown = shown ∙ refused own E27 expected (stop_is own entries versions point select program replays exec.Answer runs)
   shown_is (Err exec.NoMemory) answered runs shown = absurd shown
 
-  pub answered_is : (answered : Answered) → IsAnswered Executes (transaction_at point) program past answered → answered ≡ of_elements due
+  pub answered_is : (answered : Answered) → IsAnswered Executes (transaction_at point) program past answered → answered ≡ of_elements expected
   answered_is answered by = shown_is by.answer answered (runs_over_same program past by.answer by.given) by.shown
 
 -- a query is refused as it is, or answered as by the run of its transaction
 module _ (entries : List Entry) (versions : List Versions) (point : y.State) (fit : statements_fit (tables_in entries) entries ≡ true)
     (spans_fit : SpansFit (tables_in entries) (spans_of versions)) where
-  pub executed_answers : (due : Option Refusal) (checked : Result Select Refusal) (answered : Answered) → log_refusal entries point ≡ due
-      → AnswersQuery Executes (tables_in entries) (transaction_at point) (merged_at false entries point) (encoded (travels.as_of plain versions)) due checked answered
-      → answered ≡ query_answer (λ select. of_elements (rows_answer limits entries (spans_of versions) point select)) due checked
+  pub executed_answers : (expected : Option Refusal) (checked : Result Select Refusal) (answered : Answered) → log_refusal entries point ≡ expected
+      → AnswersQuery Executes (tables_in entries) (transaction_at point) (merged_at false entries point) (encoded (travels.as_of plain versions)) expected checked answered
+      → answered ≡ query_answer (λ select. of_elements (rows_answer parameters entries (spans_of versions) point select)) expected checked
   executed_answers (Some refusal) checked answered known by = by
   executed_answers None (Err refusal) answered known by = by
   executed_answers None (Ok select) answered known by = answered_is entries versions point select known fit spans_fit by.0 answered by.1

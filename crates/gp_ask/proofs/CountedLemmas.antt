@@ -12,13 +12,13 @@ use Rattle.gp_algebra.specs.Answers.{Element, answer}
 use Rattle.gp_algebra.specs.Reannotation.{IsHomomorphism, element_reannotated, reannotated}
 use Rattle.gp_algebra.specs.Statements.{Select}
 use Rattle.gp_history.specs.Agreement.{agree}
-use Rattle.gp_log.specs.Limits.{limits}
+use Rattle.gp_log.specs.Parameters.{parameters}
 use Rattle.gp_machine.specs.Annotating.{annotated_versions}
 use Rattle.gp_machine.specs.Entries.{Entry}
 use Rattle.gp_machine.specs.Points.{at_point}
-use Rattle.gp_semiring.specs.Sums.{Each}
+use Rattle.gp_semiring.specs.SumForms.{Each}
 use Rattle.gp_values.proofs.VersionReannotation.{answer_reannotated_at}
-use Rattle.gp_witness.specs.Minimal.{HasCounts}
+use Rattle.gp_witness.specs.CountForms.{HasCounts}
 
 -- ---- products
 
@@ -73,5 +73,5 @@ pub answers_count : (catalogue : List Table) (entries : List Entry) (spans : ℕ
     → EachCounts (answer monomials select (at_point monomials entries point (annotated_versions monomials entries spans)))
 answers_count catalogue entries spans point select =
     subst EachCounts
-    (sym (answer_reannotated_at counted monomials counting keeps spans limits agree_counted agree (λ rows others. refl) catalogue entries point select))
+    (sym (answer_reannotated_at counted monomials counting keeps spans parameters agree_counted agree (λ rows others. refl) catalogue entries point select))
     (each_counts (answer counted select (at_point counted entries point (annotated_versions counted entries spans))))

@@ -10,7 +10,7 @@ use Rattle.gp_algebra.specs.Answers.{answer}
 use Rattle.gp_algebra.specs.Statements.{Select}
 use Rattle.gp_history.specs.Agreement.{agree}
 use Rattle.gp_history.specs.Values.{Gives}
-use Rattle.gp_log.specs.Limits.{limits}
+use Rattle.gp_log.specs.Parameters.{parameters}
 use Rattle.gp_log.specs.LogFacts.{tables_in}
 use Rattle.gp_log.specs.Logs.{log_view}
 use Rattle.gp_machine.specs.Annotating.{annotated_versions}
@@ -33,7 +33,7 @@ use Rattle.gp_ask.specs.Counted.{counted_answer}
 use Rattle.gp_ask.specs.Remaining.{is_left_out, pattern_of}
 use Rattle.gp_ask.specs.Values.{count}
 use Rattle.gp_ask.proofs.CountedLemmas.{EachCounts, answers_count}
-use Rattle.gp_ask.proofs.RemainingLemmas.{by_patterns, due, found_is, refused_is}
+use Rattle.gp_ask.proofs.RemainingLemmas.{by_patterns, expected, found_is, refused_is}
 use Rattle.gp_ask.proofs.ValueLemmas.{found_in, moved}
 
 module _ (dump : code.Dump) (versions : List Versions) (same : versions ≡ dump.versions) (patterns : List y.Rule) (kept : List Rule × Option ℕ) (by : kept ≡ (map pattern_of patterns, Some 1)) (point : y.State) (select : Select) where
@@ -53,14 +53,14 @@ module _ (dump : code.Dump) (versions : List Versions) (same : versions ≡ dump
   counts = answers_count (tables_in entries) entries spans point select
 
   abbrev refusal : Option Refusal
-  refusal = history_refusal monomials limits agree (tables_in entries) entries spans point
+  refusal = history_refusal monomials parameters agree (tables_in entries) entries spans point
 
   abbrev found : Result (List (List Cell × ℕ)) Refusal
   found = found_in count kept entries (tables_in entries) (spans_of versions) point select
 
-  over_counts : {X : Type 0} (view : X → List (List Cell × ℕ)) (result : Result X ReenactStop) → Gives view result found → Gives view result (due matches select db counts refusal)
+  over_counts : {X : Type 0} (view : X → List (List Cell × ℕ)) (result : Result X ReenactStop) → Gives view result found → Gives view result (expected matches select db counts refusal)
   over_counts view result gives =
-      subst (λ (value : Token → ℕ). Gives view result (value_answer limits (plus_up_to greatest) 0 1 (times_up_to greatest) value agree (tables_in entries) entries spans point select)) (by_patterns patterns)
+      subst (λ (value : Token → ℕ). Gives view result (value_answer parameters (plus_up_to greatest) 0 1 (times_up_to greatest) value agree (tables_in entries) entries spans point select)) (by_patterns patterns)
       (moved dump versions same count kept (map pattern_of patterns, Some 1) by point select view result gives)
 
   pub rows_remain : {X : Type 0} (view : X → List (List Cell × ℕ)) (rows : X) → Gives view (Ok rows) found → counted_answer (view rows) ≡ dump_remaining (map pattern_of patterns) (dump_view dump) point select

@@ -9,9 +9,10 @@ use Rattle.gp_base.specs.declared.cell.Cell.{Cell}
 use Rattle.gp_base.specs.declared.row_id.TheConstants.{MAX_NODES}
 use Rattle.gp_base.specs.declared.table.Table.{Table}
 use Rattle.gp_base.specs.Annotated.{Annotated, Database, Environment, plain}
-use Rattle.gp_base.specs.Cells.{is_user_cell}
+use Rattle.gp_base.specs.UserCells.{is_user_cell}
 use Rattle.gp_algebra.specs.Effects.{Written}
-use Rattle.gp_algebra.specs.Fitting.{row_fits, width_of}
+use Rattle.gp_algebra.specs.Fitting.{row_fits}
+use Rattle.gp_algebra.specs.Statements.{width_of}
 use Rattle.gp_algebra.specs.Statements.{Statement}
 use Rattle.gp_versions.specs.declared.span.Span.{Span}
 use Rattle.gp_versions.specs.Spans.{Versions}
@@ -24,10 +25,9 @@ use Rattle.gp_machine.specs.Publishing.{publish, was_written}
 use Rattle.gp_machine.specs.Reading.{Seen}
 use Rattle.gp_machine.specs.Replaying.{Replay, replay_stop, replayed, replayed_spans, rerun, version_stop}
 use Rattle.gp_machine.specs.Runs.{refreshed, run, run_before, stepped}
-use Rattle.gp_machine.proofs.Distinct.{each_append, each_both, each_filter, each_map, each_weaker}
+use Rattle.gp_machine.proofs.Distinct.{each_both, each_filter, each_weaker}
 use Rattle.gp_machine.proofs.ReplayLemmas.{unstopped}
-use Rattle.gp_machine.proofs.UnstoppedLemmas.{neither}
-use Rattle.gp_log.specs.Limits.{limits}
+use Rattle.gp_log.specs.Parameters.{parameters}
 use Rattle.gp_log.specs.LogFacts.{tables_in}
 use Rattle.gp_log.specs.LogFitting.{SpanFits, SpansFit, statements_fit}
 use Rattle.gp_rewrite.specs.Meaning.{AreAsWide}
@@ -39,6 +39,7 @@ use Rattle.gp_dump.specs.Views.{tables_view}
 use Rattle.gp_ask.specs.Answerable.{IsAnswerable}
 use Rattle.gp_ask.specs.Asking.{spans_at}
 use Rattle.gp_ask.specs.Replays.{dump_in}
+use Rattle.gp_base.proofs.SmallLemmas.{each_append, each_map, none_parts}
 
 abbrev Rows : Type 0
 Rows = Database (Unit {0})
@@ -72,10 +73,10 @@ module _ (entries : List Entry) (fits : statements_fit (tables_in entries) entri
   stepped_wide t k None db fit are = are
   stepped_wide t k (Some statement) db fit are = step_wide plain catalogue t k statement db fit are
 
-  stepped_fit : (t k : ℕ) (found : Option Statement) (db : Rows) → FitsIfSome catalogue found → statement_stop plain limits t k found db ≡ None → AreFit db → AreFit (stepped plain t k found db)
+  stepped_fit : (t k : ℕ) (found : Option Statement) (db : Rows) → FitsIfSome catalogue found → statement_stop plain parameters t k found db ≡ None → AreFit db → AreFit (stepped plain t k found db)
   stepped_fit t k found db fit none are table =
       each_both (IsFit table) (IsHeld MAX_NODES) (λ row. length row.cells ≡ width_of catalogue table) (λ row own long. (own, long)) (stepped plain t k found db table)
-      (held_step plain limits catalogue t k found db fit none (held db are) table) (stepped_wide t k found db fit (wide db are) table)
+      (held_step plain parameters catalogue t k found db fit none (held db are) table) (stepped_wide t k found db fit (wide db are) table)
 
   published_fit : (base mine later : Rows) → AreFit mine → AreFit later → AreFit (publish base mine later)
   published_fit base mine later own others table =
@@ -87,10 +88,10 @@ module _ (entries : List Entry) (fits : statements_fit (tables_in entries) entri
   refreshed_fit versions are old new db own =
       elim (new == old) as (λ b. AreFit (cond b db (publish (versions old) db (versions new)))) [ true ↦ own | false ↦ published_fit (versions old) db (versions new) own (are new) ]
 
-  run_fit : (t k : ℕ) (versions : Environment (Unit {0})) → ((version : ℕ) → AreFit (versions version)) → run_stop plain limits log t k versions ≡ None → AreFit (run plain log t k versions)
+  run_fit : (t k : ℕ) (versions : Environment (Unit {0})) → ((version : ℕ) → AreFit (versions version)) → run_stop plain parameters log t k versions ≡ None → AreFit (run plain log t k versions)
   run_fit t zero versions are none = are (log.version t zero)
   run_fit t (suc k) versions are none =
-      let both = neither (run_stop plain limits log t k versions) (statement_stop plain limits t (suc k) (log.statement t (suc k)) (run_before plain log t k versions)) none in
+      let both = none_parts (run_stop plain parameters log t k versions) (statement_stop plain parameters t (suc k) (log.statement t (suc k)) (run_before plain log t k versions)) none in
       stepped_fit t (suc k) (log.statement t (suc k)) (run_before plain log t k versions) (logged_fits catalogue t (suc k) entries fits) both.1
       (refreshed_fit versions are (log.version t k) (log.version t (suc k)) (run plain log t k versions) (run_fit t k versions are both.0))
 
@@ -107,11 +108,11 @@ module _ (entries : List Entry) (fits : statements_fit (tables_in entries) entri
     abbrev made : ℕ → Replay (Unit {0})
     made u = replayed plain log count u
 
-    made_fit : (u : ℕ) → replay_stop plain log limits count u ≡ None → (version : ℕ) → AreFit ((made u).committed version)
+    made_fit : (u : ℕ) → replay_stop plain log parameters count u ≡ None → (version : ℕ) → AreFit ((made u).committed version)
     made_fit zero none version = λ table. tt
     made_fit (suc u) none version =
         let t : ℕ = log.committer (suc u) in
-        let both = neither (replay_stop plain log limits count u) (version_stop plain log limits count u) none in
+        let both = none_parts (replay_stop plain log parameters count u) (version_stop plain log parameters count u) none in
         let seen : Seen (Unit {0}) = rerun plain log t (made u).committed in
         let before = made_fit u both.0 in
         elim (version == suc u) as (λ b. AreFit (cond b (next_version ((made u).committed u) seen.view (pairs seen.written)) ((made u).committed version))) [
@@ -129,7 +130,7 @@ module _ (entries : List Entry) (fits : statements_fit (tables_in entries) entri
         (filter (λ row. is_written table row.identity (written (suc m))) (committed (suc m) table))
         (each_filter (IsFit table) (IsFit table) (λ row. is_written table row.identity (written (suc m))) (λ row kept is. is) (committed (suc m) table) (are (suc m) table)))
 
-    pub spans_made_fit : (u : ℕ) → replay_stop plain log limits count u ≡ None → SpansFit catalogue (λ place. replayed_spans plain log count u place)
+    pub spans_made_fit : (u : ℕ) → replay_stop plain log parameters count u ≡ None → SpansFit catalogue (λ place. replayed_spans plain log count u place)
     spans_made_fit u none table = upto_fit u (made u).committed (made u).written (made_fit u none) table u
 
 -- the dump of a log and of what its replay made

@@ -17,9 +17,8 @@ use Rattle.gp_grammar.specs.Syntax as y
 use Rattle.gp_algebra.specs.Answers.{Element, answer, cells_of}
 use Rattle.gp_algebra.specs.Reannotation.{database_reannotated, element_reannotated, forgotten}
 use Rattle.gp_algebra.specs.Statements.{Select}
-use Rattle.gp_algebra.proofs.Lists.{map-map}
 use Rattle.gp_check.specs.Checking.{checked_query}
-use Rattle.gp_log.specs.Limits.{limits}
+use Rattle.gp_log.specs.Parameters.{parameters}
 use Rattle.gp_log.specs.LogFacts.{tables_in}
 use Rattle.gp_machine.specs.Annotating.{annotated_versions}
 use Rattle.gp_machine.specs.Entries.{version_of}
@@ -34,7 +33,7 @@ use Rattle.gp_values.specs.ValueAnswers.{history_refusal, limited}
 use Rattle.gp_versions.specs.declared.span.Span.{Span}
 use Rattle.gp_dump.specs.Dumps.{Dump, dump_of, dump_with, spans_in_order}
 use Rattle.gp_history.specs.Agreement.{agree}
-use Rattle.gp_history.specs.Provenance.{occurrence}
+use Rattle.gp_history.specs.Agreement.{occurrence}
 use Rattle.gp_ask.specs.declared.answered.Answered.{Answered}
 use Rattle.gp_ask.specs.declared.answered.Answered.TheVariants.{Listed, Refused, Rows}
 use Rattle.gp_ask.specs.Answers.{answer_to, held_to}
@@ -50,6 +49,7 @@ use Rattle.gp_ask.proofs.QueryLemmas.{query-same}
 use Rattle.gp_ask.proofs.ReenactedLemmas.{same-order}
 use Rattle.gp_ask.proofs.ValueLemmas.{AreHeld, found_in}
 use Rattle.gp_ask.proofs.WitnessLemmas.{minimal_moved}
+use Rattle.gp_base.proofs.SmallLemmas.{map-map}
 
 -- ---- answers that are alike
 
@@ -82,24 +82,24 @@ held-forgotten state (y.State.commit t) = by (version_of t state.entries)
 -- the rows of elements do not depend on annotations, nor does their number
 module _ (refusal : Option Refusal) (elements : List (Element Monomial)) where
   abbrev answered : List (Element (Unit {0})) → ℕ → Answered
-  answered others count = of_elements (given (option_or refusal (if nat_lt limits.answer count then Some E27 else None)) others)
+  answered others count = of_elements (given (option_or refusal (if nat_lt parameters.answer count then Some E27 else None)) others)
 
   same-given : (own : Option Refusal) → of_elements (given own (map (element_reannotated forgotten) elements)) ≡ of_elements (given own elements)
   same-given None = ap (λ (rows : List (List Cell)). Rows (sorted_by row_cmp rows)) (map-map (λ (element : Element (Unit {0})). element.cells) (element_reannotated forgotten) elements)
   same-given (Some own) = refl
 
   same-rows : answered (map (element_reannotated forgotten) elements) (length (map (element_reannotated forgotten) elements))
-      ≡ of_elements (given (option_or refusal (if nat_lt limits.answer (length elements) then Some E27 else None)) elements)
+      ≡ of_elements (given (option_or refusal (if nat_lt parameters.answer (length elements) then Some E27 else None)) elements)
   same-rows =
       ap (answered (map (element_reannotated forgotten) elements)) (length-map elements (element_reannotated forgotten))
-      ∙ same-given (option_or refusal (if nat_lt limits.answer (length elements) then Some E27 else None))
+      ∙ same-given (option_or refusal (if nat_lt parameters.answer (length elements) then Some E27 else None))
 
 -- answering queries forgets annotations
 abbrev pub Forgets : Type 0
 Forgets = (select : Select) (db : Database Monomial) → answer plain select (database_reannotated forgotten db) ≡ map (element_reannotated forgotten) (answer monomials select db)
 
 module _ (forgets : Forgets) (state : State Monomial) where
-  held-rows-same : (point : y.State) (select : Select) → of_elements (held_answer plain limits (forgetting state) point select) ≡ held_rows state point select
+  held-rows-same : (point : y.State) (select : Select) → of_elements (held_answer plain parameters (forgetting state) point select) ≡ held_rows state point select
   held-rows-same point select =
       let refusal = log_refusal state.entries point in
       let elements = answer monomials select (held_at state point) in
@@ -116,22 +116,22 @@ module _ (forgets : Forgets) (state : State Monomial) where
     abbrev spans : ℕ → List Span
     spans = spans_at tables
 
-    module _ (rows-alike : (point : y.State) (select : Select) → AreAlike (rows_answer limits state.entries spans point select) (held_answer plain limits (forgetting state) point select))
+    module _ (rows-alike : (point : y.State) (select : Select) → AreAlike (rows_answer parameters state.entries spans point select) (held_answer plain parameters (forgetting state) point select))
         (provenance-alike : (point : y.State) (select : Select)
-        → AreAlike (annotated_answer monomials limits agree state.catalogue state.entries spans point select) (held_answer monomials limits state point select))
+        → AreAlike (annotated_answer monomials parameters agree state.catalogue state.entries spans point select) (held_answer monomials parameters state point select))
         (values-alike : (name : SemiringName) → AreHeld state spans name)
-        (refusals : (point : y.State) → history_refusal monomials limits agree state.catalogue state.entries spans point ≡ log_refusal state.entries point)
+        (refusals : (point : y.State) → history_refusal monomials parameters agree state.catalogue state.entries spans point ≡ log_refusal state.entries point)
         (elements-moved : (point : y.State) (select : Select) → log_refusal state.entries point ≡ None
         → IsPermutation (answer monomials select (at_point monomials state.entries point (annotated_versions monomials state.entries spans))) (answer monomials select (held_at state point))) where
       rows-held : (point : y.State) (select : Select) → dump_rows dump point select ≡ held_rows state point select
       rows-held point select =
-          alike (rows_answer limits state.entries spans point select) (held_answer plain limits (forgetting state) point select) (rows-alike point select)
+          alike (rows_answer parameters state.entries spans point select) (held_answer plain parameters (forgetting state) point select) (rows-alike point select)
           ∙ held-rows-same point select
 
       provenance-held : (point : y.State) (select : Select) → dump_provenance dump point select ≡ held_provenance state point select
       provenance-held point select =
-          ap (λ (catalogue : List Table). with_monomials (annotated_answer monomials limits agree catalogue state.entries spans point select)) kept
-          ∙ alike-monomials (annotated_answer monomials limits agree state.catalogue state.entries spans point select) (held_answer monomials limits state point select) (provenance-alike point select)
+          ap (λ (catalogue : List Table). with_monomials (annotated_answer monomials parameters agree catalogue state.entries spans point select)) kept
+          ∙ alike-monomials (annotated_answer monomials parameters agree state.catalogue state.entries spans point select) (held_answer monomials parameters state point select) (provenance-alike point select)
 
       values-held : (name : SemiringName) (rules : List Rule × Option ℕ) (point : y.State) (select : Select)
           → dump_values (semiring_of name) name rules dump point select ≡ held_values (semiring_of name) name rules state point select
@@ -144,12 +144,12 @@ module _ (forgets : Forgets) (state : State Monomial) where
       found-elements point select = answer monomials select (at_point monomials state.entries point (annotated_versions monomials state.entries spans))
 
       -- the refusals of the dump are those of the log
-      refusals-held : (point : y.State) → history_refusal monomials limits agree (tables_in state.entries) state.entries spans point ≡ log_refusal state.entries point
-      refusals-held point = ap (λ (catalogue : List Table). history_refusal monomials limits agree catalogue state.entries spans point) kept ∙ refusals point
+      refusals-held : (point : y.State) → history_refusal monomials parameters agree (tables_in state.entries) state.entries spans point ≡ log_refusal state.entries point
+      refusals-held point = ap (λ (catalogue : List Table). history_refusal monomials parameters agree catalogue state.entries spans point) kept ∙ refusals point
 
       minimal-held : (point : y.State) (select : Select) → dump_minimal dump point select ≡ held_minimal state point select
       minimal-held point select =
-          ap (λ (refusal : Option Refusal). with_values sets_text (limited limits.answer minimal_of (given refusal (found-elements point select)))) (refusals-held point)
+          ap (λ (refusal : Option Refusal). with_values sets_text (limited parameters.answer minimal_of (given refusal (found-elements point select)))) (refusals-held point)
           ∙ ap (with_values sets_text)
           (minimal_moved (log_refusal state.entries point) (found-elements point select) (answer monomials select (held_at state point)) (answers_count state.catalogue state.entries spans point select)
           (elements-moved point select))

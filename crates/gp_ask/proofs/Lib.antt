@@ -10,6 +10,7 @@ mod LogLemmas
 mod MovedLemmas
 mod ProvenanceLemmas
 mod QueryLemmas
+pub mod ReadAnswers
 mod ReadLemmas
 mod ReenactedLemmas
 mod RemainingLemmas

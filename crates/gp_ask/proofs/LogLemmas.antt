@@ -5,7 +5,7 @@ use Rattle.std.proofs.lemmas.List.{map-append, reverse-append, reverse-reverse, 
 use Rattle.std.proofs.lemmas.List.Elements.{filter-append}
 use Rattle.std.proofs.lemmas.Option.{get_or_from_slice_get, slice_get_within}
 use Rattle.gp_log.specs.declared.entry.Entry.{Entry}
-use Rattle.gp_log.specs.Discipline.{transaction_of}
+use Rattle.gp_machine.specs.Entries.{transaction_of}
 use Rattle.gp_log.specs.Logs.{entry_view, log_view}
 use Rattle.gp_machine.specs.Entries as m
 use Rattle.gp_dumpline.specs.Texts.{entry_text}

@@ -15,15 +15,16 @@ use Rattle.gp_base.specs.RowOrder.{exact_rows, row_cmp_total}
 use Rattle.gp_base.specs.Tokens.{Monomial}
 use Rattle.gp_algebra.specs.Answers.{Element, answer, cells_of}
 use Rattle.gp_algebra.specs.Statements.{Select}
-use Rattle.gp_algebra.proofs.Bags as bags
-use Rattle.gp_algebra.proofs.Permutations as permutations
-use Rattle.gp_log.specs.Limits.{limits}
+use Rattle.gp_base.proofs.Bags as bags
+use Rattle.gp_base.proofs.Permutations as permutations
+use Rattle.gp_log.specs.Parameters.{parameters}
 use Rattle.gp_machine.specs.Questions.{given}
-use Rattle.gp_semiring.specs.Sums.{Each, summed}
-use Rattle.gp_semiring.proofs.Bags.{SameBag}
-use Rattle.gp_semiring.proofs.Bags.SameBag.{none, swapped, through}
+use Rattle.gp_semiring.specs.Sums.{summed}
+use Rattle.gp_base.proofs.Bags.{SameBag}
+use Rattle.gp_base.proofs.Bags.SameBag.{none, swapped, through}
+use Rattle.gp_semiring.specs.SumForms.{Each}
 use Rattle.gp_semiring.proofs.GroupLemmas.{summed_bag}
-use Rattle.gp_semiring.proofs.Permutations.{unpermuted}
+use Rattle.gp_base.proofs.Permutations.{unpermuted}
 use Rattle.gp_values.specs.DistinctRows.{distinct_rows}
 use Rattle.gp_values.proofs.DistinctLemmas.{rows_of, rows_summed}
 use Rattle.gp_witness.specs.Deletion.{has_token}
@@ -90,7 +91,7 @@ module _ (matches : Token → Bool) (select : Select) (db past : Database Monomi
   too_many_moved =
       let distinct = distinct_moved (cells_of (answer monomials select db)) (cells_of (answer monomials select past)) (IsPermutation-map (λ (element : Element Monomial). element.cells) _ _ moved) in
       let rest = bags.as_long remaining_bag in
-      λ i. nat_lt limits.answer (length (distinct i)) || nat_lt limits.answer (rest i)
+      λ i. nat_lt parameters.answer (length (distinct i)) || nat_lt parameters.answer (rest i)
 
   listed_moved : (own : Option Refusal) → of_elements (given own (remaining has select db)) ≡ of_elements (given own (remaining has select past))
   listed_moved None = ap Rows (same-order _ _ (IsPermutation-map (λ (element : Element Monomial). element.cells) _ _ (permutations.permuted _ _ remaining_bag)))

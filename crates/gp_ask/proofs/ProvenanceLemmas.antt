@@ -10,7 +10,7 @@ use Rattle.gp_base.specs.Tokens.{Monomial}
 use Rattle.gp_grammar.specs.Syntax as y
 use Rattle.gp_algebra.specs.Answers.{Element}
 use Rattle.gp_algebra.specs.Statements.{Select}
-use Rattle.gp_log.specs.Limits.{limits}
+use Rattle.gp_log.specs.Parameters.{parameters}
 use Rattle.gp_log.specs.LogFacts.{tables_in}
 use Rattle.gp_log.specs.LogFitting.{SpansFit}
 use Rattle.gp_log.specs.Logs.{log_view}
@@ -27,7 +27,8 @@ use Rattle.gp_dump.specs.Dumps.{AreOfTables, Dump, IsDump}
 use Rattle.gp_dump.specs.Views.{dump_view, tables_view}
 use Rattle.gp_dump.proofs.FittingTables.{spans_of_dumps, statements_of_dumps}
 use Rattle.gp_history.specs.Agreement.{agree}
-use Rattle.gp_history.specs.Provenance.{Proves, occurrence}
+use Rattle.gp_history.specs.Provenance.{Proves}
+use Rattle.gp_history.specs.Agreement.{occurrence}
 use Rattle.gp_history.specs.Sound.{IsSound}
 use Rattle.gp_monomials.specs.Listing.{grouped, listed}
 use Rattle.gp_ask.specs.declared.answered.Answered.TheVariants.{Listed, Refused}
@@ -39,15 +40,15 @@ use Rattle.gp_ask.proofs.ReenactedLemmas.{dump-spans, same-order}
 pub same-list : (rows others : List (List Cell)) → IsPermutation rows others → listed rows ≡ listed others
 same-list rows others moved = ap grouped (same-order rows others moved)
 
-pub in-list : {X : Type 0} (view : X → List (List Cell)) (found : X) (due : Result (List (Element Monomial)) Refusal) → Proves view (Ok found) due
-    → Listed (listed (view found)) ≡ with_monomials due
+pub in-list : {X : Type 0} (view : X → List (List Cell)) (found : X) (expected : Result (List (Element Monomial)) Refusal) → Proves view (Ok found) expected
+    → Listed (listed (view found)) ≡ with_monomials expected
 in-list view found (Ok elements) moved = ap Listed (same-list (view found) (map occurrence elements) moved)
 in-list view found (Err refusal) none = absurd none
 
-pub unproven : {X : Type 0} (view : X → List (List Cell)) (refusal : Refusal) (due : Result (List (Element Monomial)) Refusal) → Proves view (Err (stop.Refused refusal)) due
-    → Refused refusal ≡ with_monomials due
+pub unproven : {X : Type 0} (view : X → List (List Cell)) (refusal : Refusal) (expected : Result (List (Element Monomial)) Refusal) → Proves view (Err (stop.Refused refusal)) expected
+    → Refused refusal ≡ with_monomials expected
 unproven view refusal (Ok elements) none = absurd none
-unproven view refusal (Err due) same = ap Refused same
+unproven view refusal (Err expected) same = ap Refused same
 
 as-many : (tables : List Table) (versions : ℕ) (spans : List (List Span)) → AreOfTables tables versions spans → length spans ≡ length tables
 as-many [] versions [] are = refl
@@ -58,7 +59,7 @@ as-many (table ∷ tables) versions (own ∷ others) are = ap suc (as-many table
 -- a well-formed dump can be asked
 pub answerable : (dump : Dump) → IsDump dump → IsAnswerable dump
 answerable dump rules = record {
-  sessions = sessions_kept limits dump.entries rules.log;
+  sessions = sessions_kept parameters dump.entries rules.log;
   statements = statements_of_dumps dump rules;
   tables = as-many (tables_in dump.entries) (versions_in dump.entries) dump.tables rules.spans;
   spans = spans_of_dumps dump rules;
@@ -66,7 +67,7 @@ answerable dump rules = record {
 
 -- and its log can be replayed
 pub replayable : (dump : Dump) → IsDump dump → IsReplayable dump.entries
-replayable dump rules = record { sessions = sessions_kept limits dump.entries rules.log; fits = statements_of_dumps dump rules }
+replayable dump rules = record { sessions = sessions_kept parameters dump.entries rules.log; fits = statements_of_dumps dump rules }
 
 pub sound : (dump : code.Dump) → IsAnswerable (dump_view dump) → IsSound (log_view dump.log.entries) dump.versions
 sound dump rules = record {
@@ -82,8 +83,8 @@ module _ (dump : code.Dump) (versions : List Versions) (same : versions ≡ dump
   abbrev entries : List Entry
   entries = log_view dump.log.entries
 
-  abbrev due : (ℕ → List Span) → Result (List (Element Monomial)) Refusal
-  due spans = annotated_answer monomials limits agree (tables_in entries) entries spans point select
+  abbrev expected : (ℕ → List Span) → Result (List (Element Monomial)) Refusal
+  expected spans = annotated_answer monomials parameters agree (tables_in entries) entries spans point select
 
   pub spans-are : spans_of versions ≡ spans_at (tables_view dump.versions)
   spans-are = ap spans_of same ∙ dump-spans dump.versions
@@ -91,11 +92,11 @@ module _ (dump : code.Dump) (versions : List Versions) (same : versions ≡ dump
   pub sound-versions : IsAnswerable (dump_view dump) → IsSound entries versions
   sound-versions rules = subst (λ (own : List Versions). IsSound entries own) (sym same) (sound dump rules)
 
-  pub is-listed : {X : Type 0} (view : X → List (List Cell)) (found : X) → Proves view (Ok found) (due (spans_of versions)) → Listed (listed (view found)) ≡ dump_provenance (dump_view dump) point select
+  pub is-listed : {X : Type 0} (view : X → List (List Cell)) (found : X) → Proves view (Ok found) (expected (spans_of versions)) → Listed (listed (view found)) ≡ dump_provenance (dump_view dump) point select
   is-listed view found proves =
-      in-list view found (due (spans_at (tables_view dump.versions))) (subst (λ (spans : ℕ → List Span). Proves view (Ok found) (due spans)) spans-are proves)
+      in-list view found (expected (spans_at (tables_view dump.versions))) (subst (λ (spans : ℕ → List Span). Proves view (Ok found) (expected spans)) spans-are proves)
 
-  pub is-refused : {X : Type 0} (view : X → List (List Cell)) (refusal : Refusal) → Proves view (Err (stop.Refused refusal)) (due (spans_of versions))
+  pub is-refused : {X : Type 0} (view : X → List (List Cell)) (refusal : Refusal) → Proves view (Err (stop.Refused refusal)) (expected (spans_of versions))
       → Refused refusal ≡ dump_provenance (dump_view dump) point select
   is-refused view refusal proves =
-      unproven view refusal (due (spans_at (tables_view dump.versions))) (subst (λ (spans : ℕ → List Span). Proves view (Err (stop.Refused refusal)) (due spans)) spans-are proves)
+      unproven view refusal (expected (spans_at (tables_view dump.versions))) (subst (λ (spans : ℕ → List Span). Proves view (Err (stop.Refused refusal)) (expected spans)) spans-are proves)

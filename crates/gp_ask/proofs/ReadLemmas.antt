@@ -5,7 +5,8 @@ use Rattle.gp_grammar.specs.Capping.{capped_question}
 use Rattle.gp_grammar.specs.declared.limits.TheConstants.{MAX_FROM}
 use Rattle.gp_grammar.specs.Laws.{has_statement}
 use Rattle.gp_grammar.specs.Limits.{Shape, change_shape, passed_limit, query_shape, question_shape, some_above}
-use Rattle.gp_grammar.specs.LineReading.{Fault, question_of}
+use Rattle.gp_grammar.specs.LineReading.{Fault}
+use Rattle.gp_grammar.specs.Reading.{question_of}
 use Rattle.gp_grammar.specs.QuestionGrammar.{IsQuestion}
 use Rattle.gp_grammar.specs.QuestionParsing.{question}
 use Rattle.gp_grammar.specs.Syntax as y
@@ -14,9 +15,9 @@ use Rattle.gp_grammar.proofs.ChangeLaws as read
 use Rattle.gp_grammar.proofs.LineLaws.{lines-read}
 use Rattle.gp_grammar.proofs.ParserLaws.{lawful-question}
 use Rattle.gp_grammar.proofs.ShapeLemmas.{first_limit, of_shape, questions-fair}
-use Rattle.gp_syntax.specs.Refusals.{refusal_in, refusal_of}
+use Rattle.gp_syntax.specs.Refusals.{refusal_of}
+use Rattle.gp_syntax.specs.ReadResults.{refusal_in}
 use Rattle.gp_check.specs.Valid.{change_is_valid, query_is_valid}
-use Rattle.gp_check.proofs.FittingLemmas.{and_true}
 use Rattle.gp_check.proofs.ValidLemmas.{change-read, question-read}
 use Rattle.gp_ask.specs.declared.answered.Answered.{Answered}
 use Rattle.gp_ask.specs.declared.answered.Answered.TheVariants.{Refused}
@@ -24,6 +25,7 @@ use Rattle.gp_machine.specs.Entries.{Entry}
 use Rattle.gp_ask.specs.Answerable.{has_few_items, question_is_valid}
 use Rattle.gp_ask.specs.Explained.{ExplainsRead}
 use Rattle.gp_ask.specs.Questions.{answered}
+use Rattle.std.proofs.lemmas.Bool.{and_from, and_parts}
 
 -- within the limits the items of each FROM are within theirs
 from-within : (c f b v n d : Bool) → first_limit c f b v n d ≡ None → f ≡ false
@@ -44,30 +46,25 @@ few-changed text change how state query is =
     let reads = (lines-read question IsQuestion capped_question question_shape lawful-question questions-fair text (y.what_if change how state query)).0 is in
     ap not (within-from (query_shape query) (both-within (change_shape change) (query_shape query) reads.text.within).1)
 
-both-true : (a b : Bool) → a && b ≡ true → (a ≡ true) × (b ≡ true)
-both-true true true is = (refl, refl)
-both-true true false is = absurd cc
-both-true false b is = absurd cc
-
 pub read-valid : (text : List ℕ) (question : y.Question) → question_of text ≡ Ok question → question_is_valid question ≡ true
 read-valid text (y.log t) is = refl
 read-valid text (y.versions name) is = refl
-read-valid text (y.ask how state query) is = and_true _ _ (question-read text how state query is) (few-read text how state query is)
+read-valid text (y.ask how state query) is = and_from _ _ (question-read text how state query is) (few-read text how state query is)
 read-valid text (y.what_if change how state query) is =
-    let valid = both-true (change_is_valid change) (query_is_valid query) (change-read text change how state query is) in
-    and_true _ _ (read.change-read text change how state query is) (and_true _ _ valid.0 (and_true _ _ valid.1 (few-changed text change how state query is)))
+    let valid = and_parts (change_is_valid change) (query_is_valid query) (change-read text change how state query is) in
+    and_from _ _ (read.change-read text change how state query is) (and_from _ _ valid.0 (and_from _ _ valid.1 (few-changed text change how state query is)))
 
 -- ---- the parts of a valid question
 
 pub valid-parts : (how : y.How) (state : y.State) (query : y.Query) → question_is_valid (y.ask how state query) ≡ true → (query_is_valid query ≡ true) × (has_few_items query ≡ true)
-valid-parts how state query valid = both-true (query_is_valid query) (has_few_items query) valid
+valid-parts how state query valid = and_parts (query_is_valid query) (has_few_items query) valid
 
 pub valid-change : (change : y.LogChange) (how : y.How) (state : y.State) (query : y.Query) → question_is_valid (y.what_if change how state query) ≡ true
     → (has_statement change ≡ true) × ((change_is_valid change ≡ true) × ((query_is_valid query ≡ true) × (has_few_items query ≡ true)))
 valid-change change how state query valid =
-    let outer = both-true (has_statement change) (change_is_valid change && (query_is_valid query && has_few_items query)) valid in
-    let inner = both-true (change_is_valid change) (query_is_valid query && has_few_items query) outer.1 in
-    (outer.0, (inner.0, both-true (query_is_valid query) (has_few_items query) inner.1))
+    let outer = and_parts (has_statement change) (change_is_valid change && (query_is_valid query && has_few_items query)) valid in
+    let inner = and_parts (change_is_valid change) (query_is_valid query && has_few_items query) outer.1 in
+    (outer.0, (inner.0, and_parts (query_is_valid query) (has_few_items query) inner.1))
 
 pub refused-text : (answers : y.Question → Answered) (reading : Result y.Question Fault) (refusal : Refusal) → refusal_in reading ≡ Some refusal
     → Refused refusal ≡ answered answers reading

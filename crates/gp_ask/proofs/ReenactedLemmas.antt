@@ -25,12 +25,12 @@ same-order rows others moved =
     sorted_rows_unique others (sorted_by row_cmp rows) (IsPermutation-trans others rows (sorted_by row_cmp rows) (IsPermutation-sym rows others moved) (rows_permuted rows))
     (rows_sorted rows)
 
-pub in-order : {X M : Type 0} (view : X → List (List Cell)) (found : X) (due : Result (List (Element M)) Refusal) → Reenacts view (Ok found) due
-    → Rows (sorted_by row_cmp (view found)) ≡ of_elements due
+pub in-order : {X M : Type 0} (view : X → List (List Cell)) (found : X) (expected : Result (List (Element M)) Refusal) → Reenacts view (Ok found) expected
+    → Rows (sorted_by row_cmp (view found)) ≡ of_elements expected
 in-order view found (Ok elements) moved = ap Rows (same-order (view found) (cells_of elements) moved)
 in-order view found (Err refusal) none = absurd none
 
-pub refused : {X M : Type 0} (view : X → List (List Cell)) (refusal : Refusal) (due : Result (List (Element M)) Refusal) → Reenacts view (Err (stop.Refused refusal)) due
-    → Refused refusal ≡ of_elements due
+pub refused : {X M : Type 0} (view : X → List (List Cell)) (refusal : Refusal) (expected : Result (List (Element M)) Refusal) → Reenacts view (Err (stop.Refused refusal)) expected
+    → Refused refusal ≡ of_elements expected
 refused view refusal (Ok elements) none = absurd none
-refused view refusal (Err due) same = ap Refused same
+refused view refusal (Err expected) same = ap Refused same

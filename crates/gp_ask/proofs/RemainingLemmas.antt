@@ -1,7 +1,6 @@
 -- The rows that are counted, listed as often, are the rows that remain.
 use Rattle.std.proofs.Common.{◌≡◌, ◌≤◌, ◌<◌, ℕ, Bool, true, false, cond, nat_lt, List, [], ◌∷◌, length, map, min, Option, Some, None, Result, Ok, Err, refl, sym, ap, ◌∙◌, arith}
 use Rattle.std.specs.Prelude.{◌||◌}
-use Rattle.std.proofs.lemmas.Bool.Decides.{nat_tests}
 use Rattle.std.proofs.lemmas.List.{length-map}
 use Rattle.gp_base.specs.declared.cell.Cell.{Cell}
 use Rattle.gp_base.specs.declared.refusal.Refusal.{Refusal}
@@ -15,12 +14,13 @@ use Rattle.gp_algebra.specs.Answers.{Element, answer, cells_of, pairs_of}
 use Rattle.gp_algebra.specs.Statements.{Select}
 use Rattle.gp_grammar.specs.Syntax as y
 use Rattle.gp_history.specs.Values.{Gives}
-use Rattle.gp_log.specs.Limits.{limits}
+use Rattle.gp_log.specs.Parameters.{parameters}
 use Rattle.gp_machine.specs.Questions.{given}
 use Rattle.gp_reenact.specs.declared.error.ReenactStop.TheVariants as stop
 use Rattle.gp_semiring.specs.Elements.{greatest, no_token, number_up_to}
 use Rattle.gp_semiring.specs.NumberLaws.{count_laws}
-use Rattle.gp_semiring.specs.Sums.{Each, plus_up_to, summed, times_up_to}
+use Rattle.gp_semiring.specs.Sums.{plus_up_to, summed, times_up_to}
+use Rattle.gp_semiring.specs.SumForms.{Each}
 use Rattle.gp_valuation.specs.declared.rules.Rule.{Rule}
 use Rattle.gp_valuation.specs.Values.{monomial_value, token_value}
 use Rattle.gp_values.specs.DistinctRows.{distinct_rows}
@@ -36,21 +36,16 @@ use Rattle.gp_ask.specs.Asking.{of_elements}
 use Rattle.gp_ask.specs.Counted.{counted_answer}
 use Rattle.gp_ask.specs.Remaining.{is_left_out, pattern_of, remaining, remaining_answer}
 use Rattle.gp_ask.proofs.CountedLemmas.{EachCounts}
+use Rattle.std.proofs.lemmas.Bool.{ltb-false, ltb-true}
 
 -- ---- tests
-
-above : (m n : ℕ) → nat_lt m n ≡ true → m < n
-above m n e = grind (arith, nat_tests)
-
-within : (m n : ℕ) → nat_lt m n ≡ false → n ≤ m
-within m n e = grind (arith, nat_tests)
 
 -- numbers that are the same up to a bound are above the same number below it
 tests_agree : (most bound a b : ℕ) → most < bound → min a bound ≡ min b bound → (x y : Bool) → nat_lt most a ≡ x → nat_lt most b ≡ y → x ≡ y
 tests_agree most bound a b below same true true e f = refl
 tests_agree most bound a b below same false false e f = refl
-tests_agree most bound a b below same true false e f = absurd (let more = above most a e in let less = within most b f in omega (arith, below, same, more, less))
-tests_agree most bound a b below same false true e f = absurd (let more = above most b f in let less = within most a e in omega (arith, below, same, more, less))
+tests_agree most bound a b below same true false e f = absurd (let more = ltb-true most a e in let less = ltb-false most b f in omega (arith, below, same, more, less))
+tests_agree most bound a b below same false true e f = absurd (let more = ltb-true most b f in let less = ltb-false most a e in omega (arith, below, same, more, less))
 
 -- ---- rules
 
@@ -101,46 +96,46 @@ module _ (matches : Token → Bool) (select : Select) (db : Database Monomial) (
       counted_up_to row_cmp row_cmp_total exact_rows greatest has (pairs_of all) ∙ ap (λ (rows : List (List Cell)). min (length rows) greatest) (answer_kept matches select db)
       ∙ ap (λ n. min n greatest) (length-map (remaining has select db) (λ (element : Element Monomial). element.cells))
 
-  small : limits.answer < greatest
+  small : parameters.answer < greatest
   small = omega arith
 
-  listed : number_of sums ≤ limits.answer → repeated sums ≡ sorted_by row_cmp (cells_of (remaining has select db))
+  listed : number_of sums ≤ parameters.answer → repeated sums ≡ sorted_by row_cmp (cells_of (remaining has select db))
   listed few = listed_again row_cmp row_cmp_total exact_rows greatest has (pairs_of all) (let below = small in omega (arith, few, below)) ∙ ap (sorted_by row_cmp) (answer_kept matches select db)
 
   -- the answer, by whether there are too many distinct rows, and too many rows that remain
   abbrev answered : Bool → Bool → Answered
   answered distinct rest = of_elements (given (cond (distinct || rest) (Some E27) None) (remaining has select db))
 
-  rest_is : (many : Bool) → nat_lt limits.answer (number_of sums) ≡ many → nat_lt limits.answer (length (remaining has select db)) ≡ many
-  rest_is many e = by (nat_lt limits.answer (length (remaining has select db))) refl
+  rest_is : (many : Bool) → nat_lt parameters.answer (number_of sums) ≡ many → nat_lt parameters.answer (length (remaining has select db)) ≡ many
+  rest_is many e = by (nat_lt parameters.answer (length (remaining has select db))) refl
     where
-      by : (other : Bool) → nat_lt limits.answer (length (remaining has select db)) ≡ other → nat_lt limits.answer (length (remaining has select db)) ≡ many
-      by other f = f ∙ sym (tests_agree limits.answer greatest (number_of sums) (length (remaining has select db)) small same_number many other e f)
+      by : (other : Bool) → nat_lt parameters.answer (length (remaining has select db)) ≡ other → nat_lt parameters.answer (length (remaining has select db)) ≡ many
+      by other f = f ∙ sym (tests_agree parameters.answer greatest (number_of sums) (length (remaining has select db)) small same_number many other e f)
 
-  sums_answered : (many : Bool) → nat_lt limits.answer (number_of sums) ≡ many → counted_answer sums ≡ answered false many
+  sums_answered : (many : Bool) → nat_lt parameters.answer (number_of sums) ≡ many → counted_answer sums ≡ answered false many
   sums_answered true e = ap (λ b. cond b (Refused E27) (Rows (repeated sums))) e
-  sums_answered false e = ap (λ b. cond b (Refused E27) (Rows (repeated sums))) e ∙ ap Rows (listed (within limits.answer (number_of sums) e))
+  sums_answered false e = ap (λ b. cond b (Refused E27) (Rows (repeated sums))) e ∙ ap Rows (listed (ltb-false parameters.answer (number_of sums) e))
 
-  counted_rest : nat_lt limits.answer (length (distinct_rows (cells_of all))) ≡ false → counted_answer sums ≡ of_elements (remaining_answer has select db None)
+  counted_rest : nat_lt parameters.answer (length (distinct_rows (cells_of all))) ≡ false → counted_answer sums ≡ of_elements (remaining_answer has select db None)
   counted_rest few =
-      sums_answered (nat_lt limits.answer (number_of sums)) refl
-      ∙ sym (λ i. answered (few i) (rest_is (nat_lt limits.answer (number_of sums)) refl i))
+      sums_answered (nat_lt parameters.answer (number_of sums)) refl
+      ∙ sym (λ i. answered (few i) (rest_is (nat_lt parameters.answer (number_of sums)) refl i))
 
-  abbrev pub due : Option Refusal → Result (List (List Cell × ℕ)) Refusal
-  due refusal = limited limits.answer values (given refusal all)
+  abbrev pub expected : Option Refusal → Result (List (List Cell × ℕ)) Refusal
+  expected refusal = limited parameters.answer values (given refusal all)
 
-  pub found_is : {X : Type 0} (view : X → List (List Cell × ℕ)) (found : X) (refusal : Option Refusal) → Gives view (Ok found) (due refusal) → counted_answer (view found) ≡ of_elements (remaining_answer has select db refusal)
+  pub found_is : {X : Type 0} (view : X → List (List Cell × ℕ)) (found : X) (refusal : Option Refusal) → Gives view (Ok found) (expected refusal) → counted_answer (view found) ≡ of_elements (remaining_answer has select db refusal)
   found_is view found (Some refusal) gives = absurd gives
-  found_is view found None gives = by (nat_lt limits.answer (length (values all))) refl gives
+  found_is view found None gives = by (nat_lt parameters.answer (length (values all))) refl gives
     where
-      by : (many : Bool) → nat_lt limits.answer (length (values all)) ≡ many → Gives view (Ok found) (given (cond many (Some E27) None) (values all)) → counted_answer (view found) ≡ of_elements (remaining_answer has select db None)
+      by : (many : Bool) → nat_lt parameters.answer (length (values all)) ≡ many → Gives view (Ok found) (given (cond many (Some E27) None) (values all)) → counted_answer (view found) ≡ of_elements (remaining_answer has select db None)
       by true e none = absurd none
-      by false e same = ap counted_answer (same ∙ values_are) ∙ counted_rest (ap (nat_lt limits.answer) (sym as_many) ∙ e)
+      by false e same = ap counted_answer (same ∙ values_are) ∙ counted_rest (ap (nat_lt parameters.answer) (sym as_many) ∙ e)
 
-  pub refused_is : {X : Type 0} (view : X → List (List Cell × ℕ)) (own : Refusal) (refusal : Option Refusal) → Gives view (Err (stop.Refused own)) (due refusal) → Refused own ≡ of_elements (remaining_answer has select db refusal)
+  pub refused_is : {X : Type 0} (view : X → List (List Cell × ℕ)) (own : Refusal) (refusal : Option Refusal) → Gives view (Err (stop.Refused own)) (expected refusal) → Refused own ≡ of_elements (remaining_answer has select db refusal)
   refused_is view own (Some refusal) same = ap Refused same
-  refused_is view own None gives = by (nat_lt limits.answer (length (values all))) refl gives
+  refused_is view own None gives = by (nat_lt parameters.answer (length (values all))) refl gives
     where
-      by : (many : Bool) → nat_lt limits.answer (length (values all)) ≡ many → Gives view (Err (stop.Refused own)) (given (cond many (Some E27) None) (values all)) → Refused own ≡ of_elements (remaining_answer has select db None)
+      by : (many : Bool) → nat_lt parameters.answer (length (values all)) ≡ many → Gives view (Err (stop.Refused own)) (given (cond many (Some E27) None) (values all)) → Refused own ≡ of_elements (remaining_answer has select db None)
       by false e none = absurd none
-      by true e same = ap Refused same ∙ sym (ap (λ b. answered b (nat_lt limits.answer (length (remaining has select db)))) (ap (nat_lt limits.answer) (sym as_many) ∙ e))
+      by true e same = ap Refused same ∙ sym (ap (λ b. answered b (nat_lt parameters.answer (length (remaining has select db)))) (ap (nat_lt parameters.answer) (sym as_many) ∙ e))

@@ -6,7 +6,8 @@ use Rattle.std.specs.Option.{option_or}
 use Rattle.std.proofs.lemmas.Bool.{and_parts, ltb-true}
 use Rattle.gp_base.specs.Annotated.{Annotated, Database, Environment, plain}
 use Rattle.gp_algebra.specs.Effects.{Written, wrote, written_in}
-use Rattle.gp_algebra.specs.Fitting.{branches_fit, cond_fits, is_countable, is_there, row_fits, set_fits, statement_fits, width_of}
+use Rattle.gp_algebra.specs.Fitting.{branches_fit, cond_fits, is_countable, is_there, row_fits, set_fits, statement_fits}
+use Rattle.gp_algebra.specs.Statements.{width_of}
 use Rattle.gp_algebra.specs.Statements.{Statement, insert, insert_select, update, delete, read}
 use Rattle.gp_machine.specs.Bases.{Based, is_new, with_base}
 use Rattle.gp_machine.specs.Conflicts.{Conflict, IsBased, IsLeastConflict, least_conflict}
@@ -15,12 +16,13 @@ use Rattle.gp_machine.specs.Points.{RunStop, run_stop}
 use Rattle.gp_machine.specs.Reading.{wrote_by}
 use Rattle.gp_machine.specs.Replaying.{Loses, ReplayStop, first_stop, replay_stop, replayed, rerun, run_written, version_stop}
 use Rattle.gp_machine.specs.Runs.{run_before}
-use Rattle.gp_machine.proofs.Distinct.{each_all, each_append, each_filter, each_map}
-use Rattle.gp_log.specs.Limits.{limits}
+use Rattle.gp_machine.proofs.Distinct.{each_all, each_filter}
+use Rattle.gp_log.specs.Parameters.{parameters}
 use Rattle.gp_log.specs.LogFacts.{tables_in}
 use Rattle.gp_log.specs.LogFitting.{statements_fit}
 use Rattle.gp_whatif.specs.Replays.{stop_upto}
-use Rattle.gp_whatif.proofs.FittingLogs.{statement_at_fits}
+use Rattle.gp_log.proofs.FittingLogs.{statement_at_fits}
+use Rattle.gp_base.proofs.SmallLemmas.{each_append, each_map}
 
 -- the versions and the table of a commit that is lost
 pub record IsLost (entries : List Entry) (n version : ℕ) (conflict : Conflict) : Type 0 where
@@ -118,7 +120,7 @@ module _ (entries : List Entry) (fits : statements_fit (tables_in entries) entri
     lost_is (suc u) version conflict is =
         let t = committer_of (suc u) entries in
         let before = replayed plain (log_of entries) (length (tables_in entries)) u in
-        lost_next u version conflict (stop_upto entries u) (version_stop plain (log_of entries) limits (length (tables_in entries)) u) (λ e. wider u version conflict (lost_is u version conflict e))
-        (lost_here u version conflict (run_stop plain limits (log_of entries) t (statement_count t entries) before.committed)
+        lost_next u version conflict (stop_upto entries u) (version_stop plain (log_of entries) parameters (length (tables_in entries)) u) (λ e. wider u version conflict (lost_is u version conflict e))
+        (lost_here u version conflict (run_stop plain parameters (log_of entries) t (statement_count t entries) before.committed)
         (least_conflict before.written u (rerun plain (log_of entries) t before.committed).written) _ refl)
         is

@@ -11,14 +11,14 @@ use Rattle.gp_machine.specs.Conflicts.{Conflict}
 use Rattle.gp_machine.specs.Event as e
 use Rattle.gp_machine.specs.Event.{Line, after, conflict_of, count_refusal, creation_refusal, is_full, line_event, refusal_of, start_now}
 use Rattle.gp_machine.specs.Entries.{statements_in, transactions_in}
-use Rattle.gp_machine.specs.Limits.{Limits}
+use Rattle.gp_machine.specs.Parameters.{Parameters}
 use Rattle.gp_machine.specs.State.{Active, State}
 use Rattle.std.proofs.Common.{nat_le, suc}
 
 abbrev HasTables : {M : Type 0} → State M → Type 0
 HasTables state = tables_in state.entries ≡ state.catalogue
 
-module _ {M : Type 0} (kind : Annotations M) (limits : Limits) (state : State M) (line session : ℕ) (same : HasTables state) where
+module _ {M : Type 0} (domain : Annotations M) (parameters : Parameters) (state : State M) (line session : ℕ) (same : HasTables state) where
   creating : (table : Table) (refusal : Option Refusal) → HasTables (e.creating state line session table refusal).0
   creating table None = ap (λ tables. tables ++ table ∷ []) same
   creating table (Some refusal) = same
@@ -32,32 +32,32 @@ module _ {M : Type 0} (kind : Annotations M) (limits : Limits) (state : State M)
   committing active None false = same
   committing active (Some conflict) full = same
 
-  ran : (active : Active M) (command : Command) (statement : Statement) (refusal : Option Refusal) → HasTables (e.ran kind state line session active command statement refusal).0
+  ran : (active : Active M) (command : Command) (statement : Statement) (refusal : Option Refusal) → HasTables (e.ran domain state line session active command statement refusal).0
   ran active command statement None = same
   ran active command statement (Some refusal) = same
 
   running : (active : Active M) (command : Command) (refusal : Option Refusal) (checked : Result Statement Refusal)
-      → HasTables (e.running kind state line session active command limits refusal checked).0
+      → HasTables (e.running domain state line session active command parameters refusal checked).0
   running active command None (Ok statement) =
-      ran active command statement (refusal_of kind limits state.catalogue active.transaction (suc active.statements) statement (start_now state active))
+      ran active command statement (refusal_of domain parameters state.catalogue active.transaction (suc active.statements) statement (start_now state active))
   running active command None (Err refusal) = same
   running active command (Some refusal) checked = same
 
-  answered : (active : Option (Active M)) (action : Action) → HasTables (e.answered kind limits state line session active action).0
-  answered None (Create table) = creating table (creation_refusal limits state.catalogue table)
-  answered None (Begin read_committed) = beginning read_committed (nat_le limits.transactions (transactions_in state.entries))
+  answered : (active : Option (Active M)) (action : Action) → HasTables (e.answered domain parameters state line session active action).0
+  answered None (Create table) = creating table (creation_refusal parameters state.catalogue table)
+  answered None (Begin read_committed) = beginning read_committed (nat_le parameters.transactions (transactions_in state.entries))
   answered None Commit = same
   answered None Rollback = same
   answered None (Run command) = same
   answered (Some active) (Create table) = same
   answered (Some active) (Begin read_committed) = same
-  answered (Some active) Commit = committing active (conflict_of state active) (is_full limits state active)
+  answered (Some active) Commit = committing active (conflict_of state active) (is_full parameters state active)
   answered (Some active) Rollback = same
   answered (Some active) (Run command) =
-      running active command (count_refusal limits active.statements (statements_in state.entries)) (limits.checked state.catalogue command)
+      running active command (count_refusal parameters active.statements (statements_in state.entries)) (parameters.checked state.catalogue command)
 
-pub tables-kept : {M : Type 0} (kind : Annotations M) (limits : Limits) (state : State M) (lines : List Line) → HasTables state → HasTables (after kind limits state lines)
-tables-kept kind limits state [] same = same
-tables-kept kind limits state (line ∷ lines) same =
-    tables-kept kind limits (line_event kind limits state line).0 lines
-    (answered kind limits state line.number line.session same (state.active line.session) (action_of line.command))
+pub tables-kept : {M : Type 0} (domain : Annotations M) (parameters : Parameters) (state : State M) (lines : List Line) → HasTables state → HasTables (after domain parameters state lines)
+tables-kept domain parameters state [] same = same
+tables-kept domain parameters state (line ∷ lines) same =
+    tables-kept domain parameters (line_event domain parameters state line).0 lines
+    (answered domain parameters state line.number line.session same (state.active line.session) (action_of line.command))

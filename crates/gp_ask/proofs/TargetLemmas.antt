@@ -10,8 +10,8 @@ use Rattle.gp_check.specs.Checking.{refused_by}
 use Rattle.gp_check.specs.Faults.{first_refusal, query_tables_fault, or_else, table_fault}
 use Rattle.gp_check.specs.Meaning.{number_of_table, statement_of}
 use Rattle.gp_check.proofs.FittingLemmas.{known, none_of}
-use Rattle.gp_log.specs.Limits.{limits}
-use Rattle.gp_machine.specs.Limits.{ChecksTargets, HasTarget}
+use Rattle.gp_log.specs.Parameters.{parameters}
+use Rattle.gp_machine.specs.CheckedTargets.{ChecksTargets, HasTarget}
 
 there : (tables : List Table) (name : Bytes) → table_fault tables name ≡ None → number_of_table tables name < length tables
 there tables name none = ltb-true (number_of_table tables name) (length tables) (known tables name none)
@@ -28,7 +28,7 @@ target tables (y.update table sets cond) none = there tables table (none_of (tab
 target tables (y.delete table cond) none = there tables table (none_of (table_fault tables table) _ none).0
 target tables (y.select query) none = tt
 
-pub targets-checked : ChecksTargets limits
+pub targets-checked : ChecksTargets parameters
 targets-checked tables command statement is = by (first_refusal tables command) refl is
   where
     by : (refusal : Option Refusal) → first_refusal tables command ≡ refusal → refused_by refusal (statement_of tables command) ≡ Ok statement → HasTarget (length tables) statement

@@ -13,7 +13,7 @@ use Rattle.gp_versions.specs.declared.span.Span.{Span}
 use Rattle.gp_algebra.specs.Statements.{Select}
 use Rattle.gp_history.specs.Agreement.{agree}
 use Rattle.gp_history.specs.Values.{Gives}
-use Rattle.gp_log.specs.Limits.{limits}
+use Rattle.gp_log.specs.Parameters.{parameters}
 use Rattle.gp_machine.specs.Entries.{Entry}
 use Rattle.gp_machine.specs.State.{State}
 use Rattle.gp_log.specs.LogFacts.{tables_in}
@@ -38,10 +38,10 @@ use Rattle.gp_ask.proofs.ProvenanceLemmas.{spans-are}
 module _ (semiring : Semiring) (rules : List Rule × Option ℕ) where
   abbrev pub found_in : List Entry → List Table → (ℕ → List Span) → y.State → Select → Result (List (List Cell × semiring.Element)) Refusal
   found_in entries catalogue spans point select =
-      value_answer limits semiring.plus_of semiring.zero_of semiring.one_of semiring.times_of (value_of semiring rules) agree catalogue entries spans point select
+      value_answer parameters semiring.plus_of semiring.zero_of semiring.one_of semiring.times_of (value_of semiring rules) agree catalogue entries spans point select
 
   abbrev pub held_in : State Monomial → y.State → Select → Result (List (List Cell × semiring.Element)) Refusal
-  held_in state point select = held_value_answer limits semiring.plus_of semiring.zero_of semiring.one_of semiring.times_of (value_of semiring rules) state point select
+  held_in state point select = held_value_answer parameters semiring.plus_of semiring.zero_of semiring.one_of semiring.times_of (value_of semiring rules) state point select
 
 abbrev pub AreHeld : State Monomial → (ℕ → List Span) → SemiringName → Type 0
 AreHeld state spans name =
@@ -69,13 +69,13 @@ module _ (dump : code.Dump) (versions : List Versions) (same : versions ≡ dump
       (subst (λ (spans : ℕ → List Span). Gives view found (found_in semiring kept entries (tables_in entries) spans point select)) (spans-are dump versions same point select) gives)
 
 module _ {K X : Type 0} (text_of : K → List ℕ) (view : X → List (List Cell × K)) where
-  pub is-valued : (found : X) (due : Result (List (List Cell × K)) Refusal) → Gives view (Ok found) due → Values (map (valued text_of) (view found)) ≡ with_values text_of due
+  pub is-valued : (found : X) (expected : Result (List (List Cell × K)) Refusal) → Gives view (Ok found) expected → Values (map (valued text_of) (view found)) ≡ with_values text_of expected
   is-valued found (Ok rows) same = ap (λ (own : List (List Cell × K)). Values (map (valued text_of) own)) same
   is-valued found (Err refusal) none = absurd none
 
-  pub is-unvalued : (refusal : Refusal) (due : Result (List (List Cell × K)) Refusal) → Gives view (Err (stop.Refused refusal)) due → Refused refusal ≡ with_values text_of due
+  pub is-unvalued : (refusal : Refusal) (expected : Result (List (List Cell × K)) Refusal) → Gives view (Err (stop.Refused refusal)) expected → Refused refusal ≡ with_values text_of expected
   is-unvalued refusal (Ok rows) none = absurd none
-  is-unvalued refusal (Err due) same = ap Refused same
+  is-unvalued refusal (Err expected) same = ap Refused same
 
 -- ---- elements
 

@@ -13,7 +13,7 @@ use Rattle.gp_machine.specs.Conflicts.{Conflict, IsLeastConflict, least_conflict
 use Rattle.gp_machine.specs.Entries.{Entry, log_of, versions_in}
 use Rattle.gp_machine.specs.Replaying.{Loses, ReplayStop, replayed_spans}
 use Rattle.gp_grammar.specs.Syntax as y
-use Rattle.gp_log.specs.Limits.{limits}
+use Rattle.gp_log.specs.Parameters.{parameters}
 use Rattle.gp_log.specs.LogFacts.{tables_in}
 use Rattle.gp_versions.specs.declared.span.Span.{Span}
 use Rattle.gp_versions.specs.Spans.{Versions}
@@ -30,10 +30,10 @@ use Rattle.gp_ask.proofs.FittingReplays.{replay_spans}
 use Rattle.gp_ask.proofs.StopLemmas.{IsLost, lost_is}
 
 -- the refusal of a query that was checked, after that of its state
-pub asked_refusal : (first : Option Refusal) (checked : Result Select Refusal) (own : Option Refusal) (due : Result Select Refusal) → asked first checked ≡ due
-    → option_or first (option_or (check_refusal checked) own) ≡ option_or (check_refusal due) own
-asked_refusal (Some refusal) checked own due is = ap (λ found. option_or (check_refusal found) own) is
-asked_refusal None checked own due is = ap (λ found. option_or (check_refusal found) own) is
+pub asked_refusal : (first : Option Refusal) (checked : Result Select Refusal) (own : Option Refusal) (expected : Result Select Refusal) → asked first checked ≡ expected
+    → option_or first (option_or (check_refusal checked) own) ≡ option_or (check_refusal expected) own
+asked_refusal (Some refusal) checked own expected is = ap (λ found. option_or (check_refusal found) own) is
+asked_refusal None checked own expected is = ap (λ found. option_or (check_refusal found) own) is
 
 module _ (entries : List Entry) (is : IsReplayable entries) (version other table : ℕ) (id : Identity)
     (stops : stop_upto entries (versions_in entries) ≡ Some (Loses version (record { pair = record { table = table; identity = id }; version = other })))
@@ -66,12 +66,12 @@ module _ (entries : List Entry) (is : IsReplayable entries) (versions : List Ver
 
 -- ---- by the changed log
 
-pub changed_is : (entries : List Entry) (change : y.LogChange) (how : y.How) (point : y.State) (query : y.Query) (found : Result (List Entry) Refusal) → changed limits entries change ≡ found
+pub changed_is : (entries : List Entry) (change : y.LogChange) (how : y.How) (point : y.State) (query : y.Query) (found : Result (List Entry) Refusal) → changed parameters entries change ≡ found
     → what_if_answer entries change how point query ≡ changed_answer (λ own. ask_to (replayed_dump own)) found how point query
 changed_is entries change how point query found is = ap (λ (log : Result (List Entry) Refusal). changed_answer (λ own. ask_to (replayed_dump own)) log how point query) is
 
 -- what is said of an explained query is said over the changed log
-pub explains_changed : (entries : List Entry) (change : y.LogChange) (how : y.How) (point : y.State) (query : y.Query) (new : List Entry) → changed limits entries change ≡ Ok new
+pub explains_changed : (entries : List Entry) (change : y.LogChange) (how : y.How) (point : y.State) (query : y.Query) (new : List Entry) → changed parameters entries change ≡ Ok new
     → ExplainsQuestion new (y.ask how point query) → ExplainsQuestion entries (y.what_if change how point query)
 explains_changed entries change (y.explain prov) point query new is says = subst (ExplainsChanged prov point query) (sym is) says
 explains_changed entries change y.rows point query new is says = tt
@@ -79,7 +79,7 @@ explains_changed entries change y.provenance point query new is says = tt
 explains_changed entries change (y.value name rules other) point query new is says = tt
 explains_changed entries change (y.without patterns) point query new is says = tt
 
-pub explains_refused : (entries : List Entry) (change : y.LogChange) (how : y.How) (point : y.State) (query : y.Query) (refusal : Refusal) → changed limits entries change ≡ Err refusal
+pub explains_refused : (entries : List Entry) (change : y.LogChange) (how : y.How) (point : y.State) (query : y.Query) (refusal : Refusal) → changed parameters entries change ≡ Err refusal
     → ExplainsQuestion entries (y.what_if change how point query)
 explains_refused entries change (y.explain prov) point query refusal is = subst (ExplainsChanged prov point query) (sym is) tt
 explains_refused entries change y.rows point query refusal is = tt

@@ -13,19 +13,19 @@ use Rattle.gp_algebra.specs.Answers.{Element, answer, cells_of, pairs_of}
 use Rattle.gp_algebra.specs.Statements.{Select}
 use Rattle.gp_check.specs.Checking.{checked_query}
 use Rattle.gp_history.specs.Agreement.{agree}
-use Rattle.gp_log.specs.Limits.{limits}
+use Rattle.gp_log.specs.Parameters.{parameters}
 use Rattle.gp_log.specs.LogFacts.{tables_in}
 use Rattle.gp_machine.specs.Annotating.{annotated_versions}
 use Rattle.gp_machine.specs.Points.{at_point}
 use Rattle.gp_machine.specs.Questions.{given, log_refusal}
-use Rattle.gp_semiring.specs.Sums.{Each}
+use Rattle.gp_semiring.specs.SumForms.{Each}
 use Rattle.gp_semiring.specs.Witnesses.{Sets, sets_text, witness_plus, witness_times}
 use Rattle.gp_semiring.specs.WitnessLaws.{token_witness_laws, witness_token_in}
-use Rattle.gp_semiring.proofs.Permutations.{unpermuted}
+use Rattle.gp_base.proofs.Permutations.{unpermuted}
 use Rattle.gp_values.specs.DistinctRows.{distinct_rows}
 use Rattle.gp_values.specs.ValueAnswers.{history_refusal, limited, values_of}
 use Rattle.gp_values.proofs.ValueLemmas.{values_moved}
-use Rattle.gp_witness.specs.Minimal.{HasCounts, itself}
+use Rattle.gp_witness.specs.CountForms.{HasCounts, itself}
 use Rattle.gp_witness.proofs.WitnessValueLemmas.{witness_value}
 use Rattle.gp_dump.specs.Dumps.{Dump}
 use Rattle.gp_ask.specs.Answers.{answer_to}
@@ -48,23 +48,23 @@ values_minimal : (elements : List (Element Monomial)) → EachCounts elements �
 values_minimal elements are =
     ap (λ (value : List Cell → Sets). map (λ row. (row, value row)) (distinct_rows (cells_of elements))) (λ i row. witness_value row (pairs_of elements) (each_pair elements are) i)
 
-limited_minimal : (refusal : Option Refusal) (elements : List (Element Monomial)) → EachCounts elements → limited limits.answer own_values (given refusal elements) ≡ limited limits.answer minimal_of (given refusal elements)
+limited_minimal : (refusal : Option Refusal) (elements : List (Element Monomial)) → EachCounts elements → limited parameters.answer own_values (given refusal elements) ≡ limited parameters.answer minimal_of (given refusal elements)
 limited_minimal (Some refusal) elements are = refl
-limited_minimal None elements are = ap (λ (rows : List (List Cell × Sets)). given (cond (nat_lt limits.answer (length rows)) (Some E27) None) rows) (values_minimal elements are)
+limited_minimal None elements are = ap (λ (rows : List (List Cell × Sets)). given (cond (nat_lt parameters.answer (length rows)) (Some E27) None) rows) (values_minimal elements are)
 
 -- they do not depend on the order of the elements
 pub minimal_moved : (refusal : Option Refusal) (elements others : List (Element Monomial)) → EachCounts elements → (refusal ≡ None → IsPermutation elements others)
-    → limited limits.answer minimal_of (given refusal elements) ≡ limited limits.answer minimal_of (given refusal others)
+    → limited parameters.answer minimal_of (given refusal elements) ≡ limited parameters.answer minimal_of (given refusal others)
 minimal_moved (Some refusal) elements others are moved = refl
 minimal_moved None elements others are moved =
-    ap (λ (rows : List (List Cell × Sets)). given (cond (nat_lt limits.answer (length rows)) (Some E27) None) rows)
+    ap (λ (rows : List (List Cell × Sets)). given (cond (nat_lt parameters.answer (length rows)) (Some E27) None) rows)
     (sym (values_minimal elements are) ∙ values_moved token_witness_laws itself witness_token_in elements others (moved refl)
     ∙ values_minimal others (each_moved (λ (element : Element Monomial). HasCounts element.annotation) elements others (unpermuted elements others (moved refl)) are))
 
 values_are_minimal : (dump : Dump) (point : y.State) (select : Select) → dump_values witness named.Witness ([], None) dump point select ≡ dump_minimal dump point select
 values_are_minimal dump point select =
     ap (with_values sets_text)
-    (limited_minimal (history_refusal monomials limits agree (tables_in dump.entries) dump.entries (spans_at dump.tables) point)
+    (limited_minimal (history_refusal monomials parameters agree (tables_in dump.entries) dump.entries (spans_at dump.tables) point)
     (answer monomials select (at_point monomials dump.entries point (annotated_versions monomials dump.entries (spans_at dump.tables))))
     (answers_count (tables_in dump.entries) dump.entries (spans_at dump.tables) point select))
 

@@ -6,10 +6,9 @@ use Rattle.gp_base.specs.Catalogs.{place_of}
 use Rattle.gp_base.specs.Tokens.{Monomial}
 use Rattle.gp_grammar.specs.Syntax as y
 use Rattle.gp_versions.specs.declared.span.Span.{Span}
-use Rattle.gp_machine.specs.Entries.{Entry}
+use Rattle.gp_machine.specs.Entries.{Entry, transaction_of}
 use Rattle.gp_machine.specs.Questions.{is_known}
 use Rattle.gp_machine.specs.State.{State}
-use Rattle.gp_log.specs.Discipline.{transaction_of}
 use Rattle.gp_log.specs.LogFacts.{tables_in}
 use Rattle.gp_dump.specs.Dumps.{Dump, dump_of}
 use Rattle.gp_dumpline.specs.Texts.{entry_text, span_text}

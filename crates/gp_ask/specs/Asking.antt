@@ -18,14 +18,13 @@ use Rattle.gp_machine.specs.Annotating.{annotated_versions}
 use Rattle.gp_machine.specs.Points.{at_point, held_at}
 use Rattle.gp_machine.specs.Questions.{annotated_answer, given, held_answer, log_refusal, rows_answer}
 use Rattle.gp_machine.specs.State.{State}
-use Rattle.gp_log.specs.Limits.{limits}
+use Rattle.gp_log.specs.Parameters.{parameters}
 use Rattle.gp_log.specs.LogFacts.{tables_in}
 use Rattle.gp_dump.specs.Dumps.{Dump, dump_of}
 use Rattle.gp_valuation.specs.declared.rules.Rule.{Rule}
 use Rattle.gp_semiring.specs.Witnesses.{sets_text}
 use Rattle.gp_values.specs.ValueAnswers.{all_elements, held_value_answer, history_refusal, limited, value_answer}
-use Rattle.gp_history.specs.Agreement.{agree}
-use Rattle.gp_history.specs.Provenance.{occurrence}
+use Rattle.gp_history.specs.Agreement.{agree, occurrence}
 use Rattle.gp_monomials.specs.Listing.{listed}
 use Rattle.gp_ask.specs.declared.answered.Answered.{Answered}
 use Rattle.gp_ask.specs.declared.answered.Answered.TheVariants.{Rows, Listed, Program, Refused}
@@ -67,22 +66,22 @@ query_answer answer refusal checked = checked_answer answer (asked refusal check
 
 -- rows are those of the dump's own versions; their provenance is that of the versions as the log's transactions annotate them
 abbrev pub dump_rows : Dump → y.State → Select → Answered
-dump_rows dump point select = of_elements (rows_answer limits dump.entries (spans_at dump.tables) point select)
+dump_rows dump point select = of_elements (rows_answer parameters dump.entries (spans_at dump.tables) point select)
 
 abbrev pub dump_provenance : Dump → y.State → Select → Answered
 dump_provenance dump point select =
-    with_monomials (annotated_answer monomials limits agree (tables_in dump.entries) dump.entries (spans_at dump.tables) point select)
+    with_monomials (annotated_answer monomials parameters agree (tables_in dump.entries) dump.entries (spans_at dump.tables) point select)
 
 -- the values of the rows, by the monomials of that provenance; distinct rows are counted
 abbrev pub dump_values : Semiring → SemiringName → List Rule × Option ℕ → Dump → y.State → Select → Answered
 dump_values semiring name rules dump point select =
     evaluated semiring rules name
-    (value_answer limits semiring.plus_of semiring.zero_of semiring.one_of semiring.times_of (value_of semiring rules) agree (tables_in dump.entries) dump.entries (spans_at dump.tables) point select)
+    (value_answer parameters semiring.plus_of semiring.zero_of semiring.one_of semiring.times_of (value_of semiring rules) agree (tables_in dump.entries) dump.entries (spans_at dump.tables) point select)
 
 -- the minimal witnesses of the rows, by the same monomials
 abbrev pub dump_minimal : Dump → y.State → Select → Answered
 dump_minimal dump point select =
-    with_values sets_text (limited limits.answer minimal_of (all_elements monomials limits agree (tables_in dump.entries) dump.entries (spans_at dump.tables) point select))
+    with_values sets_text (limited parameters.answer minimal_of (all_elements monomials parameters agree (tables_in dump.entries) dump.entries (spans_at dump.tables) point select))
 
 -- values by rules; those in witnesses without rules are the minimal witnesses
 abbrev pub dump_valued : SemiringName → List y.Rule → Option ℕ → Dump → y.State → Select → Answered
@@ -94,7 +93,7 @@ abbrev pub dump_remaining : List Rule → Dump → y.State → Select → Answer
 dump_remaining patterns dump point select =
     of_elements
     (remaining_answer (has_left_out patterns) select (at_point monomials dump.entries point (annotated_versions monomials dump.entries (spans_at dump.tables)))
-    (history_refusal monomials limits agree (tables_in dump.entries) dump.entries (spans_at dump.tables) point))
+    (history_refusal monomials parameters agree (tables_in dump.entries) dump.entries (spans_at dump.tables) point))
 
 -- an explained query is its program, whatever the rows are
 abbrev pub dump_program : Dump → Bool → y.State → Select → Answered
@@ -116,17 +115,17 @@ ask_to dump (y.without patterns) point query = dump_query dump (dump_remaining (
 -- the rows that a commit published, or that a transaction saw after one of its statements, their provenance, their values, and the rows that the query
 -- gives over the same database without some of its rows
 abbrev pub held_rows : State Monomial → y.State → Select → Answered
-held_rows state point select = of_elements (held_answer monomials limits state point select)
+held_rows state point select = of_elements (held_answer monomials parameters state point select)
 
 abbrev pub held_provenance : State Monomial → y.State → Select → Answered
-held_provenance state point select = with_monomials (held_answer monomials limits state point select)
+held_provenance state point select = with_monomials (held_answer monomials parameters state point select)
 
 abbrev pub held_values : Semiring → SemiringName → List Rule × Option ℕ → State Monomial → y.State → Select → Answered
 held_values semiring name rules state point select =
-    evaluated semiring rules name (held_value_answer limits semiring.plus_of semiring.zero_of semiring.one_of semiring.times_of (value_of semiring rules) state point select)
+    evaluated semiring rules name (held_value_answer parameters semiring.plus_of semiring.zero_of semiring.one_of semiring.times_of (value_of semiring rules) state point select)
 
 abbrev pub held_minimal : State Monomial → y.State → Select → Answered
-held_minimal state point select = with_values sets_text (limited limits.answer minimal_of (given (log_refusal state.entries point) (answer monomials select (held_at state point))))
+held_minimal state point select = with_values sets_text (limited parameters.answer minimal_of (given (log_refusal state.entries point) (answer monomials select (held_at state point))))
 
 abbrev pub held_valued : SemiringName → List y.Rule → Option ℕ → State Monomial → y.State → Select → Answered
 held_valued named.Witness [] None state point select = held_minimal state point select

@@ -18,7 +18,8 @@ use Rattle.gp_machine.specs.HistorySpans.{as_of}
 use Rattle.gp_machine.specs.Questions.{log_refusal}
 use Rattle.gp_travel.specs.Encoding.{encoded}
 use Rattle.gp_reenact.specs.Backends.{IsGivenOver}
-use Rattle.gp_reenact.specs.Reenacting.{merged_at, transaction_at}
+use Rattle.gp_reenact.specs.Reenacting.{transaction_at}
+use Rattle.gp_reenact.specs.Programs.{merged_at}
 use Rattle.gp_dump.specs.Dumps.{Dump}
 use Rattle.gp_ask.specs.declared.answered.Answered.{Answered}
 use Rattle.gp_ask.specs.declared.answered.Answered.TheVariants.{Rows, Refused}

@@ -1,21 +1,21 @@
 -- Part of the statement: what an explained question says, unless it is refused: its lines are the text of one program, in normal form, which on every
 -- database of past versions gives the answer of the query over the state. With a change of the log, it is that of the changed log.
-use Rattle.std.specs.Prelude.{ℕ, Bool, List, Result, Ok, Err}
+use Rattle.std.specs.Prelude.{Bool, List, Result, Ok, Err}
 use Rattle.std.specs.List.{AllByRecursion}
 use Rattle.gp_base.specs.declared.refusal.Refusal.{Refusal}
-use Rattle.gp_grammar.specs.LineReading.{Fault, question_of}
+use Rattle.gp_grammar.specs.LineReading.{Fault}
 use Rattle.gp_grammar.specs.Syntax as y
-use Rattle.gp_syntax.specs.Lines.{script_lines}
 use Rattle.gp_algebra.specs.Statements.{Select}
 use Rattle.gp_check.specs.Checking.{checked_query}
 use Rattle.gp_explain.specs.Explained.{Explains}
-use Rattle.gp_log.specs.Limits.{limits}
+use Rattle.gp_log.specs.Parameters.{parameters}
 use Rattle.gp_log.specs.LogFacts.{tables_in}
 use Rattle.gp_machine.specs.Entries.{Entry}
 use Rattle.gp_machine.specs.Questions.{log_refusal}
 use Rattle.gp_whatif.specs.Changed.{changed}
 use Rattle.gp_ask.specs.Asking.{asked}
 use Rattle.gp_ask.specs.Programs.{explained_text}
+use Rattle.gp_ask.specs.Questions.{ReadQuestion}
 
 module _ (entries : List Entry) where
   abbrev pub ExplainsQuery : Bool → y.State → Result Select Refusal → Type 0
@@ -33,7 +33,7 @@ ExplainsChanged prov point query (Err refusal) = Unit {0}
 module _ (entries : List Entry) where
   abbrev pub ExplainsQuestion : y.Question → Type 0
   ExplainsQuestion (y.ask (y.explain prov) point query) = ExplainsAsk entries prov point query
-  ExplainsQuestion (y.what_if change (y.explain prov) point query) = ExplainsChanged prov point query (changed limits entries change)
+  ExplainsQuestion (y.what_if change (y.explain prov) point query) = ExplainsChanged prov point query (changed parameters entries change)
   ExplainsQuestion question = Unit {0}
 
   -- a line that is read as this
@@ -42,5 +42,5 @@ module _ (entries : List Entry) where
   ExplainsRead (Err fault) = Unit {0}
 
   -- each line of a file of questions
-  abbrev pub ExplainsQuestions : List ℕ → Type 0
-  ExplainsQuestions questions = AllByRecursion (λ (line : ℕ × List ℕ). ExplainsRead (question_of line.1)) (script_lines questions)
+  abbrev pub ExplainsLines : List ReadQuestion → Type 0
+  ExplainsLines questions = AllByRecursion (λ (line : ReadQuestion). ExplainsRead line.1) questions

@@ -12,7 +12,7 @@ use Rattle.gp_grammar.specs.declared.semiring_name.SemiringName.{SemiringName}
 use Rattle.gp_grammar.specs.Syntax as y
 use Rattle.gp_algebra.specs.Statements.{Select}
 use Rattle.gp_check.specs.Checking.{checked_query}
-use Rattle.gp_log.specs.Limits.{limits}
+use Rattle.gp_log.specs.Parameters.{parameters}
 use Rattle.gp_log.specs.LogFacts.{tables_in}
 use Rattle.gp_machine.specs.Entries.{Entry, committer_of, log_of, versions_in}
 use Rattle.gp_machine.specs.Event.{name_at}
@@ -64,7 +64,7 @@ replay_refusal entries (made.Loses version conflict) =
 replay_refusal entries made.Fills = E14 limit.Versions
 
 abbrev pub remaking_refusal : List Entry → Option Refusal
-remaking_refusal entries = option_map (replay_refusal entries) (made.replay_stop plain (log_of entries) limits (length (tables_in entries)) (versions_in entries))
+remaking_refusal entries = option_map (replay_refusal entries) (made.replay_stop plain (log_of entries) parameters (length (tables_in entries)) (versions_in entries))
 
 -- ---- answers
 
@@ -81,8 +81,8 @@ changed_answer answers (Ok entries) how point query = remade_answer (answers ent
 
 -- from the log of a dump: the answer over the dump of the history that would have been
 abbrev pub what_if_answer : List Entry → y.LogChange → y.How → y.State → y.Query → Answered
-what_if_answer entries change how point query = changed_answer (λ own. ask_to (replayed_dump own)) (changed limits entries change) how point query
+what_if_answer entries change how point query = changed_answer (λ own. ask_to (replayed_dump own)) (changed parameters entries change) how point query
 
 -- what that history held: its rows, and their provenance
 abbrev pub what_if_held : List Entry → y.LogChange → y.How → y.State → y.Query → Answered
-what_if_held entries change how point query = changed_answer (λ own. held_ask (replayed_state monomials (tables_in own) own)) (changed limits entries change) how point query
+what_if_held entries change how point query = changed_answer (λ own. held_ask (replayed_state monomials (tables_in own) own)) (changed parameters entries change) how point query

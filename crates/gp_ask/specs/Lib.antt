@@ -9,6 +9,7 @@ pub mod Hypothetical
 pub mod Lines
 pub mod Operations
 pub mod Programs
+pub mod QuestionFiles
 pub mod Questions
 pub mod Remaining
 pub mod Replays

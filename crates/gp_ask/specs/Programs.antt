@@ -6,7 +6,7 @@ use Rattle.gp_explain.specs.ExplainedLines.{lines_of}
 use Rattle.gp_log.specs.LogFacts.{tables_in}
 use Rattle.gp_machine.specs.Entries.{Entry}
 use Rattle.gp_plantext.specs.Spelling.{program_text}
-use Rattle.gp_reenact.specs.Reenacting.{merged_at}
+use Rattle.gp_reenact.specs.Programs.{merged_at}
 
 -- the program is the merged one; with provenance it gives each row its monomial too
 abbrev pub explained_text : List Entry → Bool → y.State → Select → List ℕ

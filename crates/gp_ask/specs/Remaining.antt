@@ -11,7 +11,7 @@ use Rattle.gp_base.specs.Tokens.{Monomial}
 use Rattle.gp_grammar.specs.Syntax as y
 use Rattle.gp_algebra.specs.Answers.{Element, answer, cells_of}
 use Rattle.gp_algebra.specs.Statements.{Select}
-use Rattle.gp_log.specs.Limits.{limits}
+use Rattle.gp_log.specs.Parameters.{parameters}
 use Rattle.gp_machine.specs.Questions.{given}
 use Rattle.gp_valuation.specs.declared.rules.Rule.{Rule}
 use Rattle.gp_valuation.specs.Rules.{fits_rule}
@@ -42,7 +42,7 @@ module _ (has : Monomial → Bool) (select : Select) (db : Database Monomial) wh
 
   -- there are too many distinct rows before any is left out, or too many rows that remain
   abbrev pub are_too_many : Bool
-  are_too_many = nat_lt limits.answer (length (distinct_rows (cells_of (answer monomials select db)))) || nat_lt limits.answer (length remaining)
+  are_too_many = nat_lt parameters.answer (length (distinct_rows (cells_of (answer monomials select db)))) || nat_lt parameters.answer (length remaining)
 
   -- what remains, unless something is refused
   abbrev pub remaining_answer : Option Refusal → Result (List (Element Monomial)) Refusal

@@ -2,12 +2,11 @@
 use Rattle.std.specs.Prelude.{ℕ, List, [], ◌∷◌, length, map, codes}
 use Rattle.std.specs.Fmt.{decimal}
 use Rattle.std.specs.List.{concat, flat_map}
+use Rattle.gp_base.specs.Numbered.{newline, numbered, refused_text, rows_text}
 use Rattle.gp_base.specs.Texts.{row_text}
 use Rattle.gp_base.specs.Tokens.{monomial_text}
 use Rattle.gp_base.specs.Writing.{joined}
-use Rattle.gp_machine.specs.declared.reply.Reply.TheVariants as reply
 use Rattle.gp_monomials.specs.declared.listed.Listed as l
-use Rattle.gp_script.specs.Replies.{line_text, newline}
 use Rattle.gp_ask.specs.declared.answered.Answered.{Answered}
 use Rattle.gp_ask.specs.declared.answered.Valued.{Valued}
 use Rattle.gp_ask.specs.declared.answered.Answered.TheVariants.{Rows, Listed, Values, Log, Versions, Program, Refused}
@@ -31,10 +30,10 @@ value_text valued = concat (row_text valued.row ∷ codes " : " ∷ valued.text 
 
 -- rows and refusals are written as those of a script are: rows in row order, each as often as it occurs
 abbrev pub answer_text : ℕ → Answered → List ℕ
-answer_text number (Rows rows) = line_text number [] (reply.Rows rows)
+answer_text number (Rows rows) = numbered number (rows_text rows)
 answer_text number (Listed rows) = listed_text number (codes "rows") (map provenance_text rows)
 answer_text number (Values rows) = listed_text number (codes "rows") (map value_text rows)
 answer_text number (Log texts) = listed_text number (codes "log") texts
 answer_text number (Versions texts) = listed_text number (codes "versions") texts
 answer_text number (Program texts) = listed_text number (codes "program") texts
-answer_text number (Refused refusal) = line_text number [] (reply.Refused refusal)
+answer_text number (Refused refusal) = numbered number (refused_text refusal)

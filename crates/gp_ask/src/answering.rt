@@ -34,7 +34,7 @@ use std::alloc::Global;
 /// no element of the semiring (E28). PROVENANCE OF, VALUE IN and WITHOUT are then refused by the versions that they need, one after
 /// another: if the transaction that made a version does not run (E25, E26), or does not make the rows that the dump has in a table
 /// (E24). REENACT is refused also if a statement of the transaction leaves more rows in its table than a statement may (E25) or makes
-/// an identity of too many nodes (E26), and both if the answer has more than [`MAX_ANSWER_ROWS`](gp_exec::MAX_ANSWER_ROWS) rows (E27),
+/// an identity of too many nodes (E26), and both if the answer has more than [`MAX_ANSWER_ROWS`](gp_base::MAX_ANSWER_ROWS) rows (E27),
 /// each as often as it occurs, or once for VALUE IN, in this order. For WITHOUT these are the distinct rows before any is left out, or
 /// the rows that remain. EXPLAIN runs nothing, so none of these limits stops it. E24, E25 and E26 never
 /// come for the dump of a history.

@@ -2,18 +2,18 @@
 
 ghost use Rattle.std.specs.Prelude.{◌≡◌, ◌++◌, IfOk, OnErr, OnOk, codes, length, map};
 ghost use Rattle.std.specs.List.{concat, flat_map};
+ghost use Rattle.gp_base.specs.Numbered as n;
+ghost use Rattle.gp_base.specs.Numbered.{numbered};
 ghost use Rattle.gp_base.specs.Tokens.{monomial_text};
 ghost use Rattle.gp_ask.specs.Texts.{answer_text, listed_line, listed_text};
 ghost use Rattle.gp_ask.specs.Texts as t;
 
 use crate::answered::{Answered, Valued};
 use gp_base::{
-    Catalog, Monomial, NoMemory, Sequence, Text, TextFormat, append_all, text_of_pieces,
-    write_joined, write_monomial, write_row,
+    Monomial, NoMemory, Refusal, Row, Sequence, Text, TextFormat, append_all, refused_text,
+    rows_text, text_of_pieces, write_joined, write_monomial, write_row,
 };
-use gp_machine::Reply;
 use gp_monomials::Listed;
-use gp_script::write_reply;
 use std::alloc::Global;
 
 /// Appends the texts, each on a line of its own.
@@ -150,6 +150,37 @@ fn write_provenance(
     write_listed(alloc, number, b"rows", texts.as_slice(), out)
 }
 
+/// Appends an answer of rows. If memory runs out, `out` is unchanged.
+fn write_rows(
+    alloc: Global,
+    number: u32,
+    rows: Sequence<Row>,
+    out: &mut Vec<u8>,
+) -> Result<(), NoMemory>
+    ensures ok { OnOk result (out.new.items ≡ out.old.items ++ numbered number (n.rows_text rows)) }
+    ensures err { OnErr result (out.new.items ≡ out.old.items) }
+{
+    let text = rows_text(alloc, number, rows)?;
+    out.extend_from_slice(&text)?;
+    Ok(())
+}
+
+/// Appends a refusal. If memory runs out, `out` is unchanged.
+fn write_refused(
+    alloc: Global,
+    number: u32,
+    refusal: &Refusal,
+    out: &mut Vec<u8>,
+) -> Result<(), NoMemory>
+    ensures ok { OnOk result
+        (out.new.items ≡ out.old.items ++ numbered number (n.refused_text refusal.now)) }
+    ensures err { OnErr result (out.new.items ≡ out.old.items) }
+{
+    let text = refused_text(alloc, number, refusal)?;
+    out.extend_from_slice(&text)?;
+    Ok(())
+}
+
 /// Appends the answer to a question: the number of its line, a space and the answer's text. Rows are in row order, each as often as
 /// it occurs. If memory runs out, `out` is unchanged.
 pub fn write_answer(
@@ -161,9 +192,8 @@ pub fn write_answer(
     ensures ok { OnOk result (out.new.items ≡ out.old.items ++ answer_text number answered) }
     ensures err { OnErr result (out.new.items ≡ out.old.items) }
 {
-    let catalog = Catalog::new(alloc);
     match answered {
-        Answered::Rows(rows) => write_reply(alloc, number, &catalog, Reply::Rows(rows), out),
+        Answered::Rows(rows) => write_rows(alloc, number, rows, out),
         Answered::Listed(rows) => write_provenance(alloc, number, rows.as_slice(), out),
         Answered::Values(rows) => write_values(alloc, number, rows.as_slice(), out),
         Answered::Log(texts) => write_listed(alloc, number, b"log", texts.as_slice(), out),
@@ -177,8 +207,6 @@ pub fn write_answer(
         Answered::Program(texts) => {
             write_listed(alloc, number, b"program", texts.as_slice(), out)
         }
-        Answered::Refused(refusal) => {
-            write_reply(alloc, number, &catalog, Reply::Refused(refusal), out)
-        }
+        Answered::Refused(refusal) => write_refused(alloc, number, &refusal, out),
     }
 }

@@ -1,7 +1,7 @@
 //! Questions answered in a format.
 
 ghost use Rattle.std.specs.Prelude.{◌≡◌, ◌++◌, true, IfOk, OnErr, OnOk};
-ghost use Rattle.gp_grammar.specs.LineReading.{question_of};
+ghost use Rattle.gp_grammar.specs.Reading.{question_of};
 ghost use Rattle.gp_grammar.specs.Syntax as y;
 ghost use Rattle.gp_syntax.specs.Views.{how_view, question_view};
 ghost use Rattle.gp_check.specs.Valid.{tables_are_valid};

@@ -7,8 +7,8 @@ ghost use Rattle.gp_dump.specs.Dumps.{IsDump};
 ghost use Rattle.gp_dump.specs.Views.{dump_view};
 ghost use Rattle.gp_grammar.specs.Laws.{has_statement};
 ghost use Rattle.gp_grammar.specs.Syntax as y;
+ghost use Rattle.gp_log.specs.Contents.{entries, tables};
 ghost use Rattle.gp_log.specs.LogFacts.{tables_in};
-ghost use Rattle.gp_log.specs.Logs.{log_view};
 ghost use Rattle.gp_machine.specs.Entries.{committer_of, versions_in};
 ghost use Rattle.gp_machine.specs.Event.{name_at};
 ghost use Rattle.gp_syntax.specs.Views.{change_view, how_view, query_view, state_view};
@@ -46,7 +46,7 @@ fn asking_refusal(
     state: State,
     query: &Query,
 ) -> Result<Option<Refusal>, NoMemory>
-    ensures { IfOk result (λ refusal. refusal ≡ h.asking_refusal (log_view log.now.entries)
+    ensures { IfOk result (λ refusal. refusal ≡ h.asking_refusal (entries log.now)
         (how_view how.now) (state_view state) (query_view query.now)) }
 {
     match asked(alloc, log, state, query) {
@@ -59,8 +59,8 @@ fn asking_refusal(
 /// The transaction that made a version.
 fn maker(log: &Log, version: u32) -> u32
     requires first { 0 < version }
-    requires within { version ≤ versions_in (log_view log.now.entries) }
-    ensures { result ≡ committer_of version (log_view log.now.entries) }
+    requires within { version ≤ versions_in (entries log.now) }
+    ensures { result ≡ committer_of version (entries log.now) }
 {
     match log.committer(version) {
         Some(t) => t,
@@ -71,14 +71,12 @@ fn maker(log: &Log, version: u32) -> u32
 /// The refusal of a commit that would be lost to another one.
 fn lost(log: &Log, version: u32, other: u32, table: u32, id: RowId) -> Result<Refusal, NoMemory>
     requires first { 0 < version }
-    requires within { version ≤ versions_in (log_view log.now.entries) }
+    requires within { version ≤ versions_in (entries log.now) }
     requires other_first { 0 < other }
-    requires other_within { other ≤ versions_in (log_view log.now.entries) }
-    requires table { table < length (tables_in (log_view log.now.entries)) }
-    ensures { IfOk result (λ refusal. refusal
-        ≡ E31 (committer_of version (log_view log.now.entries))
-        (committer_of other (log_view log.now.entries))
-        (name_at table (tables_in (log_view log.now.entries))) id) }
+    requires other_within { other ≤ versions_in (entries log.now) }
+    requires table { table < length (tables log.now) }
+    ensures { IfOk result (λ refusal. refusal ≡ E31 (committer_of version (entries log.now))
+        (committer_of other (entries log.now)) (name_at table (tables log.now)) id) }
 {
     Ok(Refusal::E31 {
         t: maker(log, version),
@@ -90,11 +88,9 @@ fn lost(log: &Log, version: u32, other: u32, table: u32, id: RowId) -> Result<Re
 
 /// The refusal of the first commit that cannot be made again.
 fn remaking_refusal(log: &Log, stop: ReplayStop) -> Result<Refusal, NoMemory>
-    requires replayable { IsReplayable (log_view log.now.entries) }
-    requires stops { Stops stop
-        (stop_upto (log_view log.now.entries) (versions_in (log_view log.now.entries))) }
-    ensures { IfOk result
-        (λ refusal. h.remaking_refusal (log_view log.now.entries) ≡ Some refusal) }
+    requires replayable { IsReplayable (entries log.now) }
+    requires stops { Stops stop (stop_upto (entries log.now) (versions_in (entries log.now))) }
+    ensures { IfOk result (λ refusal. h.remaking_refusal (entries log.now) ≡ Some refusal) }
 {
     // A commit is lost to a version of the log, for a row that it wrote. The call does nothing.
     conflicts_are_least();
@@ -124,13 +120,12 @@ fn replayed_answer(
     state: State,
     query: &Query,
 ) -> Result<Answered, NoMemory>
-    requires replayable { IsReplayable (log_view log.entries) }
-    requires valid { tables_are_valid (tables_in (log_view log.entries)) ≡ true }
+    requires replayable { IsReplayable (entries log) }
+    requires valid { tables_are_valid (tables log) ≡ true }
     requires query { query_is_valid (query_view query.now) ≡ true }
     requires few { has_few_items (query_view query.now) ≡ true }
     ensures { IfOk result (λ answered. answered
-        ≡ h.unless_refused (h.remaking_refusal (log_view log.entries))
-        (ask_to (replayed_dump (log_view log.entries))
+        ≡ h.unless_refused (h.remaking_refusal (entries log)) (ask_to (replayed_dump (entries log))
         (how_view how.now) (state_view state) (query_view query.now))) }
 {
     // The order of the row versions changes no answer. The call does nothing.
@@ -153,15 +148,13 @@ fn remade_rows(
     state: State,
     query: &Query,
 ) -> Result<Answered, NoMemory>
-    requires replayable { IsReplayable (log_view log.entries) }
-    requires valid { tables_are_valid (tables_in (log_view log.entries)) ≡ true }
+    requires replayable { IsReplayable (entries log) }
+    requires valid { tables_are_valid (tables log) ≡ true }
     requires query { query_is_valid (query_view query.now) ≡ true }
     requires few { has_few_items (query_view query.now) ≡ true }
-    ensures { IfOk result (λ answered. answered
-        ≡ h.unless_refused (h.asking_refusal (log_view log.entries)
+    ensures { IfOk result (λ answered. answered ≡ h.unless_refused (h.asking_refusal (entries log)
         (how_view how.now) (state_view state) (query_view query.now))
-        (h.unless_refused (h.remaking_refusal (log_view log.entries))
-        (ask_to (replayed_dump (log_view log.entries))
+        (h.unless_refused (h.remaking_refusal (entries log)) (ask_to (replayed_dump (entries log))
         (how_view how.now) (state_view state) (query_view query.now)))) }
 {
     match asking_refusal(alloc, &log, how, state, query)? {
@@ -178,14 +171,14 @@ fn remade_answer(
     state: State,
     query: &Query,
 ) -> Result<Answered, NoMemory>
-    requires replayable { IsReplayable (log_view log.entries) }
-    requires valid { tables_are_valid (tables_in (log_view log.entries)) ≡ true }
+    requires replayable { IsReplayable (entries log) }
+    requires valid { tables_are_valid (tables log) ≡ true }
     requires query { query_is_valid (query_view query.now) ≡ true }
     requires few { has_few_items (query_view query.now) ≡ true }
     ensures answered { IfOk result (λ answered. answered
-        ≡ h.remade_answer (ask_to (replayed_dump (log_view log.entries))) (log_view log.entries)
+        ≡ h.remade_answer (ask_to (replayed_dump (entries log))) (entries log)
         (how_view how.now) (state_view state) (query_view query.now)) }
-    ensures explained { IfOk result (λ answered. ExplainsQuestion (log_view log.entries)
+    ensures explained { IfOk result (λ answered. ExplainsQuestion (entries log)
         (y.ask (how_view how.now) (state_view state) (query_view query.now))) }
 {
     match how {

@@ -5,10 +5,10 @@ ghost use Rattle.std.specs.List.Sorted.{IsPermutation};
 ghost use Rattle.gp_base.specs.Annotated.{monomials, plain};
 ghost use Rattle.gp_base.specs.Tokens.{Monomial};
 ghost use Rattle.gp_algebra.specs.Statements.{Select};
-ghost use Rattle.gp_grammar.specs.LineReading.{question_of};
+ghost use Rattle.gp_grammar.specs.Reading.{question_of};
 ghost use Rattle.gp_grammar.specs.Syntax as y;
 ghost use Rattle.gp_history.specs.Agreement.{agree};
-ghost use Rattle.gp_log.specs.Limits.{limits};
+ghost use Rattle.gp_log.specs.Parameters.{parameters};
 ghost use Rattle.gp_log.specs.LogFacts.{tables_in};
 ghost use Rattle.gp_machine.specs.Entries.{Entry, log_of, versions_in};
 ghost use Rattle.gp_machine.specs.Event.{Line, after};
@@ -53,13 +53,13 @@ pub fn read_questions_are_valid()
 /// it had in the history.
 fn rules_give_the_values_of_the_history<K: Semiring>()
     ensures { (rules : List Rule × Option ℕ) (state : State Monomial)
-        → IsUnstopped monomials limits state → (spans : ℕ → List Span)
+        → IsUnstopped monomials parameters state → (spans : ℕ → List Span)
         → ((table : ℕ) → IsPermutation (spans table) (state_spans state table))
         → (point : y.State) (query : Select)
-        → value_answer limits K.plus_of K.zero_of K.one_of K.times_of
+        → value_answer parameters K.plus_of K.zero_of K.one_of K.times_of
         (token_value K.one_of K.number_of K.itself_of rules) agree state.catalogue state.entries
         spans point query
-        ≡ held_value_answer limits K.plus_of K.zero_of K.one_of K.times_of
+        ≡ held_value_answer parameters K.plus_of K.zero_of K.one_of K.times_of
         (token_value K.one_of K.number_of K.itself_of rules) state point query }
 {
     values_are_those_of_the_history::<K>();
@@ -73,7 +73,7 @@ fn rules_give_the_values_of_the_history<K: Semiring>()
 /// none, and so its value in every semiring, its minimal witnesses, and whether it remains without the rows of some tokens. They never
 /// pass a limit, and never differ from the dump.
 pub fn unstopped_histories_answer_as_their_dumps()
-    ensures { (state : State Monomial) → IsUnstopped monomials limits state
+    ensures { (state : State Monomial) → IsUnstopped monomials parameters state
         → tables_in state.entries ≡ state.catalogue → (tables : List (List Span))
         → ((place : ℕ) → IsPermutation (spans_at tables place) (state_spans state place))
         → (how : y.How) (point : y.State) (query : y.Query)
@@ -98,8 +98,8 @@ pub fn unstopped_histories_answer_as_their_dumps()
 /// what the history held that would have been ([`changed_histories_answer_their_questions`]).
 pub fn histories_answer_as_their_dumps()
     ensures { (lines : List Line) (question : y.Question)
-        → answer_to (dump_of (after plain limits start lines)) question
-        ≡ held_to (after monomials limits start lines) question }
+        → answer_to (dump_of (after plain parameters start lines)) question
+        ≡ held_to (after monomials parameters start lines) question }
 {
     unstopped_histories_answer_as_their_dumps();
     changed_histories_answer_their_questions();
@@ -114,7 +114,7 @@ pub fn histories_answer_as_their_dumps()
 /// differs, and no run passes a limit.
 pub fn replays_answer_as_their_histories()
     ensures { (entries : List Entry) → CommitsInOrder (log_of entries)
-        → replay_stop plain (log_of entries) limits (length (tables_in entries))
+        → replay_stop plain (log_of entries) parameters (length (tables_in entries))
         (versions_in entries) ≡ None → (tables : List (List Span))
         → ((place : ℕ) → IsPermutation (spans_at tables place) (replayed_spans plain
         (log_of entries) (length (tables_in entries)) (versions_in entries) place))

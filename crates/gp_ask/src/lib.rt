@@ -12,7 +12,7 @@
 //! a line, [`answer_by`] a plain AS OF or REENACT by what a [`Backend`] gives, of which [`Plain`] is the executor, and
 //! [`write_answer`] writes the answer. [`answer_line_in`] and [`write_answer_in`] do the same in a [`Format`]: as text, or as CSV. In
 //! `specs/`, `Asking` and `Answers` say what the answer is, `Hypothetical` what the history answers that would have been, `Formats`
-//! which answers are exported as CSV, `Questions` which answers the lines of a file get, and `Texts` how they are written. `Values` has
+//! which answers are exported as CSV, `Questions` which answers the lines of a file get (`QuestionFiles` by its bytes), and `Texts` how they are written. `Values` has
 //! the semirings and the rules of VALUE IN, `Witnesses` the minimal witnesses of rows, and `Remaining` what remains for WITHOUT. Inside,
 //! `logs` answers LOG, `row_versions` VERSIONS, `asking` any question about a state, by `queries` AS OF and REENACT, by `provenance`
 //! PROVENANCE OF, by `values` VALUE IN, by `deletion` WITHOUT and by `programs` EXPLAIN, and `hypothetical` WHATIF.

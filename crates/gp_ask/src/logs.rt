@@ -2,8 +2,9 @@
 
 ghost use Rattle.std.specs.Prelude.{◌≡◌, ◌∷◌, ◌++◌, [], map, IfOk, OnOk};
 ghost use Rattle.gp_machine.specs.Questions.{is_known};
-ghost use Rattle.gp_log.specs.Discipline.{transaction_of};
-ghost use Rattle.gp_log.specs.Logs.{entry_view, log_view};
+ghost use Rattle.gp_log.specs.Contents.{entries};
+ghost use Rattle.gp_log.specs.Logs.{entry_view};
+ghost use Rattle.gp_machine.specs.Entries.{transaction_of};
 ghost use Rattle.gp_dumpline.specs.Texts.{entry_text};
 ghost use Rattle.gp_ask.specs.Answers.{entries_of, is_transaction};
 ghost use Rattle.gp_ask.specs.Answers as a;
@@ -17,7 +18,7 @@ use std::alloc::Global;
 
 /// Whether a transaction has this number.
 fn is_known(log: &Log, t: u64) -> bool
-    ensures { result ≡ is_known t (log_view log.now.entries) }
+    ensures { result ≡ is_known t (entries log.now) }
 {
     0 < t && t <= u64::from(log.transactions())
 }
@@ -58,8 +59,7 @@ fn push_line(
 
 /// The lines of the transaction in a dump, the oldest first.
 fn log_lines(alloc: Global, log: &Log, t: u64) -> Result<Sequence<Text>, NoMemory>
-    ensures { IfOk result
-        (λ lines. lines ≡ map entry_text (entries_of t (log_view log.now.entries))) }
+    ensures { IfOk result (λ lines. lines ≡ map entry_text (entries_of t (entries log.now))) }
 {
     let mut lines = Sequence::new(alloc);
     for place in 0..log.len() {
@@ -70,7 +70,7 @@ fn log_lines(alloc: Global, log: &Log, t: u64) -> Result<Sequence<Text>, NoMemor
 
 /// The log of a transaction. E20 if no transaction has the number.
 pub fn log_answer(alloc: Global, log: &Log, t: u64) -> Result<Answered, NoMemory>
-    ensures { IfOk result (λ answered. answered ≡ a.log_answer t (log_view log.now.entries)) }
+    ensures { IfOk result (λ answered. answered ≡ a.log_answer t (entries log.now)) }
 {
     if is_known(log, t) {
         Ok(Answered::Log(log_lines(alloc, log, t)?))

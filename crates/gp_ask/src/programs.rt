@@ -6,9 +6,8 @@ ghost use Rattle.gp_algebra.specs.Views.{select_view};
 ghost use Rattle.gp_check.specs.Valid.{query_is_valid, tables_are_valid};
 ghost use Rattle.gp_explain.specs.Explained.{Explains};
 ghost use Rattle.gp_grammar.specs.Syntax as y;
-ghost use Rattle.gp_log.specs.LogFacts.{tables_in};
+ghost use Rattle.gp_log.specs.Contents.{entries, tables};
 ghost use Rattle.gp_log.specs.LogFitting.{statements_fit};
-ghost use Rattle.gp_log.specs.Logs.{log_view};
 ghost use Rattle.gp_machine.specs.Questions as m;
 ghost use Rattle.gp_syntax.specs.Views.{query_view, state_view};
 ghost use Rattle.gp_ask.specs.Asking.{ask_to, dump_program};
@@ -35,17 +34,15 @@ fn selected_program(
     state: State,
     select: &Select,
 ) -> Result<Answered, NoMemory>
-    requires statements { statements_fit (tables_in (log_view log.now.entries))
-        (log_view log.now.entries) ≡ true }
-    requires known { m.log_refusal (log_view log.now.entries) (state_view state) ≡ None }
-    requires fits { select_fits (tables_in (log_view log.now.entries)) (select_view select.now)
-        ≡ true }
+    requires statements { statements_fit (tables log.now) (entries log.now) ≡ true }
+    requires known { m.log_refusal (entries log.now) (state_view state) ≡ None }
+    requires fits { select_fits (tables log.now) (select_view select.now) ≡ true }
     ensures answered { IfOk result (λ answered. answered
-        ≡ dump_program (dump_in (log_view log.now.entries) []) prov (state_view state)
+        ≡ dump_program (dump_in (entries log.now) []) prov (state_view state)
         (select_view select.now)) }
-    ensures explained { IfOk result (λ answered. Explains (log_view log.now.entries)
+    ensures explained { IfOk result (λ answered. Explains (entries log.now)
         (state_view state) (select_view select.now) prov (explained_text
-        (log_view log.now.entries) prov (state_view state) (select_view select.now))) }
+        (entries log.now) prov (state_view state) (select_view select.now))) }
 {
     match explain(alloc, log, state, select, prov) {
         Ok(text) => Ok(Answered::Program(explained_lines(alloc, &text)?)),
@@ -63,14 +60,13 @@ pub fn program_answer(
     state: State,
     query: &Query,
 ) -> Result<Answered, NoMemory>
-    requires statements { statements_fit (tables_in (log_view log.now.entries))
-        (log_view log.now.entries) ≡ true }
-    requires valid { tables_are_valid (tables_in (log_view log.now.entries)) ≡ true }
+    requires statements { statements_fit (tables log.now) (entries log.now) ≡ true }
+    requires valid { tables_are_valid (tables log.now) ≡ true }
     requires query { query_is_valid (query_view query.now) ≡ true }
     ensures answered { IfOk result
-        (λ answered. answered ≡ ask_to (dump_in (log_view log.now.entries) []) (y.explain prov)
+        (λ answered. answered ≡ ask_to (dump_in (entries log.now) []) (y.explain prov)
         (state_view state) (query_view query.now)) }
-    ensures explained { IfOk result (λ answered. ExplainsQuestion (log_view log.now.entries)
+    ensures explained { IfOk result (λ answered. ExplainsQuestion (entries log.now)
         (y.ask (y.explain prov) (state_view state) (query_view query.now))) }
 {
     match asked(alloc, log, state, query) {

@@ -9,10 +9,11 @@ ghost use Rattle.gp_algebra.specs.Views.{select_view};
 ghost use Rattle.gp_check.specs.Checking.{checked_query};
 ghost use Rattle.gp_check.specs.Valid.{query_is_valid, tables_are_valid};
 ghost use Rattle.gp_check.specs.Views.{Checks};
+ghost use Rattle.gp_log.specs.Contents.{entries, tables};
 ghost use Rattle.gp_log.specs.LogFacts.{tables_in};
-ghost use Rattle.gp_log.specs.Logs.{log_view};
 ghost use Rattle.gp_machine.specs.Questions as m;
-ghost use Rattle.gp_reenact.specs.Reenacting.{merged_at, transaction_at};
+ghost use Rattle.gp_reenact.specs.Reenacting.{transaction_at};
+ghost use Rattle.gp_reenact.specs.Programs.{merged_at};
 ghost use Rattle.gp_dump.specs.Views.{dump_view};
 ghost use Rattle.gp_ask.specs.declared.answered.Answered.TheVariants.{Rows};
 ghost use Rattle.gp_ask.specs.Answerable.{IsAnswerable};
@@ -35,14 +36,13 @@ use std::alloc::Global;
 /// types.
 pub fn asked(alloc: Global, log: &Log, state: State, query: &Query) -> Result<Select, CheckStop>
     ensures checked { Checks select_view result
-        (a.asked (m.log_refusal (log_view log.now.entries) (state_view state))
-        (checked_query (tables_in (log_view log.now.entries)) (query_view query.now))) }
+        (a.asked (m.log_refusal (entries log.now) (state_view state))
+        (checked_query (tables log.now) (query_view query.now))) }
     ensures known { IfOk result
-        (λ select. m.log_refusal (log_view log.now.entries) (state_view state) ≡ None) }
-    ensures fits { IfOk result (λ select.
-        tables_are_valid (tables_in (log_view log.now.entries)) ≡ true
+        (λ select. m.log_refusal (entries log.now) (state_view state) ≡ None) }
+    ensures fits { IfOk result (λ select. tables_are_valid (tables log.now) ≡ true
         → query_is_valid (query_view query.now) ≡ true
-        → select_fits (tables_in (log_view log.now.entries)) (select_view select) ≡ true) }
+        → select_fits (tables log.now) (select_view select) ≡ true) }
 {
     match log_refusal(log, state) {
         None => check_query(alloc, log.catalog(), query),

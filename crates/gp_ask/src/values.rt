@@ -9,7 +9,7 @@ ghost use Rattle.gp_dump.specs.Views.{dump_view};
 ghost use Rattle.gp_history.specs.Agreement.{agree};
 ghost use Rattle.gp_history.specs.Values.{HasFewItems};
 ghost use Rattle.gp_kexec.specs.Rows.{pair_view};
-ghost use Rattle.gp_log.specs.Limits.{limits};
+ghost use Rattle.gp_log.specs.Parameters.{parameters};
 ghost use Rattle.gp_log.specs.LogFacts.{tables_in};
 ghost use Rattle.gp_syntax.specs.Views.{how_view, query_view, rule_view, state_view};
 ghost use Rattle.gp_valuation.specs.Rules as r;
@@ -151,7 +151,7 @@ fn rows_by<K: Semiring>(
         ≡ true }
     requires few { HasFewItems (select_view select.now) }
     ensures { IfOk result (λ answered. answered ≡ v.with_values K.text_of
-        (a.value_answer limits K.plus_of K.zero_of K.one_of K.times_of
+        (a.value_answer parameters K.plus_of K.zero_of K.one_of K.times_of
         (token_value K.one_of K.number_of K.itself_of (rules.rules, rules.other)) agree
         (tables_in (dump_view dump.now).entries) (dump_view dump.now).entries
         (spans_at (dump_view dump.now).tables) (state_view state) (select_view select.now))) }

@@ -4,21 +4,26 @@ use Rattle.std.specs.List.{AllByRecursion, flat_map, list_any}
 use Rattle.std.specs.Result.{IsErrAnd}
 use Rattle.std.proofs.lemmas.List.{append-nil}
 use Rattle.gp_io.specs.declared.error.SinkStop.{SinkStop}
-use Rattle.gp_io.specs.Sink.{SinkState, appended, CountsFault, WritesPrefix}
+use Rattle.gp_io.specs.Sink.{SinkState, appended, WritesPrefix}
+use Rattle.gp_io.specs.SinkSteps.{CountsFault}
 use Rattle.gp_io.proofs.SinkLemmas.{appended-append, appended-nothing, WritesPrefix-all, WritesPrefix-longer, WritesPrefix-then}
 use Rattle.gp_syntax.specs.Lines.{script_lines}
-use Rattle.gp_grammar.specs.LineReading.{Fault, question_of}
+use Rattle.gp_grammar.specs.LineReading.{Fault}
+use Rattle.gp_grammar.specs.Reading.{question_of}
 use Rattle.gp_grammar.specs.Syntax as y
 use Rattle.gp_base.specs.declared.refusal.Refusal.TheVariants.{E30}
 use Rattle.gp_ask.specs.declared.answered.Answered.{Answered}
 use Rattle.gp_ask.specs.declared.answered.Answered.TheVariants.{Refused}
 use Rattle.gp_ask.specs.declared.format.Format.{Format}
 use Rattle.gp_ask.specs.declared.format.Format.TheVariants.{Text, Csv}
-use Rattle.gp_ask.specs.Explained.{ExplainsQuestions, ExplainsRead}
+use Rattle.gp_ask.specs.Explained.{ExplainsRead}
+use Rattle.gp_ask.specs.QuestionFiles.{ExplainsQuestions}
 use Rattle.gp_ask.specs.Formats.{ExplainsIn, answers_in, asks_rows, text_in}
 use Rattle.gp_machine.specs.Entries.{Entry}
-use Rattle.gp_ask.specs.Questions.{answered, answers_text, has_refused, is_refused, line_answer_in, line_answer_text}
+use Rattle.gp_ask.specs.Questions.{answered, is_refused}
+use Rattle.gp_ask.specs.QuestionFiles.{answers_text, has_refused, line_answer_in, line_answer_text}
 use Rattle.gprom_cli.specs.Steps.{WritesAnswers}
+use Rattle.gp_base.proofs.SmallLemmas.{or_nothing}
 
 abbrev pub is_line_refused : Format → (y.Question → Answered) → ℕ × List ℕ → Bool
 is_line_refused format answers line = is_refused (line_answer_in format answers line)
@@ -46,10 +51,6 @@ none-explained : (format : Format) (entries : List Entry) → ExplainsIn format 
 none-explained Text entries = tt
 none-explained Csv entries = tt
 
-or-nothing : (a : Bool) → (a || false) ≡ a
-or-nothing true = refl
-or-nothing false = refl
-
 or-again : (a b c : Bool) → ((a || b) || c) ≡ (a || (b || c))
 or-again true b c = refl
 or-again false b c = refl
@@ -72,7 +73,7 @@ module _ (format : Format) (answers : y.Question → Answered) (entries : List E
       let whole : way.text ≡ answers_text format answers questions = sym (append-nil way.text) ∙ way.all in
       let taken : new.taken ≡ appended old.taken (answers_text format answers questions) = way.taken ∙ ap (appended old.taken) whole in
       record {
-        refused = sym (or-nothing refused) ∙ way.refusals;
+        refused = sym (or_nothing refused) ∙ way.refusals;
         complete = taken;
         prefix = WritesPrefix-all (answers_text format answers questions) old.taken new.taken taken;
         faults = way.faults;

@@ -7,12 +7,12 @@ use Rattle.gp_io.proofs.ShelfLemmas.{Reports-differs}
 use Rattle.gp_script.specs.declared.script.TheConstants.{MAX_SCRIPT_LENGTH}
 use Rattle.gp_dump.specs.declared.dump.TheConstants.{MAX_DUMP_LENGTH}
 use Rattle.gp_dump.specs.Dumps.{Dump, WellFormed}
-use Rattle.gp_dump.specs.Rules.{Verdict, Holds, Fails, verdict_on, fault_in}
+use Rattle.gp_dump.specs.Verdicts.{Verdict, Holds, Fails, verdict_on, fault_in}
 use Rattle.gp_load.specs.Loading.{loaded_of}
 use Rattle.gp_ask.specs.declared.format.Format.{Format}
 use Rattle.gprom_cli.specs.declared.load.TheConstants.{MAX_SHEET_LENGTH}
 use Rattle.gprom_cli.specs.Args.{Command, Run, Ask, Generate, Load}
-use Rattle.gprom_cli.specs.Call.{Outcome, Usage, Absent, Unreadable, TooLong, NotReplaced, Replied, Damaged, Answered, Summarized, SheetRefused, Loaded, OutOfMemory, IsOutcomeOf, RunEnds, AskEnds, LoadEnds, script_dump, reading, asking, loading, outcome_by}
+use Rattle.gprom_cli.specs.Outcomes.{Outcome, Usage, Absent, Unreadable, TooLong, NotReplaced, Replied, Damaged, Answered, Summarized, SheetRefused, Loaded, OutOfMemory, IsOutcomeOf, RunEnds, AskEnds, LoadEnds, script_dump, reading, asking, loading, outcome_by}
 
 -- what holds of the files where they are known
 pub known : (holds : Option Files) (files : Files) (P : Files → Type 0) → holds ≡ Some files → IfSome holds P → P files

@@ -10,5 +10,6 @@ pub mod AnswersLemmas
 pub mod StepsLemmas
 pub mod EngineLemmas
 pub mod FilesLemmas
+pub mod OutcomeLemmas
 pub mod PromisesLemmas
 pub mod UnchangedLemmas

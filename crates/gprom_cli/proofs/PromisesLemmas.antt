@@ -2,30 +2,44 @@
 use Rattle.std.proofs.Common.{◌≡◌, ℕ, ◌≤◌, ◌⊎◌, inl, inr, Bool, List, length, Option, Some, None, Result, Ok, Err, refl, sym, ap, ◌∙◌, subst, ⊎_elim}
 use Rattle.std.specs.Prelude.{IsSomeAnd}
 use Rattle.gp_base.specs.Annotated.{monomials, plain}
+use Rattle.gp_base.specs.Tokens.{Monomial}
+use Rattle.gp_grammar.specs.Syntax as y
+use Rattle.gp_grammar.proofs.ReadOnce.{questions-once, scripts-once}
 use Rattle.gp_io.specs.Shelf.{ShelfState, Files, FilesRelate, OthersStay, Replaced, Reports, content}
 use Rattle.gp_io.specs.Sink.{SinkState, Increased}
-use Rattle.gp_script.specs.History.{final_state, replies_of, replies_text, has_refusal}
+use Rattle.gp_machine.specs.State.{State}
+use Rattle.gp_syntax.specs.Lines.{script_lines}
+use Rattle.gp_script.specs.History.{IsScript, ReadLine, has_refusal, last_state, replies_text, replies_to}
+use Rattle.gp_script.specs.Scripts.{final_state, lines_as_read, replies_of}
 use Rattle.gp_script.specs.declared.script.TheConstants.{MAX_SCRIPT_LENGTH}
 use Rattle.gp_dump.specs.declared.dump.TheConstants.{MAX_DUMP_LENGTH}
 use Rattle.gp_dump.specs.Dumps.{Dump, IsDump, WellFormed, dump_of}
 use Rattle.gp_dump.proofs.LawLemmas.{written-well-formed}
+use Rattle.gp_script.proofs.ReadHistory.{one-script, replies-read, state-read}
 use Rattle.gp_csv.specs.Faults.{Fault}
 use Rattle.gp_load.specs.Loading.{LoadsText, loaded_of}
 use Rattle.gp_ask.specs.declared.format.Format.{Format}
 use Rattle.gp_ask.specs.declared.format.Format.TheVariants.{Text}
 use Rattle.gp_ask.specs.Answers.{answer_to, held_to, remade_to}
-use Rattle.gp_ask.specs.Explained.{ExplainsQuestions}
+use Rattle.gp_ask.specs.declared.answered.Answered as reply
+use Rattle.gp_ask.specs.Explained.{ExplainsLines}
 use Rattle.gp_ask.specs.Hypothetical.{remaking_refusal, replayed_dump}
-use Rattle.gp_ask.specs.Questions.{answers_text, has_refused}
+use Rattle.gp_ask.specs.Questions.{AreQuestions, ReadQuestion, answer_texts, refuses_some}
+use Rattle.gp_ask.specs.QuestionFiles.{ExplainsQuestions, answers_text, has_refused, questions_as_read}
+use Rattle.gp_ask.proofs.ReadAnswers.{explains-read, one-file, refusals-read, texts-read}
 use Rattle.gprom_cli.specs.declared.load.TheConstants.{MAX_SHEET_LENGTH}
 use Rattle.gprom_cli.specs.declared.status.Status.{Status}
 use Rattle.gprom_cli.specs.declared.status.Status.TheVariants as exit
 use Rattle.gprom_cli.specs.Args.{Command, Run, Ask, Generate, Load}
 use Rattle.gprom_cli.specs.Status.{number_of, status_of}
-use Rattle.gprom_cli.specs.Call.{Call, Outcome, Usage, Absent, Unreadable, TooLong, NotReplaced, Replied, Damaged, Answered, Summarized, SheetRefused, Loaded, OutOfMemory, ExplainsOutcome, HasContent, HasOutcome, Writes, WritesOutcome, WritesOutput, IsAnswered, IsOrFails, IsOutcomeOf, RunEnds, AskEnds, LoadEnds, exit_status, answered_status, loading, outcome_by, script_dump}
-use Rattle.gprom_cli.specs.Summary.{summary_of, summary_text}
+use Rattle.gprom_cli.specs.declared.summary.Summary.{Summary}
+use Rattle.gprom_cli.specs.Call.{Call, ComesTo, HasContent, history_dump, WritesOutput, IsAnswered, IsOrFails, answered_status}
+use Rattle.gprom_cli.specs.Outcomes.{Outcome, Usage, Absent, Unreadable, TooLong, NotReplaced, Replied, Damaged, Answered, Summarized, SheetRefused, Loaded, OutOfMemory, ExplainsOutcome, HasOutcome, Writes, WritesOutcome, IsOutcomeOf, RunEnds, AskEnds, LoadEnds, exit_status, loading, outcome_by, script_dump}
+use Rattle.gprom_cli.specs.Summary.{IsSummary, summary_text}
+use Rattle.gprom_cli.specs.Summaries.{summary_of}
 use Rattle.gprom_cli.specs.Promises.{Promises, IsClean, LeavesOthers, LoadsSheet, NoFault, ReportsNothing, ReportsNotReplaced, ReportsOne, files_read, files_replaced}
-use Rattle.gprom_cli.proofs.WritesLemmas.{IsWritten, absent-is, expected-is, no-fault, nothing-of, status-of, unreadable-is, unwritten-is, usage-is}
+use Rattle.gprom_cli.proofs.WritesLemmas.{IsWritten, absent-is, expected-is, no-fault, nothing-of, status-of, unreadable-is, unwritten-is, usage-is, written-of}
+use Rattle.gprom_cli.proofs.OutcomeLemmas.{dump-read, one-summary, parted, stated}
 use Rattle.gprom_cli.proofs.FilesLemmas.{Determines, ReadsWellFormed, ask-outcome, known, load-outcome, outcome-determined, replaced-others, run-outcome, same-others}
 
 -- a status has one number
@@ -415,16 +429,111 @@ module _ (laws : DumpLaws) (call : Call) (has : HasOutcome call) where
   files-at (Some (Generate rounds)) ends = ap (λ (h : ShelfState). h.holds) ends.0
   files-at (Some (Load csv table script)) ends = load-files call.shelf call.shelf_after csv table script has.outcome ends
 
+  -- ---- by the lines that files are read as
+
+  determined : (files : Files) → call.shelf.holds ≡ Some files → NoFault call → (other : Call) → other.command ≡ call.command → other.shelf.holds ≡ Some files → NoFault other
+      → (text : List ℕ) (status : Status) → ComesTo other other.command text status → WritesOutput text status call.sink call.sink_after call.status
+  determined files is quiet other same there calm text status comes =
+      let part = parted other other.command text status comes in
+      let which : Determines part.outcome (outcome_by other.command files) = outcome-determined other.shelf other.shelf_after files there calm.0 calm.1 laws.reads other.command part.outcome part.is in
+      let sure : part.outcome ≡ outcome_by other.command files = ⊎_elim (λ e. e) (λ e. absurd (part.some e)) which in
+      let expected : outcome_by call.command files ≡ part.outcome = ap (λ (c : Option Command). outcome_by c files) (sym same) ∙ sym sure in
+      let writes : WritesOutcome call part.outcome = subst (λ (o : Outcome). WritesOutcome call o) expected (writes-as (outcome_by call.command files) (determined-at files is quiet)) in
+      subst (λ (s : Status). WritesOutput text s call.sink call.sink_after call.status) part.status_is
+      (subst (λ (x : List ℕ). WritesOutput x (exit_status part.outcome) call.sink call.sink_after call.status) part.text_is
+      (written-of part.outcome call.sink call.sink_after call.status part.some writes))
+
+  module _ (script : List ℕ) (lines : List ReadLine) (are : IsScript script lines) where
+    same-lines : lines ≡ lines_as_read script
+    same-lines = one-script script lines are
+
+    same-dump : history_dump lines ≡ script_dump script
+    same-dump = ap history_dump same-lines ∙ dump-read script
+
+    same-plain : last_state plain lines ≡ final_state plain script
+    same-plain = ap (last_state plain) same-lines ∙ state-read plain script
+
+    same-held : last_state monomials lines ≡ final_state monomials script
+    same-held = ap (last_state monomials) same-lines ∙ state-read monomials script
+
+    same-replies : replies_of script ≡ replies_to lines
+    same-replies = sym (ap replies_to same-lines ∙ replies-read script)
+
+    replied-lines : (files : Files) (name dump : List ℕ) → call.command ≡ Some (Run name dump) → call.shelf.holds ≡ Some files → NoFault call
+        → content name files ≡ Some script → length script ≤ MAX_SCRIPT_LENGTH → length (history_dump lines) ≤ MAX_DUMP_LENGTH
+        → WritesOutput (replies_text (replies_to lines)) (answered_status (has_refusal (replies_to lines))) call.sink call.sink_after call.status
+        × (FilesRelate (Replaced dump (history_dump lines)) call.shelf.holds call.shelf_after.holds
+        ⊎ ((call.status ≡ exit.OutOfMemory) × (call.shelf_after.holds ≡ call.shelf.holds)))
+    replied-lines files name dump run is quiet found short small =
+        let made = replied files name dump script run is quiet found short (subst (λ (text : List ℕ). length text ≤ MAX_DUMP_LENGTH) same-dump small) in (
+          writes-same (replies_text (replies_of script)) (replies_text (replies_to lines)) (has_refusal (replies_of script)) (has_refusal (replies_to lines)) (ap replies_text same-replies) (ap has_refusal same-replies) made.0,
+          subst (λ (text : List ℕ). FilesRelate (Replaced dump text) call.shelf.holds call.shelf_after.holds ⊎ ((call.status ≡ exit.OutOfMemory) × (call.shelf_after.holds ≡ call.shelf.holds))) (sym same-dump) made.1,
+        )
+
+    unchanged-lines : length script ≤ MAX_SCRIPT_LENGTH
+        → (remaking_refusal (last_state plain lines).entries ≡ None) × (replayed_dump (last_state plain lines).entries ≡ dump_of (last_state plain lines))
+    unchanged-lines short =
+        subst (λ (state : State (Unit {0})). (remaking_refusal state.entries ≡ None) × (replayed_dump state.entries ≡ dump_of state)) (sym same-plain) (laws.unchanged script short)
+
+  module _ (asked : List ℕ) (questions : List ReadQuestion) (are : AreQuestions asked questions) where
+    same-questions : questions_as_read asked ≡ questions
+    same-questions = sym (one-file asked questions are)
+
+    same-text : (format : Format) (answers : y.Question → reply.Answered) → answers_text format answers asked ≡ answer_texts format answers questions
+    same-text format answers = sym (texts-read format answers asked) ∙ ap (answer_texts format answers) same-questions
+
+    same-refusals : (format : Format) (answers : y.Question → reply.Answered) → has_refused format answers asked ≡ refuses_some format answers questions
+    same-refusals format answers = sym (refusals-read format answers asked) ∙ ap (refuses_some format answers) same-questions
+
+    held-lines : (files : Files) (format : Format) (dump name script : List ℕ) (lines : List ReadLine) → call.command ≡ Some (Ask format dump name)
+        → call.shelf.holds ≡ Some files → NoFault call → length script ≤ MAX_SCRIPT_LENGTH → IsScript script lines → content dump files ≡ Some (history_dump lines)
+        → length (history_dump lines) ≤ MAX_DUMP_LENGTH → content name files ≡ Some asked → length asked ≤ MAX_SCRIPT_LENGTH
+        → WritesOutput (answer_texts format (held_to (last_state monomials lines)) questions) (answered_status (refuses_some format (held_to (last_state monomials lines)) questions))
+        call.sink call.sink_after call.status
+    held-lines files format dump name script lines ask is quiet brief read found small there short =
+        let same = same-dump script lines read in
+        let state = final_state monomials script in
+        let other = last_state monomials lines in
+        let held_same : state ≡ other = sym (same-held script lines read) in
+        writes-same (answers_text format (held_to state) asked) (answer_texts format (held_to other) questions) (has_refused format (held_to state) asked) (refuses_some format (held_to other) questions)
+        (same-text format (held_to state) ∙ ap (λ (s : State Monomial). answer_texts format (held_to s) questions) held_same)
+        (same-refusals format (held_to state) ∙ ap (λ (s : State Monomial). refuses_some format (held_to s) questions) held_same)
+        (held files format dump name script asked ask is quiet brief (found ∙ ap (λ (text : List ℕ). Some text) same) (subst (λ (text : List ℕ). length text ≤ MAX_DUMP_LENGTH) same small) there short)
+
+    explained-lines : (files : Files) (dump name bytes : List ℕ) (contents : Dump) → call.command ≡ Some (Ask Text dump name) → call.shelf.holds ≡ Some files → NoFault call
+        → content dump files ≡ Some bytes → length bytes ≤ MAX_DUMP_LENGTH → WellFormed bytes contents
+        → content name files ≡ Some asked → length asked ≤ MAX_SCRIPT_LENGTH → IsAnswered call.status → ExplainsLines contents.entries questions
+    explained-lines files dump name bytes contents ask is quiet found small formed there short answered =
+        subst (ExplainsLines contents.entries) same-questions
+        (explains-read contents.entries asked (explained files dump name bytes asked contents ask is quiet found small formed there short answered))
+
+    hypothetical-lines : (files : Files) (format : Format) (dump name bytes : List ℕ) (contents : Dump) → call.command ≡ Some (Ask format dump name) → call.shelf.holds ≡ Some files → NoFault call
+        → content dump files ≡ Some bytes → length bytes ≤ MAX_DUMP_LENGTH → WellFormed bytes contents → content name files ≡ Some asked → length asked ≤ MAX_SCRIPT_LENGTH
+        → WritesOutput (answer_texts format (remade_to contents) questions) (answered_status (refuses_some format (remade_to contents) questions)) call.sink call.sink_after call.status
+    hypothetical-lines files format dump name bytes contents ask is quiet found small formed there short =
+        writes-same (answers_text format (remade_to contents) asked) (answer_texts format (remade_to contents) questions) (has_refused format (remade_to contents) asked)
+        (refuses_some format (remade_to contents) questions) (same-text format (remade_to contents)) (same-refusals format (remade_to contents))
+        (hypothetical files format dump name bytes asked contents ask is quiet found small formed there short)
+
+  summarized-as : (rounds : ℕ) (summary : Summary) → call.command ≡ Some (Generate rounds) → IsSummary rounds summary → WritesOutput (summary_text summary) exit.Done call.sink call.sink_after call.status
+  summarized-as rounds summary generate made =
+      subst (λ (s : Summary). WritesOutput (summary_text s) exit.Done call.sink call.sink_after call.status) (sym (one-summary rounds summary made)) (generated rounds generate)
+
   pub promised : Promises call
   promised = record {
-    outcome = has;
-    determined = λ files is quiet. writes-as (outcome_by call.command files) (determined-at files is quiet);
-    replied = replied;
-    held = held;
-    explained = explained;
-    hypothetical = hypothetical;
-    unchanged = laws.unchanged;
-    generated = generated;
+    outcome = stated call has;
+    determined = determined;
+    scripts = λ script. scripts-once (script_lines script);
+    questions = λ file. questions-once (script_lines file);
+    replied = λ files name dump script lines run is quiet found short are small. replied-lines script lines are files name dump run is quiet found short small;
+    held = λ files format dump name script asked lines questions ask is quiet brief read found small there short are.
+        held-lines asked questions are files format dump name script lines ask is quiet brief read found small there short;
+    explained = λ files dump name bytes asked contents questions ask is quiet found small formed there short are.
+        explained-lines asked questions are files dump name bytes contents ask is quiet found small formed there short;
+    hypothetical = λ files format dump name bytes asked contents questions ask is quiet found small formed there short are.
+        hypothetical-lines asked questions are files format dump name bytes contents ask is quiet found small formed there short;
+    unchanged = λ script lines short are. unchanged-lines script lines are short;
+    generated = summarized-as;
     loaded = loaded;
     usage = λ at. usage-at call.shelf call.shelf_after call.command has.outcome has.is (expected-at exit.Usage at usage-written);
     invalid = invalid;

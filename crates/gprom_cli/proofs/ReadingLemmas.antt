@@ -2,7 +2,8 @@
 use Rattle.std.proofs.Common.{◌≡◌, ℕ, ◌+◌, ◌<◌, ◌≤◌, List, length, take, Option, Some, None, sym, ap, ◌∙◌, arith}
 use Rattle.std.specs.Prelude.{IfSome, IsSomeAnd, option_map}
 use Rattle.std.proofs.lemmas.List.{length-take, take_all}
-use Rattle.gp_io.specs.Shelf.{Files, content, prefix_of}
+use Rattle.gp_io.specs.Shelf.{Files, content}
+use Rattle.gp_io.specs.ShelfSteps.{prefix_of}
 
 long-part : (content : Option (List ℕ)) (most limit : ℕ) (bytes : List ℕ) → option_map (take most) content ≡ Some bytes → limit < length bytes → IsSomeAnd content (λ whole. limit < length whole)
 long-part None most limit bytes read long = absurd cc

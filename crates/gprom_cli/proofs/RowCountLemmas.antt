@@ -16,12 +16,13 @@ use Rattle.gp_base.specs.declared.table.Table.{Table}
 use Rattle.gp_base.specs.declared.token.Token.{Token}
 use Rattle.gp_grammar.specs.declared.semiring_name.SemiringName.{SemiringName}
 use Rattle.gp_grammar.specs.declared.semiring_name.SemiringName.TheVariants as named
-use Rattle.gp_grammar.specs.LineReading.{Fault, question_of}
+use Rattle.gp_grammar.specs.LineReading.{Fault}
+use Rattle.gp_grammar.specs.Reading.{question_of}
 use Rattle.gp_grammar.specs.Syntax as y
 use Rattle.gp_algebra.specs.Answers.{Element, answer, cells_of}
 use Rattle.gp_algebra.specs.Statements.{Select}
 use Rattle.gp_check.specs.Checking.{checked_query}
-use Rattle.gp_exec.specs.declared.limit.TheConstants.{MAX_ANSWER_ROWS}
+use Rattle.gp_base.specs.declared.limit.TheConstants.{MAX_ANSWER_ROWS}
 use Rattle.gp_base.specs.Catalogs.{place_of}
 use Rattle.gp_versions.specs.declared.span.Span.{Span}
 use Rattle.gp_syntax.specs.Lines.{script_lines}
@@ -30,12 +31,12 @@ use Rattle.gp_machine.specs.Entries.{Entry, log_of}
 use Rattle.gp_machine.specs.HistorySpans.{as_of}
 use Rattle.gp_machine.specs.Points.{at_point}
 use Rattle.gp_machine.specs.Questions.{annotated_answer, annotation_stop, answer_refusal, given, is_known, log_refusal, needed_version, own_stop, rows_answer}
-use Rattle.gp_log.specs.Limits.{limits}
+use Rattle.gp_log.specs.Parameters.{parameters}
 use Rattle.gp_log.specs.LogFacts.{tables_in}
 use Rattle.gp_whatif.specs.Changed.{changed}
 use Rattle.gp_dump.specs.Dumps.{Dump}
 use Rattle.gp_dump.proofs.RowPlaces.{sorted_length}
-use Rattle.gp_history.specs.Provenance.{occurrence}
+use Rattle.gp_history.specs.Agreement.{occurrence}
 use Rattle.gp_monomials.specs.Listing as listing
 use Rattle.gp_monomials.specs.declared.listed.Listed.{Listed}
 use Rattle.gp_semiring.specs.Witnesses.{sets_text}
@@ -53,7 +54,8 @@ use Rattle.gp_ask.specs.Remaining.{are_too_many, has_left_out, pattern_of, remai
 use Rattle.gp_ask.specs.Replays.{dump_in}
 use Rattle.gp_ask.specs.Values.{value_of, rules_of, semiring_of, unless_outside, valued, with_values}
 use Rattle.gp_ask.specs.Witnesses.{minimal_of}
-use Rattle.gprom_cli.specs.Summary.{line_rows, row_count, rows_in}
+use Rattle.gprom_cli.specs.Summary.{row_count}
+use Rattle.gprom_cli.specs.Summaries.{line_rows, rows_in}
 
 abbrev HasFew : Answered → Type 0
 HasFew answered = row_count answered ≤ MAX_ANSWER_ROWS
@@ -124,27 +126,27 @@ few-inside name (Some number) inside few = omega arith
 -- ---- the answers of the history machine
 
 module _ (entries : List Entry) (spans : ℕ → List Span) (point : y.State) (query : Select) where
-  few-plain : AreFew (rows_answer limits entries spans point query)
+  few-plain : AreFew (rows_answer parameters entries spans point query)
   few-plain =
       let versions = as_of plain spans in
       let elements = answer plain query (at_point plain entries point versions) in
-      let stop = own_stop plain limits entries point versions in
-      let over = answer_refusal plain limits elements in
+      let stop = own_stop plain parameters entries point versions in
+      let over = answer_refusal plain parameters elements in
       behind elements (log_refusal entries point) (option_or stop over) (behind elements stop over (limit elements))
 
-  few-annotated : (catalogue : List Table) → AreFew (annotated_answer monomials limits agree catalogue entries spans point query)
+  few-annotated : (catalogue : List Table) → AreFew (annotated_answer monomials parameters agree catalogue entries spans point query)
   few-annotated catalogue =
       let versions = annotated_versions monomials entries spans in
       let elements = answer monomials query (at_point monomials entries point versions) in
-      let annotation = annotation_stop monomials limits agree catalogue (log_of entries) spans (needed_version entries point) in
-      let stop = own_stop monomials limits entries point versions in
-      let over = answer_refusal monomials limits elements in
+      let annotation = annotation_stop monomials parameters agree catalogue (log_of entries) spans (needed_version entries point) in
+      let stop = own_stop monomials parameters entries point versions in
+      let over = answer_refusal monomials parameters elements in
       behind elements (log_refusal entries point) (option_or annotation (option_or stop over)) (behind elements annotation (option_or stop over) (behind elements stop over (limit elements)))
 
   few-valued : {K : Type 0} (plus : K → K → K) (zero_of one_of : K) (times : K → K → K) (value : Token → K) (catalogue : List Table)
-      → AreFew (value_answer limits plus zero_of one_of times value agree catalogue entries spans point query)
+      → AreFew (value_answer parameters plus zero_of one_of times value agree catalogue entries spans point query)
   few-valued plus zero_of one_of times value catalogue =
-      few-limited (values_of plus zero_of one_of times value) (all_elements monomials limits agree catalogue entries spans point query)
+      few-limited (values_of plus zero_of one_of times value) (all_elements monomials parameters agree catalogue entries spans point query)
 
 few-checked : (answers : Select → Answered) (refusal : Option Refusal) (checked : Result Select Refusal) → ((select : Select) → HasFew (answers select)) → HasFew (query_answer answers refusal checked)
 few-checked answers (Some refusal) checked few = omega arith
@@ -166,13 +168,13 @@ module _ (dump : Dump) (point : y.State) (select : Select) where
   few-semiring name rules =
       let semiring = semiring_of name in
       let value = value_of semiring rules in
-      let rows = value_answer limits semiring.plus_of semiring.zero_of semiring.one_of semiring.times_of value agree (tables_in dump.entries) dump.entries (spans_at dump.tables) point select in
+      let rows = value_answer parameters semiring.plus_of semiring.zero_of semiring.one_of semiring.times_of value agree (tables_in dump.entries) dump.entries (spans_at dump.tables) point select in
       few-inside name (first_outside semiring.number_of rules.0 rules.1) (with_values semiring.text_of rows)
       (few-values semiring.text_of rows (few-valued dump.entries (spans_at dump.tables) point select semiring.plus_of semiring.zero_of semiring.one_of semiring.times_of value (tables_in dump.entries)))
 
   few-minimal : HasFew (dump_minimal dump point select)
   few-minimal =
-      let elements = all_elements monomials limits agree (tables_in dump.entries) dump.entries (spans_at dump.tables) point select in
+      let elements = all_elements monomials parameters agree (tables_in dump.entries) dump.entries (spans_at dump.tables) point select in
       few-values sets_text (limited MAX_ANSWER_ROWS minimal_of elements) (few-limited minimal_of elements)
 
   few-by-rules : (name : SemiringName) (rules : List y.Rule) (other : Option ℕ) → HasFew (dump_valued name rules other dump point select)
@@ -189,19 +191,19 @@ module _ (dump : Dump) (point : y.State) (select : Select) where
   few-remaining : (patterns : List Rule) → HasFew (dump_remaining patterns dump point select)
   few-remaining patterns =
       let db = at_point monomials dump.entries point (annotated_versions monomials dump.entries (spans_at dump.tables)) in
-      let refusal = history_refusal monomials limits agree (tables_in dump.entries) dump.entries (spans_at dump.tables) point in
+      let refusal = history_refusal monomials parameters agree (tables_in dump.entries) dump.entries (spans_at dump.tables) point in
       let rest = remaining (has_left_out patterns) select db in
       few-elements (remaining_answer (has_left_out patterns) select db refusal)
       (behind rest refusal (cond (are_too_many (has_left_out patterns) select db) (Some E27) None)
-      (either rest (nat_lt limits.answer (length (distinct_rows (cells_of (answer monomials select db))))) (nat_lt limits.answer (length rest)) refl))
+      (either rest (nat_lt parameters.answer (length (distinct_rows (cells_of (answer monomials select db))))) (nat_lt parameters.answer (length rest)) refl))
 
 few-ask : (dump : Dump) (how : y.How) (point : y.State) (query : y.Query) → HasFew (ask_to dump how point query)
 few-ask dump y.rows point query =
     few-checked (dump_rows dump point) (log_refusal dump.entries point) (checked_query (tables_in dump.entries) query)
-    (λ select. few-elements (rows_answer limits dump.entries (spans_at dump.tables) point select) (few-plain dump.entries (spans_at dump.tables) point select))
+    (λ select. few-elements (rows_answer parameters dump.entries (spans_at dump.tables) point select) (few-plain dump.entries (spans_at dump.tables) point select))
 few-ask dump y.provenance point query =
     few-checked (dump_provenance dump point) (log_refusal dump.entries point) (checked_query (tables_in dump.entries) query)
-    (λ select. few-listed (annotated_answer monomials limits agree (tables_in dump.entries) dump.entries (spans_at dump.tables) point select) (few-annotated dump.entries (spans_at dump.tables) point select (tables_in dump.entries)))
+    (λ select. few-listed (annotated_answer monomials parameters agree (tables_in dump.entries) dump.entries (spans_at dump.tables) point select) (few-annotated dump.entries (spans_at dump.tables) point select (tables_in dump.entries)))
 few-ask dump (y.explain prov) point query =
     few-checked (dump_program dump prov point) (log_refusal dump.entries point) (checked_query (tables_in dump.entries) query) (λ select. omega arith)
 few-ask dump (y.value name rules other) point query =
@@ -234,7 +236,7 @@ few-answer : (dump : Dump) (question : y.Question) → HasFew (answer_to dump qu
 few-answer dump (y.log t) = few-log (is_known t dump.entries) _ _ refl refl
 few-answer dump (y.versions name) = few-versions name dump.tables (place_of name (tables_in dump.entries))
 few-answer dump (y.ask how point query) = few-ask dump how point query
-few-answer dump (y.what_if change how point query) = few-changed (changed limits dump.entries change) how point query
+few-answer dump (y.what_if change how point query) = few-changed (changed parameters dump.entries change) how point query
 
 few-read : (dump : Dump) (read : Result y.Question Fault) → HasFew (answered (answer_to dump) read)
 few-read dump (Err fault) = omega arith

@@ -9,7 +9,8 @@ use Rattle.gprom_cli.specs.declared.load.TheConstants.{MAX_SHEET_LENGTH}
 use Rattle.gprom_cli.specs.declared.status.Status.{Status}
 use Rattle.gprom_cli.specs.declared.status.Status.TheVariants as exit
 use Rattle.gprom_cli.specs.Args.{Command, Run, Ask, Generate, Load}
-use Rattle.gprom_cli.specs.Call.{Outcome, Usage, Absent, Unreadable, TooLong, NotReplaced, Replied, Damaged, Answered, Summarized, SheetRefused, Loaded, OutOfMemory, ExplainsOutcome, HasContent, HasOutcome, IsRead, RunEnds, AskEnds, LoadEnds}
+use Rattle.gprom_cli.specs.Call.{HasContent, IsRead}
+use Rattle.gprom_cli.specs.Outcomes.{Outcome, Usage, Absent, Unreadable, TooLong, NotReplaced, Replied, Damaged, Answered, Summarized, SheetRefused, Loaded, OutOfMemory, ExplainsOutcome, HasOutcome, RunEnds, AskEnds, LoadEnds}
 use Rattle.gprom_cli.specs.Steps.{AnswerEnds, Answers, ReadEnds, StopsReading}
 use Rattle.gprom_cli.proofs.ReadingLemmas.{read-length}
 use Rattle.gprom_cli.proofs.WritesLemmas.{nothing-of}

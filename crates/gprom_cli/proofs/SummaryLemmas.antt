@@ -8,19 +8,21 @@ use Rattle.gp_base.specs.Annotated.{monomials, plain}
 use Rattle.gp_syntax.specs.Lines.{script_lines}
 use Rattle.gp_versions.specs.declared.span.Span.{Span}
 use Rattle.gp_versions.specs.Spans.{Versions}
-use Rattle.gp_machine.specs.Entries.{Began, Committed, Created, Ended, Entry, Ran, fate_of, transactions_in, versions_in}
+use Rattle.gp_machine.proofs.EntryCounts.{count-most}
+use Rattle.gp_machine.specs.Entries.{Entry, fate_of, is_begin, is_commit, transactions_in, versions_in}
 use Rattle.gp_log.specs.declared.limit.TheConstants.{MAX_ENTRIES}
 use Rattle.gp_script.specs.declared.script.TheConstants.{MAX_SCRIPT_LENGTH}
-use Rattle.gp_script.specs.History.{final_state}
+use Rattle.gp_script.specs.Scripts.{final_state}
 use Rattle.gp_dump.specs.Dumps.{Dump, IsDump, dump_of, spans_in}
-use Rattle.gp_dump.specs.Rules.{Holds, Fails, verdict_on}
+use Rattle.gp_dump.specs.Verdicts.{Holds, Fails, verdict_on}
 use Rattle.gp_dump.specs.Views.{tables_view}
 use Rattle.gp_dump.proofs.LawLemmas.{read, written-well-formed}
 use Rattle.gp_ask.specs.Answers.{answer_to, held_to}
 use Rattle.gprom_cli.specs.declared.summary.Summary.{Summary}
-use Rattle.gprom_cli.specs.Call.{script_dump}
+use Rattle.gprom_cli.specs.Outcomes.{script_dump}
 use Rattle.gprom_cli.specs.Generated.{Pieces, closing_lines, generated_questions, generated_script, line_text, lines_text, replay_line}
-use Rattle.gprom_cli.specs.Summary.{committed_in, committed_up_to, has_committed, is_lost, lost_in, lost_up_to, questions_about, rows_in, summary_by, summary_of, summary_with}
+use Rattle.gprom_cli.specs.Summary.{committed_in, committed_up_to, has_committed, is_lost, lost_in, lost_up_to, questions_about}
+use Rattle.gprom_cli.specs.Summaries.{rows_in, summary_by, summary_of, summary_with}
 use Rattle.gprom_cli.proofs.GeneratedLemmas.{lines-length, wide}
 
 -- ---- one transaction more
@@ -78,20 +80,10 @@ spans-by versions = sum-map (λ (spans : List Span). length spans) (tables_view 
 -- ---- questions
 
 transactions-few : (entries : List Entry) → transactions_in entries ≤ length entries
-transactions-few [] = omega arith
-transactions-few (Created line session table ∷ older) = let before = transactions-few older in omega (arith, before)
-transactions-few (Began line session t level ∷ older) = let before = transactions-few older in omega (arith, before)
-transactions-few (Ran line session command t statement ∷ older) = let before = transactions-few older in omega (arith, before)
-transactions-few (Committed line session t ∷ older) = let before = transactions-few older in omega (arith, before)
-transactions-few (Ended line session end t ∷ older) = let before = transactions-few older in omega (arith, before)
+transactions-few = count-most is_begin
 
 versions-few : (entries : List Entry) → versions_in entries ≤ length entries
-versions-few [] = omega arith
-versions-few (Created line session table ∷ older) = let before = versions-few older in omega (arith, before)
-versions-few (Began line session t level ∷ older) = let before = versions-few older in omega (arith, before)
-versions-few (Ran line session command t statement ∷ older) = let before = versions-few older in omega (arith, before)
-versions-few (Committed line session t ∷ older) = let before = versions-few older in omega (arith, before)
-versions-few (Ended line session end t ∷ older) = let before = versions-few older in omega (arith, before)
+versions-few = count-most is_commit
 
 replay-length : (t : ℕ) → t < 10000 → length (lines_text (replay_line t ∷ [])) ≤ 60
 replay-length t below = let digits = wide t below in omega (arith, lines-length (replay_line t ∷ []), digits)

@@ -1,5 +1,5 @@
 -- What clap makes of two to four words that are no options, and that it refuses fewer and more.
-use Rattle.std.proofs.Common.{◌≡◌, ℕ, Bool, true, false, not, ◌==◌, ◌&&◌, List, [], ◌∷◌, Option, Some, None, Result, Ok, Err, IfOk, codes, refl, sym, ap, ap₂, ◌∙◌}
+use Rattle.std.proofs.Common.{◌≡◌, ℕ, true, false, not, ◌==◌, List, [], ◌∷◌, Option, Some, None, Result, Ok, Err, IfOk, codes, refl, sym, ap, ap₂, ◌∙◌}
 use Rattle.std.specs.List.{list_all}
 use Rattle.std.specs.Option.{option_map}
 use Rattle.gp_base.specs.declared.error.NoMemory.{NoMemory}
@@ -13,6 +13,8 @@ use Rattle.clap.proofs.OnLiterals.{clap_on_literals}
 use Rattle.gprom_cli.specs.declared.words.Words as code
 use Rattle.gprom_cli.specs.Args.{command_of_words, is_word}
 use Rattle.gprom_cli.specs.Words.{Found, command_line, command_of_found, words_of, words_view}
+use Rattle.std.proofs.lemmas.Bool.{not-true}
+use Rattle.gp_base.proofs.SmallLemmas.{left_true, right_true}
 
 pub line-simple : is_simple command_line ≡ true
 unfolding clap_on_literals
@@ -110,28 +112,16 @@ one-fault faults fault is none = let no : fault ∷ [] ≡ [] = sym is ∙ none 
 -- ---- all words
 
 no-hyphen : (byte : ℕ) → not (byte == 45) ≡ true → (byte == 45) ≡ false
-no-hyphen byte plain = go (byte == 45) plain
-  where
-    go : (t : Bool) → not t ≡ true → t ≡ false
-    go true is = cc
-    go false is = refl
-
-both-left : (p q : Bool) → (p && q) ≡ true → p ≡ true
-both-left true q is = refl
-both-left false q is = cc
-
-both-right : (p q : Bool) → (p && q) ≡ true → q ≡ true
-both-right true q is = is
-both-right false q is = cc
+no-hyphen byte plain = not-true (byte == 45) plain
 
 abbrev ArePlain : List (List ℕ) → Type 0
 ArePlain words = list_all is_word words ≡ true
 
 first-plain : (byte : ℕ) (bytes : List ℕ) (words : List (List ℕ)) → ArePlain ((byte ∷ bytes) ∷ words) → (byte == 45) ≡ false
-first-plain byte bytes words plain = no-hyphen byte (both-left (not (byte == 45)) (list_all is_word words) plain)
+first-plain byte bytes words plain = no-hyphen byte (left_true (not (byte == 45)) (list_all is_word words) plain)
 
 rest-plain : (byte : ℕ) (bytes : List ℕ) (words : List (List ℕ)) → ArePlain ((byte ∷ bytes) ∷ words) → ArePlain words
-rest-plain byte bytes words plain = both-right (not (byte == 45)) (list_all is_word words) plain
+rest-plain byte bytes words plain = right_true (not (byte == 45)) (list_all is_word words) plain
 
 -- what the values of a parse say of the words that it took
 abbrev Reads : (List ℕ → Option (List ℕ)) → Option Found → Type 0

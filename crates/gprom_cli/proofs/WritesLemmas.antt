@@ -3,11 +3,13 @@ use Rattle.std.proofs.Common.{◌≡◌, ℕ, ◌⊎◌, inl, inr, Bool, true, f
 use Rattle.std.specs.Prelude.{OnOk}
 use Rattle.gp_io.specs.declared.error.SinkStop.{SinkStop}
 use Rattle.gp_io.specs.declared.error.SinkStop.TheVariants.{Failed, NoMemory}
-use Rattle.gp_io.specs.Sink.{SinkState, appended, CountsFault, Increased, WritesPrefix}
+use Rattle.gp_io.specs.Sink.{SinkState, appended, Increased, WritesPrefix}
+use Rattle.gp_io.specs.SinkSteps.{CountsFault}
 use Rattle.gp_io.proofs.SinkLemmas.{WritesPrefix-none}
 use Rattle.gprom_cli.specs.declared.status.Status.{Status}
 use Rattle.gprom_cli.specs.declared.status.Status.TheVariants as exit
-use Rattle.gprom_cli.specs.Call.{Outcome, Usage, Absent, Unreadable, TooLong, NotReplaced, Replied, Damaged, Answered, Summarized, SheetRefused, Loaded, OutOfMemory, WritesAll, WritesOutput, Writes, IsAnswered, IsOrFails, expected_output, exit_status}
+use Rattle.gprom_cli.specs.Call.{WritesAll, WritesOutput, IsAnswered, IsOrFails}
+use Rattle.gprom_cli.specs.Outcomes.{Outcome, Usage, Absent, Unreadable, TooLong, NotReplaced, Replied, Damaged, Answered, Summarized, SheetRefused, Loaded, OutOfMemory, Writes, expected_output, exit_status}
 use Rattle.gprom_cli.specs.Steps.{stop_status}
 
 -- the status of a write, by its result
@@ -73,6 +75,21 @@ nothing-of (Summarized rounds) old new actual same memory = nothing-written (exp
 nothing-of (SheetRefused c number) old new actual same memory = nothing-written (expected_output (SheetRefused c number)) exit.SheetRefused old new actual same memory
 nothing-of (Loaded text rows) old new actual same memory = nothing-written (expected_output (Loaded text rows)) exit.Done old new actual same memory
 nothing-of OutOfMemory old new actual same memory = (same, memory)
+
+-- an outcome is written, unless memory ran out before
+pub written-of : (o : Outcome) (old new : SinkState) (actual : Status) → (o ≡ OutOfMemory → ⊥) → Writes o old new actual → WritesOutput (expected_output o) (exit_status o) old new actual
+written-of Usage old new actual some w = w
+written-of (Absent name) old new actual some w = w
+written-of (Unreadable name) old new actual some w = w
+written-of (TooLong name) old new actual some w = w
+written-of (NotReplaced name) old new actual some w = w
+written-of (Replied script) old new actual some w = w
+written-of (Damaged f line) old new actual some w = w
+written-of (Answered format dump questions) old new actual some w = w
+written-of (Summarized rounds) old new actual some w = w
+written-of (SheetRefused c number) old new actual some w = w
+written-of (Loaded text rows) old new actual some w = w
+written-of OutOfMemory old new actual some w = absurd (some refl)
 
 -- the status of an outcome, unless the write failed
 pub status-of : (o : Outcome) (old new : SinkState) (actual : Status) → Writes o old new actual → IsOrFails (exit_status o) actual

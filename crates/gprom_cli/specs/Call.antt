@@ -1,27 +1,28 @@
--- Part of the statement: one call of the program, its possible outcomes, and what each outcome writes.
-use Rattle.std.specs.Prelude.{◌≡◌, ◌≢◌, ℕ, ◌≤◌, ◌<◌, ◌⊎◌, Bool, List, [], ◌∷◌, length, Option, Some, None, Result, Ok, Err, IfSome, IsSomeAnd, if◌then◌else◌, nat_lt, codes}
+-- Part of the statement: one call of the program, what it comes to, and how that is written.
+use Rattle.std.specs.Prelude.{◌≡◌, ◌≢◌, ℕ, ◌≤◌, ◌<◌, ◌⊎◌, Bool, List, [], ◌∷◌, length, Option, Some, None, Ok, IfSome, IsSomeAnd, if◌then◌else◌, nat_lt, codes}
 use Rattle.std.specs.Fmt.{decimal}
 use Rattle.std.specs.List.{concat}
 use Rattle.gp_base.specs.Annotated.{plain}
-use Rattle.gp_io.specs.Shelf.{ShelfState, Files, content, ReportsMiss, ReportsReadFault, ReplacesFile, ReportsReplaceFault}
+use Rattle.gp_io.specs.Shelf.{ShelfState, content, ReportsMiss, ReportsReadFault, ReplacesFile, ReportsReplaceFault}
 use Rattle.gp_io.specs.Sink.{SinkState, appended, WritesPrefix, Increased}
-use Rattle.gp_script.specs.History.{final_state, replies_of, replies_text, has_refusal}
+use Rattle.gp_script.specs.History.{IsScript, ReadLine, has_refusal, last_state, replies_text, replies_to}
 use Rattle.gp_script.specs.declared.script.TheConstants.{MAX_SCRIPT_LENGTH}
 use Rattle.gp_dump.specs.declared.dump.TheConstants.{MAX_DUMP_LENGTH}
 use Rattle.gp_dump.specs.Dumps.{Dump, WellFormed, dump_of, written_text}
-use Rattle.gp_dump.specs.Rules.{Verdict, Holds, Fails, verdict_on, first_fault}
-use Rattle.gp_csv.specs.Faults.{Fault, refuse}
+use Rattle.gp_dump.specs.Rules.{FirstFault}
+use Rattle.gp_csv.specs.Faults.{refuse}
 use Rattle.gp_load.specs.Loading.{LoadsText, loaded_of}
 use Rattle.gp_ask.specs.declared.format.Format.{Format}
 use Rattle.gp_ask.specs.Answers.{answer_to}
-use Rattle.gp_ask.specs.Explained.{ExplainsQuestions}
+use Rattle.gp_ask.specs.Explained.{ExplainsLines}
 use Rattle.gp_ask.specs.Formats.{ExplainsIn}
-use Rattle.gp_ask.specs.Questions.{answers_text, has_refused}
+use Rattle.gp_ask.specs.Questions.{AreQuestions, ReadQuestion, answer_texts, refuses_some}
 use Rattle.gprom_cli.specs.declared.load.TheConstants.{MAX_SHEET_LENGTH}
 use Rattle.gprom_cli.specs.declared.status.Status.{Status}
 use Rattle.gprom_cli.specs.declared.status.Status.TheVariants as exit
+use Rattle.gprom_cli.specs.declared.summary.Summary.{Summary}
 use Rattle.gprom_cli.specs.Args.{Command, Run, Ask, Generate, Load}
-use Rattle.gprom_cli.specs.Summary.{summary_of, summary_text}
+use Rattle.gprom_cli.specs.Summary.{IsSummary, summary_text}
 
 -- One call: what it was asked to do, and what it found and left. The shelf and the sink are as contracts see them.
 pub record Call : Type 0 where
@@ -57,36 +58,7 @@ pub record WritesOutput (text : List ℕ) (expected : Status) (before after : Si
   pub unwritten : actual ≡ exit.Unwritten → expected ≢ exit.Unwritten → Increased before.faults after.faults
   pub out_of_memory : actual ≡ exit.OutOfMemory → after.faults ≡ before.faults
 
--- ---- outcomes
-
--- the text of the dump of a script
-abbrev pub script_dump : List ℕ → List ℕ
-script_dump script = written_text (dump_of (final_state plain script))
-
--- what becomes of a call, before its output is written
-pub data Outcome : Type 0 where
-  -- the arguments are invalid
-  Usage : Outcome
-  -- a file of this name does not exist, cannot be read, or is too long to be read or written
-  Absent : List ℕ → Outcome
-  Unreadable : List ℕ → Outcome
-  TooLong : List ℕ → Outcome
-  -- the dump, or the script of a sheet, of this name, cannot be written
-  NotReplaced : List ℕ → Outcome
-  -- the script, of which these are the bytes, is answered, and its dump is written
-  Replied : List ℕ → Outcome
-  -- the dump is not well formed: the number of the rule that fails first, and the number of its line
-  Damaged : ℕ → ℕ → Outcome
-  -- the questions, of which these are the bytes, are answered from this dump, in this format
-  Answered : Format → Dump → List ℕ → Outcome
-  -- the summary of this many generated rounds is made
-  Summarized : ℕ → Outcome
-  -- the sheet is refused: the number of its first fault, and the number of its record
-  SheetRefused : ℕ → ℕ → Outcome
-  -- the script of the sheet, with this text, is written; the sheet has this many rows
-  Loaded : List ℕ → ℕ → Outcome
-  -- memory ran out before anything was written
-  OutOfMemory : Outcome
+-- ---- texts
 
 -- the byte that ends a line
 abbrev pub newline : List ℕ
@@ -109,41 +81,19 @@ sheet_message c number = concat (codes "csv refused: C0" ∷ decimal c ∷ codes
 abbrev pub loaded_message : ℕ → List ℕ
 loaded_message rows = concat (codes "loaded " ∷ decimal rows ∷ newline ∷ [])
 
--- the text that an outcome writes
-abbrev pub expected_output : Outcome → List ℕ
-expected_output Usage = concat (codes "usage: gprom run SCRIPT DUMP, gprom ask DUMP QUESTIONS, gprom gen N, gprom load CSV TABLE SCRIPT, gprom export DUMP QUESTIONS" ∷ newline ∷ [])
-expected_output (Absent name) = message (codes "absent") name
-expected_output (Unreadable name) = message (codes "cannot read") name
-expected_output (TooLong name) = message (codes "too long") name
-expected_output (NotReplaced name) = message (codes "cannot write") name
-expected_output (Replied script) = replies_text (replies_of script)
-expected_output (Damaged f line) = damage_message f line
-expected_output (Answered format dump questions) = answers_text format (answer_to dump) questions
-expected_output (Summarized rounds) = summary_text (summary_of rounds)
-expected_output (SheetRefused c number) = sheet_message c number
-expected_output (Loaded text rows) = loaded_message rows
-expected_output OutOfMemory = []
+-- the usage line
+abbrev pub usage_text : List ℕ
+usage_text = concat (codes "usage: gprom run SCRIPT DUMP, gprom ask DUMP QUESTIONS, gprom gen N, gprom load CSV TABLE SCRIPT, gprom export DUMP QUESTIONS" ∷ newline ∷ [])
 
 -- the status of lines that were all answered: whether one was refused
 abbrev pub answered_status : Bool → Status
 answered_status refused = if refused then exit.Refused else exit.Done
 
--- the status of an outcome
-abbrev pub exit_status : Outcome → Status
-exit_status Usage = exit.Usage
-exit_status (Absent name) = exit.Absent
-exit_status (Unreadable name) = exit.Unreadable
-exit_status (TooLong name) = exit.TooLong
-exit_status (NotReplaced name) = exit.Unwritten
-exit_status (Replied script) = answered_status (has_refusal (replies_of script))
-exit_status (Damaged f line) = exit.Damaged
-exit_status (Answered format dump questions) = answered_status (has_refused format (answer_to dump) questions)
-exit_status (Summarized rounds) = exit.Done
-exit_status (SheetRefused c number) = exit.SheetRefused
-exit_status (Loaded text rows) = exit.Done
-exit_status OutOfMemory = exit.OutOfMemory
+-- the text of the dump of a history
+abbrev pub history_dump : List ReadLine → List ℕ
+history_dump lines = written_text (dump_of (last_state plain lines))
 
--- ---- when an outcome is that of a call
+-- ---- files
 
 -- where the shelf knows its files, the file of this name has these bytes
 abbrev pub HasContent : List ℕ → ShelfState → List ℕ → Type 0
@@ -157,134 +107,73 @@ IsRead name most shelf = IfSome shelf.holds (λ files. IsSomeAnd (content name f
 abbrev pub IsLonger : List ℕ → ℕ → ShelfState → Type 0
 IsLonger name most shelf = IfSome shelf.holds (λ files. IsSomeAnd (content name files) (λ bytes. most < length bytes))
 
--- `run`: the script is read, run, and its dump is written; then its replies are due. The first step that fails decides the outcome.
-abbrev pub RunEnds : List ℕ → List ℕ → ShelfState → ShelfState → Outcome → Type 0
-RunEnds script dump before after (Absent name) = (name ≡ script) × ReportsMiss script before after
-RunEnds script dump before after (Unreadable name) = (name ≡ script) × ReportsReadFault script before after
-RunEnds script dump before after (TooLong name) = (after ≡ before) × (((name ≡ script) × IsLonger script MAX_SCRIPT_LENGTH before)
-    ⊎ ((name ≡ dump) × ((bytes : List ℕ) × (length bytes ≤ MAX_SCRIPT_LENGTH) × (MAX_DUMP_LENGTH < length (script_dump bytes)) × HasContent script before bytes)))
-RunEnds script dump before after (NotReplaced name) = (name ≡ dump) × ReportsReplaceFault dump before after
-    × ((bytes : List ℕ) × (length bytes ≤ MAX_SCRIPT_LENGTH) × (length (script_dump bytes) ≤ MAX_DUMP_LENGTH) × HasContent script before bytes)
-RunEnds script dump before after (Replied bytes) = ReplacesFile dump (script_dump bytes) before after
-    × (length bytes ≤ MAX_SCRIPT_LENGTH) × (length (script_dump bytes) ≤ MAX_DUMP_LENGTH) × HasContent script before bytes
-RunEnds script dump before after OutOfMemory = after ≡ before
-RunEnds script dump before after Usage = ⊥
-RunEnds script dump before after (Damaged f line) = ⊥
-RunEnds script dump before after (Answered format contents questions) = ⊥
-RunEnds script dump before after (Summarized rounds) = ⊥
-RunEnds script dump before after (SheetRefused c number) = ⊥
-RunEnds script dump before after (Loaded text rows) = ⊥
-
--- `ask` and `export`: the dump is read, then the questions; then the dump is tested against its rules, and the questions are answered
-abbrev pub AskEnds : Format → List ℕ → List ℕ → ShelfState → ShelfState → Outcome → Type 0
-AskEnds format dump questions before after (Absent name) =
-    ((name ≡ dump) ⊎ ((name ≡ questions) × IsRead dump MAX_DUMP_LENGTH before)) × ReportsMiss name before after
-AskEnds format dump questions before after (Unreadable name) =
-    ((name ≡ dump) ⊎ ((name ≡ questions) × IsRead dump MAX_DUMP_LENGTH before)) × ReportsReadFault name before after
-AskEnds format dump questions before after (TooLong name) = (after ≡ before) × (((name ≡ dump) × IsLonger dump MAX_DUMP_LENGTH before)
-    ⊎ ((name ≡ questions) × IsRead dump MAX_DUMP_LENGTH before × IsLonger questions MAX_SCRIPT_LENGTH before))
-AskEnds format dump questions before after (Damaged f line) = (after ≡ before) × IsRead questions MAX_SCRIPT_LENGTH before
-    × ((bytes : List ℕ) × (length bytes ≤ MAX_DUMP_LENGTH) × (first_fault bytes ≡ Some (f, line)) × HasContent dump before bytes)
-AskEnds format dump questions before after (Answered chosen contents asked) = (after ≡ before) × (chosen ≡ format) × (length asked ≤ MAX_SCRIPT_LENGTH) × HasContent questions before asked
-    × ((bytes : List ℕ) × (length bytes ≤ MAX_DUMP_LENGTH) × WellFormed bytes contents × HasContent dump before bytes)
-AskEnds format dump questions before after OutOfMemory = after ≡ before
-AskEnds format dump questions before after Usage = ⊥
-AskEnds format dump questions before after (NotReplaced name) = ⊥
-AskEnds format dump questions before after (Replied script) = ⊥
-AskEnds format dump questions before after (Summarized rounds) = ⊥
-AskEnds format dump questions before after (SheetRefused c number) = ⊥
-AskEnds format dump questions before after (Loaded text rows) = ⊥
-
--- `load`: the sheet is read and its script is written; then the number of its rows is due. The script runs without a refusal and leaves these rows in its
--- one table.
-abbrev pub LoadEnds : List ℕ → List ℕ → List ℕ → ShelfState → ShelfState → Outcome → Type 0
-LoadEnds csv table script before after (Absent name) = (name ≡ csv) × ReportsMiss csv before after
-LoadEnds csv table script before after (Unreadable name) = (name ≡ csv) × ReportsReadFault csv before after
-LoadEnds csv table script before after (TooLong name) = (after ≡ before) × (name ≡ csv) × IsLonger csv MAX_SHEET_LENGTH before
-LoadEnds csv table script before after (NotReplaced name) = (name ≡ script) × ReportsReplaceFault script before after
-    × ((bytes : List ℕ) × (length bytes ≤ MAX_SHEET_LENGTH) × (made : List ℕ × ℕ) × (loaded_of table bytes ≡ Ok made) × HasContent csv before bytes)
-LoadEnds csv table script before after (SheetRefused c number) = (after ≡ before)
-    × ((bytes : List ℕ) × (length bytes ≤ MAX_SHEET_LENGTH) × (loaded_of table bytes ≡ refuse c number) × HasContent csv before bytes)
-LoadEnds csv table script before after (Loaded text rows) = ReplacesFile script text before after
-    × ((bytes : List ℕ) × (length bytes ≤ MAX_SHEET_LENGTH) × (loaded_of table bytes ≡ Ok (text, rows)) × LoadsText table bytes text × HasContent csv before bytes)
-LoadEnds csv table script before after OutOfMemory = after ≡ before
-LoadEnds csv table script before after Usage = ⊥
-LoadEnds csv table script before after (Replied bytes) = ⊥
-LoadEnds csv table script before after (Damaged f line) = ⊥
-LoadEnds csv table script before after (Answered format contents questions) = ⊥
-LoadEnds csv table script before after (Summarized rounds) = ⊥
-
-abbrev pub IsOutcomeOf : Option Command → ShelfState → ShelfState → Outcome → Type 0
-IsOutcomeOf None before after outcome = (after ≡ before) × (outcome ≡ Usage)
-IsOutcomeOf (Some (Run script dump)) before after outcome = RunEnds script dump before after outcome
-IsOutcomeOf (Some (Ask format dump questions)) before after outcome = AskEnds format dump questions before after outcome
-IsOutcomeOf (Some (Generate rounds)) before after outcome = (after ≡ before) × (outcome ≡ Summarized rounds)
-IsOutcomeOf (Some (Load csv table script)) before after outcome = LoadEnds csv table script before after outcome
-
--- how an outcome is written; where memory ran out before, nothing is
-abbrev pub Writes : Outcome → SinkState → SinkState → Status → Type 0
-Writes OutOfMemory before after status = (after ≡ before) × (status ≡ exit.OutOfMemory)
-Writes outcome before after status = WritesOutput (expected_output outcome) (exit_status outcome) before after status
-
-abbrev pub WritesOutcome : Call → Outcome → Type 0
-WritesOutcome call outcome = Writes outcome call.sink call.sink_after call.status
-
 -- every line was answered
 abbrev pub IsAnswered : Status → Type 0
 IsAnswered exit.Done = Unit {0}
 IsAnswered exit.Refused = Unit {0}
-IsAnswered exit.Usage = ⊥
-IsAnswered exit.Absent = ⊥
-IsAnswered exit.Unreadable = ⊥
-IsAnswered exit.Unwritten = ⊥
-IsAnswered exit.TooLong = ⊥
-IsAnswered exit.Damaged = ⊥
-IsAnswered exit.OutOfMemory = ⊥
-IsAnswered exit.SheetRefused = ⊥
+IsAnswered status = ⊥
 
--- where questions were all answered, each program that was printed explains its query
-abbrev pub ExplainsOutcome : Status → Outcome → Type 0
-ExplainsOutcome status (Answered format dump questions) = IsAnswered status → ExplainsIn format (ExplainsQuestions dump.entries questions)
-ExplainsOutcome status Usage = Unit {0}
-ExplainsOutcome status (Absent name) = Unit {0}
-ExplainsOutcome status (Unreadable name) = Unit {0}
-ExplainsOutcome status (TooLong name) = Unit {0}
-ExplainsOutcome status (NotReplaced name) = Unit {0}
-ExplainsOutcome status (Replied script) = Unit {0}
-ExplainsOutcome status (Damaged f line) = Unit {0}
-ExplainsOutcome status (Summarized rounds) = Unit {0}
-ExplainsOutcome status (SheetRefused c number) = Unit {0}
-ExplainsOutcome status (Loaded text rows) = Unit {0}
-ExplainsOutcome status OutOfMemory = Unit {0}
+-- ---- what a call comes to
 
--- the arguments, the files and what the shelf reported determine the outcome, and the outcome what is written
-pub record HasOutcome (call : Call) : Type 0 where
-  pub outcome : Outcome
-  pub is : IsOutcomeOf call.command call.shelf call.shelf_after outcome
-  pub writes : WritesOutcome call outcome
-  pub explains : ExplainsOutcome call.status outcome
+-- A file that is read by a command, and how long it may be. `ask` and `export` read the questions after the dump.
+pub data IsReadBy (shelf : ShelfState) : Command → List ℕ → ℕ → Type 0 where
+  reads_script : (script dump : List ℕ) → IsReadBy shelf (Run script dump) script MAX_SCRIPT_LENGTH
+  reads_dump : (format : Format) (dump questions : List ℕ) → IsReadBy shelf (Ask format dump questions) dump MAX_DUMP_LENGTH
+  reads_questions : (format : Format) (dump questions : List ℕ) → IsRead dump MAX_DUMP_LENGTH shelf → IsReadBy shelf (Ask format dump questions) questions MAX_SCRIPT_LENGTH
+  reads_sheet : (csv table script : List ℕ) → IsReadBy shelf (Load csv table script) csv MAX_SHEET_LENGTH
 
--- ---- the outcome by the files
+-- a file of this name that may be so long was read, and has these bytes
+pub record ReadsFile (name : List ℕ) (most : ℕ) (shelf : ShelfState) (bytes : List ℕ) : Type 0 where
+  pub short : length bytes ≤ most
+  pub content : HasContent name shelf bytes
 
--- a file that is read, by its content, if it exists and is not longer than this
-abbrev pub reading : List ℕ → ℕ → Option (List ℕ) → (List ℕ → Outcome) → Outcome
-reading name most None next = Absent name
-reading name most (Some bytes) next = if nat_lt most (length bytes) then TooLong name else next bytes
+-- a script was read and run: these are its lines
+pub record RunsScript (name : List ℕ) (shelf : ShelfState) (lines : List ReadLine) : Type 0 where
+  pub bytes : List ℕ
+  pub read : ReadsFile name MAX_SCRIPT_LENGTH shelf bytes
+  pub are : IsScript bytes lines
 
-abbrev pub asking : Format → List ℕ → Verdict → Outcome
-asking format questions (Holds dump) = Answered format dump questions
-asking format questions (Fails f line) = Damaged f line
+module _ (call : Call) where
+  abbrev pub LeavesShelf : Type 0
+  LeavesShelf = call.shelf_after ≡ call.shelf
 
-abbrev pub loading : Result (List ℕ × ℕ) Fault → Outcome
-loading (Ok made) = Loaded made.0 made.1
-loading (Err fault) = SheetRefused fault.c fault.number
+  -- What a call comes to, unless memory runs out: the text that it writes, and its status. The first step that fails decides.
+  pub data ComesTo : Option Command → List ℕ → Status → Type 0 where
+    -- the arguments are invalid
+    usage : LeavesShelf → ComesTo None usage_text exit.Usage
+    -- a file does not exist, cannot be read, or is too long
+    absent : (command : Command) (name : List ℕ) (most : ℕ) → IsReadBy call.shelf command name most → ReportsMiss name call.shelf call.shelf_after
+        → ComesTo (Some command) (message (codes "absent") name) exit.Absent
+    unreadable : (command : Command) (name : List ℕ) (most : ℕ) → IsReadBy call.shelf command name most → ReportsReadFault name call.shelf call.shelf_after
+        → ComesTo (Some command) (message (codes "cannot read") name) exit.Unreadable
+    too_long : (command : Command) (name : List ℕ) (most : ℕ) → IsReadBy call.shelf command name most → LeavesShelf → IsLonger name most call.shelf
+        → ComesTo (Some command) (message (codes "too long") name) exit.TooLong
+    -- `run`: the dump of the script would be too long, is not replaced, or is, and then the replies are due
+    long_dump : (script dump : List ℕ) (lines : List ReadLine) → RunsScript script call.shelf lines → LeavesShelf → MAX_DUMP_LENGTH < length (history_dump lines)
+        → ComesTo (Some (Run script dump)) (message (codes "too long") dump) exit.TooLong
+    lost_dump : (script dump : List ℕ) (lines : List ReadLine) → RunsScript script call.shelf lines → length (history_dump lines) ≤ MAX_DUMP_LENGTH
+        → ReportsReplaceFault dump call.shelf call.shelf_after → ComesTo (Some (Run script dump)) (message (codes "cannot write") dump) exit.Unwritten
+    replied : (script dump : List ℕ) (lines : List ReadLine) → RunsScript script call.shelf lines → length (history_dump lines) ≤ MAX_DUMP_LENGTH
+        → ReplacesFile dump (history_dump lines) call.shelf call.shelf_after
+        → ComesTo (Some (Run script dump)) (replies_text (replies_to lines)) (answered_status (has_refusal (replies_to lines)))
+    -- `ask` and `export`: the dump has a fault, or the questions are answered. Where they all are, each program that is printed explains its query.
+    damaged : (format : Format) (dump questions bytes : List ℕ) (f line : ℕ) → LeavesShelf → ReadsFile dump MAX_DUMP_LENGTH call.shelf bytes
+        → IsRead questions MAX_SCRIPT_LENGTH call.shelf → FirstFault bytes f line → ComesTo (Some (Ask format dump questions)) (damage_message f line) exit.Damaged
+    answered : (format : Format) (dump questions bytes asked : List ℕ) (contents : Dump) (lines : List ReadQuestion) → LeavesShelf → ReadsFile dump MAX_DUMP_LENGTH call.shelf bytes
+        → ReadsFile questions MAX_SCRIPT_LENGTH call.shelf asked → WellFormed bytes contents → AreQuestions asked lines
+        → (IsAnswered call.status → ExplainsIn format (ExplainsLines contents.entries lines))
+        → ComesTo (Some (Ask format dump questions)) (answer_texts format (answer_to contents) lines) (answered_status (refuses_some format (answer_to contents) lines))
+    -- `gen`: the summary
+    summarized : (rounds : ℕ) (summary : Summary) → LeavesShelf → IsSummary rounds summary → ComesTo (Some (Generate rounds)) (summary_text summary) exit.Done
+    -- `load`: the sheet has a fault; or its script is not replaced, or is, and loads its rows
+    faulty_sheet : (csv table script bytes : List ℕ) (c number : ℕ) → LeavesShelf → ReadsFile csv MAX_SHEET_LENGTH call.shelf bytes → loaded_of table bytes ≡ refuse c number
+        → ComesTo (Some (Load csv table script)) (sheet_message c number) exit.SheetRefused
+    lost_script : (csv table script bytes : List ℕ) (made : List ℕ × ℕ) → ReadsFile csv MAX_SHEET_LENGTH call.shelf bytes → loaded_of table bytes ≡ Ok made
+        → ReportsReplaceFault script call.shelf call.shelf_after → ComesTo (Some (Load csv table script)) (message (codes "cannot write") script) exit.Unwritten
+    loaded : (csv table script bytes text : List ℕ) (rows : ℕ) → ReadsFile csv MAX_SHEET_LENGTH call.shelf bytes → loaded_of table bytes ≡ Ok (text, rows) → LoadsText table bytes text
+        → ReplacesFile script text call.shelf call.shelf_after → ComesTo (Some (Load csv table script)) (loaded_message rows) exit.Done
 
-abbrev pub outcome_by : Option Command → Files → Outcome
-outcome_by None files = Usage
-outcome_by (Some (Run script dump)) files =
-    reading script MAX_SCRIPT_LENGTH (content script files) (λ bytes. if nat_lt MAX_DUMP_LENGTH (length (script_dump bytes)) then TooLong dump else Replied bytes)
-outcome_by (Some (Ask format dump questions)) files =
-    reading dump MAX_DUMP_LENGTH (content dump files) (λ bytes.
-    reading questions MAX_SCRIPT_LENGTH (content questions files) (λ asked. asking format asked (verdict_on bytes)))
-outcome_by (Some (Generate rounds)) files = Summarized rounds
-outcome_by (Some (Load csv table script)) files = reading csv MAX_SHEET_LENGTH (content csv files) (λ bytes. loading (loaded_of table bytes))
+  -- The arguments, the files and what the shelf reported determine what the call comes to, and that what is written; where memory ran out before, nothing is.
+  pub data HasOutcome : Type 0 where
+    comes_to : (text : List ℕ) (status : Status) → ComesTo call.command text status → WritesOutput text status call.sink call.sink_after call.status → HasOutcome
+    out_of_memory : LeavesShelf → call.sink_after ≡ call.sink → call.status ≡ exit.OutOfMemory → HasOutcome

@@ -4,6 +4,8 @@ pub mod Views
 pub mod Status
 pub mod Generated
 pub mod Summary
+pub mod Summaries
 pub mod Call
+pub mod Outcomes
 pub mod Steps
 pub mod Promises

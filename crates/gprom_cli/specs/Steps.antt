@@ -1,15 +1,17 @@
 -- Machinery: what the steps of a call come to.
 use Rattle.std.specs.Prelude.{◌≡◌, ℕ, ◌≤◌, Bool, List, length, Some, Result, IfOk, OnOk}
 use Rattle.gp_io.specs.Shelf.{ShelfState, ReportsMiss, ReportsReadFault}
-use Rattle.gp_io.specs.Sink.{SinkState, appended, CountsFault, WritesPrefix}
+use Rattle.gp_io.specs.Sink.{SinkState, appended, WritesPrefix}
+use Rattle.gp_io.specs.SinkSteps.{CountsFault}
 use Rattle.gp_io.specs.declared.error.SinkStop.{SinkStop}
 use Rattle.gp_io.specs.declared.error.SinkStop.TheVariants.{Failed, NoMemory}
 use Rattle.gp_dump.specs.Dumps.{WellFormed}
-use Rattle.gp_dump.specs.Rules.{first_fault}
+use Rattle.gp_dump.specs.Verdicts.{first_fault}
 use Rattle.gp_ask.specs.declared.format.Format.{Format}
 use Rattle.gprom_cli.specs.declared.status.Status.{Status}
 use Rattle.gprom_cli.specs.declared.status.Status.TheVariants as exit
-use Rattle.gprom_cli.specs.Call.{Outcome, Usage, Absent, Unreadable, TooLong, NotReplaced, Replied, Damaged, Answered, Summarized, SheetRefused, Loaded, OutOfMemory, ExplainsOutcome, HasContent, IsLonger, Writes}
+use Rattle.gprom_cli.specs.Call.{HasContent, IsLonger}
+use Rattle.gprom_cli.specs.Outcomes.{Outcome, Usage, Absent, Unreadable, TooLong, NotReplaced, Replied, Damaged, Answered, Summarized, SheetRefused, Loaded, OutOfMemory, ExplainsOutcome, Writes}
 
 -- ---- writing
 

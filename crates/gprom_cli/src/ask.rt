@@ -3,15 +3,18 @@
 ghost use Rattle.std.specs.Prelude.{◌≡◌, ◌≤◌, ℕ, List, IfOk, length, Some, true};
 ghost use Rattle.gp_check.specs.Valid.{tables_are_valid};
 ghost use Rattle.gp_log.specs.LogFacts.{tables_in};
-ghost use Rattle.gp_grammar.specs.LineReading.{question_of};
+ghost use Rattle.gp_grammar.specs.Reading.{question_of};
 ghost use Rattle.gp_ask.specs.Answers.{answer_to};
-ghost use Rattle.gp_ask.specs.Explained.{ExplainsQuestions, ExplainsRead};
+ghost use Rattle.gp_ask.specs.Explained.{ExplainsRead};
+ghost use Rattle.gp_ask.specs.QuestionFiles.{ExplainsQuestions};
 ghost use Rattle.gp_ask.specs.Formats.{ExplainsIn};
-ghost use Rattle.gp_ask.specs.Questions.{answers_text, has_refused, is_refused, line_answer_in, line_answer_text};
+ghost use Rattle.gp_ask.specs.Questions.{is_refused};
+ghost use Rattle.gp_ask.specs.QuestionFiles.{answers_text, has_refused, line_answer_in, line_answer_text};
 ghost use Rattle.gp_dump.specs.Dumps.{IsDump};
 ghost use Rattle.gp_dump.specs.Views.{dump_view};
 ghost use Rattle.gprom_cli.specs.Args.{Ask};
-ghost use Rattle.gprom_cli.specs.Call.{HasContent, HasOutcome, IsAnswered, WritesOutput, answered_status};
+ghost use Rattle.gprom_cli.specs.Call.{HasContent, IsAnswered, WritesOutput, answered_status};
+ghost use Rattle.gprom_cli.specs.Outcomes.{HasOutcome};
 ghost use Rattle.gprom_cli.specs.Steps.{Answers, WritesAnswers};
 
 use crate::output::{stop_status, write_damage};

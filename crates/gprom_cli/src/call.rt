@@ -1,77 +1,14 @@
 //! The whole call: from the arguments of the program to the bytes written and the exit status.
 
-ghost use Rattle.std.specs.Prelude.{◌≡◌, IfSome, map, string_bytes};
-ghost use Rattle.std.specs.Option.{option_map};
+ghost use Rattle.std.specs.Prelude.{◌≡◌, map, string_bytes};
 ghost use Rattle.gprom_cli.specs.Args.{command_of};
-ghost use Rattle.gprom_cli.specs.Call.{HasOutcome};
 ghost use Rattle.gprom_cli.specs.Promises.{Promises};
 ghost use Rattle.gprom_cli.specs.Status.{number_of, status_of};
-ghost use Rattle.gprom_cli.specs.Views.{HasFewRounds, command_view};
 
-use crate::args::{Command, parse};
-use crate::ask::ask;
+use crate::execute::execute;
 use crate::laws::{dumps_answer_for_changed_histories, scripts_have_well_formed_dumps};
-use crate::load::load;
-use crate::output::write_output;
-use crate::run::run;
-use crate::status::Status;
-use crate::summary::generate;
-use gp_base::NoMemory;
 use gp_io::{Shelf, Sink};
 use std::alloc::Global;
-
-/// The usage line.
-const USAGE: &[u8] =
-    b"usage: gprom run SCRIPT DUMP, gprom ask DUMP QUESTIONS, gprom gen N, gprom load CSV TABLE SCRIPT, gprom export DUMP QUESTIONS\n";
-
-/// Does what a command asks for, or writes the usage line.
-fn execute_command<H: Shelf, K: Sink>(
-    alloc: Global,
-    command: Option<Command<'_>>,
-    shelf: &mut H,
-    out: &mut K,
-) -> Status
-    requires { IfSome command HasFewRounds }
-    ensures { HasOutcome (record {
-      command = option_map command_view command.entry;
-      shelf = H.state shelf.old;
-      shelf_after = H.state shelf.new;
-      sink = K.state out.old;
-      sink_after = K.state out.new;
-      status = result;
-    }) }
-{
-    match command {
-        Some(Command::Run { script, dump }) => run(alloc, script, dump, shelf, out),
-        Some(
-            Command::Ask {
-                format,
-                dump,
-                questions,
-            },
-        ) => ask(alloc, format, dump, questions, shelf, out),
-        Some(Command::Generate { rounds }) => generate(alloc, rounds, out),
-        Some(Command::Load { csv, table, script }) => load(alloc, csv, &table, script, shelf, out),
-        None => write_output(out, USAGE, Status::Usage),
-    }
-}
-
-/// Does what the arguments ask for.
-fn execute<H: Shelf, K: Sink>(alloc: Global, args: &[String], shelf: &mut H, out: &mut K) -> Status
-    ensures { HasOutcome (record {
-      command = command_of (map string_bytes args.now);
-      shelf = H.state shelf.old;
-      shelf_after = H.state shelf.new;
-      sink = K.state out.old;
-      sink_after = K.state out.new;
-      status = result;
-    }) }
-{
-    match parse(alloc, args) {
-        Ok(command) => execute_command(alloc, command, shelf, out),
-        Err(NoMemory) => Status::OutOfMemory,
-    }
-}
 
 /// Does all that the program does: parses the arguments (those after the program's name), reads files from `shelf`, replaces the dump of
 /// `run` or the script of `load` there, writes replies, answers, a summary or a message to `out`, and returns the exit status. A step that

@@ -2,13 +2,13 @@
 
 ghost use Rattle.std.specs.Prelude.{◌≡◌, ◌≤◌, ℕ, List, None, length};
 ghost use Rattle.gp_base.specs.Annotated.{monomials, plain};
-ghost use Rattle.gp_script.specs.History.{final_state};
+ghost use Rattle.gp_script.specs.Scripts.{final_state};
 ghost use Rattle.gp_dump.specs.Dumps.{Dump, IsDump, dump_of};
 ghost use Rattle.gp_ask.specs.declared.format.Format.{Format};
 ghost use Rattle.gp_ask.specs.Answers.{answer_to, held_to, remade_to};
 ghost use Rattle.gp_ask.specs.Hypothetical.{remaking_refusal, replayed_dump};
-ghost use Rattle.gp_ask.specs.Questions.{answers_text, has_refused};
-ghost use Rattle.gprom_cli.specs.Summary.{rows_in};
+ghost use Rattle.gp_ask.specs.QuestionFiles.{answers_text, has_refused};
+ghost use Rattle.gprom_cli.specs.Summaries.{rows_in};
 
 use gp_ask::{dumps_answer_as_changed_histories, histories_answer_as_their_dumps};
 use gp_base::Monomial;

@@ -2,7 +2,9 @@
 //!
 //! In reading order: `status.rt` (how a call ends), `words.rt` and `args.rt` (what the arguments ask for), `output.rt` and `read.rt` (what is
 //! written and read), `run.rt`, `ask.rt` and `load.rt` (the commands over files), `generated.rt` and `summary.rt` (scripts and
-//! questions that are generated, and what they come to), `laws.rt` (what dumps answer, and those of scripts), `call.rt` (the call). The contract of [`gprom`] is `Promises` in `specs/Promises.antt`.
+//! questions that are generated, and what they come to), `laws.rt` (what dumps answer, and those of scripts),
+//! `execute.rt` (what the arguments ask for is done), `call.rt` (the call). The contract of [`gprom`] is `Promises` in `specs/Promises.antt`. In `specs/`,
+//! `Call` says what a call comes to, by the lines that its files are read as, and `Outcomes` how the parts of the code say the same.
 //!
 //! ```
 //! let mut shelf = DiskShelf::new(rt, rt.alloc());
@@ -14,6 +16,7 @@
 mod args;
 mod ask;
 mod call;
+mod execute;
 mod generated;
 mod laws;
 mod load;

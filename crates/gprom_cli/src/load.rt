@@ -3,7 +3,8 @@
 ghost use Rattle.std.specs.Prelude.{◌≡◌, ◌≤◌, ℕ, List, Ok, length, Some};
 ghost use Rattle.gp_load.specs.Loading.{LoadsText, loaded_of};
 ghost use Rattle.gprom_cli.specs.Args.{Load};
-ghost use Rattle.gprom_cli.specs.Call.{HasContent, HasOutcome};
+ghost use Rattle.gprom_cli.specs.Call.{HasContent};
+ghost use Rattle.gprom_cli.specs.Outcomes.{HasOutcome};
 
 use crate::output::{write_loaded, write_message, write_sheet_fault};
 use crate::read::read_file;

@@ -1,7 +1,8 @@
 //! Reading the files of a call.
 
 ghost use Rattle.std.specs.Prelude.{◌≡◌, ◌<◌, ◌^◌, ℕ, IfOk, IfErr, OnOk};
-ghost use Rattle.gp_io.specs.Shelf.{ShelfState, ReadStops};
+ghost use Rattle.gp_io.specs.Shelf.{ShelfState};
+ghost use Rattle.gp_io.specs.ShelfSteps.{ReadStops};
 ghost use Rattle.gprom_cli.specs.Steps.{Reads, StopsReading};
 
 use crate::output::write_message;

@@ -1,9 +1,11 @@
 //! `run SCRIPT DUMP`: runs a script, replaces the dump, then writes the replies.
 
 ghost use Rattle.std.specs.Prelude.{◌≡◌, ◌≤◌, ℕ, List, IfOk, length, Some};
-ghost use Rattle.gp_script.specs.History.{has_refusal, replies_of, replies_text};
+ghost use Rattle.gp_script.specs.History.{has_refusal, replies_text};
+ghost use Rattle.gp_script.specs.Scripts.{replies_of};
 ghost use Rattle.gprom_cli.specs.Args.{Run};
-ghost use Rattle.gprom_cli.specs.Call.{HasContent, HasOutcome, script_dump};
+ghost use Rattle.gprom_cli.specs.Call.{HasContent};
+ghost use Rattle.gprom_cli.specs.Outcomes.{HasOutcome, script_dump};
 
 use crate::output::{write_message, write_output};
 use crate::read::read_file;

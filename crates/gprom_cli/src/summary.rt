@@ -7,15 +7,16 @@ ghost use Rattle.gp_base.specs.Annotated.{plain};
 ghost use Rattle.gp_check.specs.Valid.{tables_are_valid};
 ghost use Rattle.gp_dump.specs.Dumps.{IsDump, dump_of, spans_in};
 ghost use Rattle.gp_dump.specs.Views.{dump_view};
+ghost use Rattle.gp_log.specs.Contents.{entries};
 ghost use Rattle.gp_log.specs.LogFacts.{tables_in};
-ghost use Rattle.gp_log.specs.Logs.{log_view};
 ghost use Rattle.gp_machine.specs.Entries.{fate_of, transactions_in};
 ghost use Rattle.gp_ask.specs.Answers.{answer_to};
-ghost use Rattle.gp_script.specs.History.{final_state};
+ghost use Rattle.gp_script.specs.Scripts.{final_state};
 ghost use Rattle.gp_syntax.specs.Lines.{script_lines};
 ghost use Rattle.gprom_cli.specs.Call.{WritesOutput};
 ghost use Rattle.gprom_cli.specs.Generated.{line_text};
-ghost use Rattle.gprom_cli.specs.Summary.{committed_in, has_committed, is_lost, line_rows, lost_in, row_count, rows_in, summary_of, summary_text};
+ghost use Rattle.gprom_cli.specs.Summary.{committed_in, has_committed, is_lost, lost_in, row_count, summary_text};
+ghost use Rattle.gprom_cli.specs.Summaries.{line_rows, rows_in, summary_of};
 
 use crate::generated::{MAX_ROUNDS, generate_questions, generate_script};
 use crate::laws::scripts_have_well_formed_dumps;
@@ -54,8 +55,8 @@ pub struct Summary {
 /// Whether the transaction committed.
 fn has_committed(log: &Log, t: u32) -> bool
     requires first { 1 ≤ t }
-    requires last { t ≤ transactions_in (log_view log.now.entries) }
-    ensures { result ≡ has_committed (fate_of t (log_view log.now.entries)) }
+    requires last { t ≤ transactions_in (entries log.now) }
+    ensures { result ≡ has_committed (fate_of t (entries log.now)) }
 {
     matches!(log.fate(t), Some(Fate::Committed(_)))
 }
@@ -63,15 +64,15 @@ fn has_committed(log: &Log, t: u32) -> bool
 /// Whether the transaction was lost.
 fn is_lost(log: &Log, t: u32) -> bool
     requires first { 1 ≤ t }
-    requires last { t ≤ transactions_in (log_view log.now.entries) }
-    ensures { result ≡ is_lost (fate_of t (log_view log.now.entries)) }
+    requires last { t ≤ transactions_in (entries log.now) }
+    ensures { result ≡ is_lost (fate_of t (entries log.now)) }
 {
     matches!(log.fate(t), Some(Fate::Lost))
 }
 
 /// The transactions that committed, in order.
 fn committed(alloc: Global, log: &Log) -> Result<Vec<u32>, NoMemory>
-    ensures { IfOk result (λ committed. committed.items ≡ committed_in (log_view log.now.entries)) }
+    ensures { IfOk result (λ committed. committed.items ≡ committed_in (entries log.now)) }
 {
     let mut committed = Vec::new(alloc);
     let mut t = 0;
@@ -86,7 +87,7 @@ fn committed(alloc: Global, log: &Log) -> Result<Vec<u32>, NoMemory>
 
 /// How many transactions were lost.
 fn count_lost(log: &Log) -> u32
-    ensures { result ≡ lost_in (log_view log.now.entries) }
+    ensures { result ≡ lost_in (entries log.now) }
 {
     let mut lost = 0;
     let mut t = 0;

@@ -1,5 +1,5 @@
 use Rattle.std.proofs.Common.{ap, ◌∙◌}
-use Rattle.gp_grammar.specs.LineReading.{question_of}
+use Rattle.gp_grammar.specs.Reading.{question_of}
 use Rattle.gp_syntax.specs.Views.{question_view}
 use Rattle.gp_dump.specs.Views.{dump_view}
 use Rattle.gp_ask.specs.declared.answered.Answered.TheVariants.{Refused}

@@ -26,10 +26,10 @@ returns-in-Ok c =
     let how = how_view c.args.how.now in
     let point = state_view c.args.state in
     let query = query_view c.args.query.now in
-    let due : Answered = h.unless_refused (h.remaking_refusal entries) (ask_to (h.replayed_dump entries) how point query) in
-    IfOk-weaker c.ask_answer.result (λ (a : Answered). a ≡ answer_to (dump_in entries (tables_view c.from_vec-versions.result)) (y.ask how point query)) (λ (a : Answered). a ≡ due)
+    let expected : Answered = h.unless_refused (h.remaking_refusal entries) (ask_to (h.replayed_dump entries) how point query) in
+    IfOk-weaker c.ask_answer.result (λ (a : Answered). a ≡ answer_to (dump_in entries (tables_view c.from_vec-versions.result)) (y.ask how point query)) (λ (a : Answered). a ≡ expected)
     (λ a is.
     is
-    ∙ subst (λ (own : List Versions). ask_to (dump_in entries (tables_view own)) how point query ≡ due) (sym c.from_vec-versions.ensures)
+    ∙ subst (λ (own : List Versions). ask_to (dump_in entries (tables_view own)) how point query ≡ expected) (sym c.from_vec-versions.ensures)
     (replayed_is entries c.requires.replayable c.in-Ok.versions.items c.in-Ok.ensures.made c.changed_histories_answer_their_questions.ensures.any_order how point query))
     c.ask_answer.ensures.answered

@@ -3,7 +3,7 @@ use Rattle.std.proofs.lemmas.Result.{IfOk-weaker}
 use Rattle.gp_base.specs.declared.table.Table.{Table}
 use Rattle.gp_check.specs.Valid.{tables_are_valid}
 use Rattle.gp_grammar.specs.Syntax as y
-use Rattle.gp_log.specs.Limits.{limits}
+use Rattle.gp_log.specs.Parameters.{parameters}
 use Rattle.gp_log.specs.Logs.{log_view}
 use Rattle.gp_syntax.specs.Views.{change_view, how_view, query_view, state_view}
 use Rattle.gp_dump.specs.Views.{dump_view}
@@ -17,7 +17,7 @@ use Rattle.gp_ask.proofs.WhatIfLemmas.{changed_is, explains_changed, explains_re
 use Rattle.gp_ask.proofs.hypothetical.what_if_answer.Goals as goal
 
 pub change-requires-clause-lines : goal.change-requires-clause-lines
-change-requires-clause-lines c = c.changed_lines_rise.ensures.double limits (dump_view c.args.dump.now).entries c.requires.rules.log
+change-requires-clause-lines c = c.changed_lines_rise.ensures.double parameters (dump_view c.args.dump.now).entries c.requires.rules.log
 
 pub remade_answer-requires-clause-replayable : goal.remade_answer-requires-clause-replayable
 remade_answer-requires-clause-replayable c = c.in-Ok.ensures.replayable (replayable (dump_view c.args.dump.now) c.requires.rules) c.requires.valid c.requires.change
@@ -25,7 +25,7 @@ remade_answer-requires-clause-replayable c = c.in-Ok.ensures.replayable (replaya
 pub remade_answer-requires-clause-valid : goal.remade_answer-requires-clause-valid
 remade_answer-requires-clause-valid c =
     subst (λ (tables : List Table). tables_are_valid tables ≡ true)
-    (sym (c.changed_logs_are_replayable.ensures.tables limits (dump_view c.args.dump.now).entries (log_view c.in-Ok.log.entries) (change_view c.args.change.now) c.in-Ok.ensures.changed))
+    (sym (c.changed_logs_are_replayable.ensures.tables parameters (dump_view c.args.dump.now).entries (log_view c.in-Ok.log.entries) (change_view c.args.change.now) c.in-Ok.ensures.changed))
     c.requires.valid
 
 pub returns-in-Ok-clause-answered : goal.returns-in-Ok-clause-answered

@@ -3,7 +3,7 @@ use Rattle.std.specs.List.Sorted.{IsPermutation}
 use Rattle.gp_base.specs.Annotated.{monomials, plain}
 use Rattle.gp_base.specs.Tokens.{Monomial}
 use Rattle.gp_algebra.specs.Reannotation.{forgotten}
-use Rattle.gp_log.specs.Limits.{limits}
+use Rattle.gp_log.specs.Parameters.{parameters}
 use Rattle.gp_machine.specs.Event.{after}
 use Rattle.gp_machine.specs.HistorySpans.{state_spans}
 use Rattle.gp_machine.specs.State.{State, start}
@@ -20,17 +20,17 @@ use Rattle.gp_ask.proofs.laws.histories_answer_as_their_dumps.Goals as goal
 
 pub returns : goal.returns
 returns c = λ lines question.
-    let state : State Monomial = after monomials limits start lines in
-    let same : after plain limits start lines ≡ forgetting state = c.annotations_change_no_reply.ensures.forgetting monomials limits lines in
+    let state : State Monomial = after monomials parameters start lines in
+    let same : after plain parameters start lines ≡ forgetting state = c.annotations_change_no_reply.ensures.forgetting monomials parameters lines in
     let coherent : IsCoherent state.entries =
-    subst (λ (s : State (Unit {0})). IsCoherent s.entries) same (c.changed_logs_are_coherent.ensures.histories limits lines targets-checked) in
+    subst (λ (s : State (Unit {0})). IsCoherent s.entries) same (c.changed_logs_are_coherent.ensures.histories parameters lines targets-checked) in
     let kept : (table : ℕ) → state_spans (forgetting state) table ≡ state_spans state table = λ table. c.annotations_change_no_reply.ensures.spans forgotten state table in
-    let beyond : (table : ℕ) → length state.catalogue ≤ table → state_spans (forgetting state) table ≡ [] = λ table past. kept table ∙ c.commits_publish_the_spans.ensures.beyond monomials limits targets-checked lines table past in
+    let beyond : (table : ℕ) → length state.catalogue ≤ table → state_spans (forgetting state) table ≡ [] = λ table past. kept table ∙ c.commits_publish_the_spans.ensures.beyond monomials parameters targets-checked lines table past in
     let spans : ℕ → List Span = spans_at (dump_of (forgetting state)).tables in
     let moved : (table : ℕ) → IsPermutation (spans table) (state_spans state table) =
     λ table. subst (λ (own : List Span). IsPermutation (spans table) own) (kept table) (dumped (forgetting state) beyond table) in
     subst (λ (s : State (Unit {0})). answer_to (dump_of s) question ≡ held_to state question) (sym same)
     (held state kept
-    (λ how point query. c.unstopped_histories_answer_as_their_dumps.ensures state (c.histories_do_not_stop.ensures.reached monomials limits lines) (tables-kept monomials limits start lines refl)
+    (λ how point query. c.unstopped_histories_answer_as_their_dumps.ensures state (c.histories_do_not_stop.ensures.reached monomials parameters lines) (tables-kept monomials parameters start lines refl)
     (dump_of (forgetting state)).tables moved how point query)
     (λ change how point query. c.changed_histories_answer_their_questions.ensures.held state.entries change coherent how point query) question)

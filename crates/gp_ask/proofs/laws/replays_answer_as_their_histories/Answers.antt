@@ -2,7 +2,7 @@ use Rattle.std.proofs.Common.{List, length, refl, sym, ◌∙◌, subst}
 use Rattle.std.specs.List.Sorted.{IsPermutation}
 use Rattle.gp_base.specs.Annotated.{monomials, plain}
 use Rattle.gp_algebra.specs.Reannotation.{forgotten}
-use Rattle.gp_log.specs.Limits.{limits}
+use Rattle.gp_log.specs.Parameters.{parameters}
 use Rattle.gp_log.specs.LogFacts.{tables_in}
 use Rattle.gp_machine.specs.Entries.{log_of, versions_in}
 use Rattle.gp_machine.specs.Replayed.{replayed_state}
@@ -13,8 +13,8 @@ use Rattle.gp_ask.proofs.laws.replays_answer_as_their_histories.Goals as goal
 pub returns : goal.returns
 returns c = λ entries order none tables are how point query.
     let forgets = c.annotations_commute.ensures.forgetting monomials in
-    let unstopped = c.histories_do_not_stop.ensures.replayed monomials limits (tables_in entries) entries order
-    (sym (c.annotations_change_no_replay.ensures.stops monomials plain forgotten forgets limits (log_of entries) (length (tables_in entries)) (versions_in entries)) ∙ none) in
+    let unstopped = c.histories_do_not_stop.ensures.replayed monomials parameters (tables_in entries) entries order
+    (sym (c.annotations_change_no_replay.ensures.stops monomials plain forgotten forgets parameters (log_of entries) (length (tables_in entries)) (versions_in entries)) ∙ none) in
     c.unstopped_histories_answer_as_their_dumps.ensures (replayed_state monomials (tables_in entries) entries) unstopped refl tables
     (λ place. subst (λ (own : List Span). IsPermutation (spans_at tables place) own)
     (c.annotations_change_no_replay.ensures.spans monomials plain forgotten forgets (log_of entries) (length (tables_in entries)) (versions_in entries) place) (are place)) how point query

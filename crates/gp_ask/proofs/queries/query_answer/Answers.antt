@@ -5,12 +5,13 @@ use Rattle.gp_syntax.specs.Views.{query_view, state_view}
 use Rattle.gp_algebra.specs.Plain.{PlainEnvironment}
 use Rattle.gp_check.specs.Checking.{checked_query}
 use Rattle.gp_exec.specs.Backends.{Executes}
-use Rattle.gp_log.specs.Limits.{limits}
+use Rattle.gp_log.specs.Parameters.{parameters}
 use Rattle.gp_log.specs.LogFacts.{tables_in}
 use Rattle.gp_log.specs.LogFitting.{SpansFit}
 use Rattle.gp_log.specs.Logs.{log_view}
 use Rattle.gp_machine.specs.Questions.{log_refusal, rows_answer}
-use Rattle.gp_reenact.specs.Reenacting.{merged_at, transaction_at}
+use Rattle.gp_reenact.specs.Reenacting.{transaction_at}
+use Rattle.gp_reenact.specs.Programs.{merged_at}
 use Rattle.gp_versions.specs.declared.span.Span.{Span}
 use Rattle.gp_dump.specs.Views.{dump_view}
 use Rattle.gp_ask.specs.declared.answered.Answered.{Answered}
@@ -27,13 +28,13 @@ returns c =
     let entries = log_view dump.log.entries in
     let point = state_view c.args.state in
     let question = y.ask y.rows point (query_view c.args.query.now) in
-    let due = log_refusal entries point in
+    let expected = log_refusal entries point in
     let checked = checked_query (tables_in entries) (query_view c.args.query.now) in
     let spans_fit = subst (λ (spans : ℕ → List Span). SpansFit (tables_in entries) spans) (sym (dump-spans dump.versions)) c.requires.rules.spans in
-    let moved = ap (λ (spans : ℕ → List Span). query_answer (λ select. of_elements (rows_answer limits entries spans point select)) due checked) (dump-spans dump.versions) in
+    let moved = ap (λ (spans : ℕ → List Span). query_answer (λ select. of_elements (rows_answer parameters entries spans point select)) expected checked) (dump-spans dump.versions) in
     IfOk-weaker c.query_answer_by.result (λ (a : Answered). AnswersBy Executes (dump_view dump) question a) (λ (a : Answered). a ≡ answer_to (dump_view dump) question)
     (λ a by.
-    executed_answers entries dump.versions point c.requires.rules.statements spans_fit due checked a refl
-    (subst (λ (past : PlainEnvironment). AnswersQuery Executes (tables_in entries) (transaction_at point) (merged_at false entries point) past due checked a) (sym (past_is dump.versions)) by)
+    executed_answers entries dump.versions point c.requires.rules.statements spans_fit expected checked a refl
+    (subst (λ (past : PlainEnvironment). AnswersQuery Executes (tables_in entries) (transaction_at point) (merged_at false entries point) past expected checked a) (sym (past_is dump.versions)) by)
     ∙ moved)
     c.query_answer_by.ensures

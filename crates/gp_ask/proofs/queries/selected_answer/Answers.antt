@@ -8,7 +8,8 @@ use Rattle.gp_algebra.specs.Views.{select_view}
 use Rattle.gp_log.specs.Logs.{log_view}
 use Rattle.gp_machine.specs.Questions.{log_refusal}
 use Rattle.gp_reenact.specs.Backends.{IsGivenOver, RefusedBy}
-use Rattle.gp_reenact.specs.Reenacting.{merged_at, transaction_at}
+use Rattle.gp_reenact.specs.Reenacting.{transaction_at}
+use Rattle.gp_reenact.specs.Programs.{merged_at}
 use Rattle.gp_travel.specs.Encoding.{encoded}
 use Rattle.gp_travel.specs.Travel.{as_of}
 use Rattle.gp_dump.specs.Views.{dump_view}
@@ -18,8 +19,8 @@ use Rattle.gp_ask.specs.Backends.{IsAnswered, past_of}
 use Rattle.gp_ask.proofs.BackendLemmas.{found_is_answered, past_is, refusal_is_answered}
 use Rattle.gp_ask.proofs.queries.selected_answer.Goals as goal
 
-pub reenact_by-requires-clause-statements : goal.reenact_by-requires-clause-statements
-reenact_by-requires-clause-statements g c = c.requires.rules.statements
+pub reenact_by-requires : goal.reenact_by-requires
+reenact_by-requires g c = record { fits = c.requires.fits; statements = c.requires.rules.statements }
 
 pub returns-in-Ok : goal.returns-in-Ok
 returns-in-Ok g c =
@@ -41,7 +42,7 @@ returns-in-Err-Refused g c =
     let t = transaction_at (state_view c.args.state) in
     let program = merged_at false (log_view dump.log.entries) (state_view c.args.state) (select_view c.args.select.now) in
     let refusal = c.in-Err-Refused.refusal in
-    let due = log_refusal (log_view dump.log.entries) (state_view c.args.state) in
+    let expected = log_refusal (log_view dump.log.entries) (state_view c.args.state) in
     let same : encoded (as_of plain c.as_slice.result.now) ≡ past_of (dump_view dump) = ap (λ versions. encoded (as_of plain versions)) c.as_slice.ensures ∙ past_is dump.versions in
-    refusal_is_answered gives t program (past_of (dump_view dump)) refusal due c.requires.known
-    (subst (λ (env : PlainEnvironment). RefusedBy gives refusal due t program env) same (rw c.in-Err-Refused.field-0-is at c.in-Err-Refused.ensures))
+    refusal_is_answered gives t program (past_of (dump_view dump)) refusal expected c.requires.known
+    (subst (λ (env : PlainEnvironment). RefusedBy gives refusal expected t program env) same (rw c.in-Err-Refused.field-0-is at c.in-Err-Refused.ensures))

@@ -1,7 +1,7 @@
 use Rattle.std.proofs.Common.{ap, refl, ◌∙◌, Err}
-use Rattle.gp_dump.specs.Rules.{fault_in}
+use Rattle.gp_dump.specs.Verdicts.{fault_in}
 use Rattle.gp_dump.specs.Views.{dump_view}
-use Rattle.gprom_cli.specs.Call.{Answered, Damaged, OutOfMemory}
+use Rattle.gprom_cli.specs.Outcomes.{Answered, Damaged, OutOfMemory}
 use Rattle.gp_dump.proofs.LawLemmas.{only}
 use Rattle.gprom_cli.proofs.ask.answer.Goals as goal
 

@@ -1,6 +1,6 @@
 use Rattle.std.proofs.Common.{Bool, Ok, Err, ◌∙◌, ap, subst, sym}
 use Rattle.gp_ask.specs.Answers.{answer_to}
-use Rattle.gp_ask.specs.Questions.{answers_text, has_refused}
+use Rattle.gp_ask.specs.QuestionFiles.{answers_text, has_refused}
 use Rattle.gp_dump.specs.Views.{dump_view}
 use Rattle.gprom_cli.specs.declared.status.Status.{Status}
 use Rattle.gprom_cli.specs.Call.{IsAnswered, WritesOutput, answered_status}

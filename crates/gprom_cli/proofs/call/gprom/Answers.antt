@@ -3,7 +3,7 @@ use Rattle.std.specs.Prelude.{string_bytes}
 use Rattle.gprom_cli.specs.declared.status.Status.{Status}
 use Rattle.gprom_cli.specs.Args.{command_of}
 use Rattle.gprom_cli.specs.Status.{status_of}
-use Rattle.gprom_cli.specs.Call.{HasOutcome}
+use Rattle.gprom_cli.specs.Outcomes.{HasOutcome}
 use Rattle.gp_dump.proofs.LawLemmas.{read}
 use Rattle.gprom_cli.proofs.PromisesLemmas.{promised, status_of-number_of}
 use Rattle.gprom_cli.proofs.call.gprom.Goals as goal

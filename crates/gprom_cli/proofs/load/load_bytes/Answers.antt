@@ -1,5 +1,5 @@
 use Rattle.std.proofs.Common.{refl, Err, ap, ◌∙◌}
-use Rattle.gprom_cli.specs.Call.{OutOfMemory, SheetRefused}
+use Rattle.gprom_cli.specs.Outcomes.{OutOfMemory, SheetRefused}
 use Rattle.gprom_cli.proofs.load.load_bytes.Goals as goal
 
 pub returns-in-Err-Refused : goal.returns-in-Err-Refused

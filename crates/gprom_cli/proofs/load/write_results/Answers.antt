@@ -1,6 +1,6 @@
 use Rattle.std.proofs.Common.{Err, List, ℕ, refl, ap, subst, ◌∙◌}
 use Rattle.gp_io.specs.Shelf.{ReplacesFile}
-use Rattle.gprom_cli.specs.Call.{Loaded, NotReplaced, OutOfMemory}
+use Rattle.gprom_cli.specs.Outcomes.{Loaded, NotReplaced, OutOfMemory}
 use Rattle.gprom_cli.proofs.load.write_results.Goals as goal
 
 pub returns-in-Ok : goal.returns-in-Ok

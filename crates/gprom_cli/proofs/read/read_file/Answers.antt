@@ -1,5 +1,5 @@
 use Rattle.std.proofs.Common.{◌+◌, refl, arith}
-use Rattle.gprom_cli.specs.Call.{TooLong}
+use Rattle.gprom_cli.specs.Outcomes.{TooLong}
 use Rattle.gprom_cli.proofs.ReadingLemmas.{long-file}
 use Rattle.gprom_cli.proofs.read.read_file.Goals as goal
 

@@ -1,7 +1,7 @@
 use Rattle.std.proofs.Common.{refl, subst}
-use Rattle.gp_io.specs.Shelf.{ReadStops}
+use Rattle.gp_io.specs.ShelfSteps.{ReadStops}
 use Rattle.gp_io.specs.declared.error.ShelfStop.{ShelfStop}
-use Rattle.gprom_cli.specs.Call.{Absent, Unreadable, OutOfMemory}
+use Rattle.gprom_cli.specs.Outcomes.{Absent, Unreadable, OutOfMemory}
 use Rattle.gprom_cli.proofs.read.write_stop.Goals as goal
 
 pub returns-in-Absent : goal.returns-in-Absent

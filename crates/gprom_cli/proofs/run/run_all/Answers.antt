@@ -1,7 +1,7 @@
 use Rattle.std.proofs.Common.{◌≡◌, ◌∙◌, ap}
 use Rattle.gp_base.specs.Annotated.{plain}
 use Rattle.gp_log.specs.Logs.{log_view}
-use Rattle.gp_script.specs.History.{final_state}
+use Rattle.gp_script.specs.Scripts.{final_state}
 use Rattle.gp_dump.specs.Dumps.{dump_of, dump_with, written_text}
 use Rattle.gp_dump.specs.Views.{tables_view}
 use Rattle.gprom_cli.proofs.EngineLemmas.{engine-dump}

@@ -1,5 +1,5 @@
 use Rattle.std.proofs.Common.{refl}
-use Rattle.gprom_cli.specs.Call.{OutOfMemory}
+use Rattle.gprom_cli.specs.Outcomes.{OutOfMemory}
 use Rattle.gprom_cli.proofs.run.run_bytes.Goals as goal
 
 pub returns-in-Err : goal.returns-in-Err

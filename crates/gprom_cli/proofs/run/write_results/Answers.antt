@@ -1,9 +1,11 @@
 use Rattle.std.proofs.Common.{◌≡◌, ◌<◌, ◌≤◌, ◌∙◌, Err, List, ℕ, length, refl, inr, ap, subst, arith}
 use Rattle.gp_io.specs.Shelf.{ReplacesFile}
 use Rattle.gp_dump.specs.declared.dump.TheConstants.{MAX_DUMP_LENGTH}
-use Rattle.gp_script.specs.History.{replies_of, replies_text, has_refusal}
+use Rattle.gp_script.specs.History.{replies_text, has_refusal}
+use Rattle.gp_script.specs.Scripts.{replies_of}
 use Rattle.gprom_cli.specs.declared.status.Status.{Status}
-use Rattle.gprom_cli.specs.Call.{TooLong, NotReplaced, Replied, OutOfMemory, WritesOutput, answered_status, script_dump}
+use Rattle.gprom_cli.specs.Call.{WritesOutput, answered_status}
+use Rattle.gprom_cli.specs.Outcomes.{TooLong, NotReplaced, Replied, OutOfMemory, script_dump}
 use Rattle.gprom_cli.proofs.run.write_results.Goals as goal
 
 pub returns-then-len-gt-MAX_DUMP_LENGTH : goal.returns-then-len-gt-MAX_DUMP_LENGTH

@@ -1,9 +1,9 @@
 use Rattle.std.proofs.Common.{rules, ℕ, ◌+◌, List, subst, sym}
-use Rattle.gp_exec.specs.declared.limit.TheConstants.{MAX_ANSWER_ROWS}
+use Rattle.gp_base.specs.declared.limit.TheConstants.{MAX_ANSWER_ROWS}
 use Rattle.gp_syntax.specs.Lines.{script_lines}
 use Rattle.gp_dump.specs.Views.{dump_view}
 use Rattle.gp_ask.specs.Answers.{answer_to}
-use Rattle.gprom_cli.specs.Summary.{line_rows}
+use Rattle.gprom_cli.specs.Summaries.{line_rows}
 use Rattle.gprom_cli.proofs.CountingLemmas.{IsCounted, counts-none, counts-few, counts-more, counts-all}
 use Rattle.gprom_cli.proofs.RowCountLemmas.{few-rows}
 use Rattle.gprom_cli.proofs.summary.count_rows.Goals as goal

@@ -3,12 +3,12 @@ use Rattle.gp_base.specs.Annotated.{plain}
 use Rattle.gp_syntax.specs.Lines.{script_lines}
 use Rattle.gp_machine.specs.Entries.{versions_in}
 use Rattle.gp_script.specs.declared.script.TheConstants.{MAX_SCRIPT_LENGTH}
-use Rattle.gp_script.specs.History.{final_state}
+use Rattle.gp_script.specs.Scripts.{final_state}
 use Rattle.gp_dump.specs.Dumps.{dump_of}
 use Rattle.gp_dump.specs.Views.{dump_view}
 use Rattle.gp_ask.specs.Answers.{answer_to}
 use Rattle.gprom_cli.specs.Generated.{generated_questions}
-use Rattle.gprom_cli.specs.Summary.{rows_in}
+use Rattle.gprom_cli.specs.Summaries.{rows_in}
 use Rattle.gprom_cli.proofs.GeneratedLemmas.{short-script}
 use Rattle.gprom_cli.proofs.SummaryLemmas.{same-summary, short-questions, summary-is}
 use Rattle.gprom_cli.proofs.summary.summary_of.Goals as goal

@@ -1,10 +1,10 @@
 use Rattle.std.proofs.Common.{Option, map, subst}
 use Rattle.std.specs.Prelude.{string_bytes}
 use Rattle.gprom_cli.specs.Args as spec
-use Rattle.gprom_cli.specs.Call.{HasOutcome}
+use Rattle.gprom_cli.specs.Outcomes.{HasOutcome}
 use Rattle.gprom_cli.proofs.RoundsLemmas.{few-rounds}
 use Rattle.gprom_cli.proofs.StepsLemmas.{out-of-memory}
-use Rattle.gprom_cli.proofs.call.execute.Goals as goal
+use Rattle.gprom_cli.proofs.execute.execute.Goals as goal
 
 pub returns-in-Ok : goal.returns-in-Ok
 returns-in-Ok g c =

@@ -2,8 +2,8 @@ use Rattle.std.proofs.Common.{Option, Some, refl, subst, ap, sym, ◌∙◌}
 use Rattle.std.specs.Option.{option_map}
 use Rattle.gprom_cli.specs.Args as spec
 use Rattle.gprom_cli.specs.Views.{command_view}
-use Rattle.gprom_cli.specs.Call.{HasOutcome, Summarized, Usage}
-use Rattle.gprom_cli.proofs.call.execute_command.Goals as goal
+use Rattle.gprom_cli.specs.Outcomes.{HasOutcome, Summarized, Usage}
+use Rattle.gprom_cli.proofs.execute.execute_command.Goals as goal
 
 pub returns-in-Some-Run : goal.returns-in-Some-Run
 returns-in-Some-Run g c =
