@@ -67,8 +67,35 @@ pub(crate) fn exploding_dump(alloc: Global) -> Result<Vec<u8>, AllocError> {
 }
 
 /// The commits of nine transactions, each of which writes every row of r.
-const UPDATES: &[u8] =
-    b"7 s1 BEGIN\n8 s1 UPDATE r SET a = a\n9 s1 COMMIT\n10 s1 BEGIN\n11 s1 UPDATE r SET a = a\n12 s1 COMMIT\n13 s1 BEGIN\n14 s1 UPDATE r SET a = a\n15 s1 COMMIT\n16 s1 BEGIN\n17 s1 UPDATE r SET a = a\n18 s1 COMMIT\n19 s1 BEGIN\n20 s1 UPDATE r SET a = a\n21 s1 COMMIT\n22 s1 BEGIN\n23 s1 UPDATE r SET a = a\n24 s1 COMMIT\n25 s1 BEGIN\n26 s1 UPDATE r SET a = a\n27 s1 COMMIT\n28 s1 BEGIN\n29 s1 UPDATE r SET a = a\n30 s1 COMMIT\n31 s1 BEGIN\n32 s1 UPDATE r SET a = a\n33 s1 COMMIT\n";
+const UPDATES: &[u8] = b"\
+7 s1 BEGIN
+8 s1 UPDATE r SET a = a
+9 s1 COMMIT
+10 s1 BEGIN
+11 s1 UPDATE r SET a = a
+12 s1 COMMIT
+13 s1 BEGIN
+14 s1 UPDATE r SET a = a
+15 s1 COMMIT
+16 s1 BEGIN
+17 s1 UPDATE r SET a = a
+18 s1 COMMIT
+19 s1 BEGIN
+20 s1 UPDATE r SET a = a
+21 s1 COMMIT
+22 s1 BEGIN
+23 s1 UPDATE r SET a = a
+24 s1 COMMIT
+25 s1 BEGIN
+26 s1 UPDATE r SET a = a
+27 s1 COMMIT
+28 s1 BEGIN
+29 s1 UPDATE r SET a = a
+30 s1 COMMIT
+31 s1 BEGIN
+32 s1 UPDATE r SET a = a
+33 s1 COMMIT
+";
 
 /// A dump whose ten commits would publish 100,100 rows if they ran: 100 in n and 10,000 in r, and then those of r nine times.
 pub(crate) fn publishing_dump(alloc: Global) -> Result<Vec<u8>, AllocError> {

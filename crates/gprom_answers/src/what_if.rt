@@ -10,27 +10,108 @@ const CHANGES: &[Asked] = &[
     // not commit cannot be changed.
     (
         BANK,
-        b"WHATIF DROP 2 1 OF AS OF 5 SELECT * FROM acct\n> 1 rows 5\n>   1, 101\n>   2, 81\n>   3, 8\n>   11, 201\n>   12, 161\nWHATIF REPLACE 3 1 BY (UPDATE acct SET bal = 0 WHERE id = 2) OF AS OF 3 SELECT * FROM acct\n> 2 E31 transaction 3 would lose to 2 on acct 1.1.2\nWHATIF ADD 4 BY (DELETE FROM acct WHERE id = 3) OF AS OF 4 SELECT * FROM acct\n> 3 rows 2\n>   1, 71\n>   2, 81\nWHATIF DROP 5 1 OF AS OF 5 SELECT * FROM acct\n> 4 E21 transaction 5 is lost\n",
+        b"\
+WHATIF DROP 2 1 OF AS OF 5 SELECT * FROM acct
+> 1 rows 5
+>   1, 101
+>   2, 81
+>   3, 8
+>   11, 201
+>   12, 161
+WHATIF REPLACE 3 1 BY (UPDATE acct SET bal = 0 WHERE id = 2) OF AS OF 3 SELECT * FROM acct
+> 2 E31 transaction 3 would lose to 2 on acct 1.1.2
+WHATIF ADD 4 BY (DELETE FROM acct WHERE id = 3) OF AS OF 4 SELECT * FROM acct
+> 3 rows 2
+>   1, 71
+>   2, 81
+WHATIF DROP 5 1 OF AS OF 5 SELECT * FROM acct
+> 4 E21 transaction 5 is lost
+",
         1,
     ),
     // A SELECT that is dropped stays. A lost DELETE stays lost, even if the UPDATE that it lost to is gone. Rows that were never inserted are
     // missing in all that was computed from them.
     (
         BANK,
-        b"WHATIF DROP 2 4 OF AS OF 5 SELECT * FROM acct\n> 1 rows 5\n>   1, 71\n>   2, 81\n>   3, 8\n>   11, 141\n>   12, 161\nWHATIF DROP 4 1 OF AS OF 5 SELECT * FROM acct\n> 2 rows 5\n>   1, 70\n>   2, 80\n>   3, 7\n>   11, 140\n>   12, 160\nWHATIF REPLACE 1 1 BY (INSERT INTO acct VALUES (1, 100), (2, 50)) OF AS OF 5 SELECT * FROM acct\n> 3 rows 4\n>   1, 71\n>   2, 81\n>   11, 141\n>   12, 161\nWHATIF ADD 3 BY (UPDATE owner SET name = 'Di' WHERE id = 3) OF AS OF 5 SELECT o.name, x.bal FROM owner o, acct x WHERE o.id = x.id\n> 4 rows 3\n>   'Ann', 71\n>   'Bo', 81\n>   'Di', 8\n",
+        b"\
+WHATIF DROP 2 4 OF AS OF 5 SELECT * FROM acct
+> 1 rows 5
+>   1, 71
+>   2, 81
+>   3, 8
+>   11, 141
+>   12, 161
+WHATIF DROP 4 1 OF AS OF 5 SELECT * FROM acct
+> 2 rows 5
+>   1, 70
+>   2, 80
+>   3, 7
+>   11, 140
+>   12, 160
+WHATIF REPLACE 1 1 BY (INSERT INTO acct VALUES (1, 100), (2, 50)) OF AS OF 5 SELECT * FROM acct
+> 3 rows 4
+>   1, 71
+>   2, 81
+>   11, 141
+>   12, 161
+WHATIF ADD 3 BY (UPDATE owner SET name = 'Di' WHERE id = 3) OF AS OF 5 SELECT o.name, x.bal FROM owner o, acct x WHERE o.id = x.id
+> 4 rows 3
+>   'Ann', 71
+>   'Bo', 81
+>   'Di', 8
+",
         0,
     ),
     // Two transactions that began at one version: the second one to commit would lose by each row of the first, also with equal values.
     (
         DIFFERENT_ROWS,
-        b"WHATIF REPLACE 2 1 BY (UPDATE r SET b = b + 1) OF AS OF 3 SELECT * FROM r\n> 1 E31 transaction 3 would lose to 2 on r 1.1.2\nWHATIF REPLACE 3 1 BY (UPDATE r SET b = b) OF AS OF 3 SELECT * FROM r\n> 2 E31 transaction 3 would lose to 2 on r 1.1.1\nWHATIF DROP 2 1 OF AS OF 3 SELECT * FROM r\n> 3 rows 2\n>   1, 10\n>   2, 25\nWHATIF REPLACE 3 1 BY (SELECT * FROM r) OF PROVENANCE OF AS OF 3 SELECT * FROM r\n> 4 rows 2\n>   1, 11 : i1.1.1*u2.1\n>   2, 20 : i1.1.2\nWHATIF ADD 3 BY (DELETE FROM r WHERE a = 2) OF REENACT 3 COMMIT SELECT * FROM r\n> 5 rows 1\n>   1, 11\n",
+        b"\
+WHATIF REPLACE 2 1 BY (UPDATE r SET b = b + 1) OF AS OF 3 SELECT * FROM r
+> 1 E31 transaction 3 would lose to 2 on r 1.1.2
+WHATIF REPLACE 3 1 BY (UPDATE r SET b = b) OF AS OF 3 SELECT * FROM r
+> 2 E31 transaction 3 would lose to 2 on r 1.1.1
+WHATIF DROP 2 1 OF AS OF 3 SELECT * FROM r
+> 3 rows 2
+>   1, 10
+>   2, 25
+WHATIF REPLACE 3 1 BY (SELECT * FROM r) OF PROVENANCE OF AS OF 3 SELECT * FROM r
+> 4 rows 2
+>   1, 11 : i1.1.1*u2.1
+>   2, 20 : i1.1.2
+WHATIF ADD 3 BY (DELETE FROM r WHERE a = 2) OF REENACT 3 COMMIT SELECT * FROM r
+> 5 rows 1
+>   1, 11
+",
         1,
     ),
     // Each statement of a read committed transaction reads its version again, an added one that of the statement before it. What a
     // statement writes first has the version that it reads as its base.
     (
         TWO_VERSIONS,
-        b"WHATIF DROP 2 1 OF AS OF 3 SELECT * FROM r\n> 1 rows 2\n>   1, 20\n>   2, 50\nWHATIF DROP 3 1 OF AS OF 3 SELECT * FROM r\n> 2 rows 2\n>   1, 22\n>   2, 40\nWHATIF REPLACE 2 1 BY (UPDATE r SET b = b + 1) OF AS OF 3 SELECT * FROM r\n> 3 E31 transaction 2 would lose to 3 on r 1.1.2\nWHATIF REPLACE 3 1 BY (UPDATE r SET b = 0) OF AS OF 3 SELECT * FROM r\n> 4 E31 transaction 2 would lose to 3 on r 1.1.1\nWHATIF ADD 2 BY (UPDATE r SET b = b + a) OF PROVENANCE OF AS OF 3 SELECT * FROM r\n> 5 rows 2\n>   1, 23 : i1.1.1*u2.1*u2.2*u2.3\n>   2, 52 : i1.1.2*u2.2*u2.3*u3.1\nWHATIF ADD 3 BY (DELETE FROM r WHERE a = 2) OF PROVENANCE OF REENACT 2 AFTER 2 SELECT * FROM r\n> 6 rows 1\n>   1, 22 : i1.1.1*u2.1*u2.2\nWHATIF DROP 2 1 OF EXPLAIN REENACT 2 AFTER 2 SELECT * FROM r\n> 7 program 1\n>   QUERY PROJECT(SCAN(r, 2), #1, CASE WHEN TRUE THEN (#2 * 2) ELSE #2 END)\n",
+        b"\
+WHATIF DROP 2 1 OF AS OF 3 SELECT * FROM r
+> 1 rows 2
+>   1, 20
+>   2, 50
+WHATIF DROP 3 1 OF AS OF 3 SELECT * FROM r
+> 2 rows 2
+>   1, 22
+>   2, 40
+WHATIF REPLACE 2 1 BY (UPDATE r SET b = b + 1) OF AS OF 3 SELECT * FROM r
+> 3 E31 transaction 2 would lose to 3 on r 1.1.2
+WHATIF REPLACE 3 1 BY (UPDATE r SET b = 0) OF AS OF 3 SELECT * FROM r
+> 4 E31 transaction 2 would lose to 3 on r 1.1.1
+WHATIF ADD 2 BY (UPDATE r SET b = b + a) OF PROVENANCE OF AS OF 3 SELECT * FROM r
+> 5 rows 2
+>   1, 23 : i1.1.1*u2.1*u2.2*u2.3
+>   2, 52 : i1.1.2*u2.2*u2.3*u3.1
+WHATIF ADD 3 BY (DELETE FROM r WHERE a = 2) OF PROVENANCE OF REENACT 2 AFTER 2 SELECT * FROM r
+> 6 rows 1
+>   1, 22 : i1.1.1*u2.1*u2.2
+WHATIF DROP 2 1 OF EXPLAIN REENACT 2 AFTER 2 SELECT * FROM r
+> 7 program 1
+>   QUERY PROJECT(SCAN(r, 2), #1, CASE WHEN TRUE THEN (#2 * 2) ELSE #2 END)
+",
         1,
     ),
 ];
@@ -44,51 +125,211 @@ fn commits_are_made_again(rt: HostRuntime) -> Result<(), Fail> {
 }
 
 /// Tables that are created while a transaction runs, and a transaction without statements.
-const NEW_TABLES: &[u8] =
-    b"s1: CREATE TABLE r (a INT)\ns1: BEGIN\ns1: INSERT INTO r VALUES (1)\ns2: CREATE TABLE t (a INT)\ns1: INSERT INTO r VALUES (2)\ns2: BEGIN\ns2: INSERT INTO t VALUES (5)\ns2: COMMIT\ns2: CREATE TABLE w (a INT)\ns1: COMMIT\ns2: BEGIN\ns2: COMMIT\n";
+const NEW_TABLES: &[u8] = b"\
+s1: CREATE TABLE r (a INT)
+s1: BEGIN
+s1: INSERT INTO r VALUES (1)
+s2: CREATE TABLE t (a INT)
+s1: INSERT INTO r VALUES (2)
+s2: BEGIN
+s2: INSERT INTO t VALUES (5)
+s2: COMMIT
+s2: CREATE TABLE w (a INT)
+s1: COMMIT
+s2: BEGIN
+s2: COMMIT
+";
 
 /// Tables may have the names of the words.
-const WORDS: &[u8] =
-    b"s1: CREATE TABLE whatif (by INT)\ns1: BEGIN\ns1: INSERT INTO whatif VALUES (1)\ns1: COMMIT\n";
+const WORDS: &[u8] = b"\
+s1: CREATE TABLE whatif (by INT)
+s1: BEGIN
+s1: INSERT INTO whatif VALUES (1)
+s1: COMMIT
+";
 
 /// Fees, accounts that are closed, and a report: the history of a chapter of the guide.
-const FEES: &[u8] =
-    b"s1: CREATE TABLE acct (owner TEXT, bal INT)\ns1: CREATE TABLE report (owner TEXT, bal INT)\ns1: BEGIN\ns1: INSERT INTO acct VALUES ('Ann', 100), ('Bob', 50), ('Cy', 20)\ns1: COMMIT\ns1: BEGIN\ns2: BEGIN\ns1: UPDATE acct SET bal = bal - 30 WHERE owner <> 'Bob'\ns2: UPDATE acct SET bal = bal + 5 WHERE owner = 'Bob'\ns1: DELETE FROM acct WHERE bal < 0\ns1: COMMIT\ns2: COMMIT\ns3: BEGIN\ns2: BEGIN\ns3: INSERT INTO report SELECT owner, bal FROM acct WHERE bal >= 60\ns2: UPDATE acct SET bal = bal * 2 WHERE owner = 'Ann'\ns3: UPDATE acct SET bal = bal + 1\ns3: COMMIT\ns2: COMMIT\n";
+const FEES: &[u8] = b"\
+s1: CREATE TABLE acct (owner TEXT, bal INT)
+s1: CREATE TABLE report (owner TEXT, bal INT)
+s1: BEGIN
+s1: INSERT INTO acct VALUES ('Ann', 100), ('Bob', 50), ('Cy', 20)
+s1: COMMIT
+s1: BEGIN
+s2: BEGIN
+s1: UPDATE acct SET bal = bal - 30 WHERE owner <> 'Bob'
+s2: UPDATE acct SET bal = bal + 5 WHERE owner = 'Bob'
+s1: DELETE FROM acct WHERE bal < 0
+s1: COMMIT
+s2: COMMIT
+s3: BEGIN
+s2: BEGIN
+s3: INSERT INTO report SELECT owner, bal FROM acct WHERE bal >= 60
+s2: UPDATE acct SET bal = bal * 2 WHERE owner = 'Ann'
+s3: UPDATE acct SET bal = bal + 1
+s3: COMMIT
+s2: COMMIT
+";
 
 const ASKED: &[Asked] = &[
     // Questions of each kind. The other statements keep their numbers, and so do their tokens.
     (
         BANK,
-        b"WHATIF DROP 2 1 OF PROVENANCE OF AS OF 5 SELECT * FROM acct WHERE id > 10\n> 1 rows 2\n>   11, 201 : i1.1.1^2*q2.3*q6.1*u4.1\n>   12, 161 : i1.1.2^2*q2.3*q6.1*u2.2^2*u4.1\nWHATIF DROP 2 1 OF VALUE IN WITNESS OF AS OF 5 SELECT * FROM acct WHERE id > 10\n> 2 rows 2\n>   11, 201 : i1.1.1*q2.3*q6.1*u4.1\n>   12, 161 : i1.1.2*q2.3*q6.1*u2.2*u4.1\nWHATIF DROP 2 1 OF WITHOUT u2 OF AS OF 5 SELECT * FROM acct\n> 3 rows 3\n>   1, 101\n>   3, 8\n>   11, 201\nWHATIF DROP 2 1 OF VALUE IN COST (i = 5, u2 = 2, ELSE 1) OF AS OF 5 SELECT * FROM acct WHERE id > 10\n> 4 rows 2\n>   11, 201 : 13\n>   12, 161 : 17\nWHATIF DROP 2 1 OF EXPLAIN REENACT 2 AFTER 2 SELECT * FROM acct\n> 5 program 1\n>   QUERY PROJECT(SCAN(acct, 1), #1, CASE WHEN (#1 = 2) THEN (#2 + 30) ELSE #2 END)\n",
+        b"\
+WHATIF DROP 2 1 OF PROVENANCE OF AS OF 5 SELECT * FROM acct WHERE id > 10
+> 1 rows 2
+>   11, 201 : i1.1.1^2*q2.3*q6.1*u4.1
+>   12, 161 : i1.1.2^2*q2.3*q6.1*u2.2^2*u4.1
+WHATIF DROP 2 1 OF VALUE IN WITNESS OF AS OF 5 SELECT * FROM acct WHERE id > 10
+> 2 rows 2
+>   11, 201 : i1.1.1*q2.3*q6.1*u4.1
+>   12, 161 : i1.1.2*q2.3*q6.1*u2.2*u4.1
+WHATIF DROP 2 1 OF WITHOUT u2 OF AS OF 5 SELECT * FROM acct
+> 3 rows 3
+>   1, 101
+>   3, 8
+>   11, 201
+WHATIF DROP 2 1 OF VALUE IN COST (i = 5, u2 = 2, ELSE 1) OF AS OF 5 SELECT * FROM acct WHERE id > 10
+> 4 rows 2
+>   11, 201 : 13
+>   12, 161 : 17
+WHATIF DROP 2 1 OF EXPLAIN REENACT 2 AFTER 2 SELECT * FROM acct
+> 5 program 1
+>   QUERY PROJECT(SCAN(acct, 1), #1, CASE WHEN (#1 = 2) THEN (#2 + 30) ELSE #2 END)
+",
         0,
     ),
     // An added statement has the next number.
     (
         BANK,
-        b"WHATIF ADD 2 BY (UPDATE acct SET bal = bal + 1 WHERE id = 1) OF PROVENANCE OF REENACT 2 AFTER 5 SELECT * FROM acct\n> 1 rows 3\n>   1, 71 : i1.1.1*u2.1*u2.5\n>   2, 80 : i1.1.2*u2.2\n>   3, 0 : i1.1.3\nWHATIF ADD 2 BY (DELETE FROM audit WHERE amt = 80) OF REENACT 2 AFTER 5 SELECT * FROM audit\n> 2 rows 1\n>   1, 70\nWHATIF ADD 2 BY (DELETE FROM audit WHERE amt = 80) OF REENACT 6 COMMIT SELECT id FROM acct\n> 3 rows 4\n>   1\n>   2\n>   3\n>   11\nWHATIF ADD 2 BY (SELECT * FROM acct) OF REENACT 2 AFTER 6 SELECT * FROM acct\n> 4 E22 transaction 2 has 5 statements\nWHATIF DROP 2 4 OF REENACT 2 AFTER 5 SELECT * FROM acct\n> 5 E22 transaction 2 has 4 statements\n",
+        b"\
+WHATIF ADD 2 BY (UPDATE acct SET bal = bal + 1 WHERE id = 1) OF PROVENANCE OF REENACT 2 AFTER 5 SELECT * FROM acct
+> 1 rows 3
+>   1, 71 : i1.1.1*u2.1*u2.5
+>   2, 80 : i1.1.2*u2.2
+>   3, 0 : i1.1.3
+WHATIF ADD 2 BY (DELETE FROM audit WHERE amt = 80) OF REENACT 2 AFTER 5 SELECT * FROM audit
+> 2 rows 1
+>   1, 70
+WHATIF ADD 2 BY (DELETE FROM audit WHERE amt = 80) OF REENACT 6 COMMIT SELECT id FROM acct
+> 3 rows 4
+>   1
+>   2
+>   3
+>   11
+WHATIF ADD 2 BY (SELECT * FROM acct) OF REENACT 2 AFTER 6 SELECT * FROM acct
+> 4 E22 transaction 2 has 5 statements
+WHATIF DROP 2 4 OF REENACT 2 AFTER 5 SELECT * FROM acct
+> 5 E22 transaction 2 has 4 statements
+",
         1,
     ),
     // A statement of the change may name the tables created before its line, and the question all tables.
     (
         NEW_TABLES,
-        b"WHATIF REPLACE 1 1 BY (INSERT INTO t VALUES (9)) OF AS OF 2 SELECT * FROM t\n> 1 E04 no table t\nWHATIF REPLACE 1 2 BY (INSERT INTO t VALUES (9)) OF AS OF 2 SELECT * FROM t\n> 2 rows 2\n>   5\n>   9\nWHATIF ADD 1 BY (INSERT INTO w VALUES (9)) OF AS OF 2 SELECT * FROM w\n> 3 E04 no table w\nWHATIF ADD 1 BY (INSERT INTO t SELECT a FROM r) OF PROVENANCE OF AS OF 2 SELECT * FROM t\n> 4 rows 3\n>   1 : i1.1.1*q1.3\n>   2 : i1.2.1*q1.3\n>   5 : i2.1.1\nWHATIF DROP 1 2 OF AS OF 2 SELECT r.a, t.a FROM r, t\n> 5 rows 1\n>   1, 5\nWHATIF DROP 2 1 OF AS OF 3 SELECT * FROM w\n> 6 rows 0\n",
+        b"\
+WHATIF REPLACE 1 1 BY (INSERT INTO t VALUES (9)) OF AS OF 2 SELECT * FROM t
+> 1 E04 no table t
+WHATIF REPLACE 1 2 BY (INSERT INTO t VALUES (9)) OF AS OF 2 SELECT * FROM t
+> 2 rows 2
+>   5
+>   9
+WHATIF ADD 1 BY (INSERT INTO w VALUES (9)) OF AS OF 2 SELECT * FROM w
+> 3 E04 no table w
+WHATIF ADD 1 BY (INSERT INTO t SELECT a FROM r) OF PROVENANCE OF AS OF 2 SELECT * FROM t
+> 4 rows 3
+>   1 : i1.1.1*q1.3
+>   2 : i1.2.1*q1.3
+>   5 : i2.1.1
+WHATIF DROP 1 2 OF AS OF 2 SELECT r.a, t.a FROM r, t
+> 5 rows 1
+>   1, 5
+WHATIF DROP 2 1 OF AS OF 3 SELECT * FROM w
+> 6 rows 0
+",
         1,
     ),
     // A statement that is added to none is the first.
     (
         NEW_TABLES,
-        b"WHATIF ADD 3 BY (INSERT INTO w SELECT a + 1 FROM t) OF PROVENANCE OF AS OF 3 SELECT * FROM w\n> 1 rows 1\n>   6 : i2.1.1*q3.1\nWHATIF DROP 3 1 OF AS OF 3 SELECT * FROM w\n> 2 E22 transaction 3 has 0 statements\n",
+        b"\
+WHATIF ADD 3 BY (INSERT INTO w SELECT a + 1 FROM t) OF PROVENANCE OF AS OF 3 SELECT * FROM w
+> 1 rows 1
+>   6 : i2.1.1*q3.1
+WHATIF DROP 3 1 OF AS OF 3 SELECT * FROM w
+> 2 E22 transaction 3 has 0 statements
+",
         1,
     ),
     (
         WORDS,
-        b"whatif replace 1 1 by (insert into whatif values (2)) of as of 1 select by from whatif drop where drop.by > 1;\n> 1 rows 1\n>   2\n",
+        b"\
+whatif replace 1 1 by (insert into whatif values (2)) of as of 1 select by from whatif drop where drop.by > 1;
+> 1 rows 1
+>   2
+",
         0,
     ),
     // What was computed from the changed rows, and what was deleted or lost because of them.
     (
         FEES,
-        b"AS OF 4 SELECT * FROM acct\n> 1 rows 2\n>   'Ann', 71\n>   'Bob', 56\nWHATIF DROP 2 1 OF AS OF 4 SELECT * FROM acct\n> 2 rows 3\n>   'Ann', 101\n>   'Bob', 56\n>   'Cy', 21\nWHATIF DROP 2 1 OF AS OF 4 SELECT * FROM report\n> 3 rows 1\n>   'Ann', 100\nWHATIF DROP 2 2 OF AS OF 4 SELECT * FROM acct\n> 4 rows 3\n>   'Ann', 71\n>   'Bob', 56\n>   'Cy', -9\nWHATIF REPLACE 2 1 BY (UPDATE acct SET bal = bal - 15 WHERE owner <> 'Bob') OF AS OF 4 SELECT * FROM acct\n> 5 rows 3\n>   'Ann', 86\n>   'Bob', 56\n>   'Cy', 6\nWHATIF ADD 3 BY (INSERT INTO acct VALUES ('Di', 90)) OF AS OF 4 SELECT * FROM report\n> 6 rows 2\n>   'Ann', 70\n>   'Di', 90\nWHATIF DROP 4 2 OF AS OF 4 SELECT * FROM acct\n> 7 rows 2\n>   'Ann', 70\n>   'Bob', 55\nWHATIF DROP 2 1 OF REENACT 2 AFTER 2 SELECT * FROM acct\n> 8 rows 3\n>   'Ann', 100\n>   'Bob', 50\n>   'Cy', 20\nWHATIF DROP 2 1 OF EXPLAIN REENACT 2 AFTER 2 SELECT * FROM acct\n> 9 program 1\n>   QUERY PROJECT(FILTER(SCAN(acct, 1), ((#2 < 0) IS NOT TRUE)), #1, #2)\nWHATIF ADD 3 BY (INSERT INTO acct VALUES ('Di', 90)) OF PROVENANCE OF AS OF 4 SELECT * FROM report\n> 10 rows 2\n>   'Ann', 70 : i1.1.1*q4.1*u2.1\n>   'Di', 90 : i3.2.1*q4.1\nWHATIF DROP 2 1 OF VALUE IN WITNESS OF AS OF 4 SELECT * FROM report\n> 11 rows 1\n>   'Ann', 100 : i1.1.1*q4.1\nWITHOUT u2.1 OF AS OF 4 SELECT * FROM acct\n> 12 rows 1\n>   'Bob', 56\nWHATIF DROP 2 2 OF WITHOUT u2.1 OF AS OF 4 SELECT * FROM acct\n> 13 rows 1\n>   'Bob', 56\nWHATIF REPLACE 2 1 BY (UPDATE acct SET bal = bal - 30) OF AS OF 2 SELECT * FROM acct\n> 14 E31 transaction 3 would lose to 2 on acct 1.1.2\nWHATIF DROP 5 1 OF AS OF 4 SELECT * FROM acct\n> 15 E21 transaction 5 is lost\n",
+        b"\
+AS OF 4 SELECT * FROM acct
+> 1 rows 2
+>   'Ann', 71
+>   'Bob', 56
+WHATIF DROP 2 1 OF AS OF 4 SELECT * FROM acct
+> 2 rows 3
+>   'Ann', 101
+>   'Bob', 56
+>   'Cy', 21
+WHATIF DROP 2 1 OF AS OF 4 SELECT * FROM report
+> 3 rows 1
+>   'Ann', 100
+WHATIF DROP 2 2 OF AS OF 4 SELECT * FROM acct
+> 4 rows 3
+>   'Ann', 71
+>   'Bob', 56
+>   'Cy', -9
+WHATIF REPLACE 2 1 BY (UPDATE acct SET bal = bal - 15 WHERE owner <> 'Bob') OF AS OF 4 SELECT * FROM acct
+> 5 rows 3
+>   'Ann', 86
+>   'Bob', 56
+>   'Cy', 6
+WHATIF ADD 3 BY (INSERT INTO acct VALUES ('Di', 90)) OF AS OF 4 SELECT * FROM report
+> 6 rows 2
+>   'Ann', 70
+>   'Di', 90
+WHATIF DROP 4 2 OF AS OF 4 SELECT * FROM acct
+> 7 rows 2
+>   'Ann', 70
+>   'Bob', 55
+WHATIF DROP 2 1 OF REENACT 2 AFTER 2 SELECT * FROM acct
+> 8 rows 3
+>   'Ann', 100
+>   'Bob', 50
+>   'Cy', 20
+WHATIF DROP 2 1 OF EXPLAIN REENACT 2 AFTER 2 SELECT * FROM acct
+> 9 program 1
+>   QUERY PROJECT(FILTER(SCAN(acct, 1), ((#2 < 0) IS NOT TRUE)), #1, #2)
+WHATIF ADD 3 BY (INSERT INTO acct VALUES ('Di', 90)) OF PROVENANCE OF AS OF 4 SELECT * FROM report
+> 10 rows 2
+>   'Ann', 70 : i1.1.1*q4.1*u2.1
+>   'Di', 90 : i3.2.1*q4.1
+WHATIF DROP 2 1 OF VALUE IN WITNESS OF AS OF 4 SELECT * FROM report
+> 11 rows 1
+>   'Ann', 100 : i1.1.1*q4.1
+WITHOUT u2.1 OF AS OF 4 SELECT * FROM acct
+> 12 rows 1
+>   'Bob', 56
+WHATIF DROP 2 2 OF WITHOUT u2.1 OF AS OF 4 SELECT * FROM acct
+> 13 rows 1
+>   'Bob', 56
+WHATIF REPLACE 2 1 BY (UPDATE acct SET bal = bal - 30) OF AS OF 2 SELECT * FROM acct
+> 14 E31 transaction 3 would lose to 2 on acct 1.1.2
+WHATIF DROP 5 1 OF AS OF 4 SELECT * FROM acct
+> 15 E21 transaction 5 is lost
+",
         1,
     ),
 ];
@@ -102,8 +343,14 @@ fn changed_histories_are_asked(rt: HostRuntime) -> Result<(), Fail> {
 }
 
 /// Rows that are computed from rows: the identity of the last one has 21 nodes.
-const DEEP: &[u8] =
-    b"s1: CREATE TABLE r (a INT)\ns1: BEGIN\ns1: INSERT INTO r VALUES (1)\ns1: INSERT INTO r SELECT 2 FROM r x, r y, r z, r w\ns1: INSERT INTO r SELECT 3 FROM r x, r y, r z, r w WHERE x.a = 2 AND y.a = 2 AND z.a = 2 AND w.a = 2\ns1: COMMIT\n";
+const DEEP: &[u8] = b"\
+s1: CREATE TABLE r (a INT)
+s1: BEGIN
+s1: INSERT INTO r VALUES (1)
+s1: INSERT INTO r SELECT 2 FROM r x, r y, r z, r w
+s1: INSERT INTO r SELECT 3 FROM r x, r y, r z, r w WHERE x.a = 2 AND y.a = 2 AND z.a = 2 AND w.a = 2
+s1: COMMIT
+";
 
 /// The refusals of a question in their order: its text; the transaction and the statement of the change; the check of its statement; the
 /// state, the query and the rules of the question; a commit that would be lost.
@@ -111,31 +358,98 @@ const REFUSED: &[Asked] = &[
     // The text.
     (
         BANK,
-        b"WHATIF DROP 2 OF AS OF 5 SELECT * FROM acct\n> 1 E03 syntax fault at column 15\nWHATIF ADD 4 BY (BEGIN) OF AS OF 4 SELECT * FROM acct\n> 2 E03 syntax fault at column 18\nWHATIF ADD 4 BY DELETE FROM acct OF AS OF 4 SELECT * FROM acct\n> 3 E03 syntax fault at column 17\nWHATIF DROP 2 1 OF LOG 2\n> 4 E03 syntax fault at column 20\nEXPLAIN WHATIF DROP 2 1 OF AS OF 5 SELECT * FROM acct\n> 5 E03 syntax fault at column 9\nWHATIF ADD 9 BY (SELECT * FROM t, t, t, t, t) OF AS OF 9 SELECT * FROM t\n> 6 E14 limit from\nWHATIF DROP 9 1 OF AS OF 9 SELECT * FROM t, t, t, t, t\n> 7 E14 limit from\n",
+        b"\
+WHATIF DROP 2 OF AS OF 5 SELECT * FROM acct
+> 1 E03 syntax fault at column 15
+WHATIF ADD 4 BY (BEGIN) OF AS OF 4 SELECT * FROM acct
+> 2 E03 syntax fault at column 18
+WHATIF ADD 4 BY DELETE FROM acct OF AS OF 4 SELECT * FROM acct
+> 3 E03 syntax fault at column 17
+WHATIF DROP 2 1 OF LOG 2
+> 4 E03 syntax fault at column 20
+EXPLAIN WHATIF DROP 2 1 OF AS OF 5 SELECT * FROM acct
+> 5 E03 syntax fault at column 9
+WHATIF ADD 9 BY (SELECT * FROM t, t, t, t, t) OF AS OF 9 SELECT * FROM t
+> 6 E14 limit from
+WHATIF DROP 9 1 OF AS OF 9 SELECT * FROM t, t, t, t, t
+> 7 E14 limit from
+",
         1,
     ),
     // The change.
     (
         BANK,
-        b"WHATIF REPLACE 9 1 BY (DELETE FROM t) OF AS OF 9 SELECT * FROM t\n> 1 E20 no transaction 9\nWHATIF DROP 0 1 OF AS OF 5 SELECT * FROM acct\n> 2 E20 no transaction 0\nWHATIF REPLACE 5 9 BY (DELETE FROM t) OF AS OF 9 SELECT * FROM t\n> 3 E21 transaction 5 is lost\nWHATIF ADD 7 BY (DELETE FROM t) OF AS OF 9 SELECT * FROM t\n> 4 E21 transaction 7 is rolled back\nWHATIF REPLACE 2 5 BY (DELETE FROM t) OF AS OF 9 SELECT * FROM t\n> 5 E22 transaction 2 has 4 statements\nWHATIF DROP 2 0 OF AS OF 5 SELECT * FROM acct\n> 6 E22 transaction 2 has 4 statements\nWHATIF REPLACE 2 1 BY (DELETE FROM t) OF AS OF 9 SELECT * FROM u\n> 7 E04 no table t\nWHATIF ADD 2 BY (UPDATE acct SET bal = name) OF REENACT 5 COMMIT SELECT * FROM u\n> 8 E05 no column name\nWHATIF ADD 2 BY (INSERT INTO owner VALUES ('Di', 4)) OF AS OF 9 SELECT * FROM u\n> 9 E07 type\n",
+        b"\
+WHATIF REPLACE 9 1 BY (DELETE FROM t) OF AS OF 9 SELECT * FROM t
+> 1 E20 no transaction 9
+WHATIF DROP 0 1 OF AS OF 5 SELECT * FROM acct
+> 2 E20 no transaction 0
+WHATIF REPLACE 5 9 BY (DELETE FROM t) OF AS OF 9 SELECT * FROM t
+> 3 E21 transaction 5 is lost
+WHATIF ADD 7 BY (DELETE FROM t) OF AS OF 9 SELECT * FROM t
+> 4 E21 transaction 7 is rolled back
+WHATIF REPLACE 2 5 BY (DELETE FROM t) OF AS OF 9 SELECT * FROM t
+> 5 E22 transaction 2 has 4 statements
+WHATIF DROP 2 0 OF AS OF 5 SELECT * FROM acct
+> 6 E22 transaction 2 has 4 statements
+WHATIF REPLACE 2 1 BY (DELETE FROM t) OF AS OF 9 SELECT * FROM u
+> 7 E04 no table t
+WHATIF ADD 2 BY (UPDATE acct SET bal = name) OF REENACT 5 COMMIT SELECT * FROM u
+> 8 E05 no column name
+WHATIF ADD 2 BY (INSERT INTO owner VALUES ('Di', 4)) OF AS OF 9 SELECT * FROM u
+> 9 E07 type
+",
         1,
     ),
     // The question, on the changed log, and then a commit.
     (
         BANK,
-        b"WHATIF REPLACE 3 1 BY (UPDATE acct SET bal = 0 WHERE id = 2) OF AS OF 9 SELECT * FROM t\n> 1 E23 versions end at 5\nWHATIF REPLACE 3 1 BY (UPDATE acct SET bal = 0 WHERE id = 2) OF WITHOUT u OF REENACT 5 COMMIT SELECT * FROM t\n> 2 E21 transaction 5 is lost\nWHATIF REPLACE 3 1 BY (UPDATE acct SET bal = 0 WHERE id = 2) OF VALUE IN LEVEL (i = 5) OF AS OF 3 SELECT * FROM t\n> 3 E04 no table t\nWHATIF REPLACE 3 1 BY (UPDATE acct SET bal = 0 WHERE id = 2) OF VALUE IN LEVEL (i = 5) OF AS OF 3 SELECT * FROM acct\n> 4 E28 5 is not in LEVEL\nWHATIF REPLACE 3 1 BY (UPDATE acct SET bal = 0 WHERE id = 2) OF EXPLAIN AS OF 3 SELECT * FROM acct\n> 5 program 1\n>   QUERY PROJECT(SCAN(acct, 3), #1, #2)\nWHATIF REPLACE 3 1 BY (UPDATE acct SET bal = 0 WHERE id = 2) OF PROVENANCE OF AS OF 0 SELECT * FROM acct\n> 6 E31 transaction 3 would lose to 2 on acct 1.1.2\n",
+        b"\
+WHATIF REPLACE 3 1 BY (UPDATE acct SET bal = 0 WHERE id = 2) OF AS OF 9 SELECT * FROM t
+> 1 E23 versions end at 5
+WHATIF REPLACE 3 1 BY (UPDATE acct SET bal = 0 WHERE id = 2) OF WITHOUT u OF REENACT 5 COMMIT SELECT * FROM t
+> 2 E21 transaction 5 is lost
+WHATIF REPLACE 3 1 BY (UPDATE acct SET bal = 0 WHERE id = 2) OF VALUE IN LEVEL (i = 5) OF AS OF 3 SELECT * FROM t
+> 3 E04 no table t
+WHATIF REPLACE 3 1 BY (UPDATE acct SET bal = 0 WHERE id = 2) OF VALUE IN LEVEL (i = 5) OF AS OF 3 SELECT * FROM acct
+> 4 E28 5 is not in LEVEL
+WHATIF REPLACE 3 1 BY (UPDATE acct SET bal = 0 WHERE id = 2) OF EXPLAIN AS OF 3 SELECT * FROM acct
+> 5 program 1
+>   QUERY PROJECT(SCAN(acct, 3), #1, #2)
+WHATIF REPLACE 3 1 BY (UPDATE acct SET bal = 0 WHERE id = 2) OF PROVENANCE OF AS OF 0 SELECT * FROM acct
+> 6 E31 transaction 3 would lose to 2 on acct 1.1.2
+",
         1,
     ),
     // The first commit that would be lost counts, and in it the least row. A statement that writes no row loses by none.
     (
         BANK,
-        b"WHATIF REPLACE 3 1 BY (UPDATE acct SET bal = 0) OF AS OF 5 SELECT * FROM acct\n> 1 E31 transaction 3 would lose to 2 on acct 1.1.1\nWHATIF REPLACE 2 1 BY (UPDATE acct SET bal = bal - 30) OF REENACT 2 COMMIT SELECT * FROM acct\n> 2 E31 transaction 3 would lose to 2 on acct 1.1.3\nWHATIF ADD 3 BY (DELETE FROM acct WHERE id > 3) OF AS OF 3 SELECT * FROM acct\n> 3 rows 3\n>   1, 70\n>   2, 80\n>   3, 7\n",
+        b"\
+WHATIF REPLACE 3 1 BY (UPDATE acct SET bal = 0) OF AS OF 5 SELECT * FROM acct
+> 1 E31 transaction 3 would lose to 2 on acct 1.1.1
+WHATIF REPLACE 2 1 BY (UPDATE acct SET bal = bal - 30) OF REENACT 2 COMMIT SELECT * FROM acct
+> 2 E31 transaction 3 would lose to 2 on acct 1.1.3
+WHATIF ADD 3 BY (DELETE FROM acct WHERE id > 3) OF AS OF 3 SELECT * FROM acct
+> 3 rows 3
+>   1, 70
+>   2, 80
+>   3, 7
+",
         1,
     ),
     // An identity has 64 nodes at most.
     (
         DEEP,
-        b"WHATIF ADD 1 BY (INSERT INTO r SELECT 4 FROM r x, r y, r z WHERE x.a = 3 AND y.a = 3 AND z.a = 3) OF AS OF 1 SELECT * FROM r\n> 1 rows 4\n>   1\n>   2\n>   3\n>   4\nWHATIF ADD 1 BY (INSERT INTO r SELECT 4 FROM r x, r y, r z, r w WHERE x.a = 3 AND y.a = 3 AND z.a = 3 AND w.a = 1) OF AS OF 1 SELECT * FROM r\n> 2 E26 identity over limit in transaction 1 at 4\n",
+        b"\
+WHATIF ADD 1 BY (INSERT INTO r SELECT 4 FROM r x, r y, r z WHERE x.a = 3 AND y.a = 3 AND z.a = 3) OF AS OF 1 SELECT * FROM r
+> 1 rows 4
+>   1
+>   2
+>   3
+>   4
+WHATIF ADD 1 BY (INSERT INTO r SELECT 4 FROM r x, r y, r z, r w WHERE x.a = 3 AND y.a = 3 AND z.a = 3 AND w.a = 1) OF AS OF 1 SELECT * FROM r
+> 2 E26 identity over limit in transaction 1 at 4
+",
         1,
     ),
 ];
@@ -189,16 +503,56 @@ fn a_statement_replaced_by_itself_changes_no_answer(rt: HostRuntime) -> Result<(
 }
 
 /// A dump that no history has: two transactions that began at one version wrote a row, and both committed. Its tables are empty.
-const TWO_COMMITS: &[u8] =
-    b"gprom-dump 1\nlog 10\n1 s1 CREATE TABLE r (a INT, b INT)\n2 s1 BEGIN\n3 s1 INSERT INTO r VALUES (1, 10), (2, 20)\n4 s1 COMMIT\n5 s1 BEGIN\n6 s2 BEGIN\n7 s1 UPDATE r SET b = (b + 1) WHERE (a = 1)\n8 s2 UPDATE r SET b = 30 WHERE (a = 1)\n9 s1 COMMIT\n10 s2 COMMIT\ntable r 0\nend\n";
+const TWO_COMMITS: &[u8] = b"\
+gprom-dump 1
+log 10
+1 s1 CREATE TABLE r (a INT, b INT)
+2 s1 BEGIN
+3 s1 INSERT INTO r VALUES (1, 10), (2, 20)
+4 s1 COMMIT
+5 s1 BEGIN
+6 s2 BEGIN
+7 s1 UPDATE r SET b = (b + 1) WHERE (a = 1)
+8 s2 UPDATE r SET b = 30 WHERE (a = 1)
+9 s1 COMMIT
+10 s2 COMMIT
+table r 0
+end
+";
 
 /// The commits are made again from the log alone.
-const TWO_COMMITS_ANSWERS: &[u8] =
-    b"AS OF 3 SELECT * FROM r\n> 1 rows 0\nWHATIF ADD 1 BY (SELECT * FROM r) OF AS OF 1 SELECT * FROM r\n> 2 E31 transaction 3 would lose to 2 on r 1.1.1\nWHATIF DROP 2 1 OF AS OF 3 SELECT * FROM r\n> 3 rows 2\n>   1, 30\n>   2, 20\nWHATIF DROP 3 1 OF PROVENANCE OF AS OF 3 SELECT * FROM r\n> 4 rows 2\n>   1, 11 : i1.1.1*u2.1\n>   2, 20 : i1.1.2\n";
+const TWO_COMMITS_ANSWERS: &[u8] = b"\
+AS OF 3 SELECT * FROM r
+> 1 rows 0
+WHATIF ADD 1 BY (SELECT * FROM r) OF AS OF 1 SELECT * FROM r
+> 2 E31 transaction 3 would lose to 2 on r 1.1.1
+WHATIF DROP 2 1 OF AS OF 3 SELECT * FROM r
+> 3 rows 2
+>   1, 30
+>   2, 20
+WHATIF DROP 3 1 OF PROVENANCE OF AS OF 3 SELECT * FROM r
+> 4 rows 2
+>   1, 11 : i1.1.1*u2.1
+>   2, 20 : i1.1.2
+";
 
 /// So a cell that was altered does not show, and no version differs. A transaction that lost stays lost.
-const ALTERED_ANSWERS: &[u8] =
-    b"WHATIF REPLACE 2 1 BY (UPDATE r SET b = b + 1 WHERE a = 1) OF AS OF 2 SELECT * FROM r\n> 1 rows 2\n>   1, 11\n>   2, 20\nWHATIF REPLACE 2 1 BY (UPDATE r SET b = b + 1 WHERE a = 1) OF PROVENANCE OF AS OF 2 SELECT * FROM r\n> 2 rows 2\n>   1, 11 : i1.1.1*u2.1\n>   2, 20 : i1.1.2\nWHATIF DROP 2 1 OF AS OF 2 SELECT * FROM r\n> 3 rows 2\n>   1, 10\n>   2, 20\nWHATIF DROP 3 1 OF AS OF 2 SELECT * FROM r\n> 4 E21 transaction 3 is lost\n";
+const ALTERED_ANSWERS: &[u8] = b"\
+WHATIF REPLACE 2 1 BY (UPDATE r SET b = b + 1 WHERE a = 1) OF AS OF 2 SELECT * FROM r
+> 1 rows 2
+>   1, 11
+>   2, 20
+WHATIF REPLACE 2 1 BY (UPDATE r SET b = b + 1 WHERE a = 1) OF PROVENANCE OF AS OF 2 SELECT * FROM r
+> 2 rows 2
+>   1, 11 : i1.1.1*u2.1
+>   2, 20 : i1.1.2
+WHATIF DROP 2 1 OF AS OF 2 SELECT * FROM r
+> 3 rows 2
+>   1, 10
+>   2, 20
+WHATIF DROP 3 1 OF AS OF 2 SELECT * FROM r
+> 4 E21 transaction 3 is lost
+";
 
 #[test]
 fn the_log_alone_is_run(rt: HostRuntime) -> Result<(), Fail> {
@@ -208,8 +562,20 @@ fn the_log_alone_is_run(rt: HostRuntime) -> Result<(), Fail> {
 }
 
 /// A transaction of too many rows stops the commits, but no explained query. Without one of its statements 10,000 rows are not too many.
-const EXPLODING_ANSWERS: &[u8] =
-    b"WHATIF DROP 1 102 OF AS OF 0 SELECT * FROM r\n> 1 E25 rows over limit in transaction 1 at 101\nWHATIF DROP 1 102 OF EXPLAIN AS OF 1 SELECT * FROM r\n> 2 program 1\n>   QUERY PROJECT(SCAN(r, 1), #1, #2)\nWHATIF DROP 1 101 OF VALUE IN COUNT OF AS OF 1 SELECT * FROM r\n> 3 rows 1\n>   1, 10 : 10000\nWHATIF DROP 1 101 OF AS OF 1 SELECT x.a FROM r x, r y\n> 4 E27 more than 50000 rows\nWHATIF DROP 1 102 OF AS OF 1 SELECT x.a FROM r x, r y\n> 5 E25 rows over limit in transaction 1 at 101\n";
+const EXPLODING_ANSWERS: &[u8] = b"\
+WHATIF DROP 1 102 OF AS OF 0 SELECT * FROM r
+> 1 E25 rows over limit in transaction 1 at 101
+WHATIF DROP 1 102 OF EXPLAIN AS OF 1 SELECT * FROM r
+> 2 program 1
+>   QUERY PROJECT(SCAN(r, 1), #1, #2)
+WHATIF DROP 1 101 OF VALUE IN COUNT OF AS OF 1 SELECT * FROM r
+> 3 rows 1
+>   1, 10 : 10000
+WHATIF DROP 1 101 OF AS OF 1 SELECT x.a FROM r x, r y
+> 4 E27 more than 50000 rows
+WHATIF DROP 1 102 OF AS OF 1 SELECT x.a FROM r x, r y
+> 5 E25 rows over limit in transaction 1 at 101
+";
 
 #[test]
 fn statements_stop_the_commits(rt: HostRuntime) -> Result<(), Fail> {
@@ -219,8 +585,14 @@ fn statements_stop_the_commits(rt: HostRuntime) -> Result<(), Fail> {
 }
 
 /// 100,100 rows published by ten commits are too many, 100,000 are not.
-const PUBLISHING_ANSWERS: &[u8] =
-    b"WHATIF ADD 1 BY (SELECT * FROM n) OF AS OF 0 SELECT * FROM n\n> 1 E14 limit versions\nWHATIF REPLACE 10 1 BY (UPDATE r SET a = a WHERE a < 100) OF AS OF 10 SELECT * FROM n WHERE a > 98\n> 2 rows 2\n>   99\n>   100\n";
+const PUBLISHING_ANSWERS: &[u8] = b"\
+WHATIF ADD 1 BY (SELECT * FROM n) OF AS OF 0 SELECT * FROM n
+> 1 E14 limit versions
+WHATIF REPLACE 10 1 BY (UPDATE r SET a = a WHERE a < 100) OF AS OF 10 SELECT * FROM n WHERE a > 98
+> 2 rows 2
+>   99
+>   100
+";
 
 #[test]
 fn commits_publish_100000_rows_at_most(rt: HostRuntime) -> Result<(), Fail> {
@@ -230,12 +602,28 @@ fn commits_publish_100000_rows_at_most(rt: HostRuntime) -> Result<(), Fail> {
 }
 
 /// No statement is added to 256. That is tested before the statement is checked.
-const LONG_ANSWERS: &[u8] =
-    b"WHATIF ADD 1 BY (DELETE FROM t) OF AS OF 9 SELECT * FROM t\n> 1 E14 limit steps\nWHATIF REPLACE 1 256 BY (INSERT INTO r VALUES (1)) OF AS OF 1 SELECT * FROM r\n> 2 rows 1\n>   1\nWHATIF DROP 1 257 OF AS OF 1 SELECT * FROM r\n> 3 E22 transaction 1 has 256 statements\n";
+const LONG_ANSWERS: &[u8] = b"\
+WHATIF ADD 1 BY (DELETE FROM t) OF AS OF 9 SELECT * FROM t
+> 1 E14 limit steps
+WHATIF REPLACE 1 256 BY (INSERT INTO r VALUES (1)) OF AS OF 1 SELECT * FROM r
+> 2 rows 1
+>   1
+WHATIF DROP 1 257 OF AS OF 1 SELECT * FROM r
+> 3 E22 transaction 1 has 256 statements
+";
 
 /// The limit on an answer is tested on the changed history.
-const NUMBERS_ANSWERS: &[u8] =
-    b"WHATIF DROP 1 4 OF AS OF 1 SELECT x.a, y.a FROM r x, r y\n> 1 E27 more than 50000 rows\nWHATIF DROP 1 1 OF VALUE IN COUNT OF AS OF 1 SELECT 1 FROM r x, r y\n> 2 rows 1\n>   1 : 40000\nWHATIF DROP 1 1 OF AS OF 1 SELECT a FROM r WHERE a <= 102\n> 3 rows 2\n>   101\n>   102\n";
+const NUMBERS_ANSWERS: &[u8] = b"\
+WHATIF DROP 1 4 OF AS OF 1 SELECT x.a, y.a FROM r x, r y
+> 1 E27 more than 50000 rows
+WHATIF DROP 1 1 OF VALUE IN COUNT OF AS OF 1 SELECT 1 FROM r x, r y
+> 2 rows 1
+>   1 : 40000
+WHATIF DROP 1 1 OF AS OF 1 SELECT a FROM r WHERE a <= 102
+> 3 rows 2
+>   101
+>   102
+";
 
 #[test]
 fn other_limits_hold(rt: HostRuntime) -> Result<(), Fail> {

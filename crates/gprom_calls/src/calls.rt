@@ -6,8 +6,13 @@ use gprom_cli::gprom;
 use std::alloc::{AllocError, Global};
 use std::test::Fail;
 
-const SCRIPT: &[u8] =
-    b"s1: CREATE TABLE r (a INT, b INT)\ns1: BEGIN\ns1: INSERT INTO r VALUES (1, 10)\ns1: SELECT * FROM r\ns1: COMMIT\n";
+const SCRIPT: &[u8] = b"\
+s1: CREATE TABLE r (a INT, b INT)
+s1: BEGIN
+s1: INSERT INTO r VALUES (1, 10)
+s1: SELECT * FROM r
+s1: COMMIT
+";
 
 const USAGE: &str =
     "usage: gprom run SCRIPT DUMP, gprom ask DUMP QUESTIONS, gprom gen N, gprom load CSV TABLE SCRIPT, gprom export DUMP QUESTIONS\n";
@@ -47,9 +52,21 @@ fn answers(alloc: Global, args: &[&str], content: &[u8], output: &str, status: u
 /// The last line of a script may lack its line feed.
 #[test]
 fn the_last_line_is_answered(rt: HostRuntime) {
-    let script =
-        b"s1: CREATE TABLE r (a INT, b INT)\r\n\ns1: BEGIN\r\ns1: INSERT INTO r VALUES (7, -1), (-7, 2), (7, -1)\ns1: SELECT * FROM r";
-    let output = "1 created r\n3 begin 1 at 0\n4 wrote 3\n5 rows 3\n  -7, 2\n  7, -1\n  7, -1\n";
+    let script = b"\
+s1: CREATE TABLE r (a INT, b INT)\r
+
+s1: BEGIN\r
+s1: INSERT INTO r VALUES (7, -1), (-7, 2), (7, -1)
+s1: SELECT * FROM r";
+    let output = "\
+1 created r
+3 begin 1 at 0
+4 wrote 3
+5 rows 3
+  -7, 2
+  7, -1
+  7, -1
+";
     assert!(rt; answers(rt.alloc(), RUN, script, output, 0));
 }
 
@@ -88,15 +105,39 @@ fn invalid_arguments_print_the_usage(rt: HostRuntime) {
 const SUMMARIES: &[(&str, &str)] = &[
     (
         "1",
-        "gen 1\nlines 12\ncommitted 3\nlost 0\nspans 13\nquestions 5\nrows 41\n",
+        "\
+gen 1
+lines 12
+committed 3
+lost 0
+spans 13
+questions 5
+rows 41
+",
     ),
     (
         "5",
-        "gen 5\nlines 40\ncommitted 10\nlost 1\nspans 24\nquestions 12\nrows 115\n",
+        "\
+gen 5
+lines 40
+committed 10
+lost 1
+spans 24
+questions 12
+rows 115
+",
     ),
     (
         "400",
-        "gen 400\nlines 2805\ncommitted 721\nlost 80\nspans 1130\nquestions 723\nrows 7230\n",
+        "\
+gen 400
+lines 2805
+committed 721
+lost 80
+spans 1130
+questions 723
+rows 7230
+",
     ),
 ];
 

@@ -40,8 +40,15 @@ fn rows_are_appended(rt: HostRuntime) -> Result<(), Fail> {
     replies_have_no_annotations::<u64>();
     let rows = rows_of(rt.alloc(), &[i64::MAX, i64::MIN], b"-1")?;
     assert!(rt; !rows.is_refusal());
-    let expected =
-        b"before\n3 rows 5\n  NULL\n  NULL\n  -9223372036854775808\n  9223372036854775807\n  '-1'\n";
+    let expected = b"\
+before
+3 rows 5
+  NULL
+  NULL
+  -9223372036854775808
+  9223372036854775807
+  '-1'
+";
     assert!(rt; appends(rt.alloc(), 3, rows, expected));
     Ok(())
 }

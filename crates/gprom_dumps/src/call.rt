@@ -1,4 +1,4 @@
-//! Calls of the program over files in memory.
+//! Calls of the program over files in memory, and transcripts.
 
 use gp_io::{MemShelf, MemSink, NamedFile, Shelf};
 use gprom_cli::gprom;
@@ -85,6 +85,21 @@ pub(crate) fn holds(shelf: &mut MemShelf, dump: Option<&[u8]>) -> bool {
         (Err(_), None) => true,
         _ => false,
     }
+}
+
+/// Appends the lines of a transcript that are put in, and those that come back.
+pub(crate) fn separate(
+    transcript: &[u8],
+    input: &mut Vec<u8>,
+    output: &mut Vec<u8>,
+) -> Result<(), AllocError> {
+    for line in transcript.split_inclusive(|byte| *byte == b'\n') {
+        match line.strip_prefix(b"> ".as_slice()) {
+            Some(reply) => output.extend_from_slice(reply)?,
+            None => input.extend_from_slice(line)?,
+        }
+    }
+    Ok(())
 }
 
 /// Whether a call ends so.

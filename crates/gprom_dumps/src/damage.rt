@@ -5,8 +5,25 @@ use std::alloc::{AllocError, Global};
 use std::test::Fail;
 
 /// A well-formed dump of 17 lines.
-const DUMP: &[u8] =
-    b"gprom-dump 1\nlog 10\n1 s1 CREATE TABLE r (a INT, b INT)\n2 s1 BEGIN\n3 s1 INSERT INTO r VALUES (1, 10), (2, 20)\n4 s1 COMMIT\n5 s1 BEGIN\n6 s2 BEGIN\n7 s1 UPDATE r SET b = (b + 1) WHERE (a = 1)\n8 s2 UPDATE r SET b = 10 WHERE (a = 1)\n9 s1 COMMIT\n10 s2 LOST\ntable r 3\n1.1.1 1 2 1, 10\n1.1.1 2 - 1, 11\n1.1.2 1 - 2, 20\nend\n";
+const DUMP: &[u8] = b"\
+gprom-dump 1
+log 10
+1 s1 CREATE TABLE r (a INT, b INT)
+2 s1 BEGIN
+3 s1 INSERT INTO r VALUES (1, 10), (2, 20)
+4 s1 COMMIT
+5 s1 BEGIN
+6 s2 BEGIN
+7 s1 UPDATE r SET b = (b + 1) WHERE (a = 1)
+8 s2 UPDATE r SET b = 10 WHERE (a = 1)
+9 s1 COMMIT
+10 s2 LOST
+table r 3
+1.1.1 1 2 1, 10
+1.1.1 2 - 1, 11
+1.1.2 1 - 2, 20
+end
+";
 
 /// A line of the dump, what is in its place, and the fault.
 type Change = (usize, &'static [u8], &'static [u8]);
@@ -147,7 +164,17 @@ fn the_first_fault_is_told(rt: HostRuntime) -> Result<(), Fail> {
 const NO_DUMPS: &[(&[u8], &[u8])] = &[
     (b"", b"dump refused: F03 at line 1\n"),
     (
-        b"gprom-dump 1\nlog 5\n1 s1 CREATE TABLE r (a INT, b INT)\n2 s1 BEGIN\n3 s1 INSERT INTO r VALUES (1, 10)\n4 s1 SELECT * FROM r\n5 s1 COMMIT\ntable r 1\n1.1.1 1 - 1, 10\n",
+        b"\
+gprom-dump 1
+log 5
+1 s1 CREATE TABLE r (a INT, b INT)
+2 s1 BEGIN
+3 s1 INSERT INTO r VALUES (1, 10)
+4 s1 SELECT * FROM r
+5 s1 COMMIT
+table r 1
+1.1.1 1 - 1, 10
+",
         b"dump refused: F03 at line 10\n",
     ),
     (b"gprom-dump 1", b"dump refused: F03 at line 1\n"),
@@ -155,16 +182,47 @@ const NO_DUMPS: &[(&[u8], &[u8])] = &[
     (b"gprom-dump 1\nlog 0\n", b"dump refused: F03 at line 3\n"),
     (b"\n", b"dump refused: F02 at line 1\n"),
     (
-        b"gprom-dump 1\nlog 1\n1 s1 CREATE TABLE r (a INT)\nend\n",
+        b"\
+gprom-dump 1
+log 1
+1 s1 CREATE TABLE r (a INT)
+end
+",
         b"dump refused: F10 at line 4\n",
     ),
     (b"gprom-dump 2", b"dump refused: F03 at line 1\n"),
     (
-        b"gprom-dump 2\nlog 1\n1 s1 begin read committed\nend\n",
+        b"\
+gprom-dump 2
+log 1
+1 s1 begin read committed
+end
+",
         b"dump refused: F07 at line 3\n",
     ),
     (
-        b"gprom-dump 1\nlog 11\n1 s1 CREATE TABLE r (a INT, b INT)\n2 s1 BEGIN\n3 s1 INSERT INTO r VALUES (1, 10), (2, 20)\n4 s1 COMMIT\n5 s1 BEGIN READ COMMITTED\n6 s1 UPDATE r SET b = (b + 1) WHERE (a = 1)\n7 s2 BEGIN\n8 s2 UPDATE r SET b = (b + 5) WHERE (a = 2)\n9 s2 COMMIT\n10 s1 UPDATE r SET b = (b * 2)\n11 s1 COMMIT\ntable r 5\n1.1.1 1 3 1, 10\n1.1.1 3 - 1, 22\n1.1.2 1 2 2, 20\n1.1.2 2 3 2, 25\n1.1.2 3 - 2, 50\nend\n",
+        b"\
+gprom-dump 1
+log 11
+1 s1 CREATE TABLE r (a INT, b INT)
+2 s1 BEGIN
+3 s1 INSERT INTO r VALUES (1, 10), (2, 20)
+4 s1 COMMIT
+5 s1 BEGIN READ COMMITTED
+6 s1 UPDATE r SET b = (b + 1) WHERE (a = 1)
+7 s2 BEGIN
+8 s2 UPDATE r SET b = (b + 5) WHERE (a = 2)
+9 s2 COMMIT
+10 s1 UPDATE r SET b = (b * 2)
+11 s1 COMMIT
+table r 5
+1.1.1 1 3 1, 10
+1.1.1 3 - 1, 22
+1.1.2 1 2 2, 20
+1.1.2 2 3 2, 25
+1.1.2 3 - 2, 50
+end
+",
         b"dump refused: F07 at line 7\n",
     ),
 ];
@@ -182,9 +240,37 @@ const DUMPS: &[&[u8]] = &[
     DUMP,
     b"gprom-dump 1\nlog 0\nend\n",
     b"gprom-dump 2\nlog 0\nend\n",
-    b"gprom-dump 2\nlog 2\n1 s1 BEGIN READ COMMITTED\n2 s2 BEGIN\nend\n",
-    b"gprom-dump 1\nlog 3\n16777215 s64 CREATE TABLE r (a TEXT)\n16777216 s1 BEGIN\n16777217 s1 COMMIT\ntable r 1\n999999999.999999999.999999999(1.1.1,2.1.1(3.1.1)) 1 - 'it''s, too'\nend\n",
-    b"gprom-dump 1\nlog 5\n1 s1 CREATE TABLE r (a INT)\n2 s1 BEGIN\n3 s1 COMMIT\n4 s1 BEGIN\n5 s1 COMMIT\ntable r 3\n1.1.1 1 2 -9223372036854775808\n1.1.1 2 - NULL\n1.1.1(1.1.1) 1 - 9223372036854775807\nend\n",
+    b"\
+gprom-dump 2
+log 2
+1 s1 BEGIN READ COMMITTED
+2 s2 BEGIN
+end
+",
+    b"\
+gprom-dump 1
+log 3
+16777215 s64 CREATE TABLE r (a TEXT)
+16777216 s1 BEGIN
+16777217 s1 COMMIT
+table r 1
+999999999.999999999.999999999(1.1.1,2.1.1(3.1.1)) 1 - 'it''s, too'
+end
+",
+    b"\
+gprom-dump 1
+log 5
+1 s1 CREATE TABLE r (a INT)
+2 s1 BEGIN
+3 s1 COMMIT
+4 s1 BEGIN
+5 s1 COMMIT
+table r 3
+1.1.1 1 2 -9223372036854775808
+1.1.1 2 - NULL
+1.1.1(1.1.1) 1 - 9223372036854775807
+end
+",
 ];
 
 #[test]

@@ -1,6 +1,7 @@
 //! Dumps and the questions to them, over the call that is the program.
 //!
-//! The texts of dumps are written by hand, and so are the answers. An answer stands below its question, and its lines begin with `> `.
+//! The texts of dumps are written by hand, and so are the answers. A reply stands below its line of a script, an answer below its question,
+//! and their lines begin with `> `.
 //!
 //! ```text
 //! VERSIONS OF r
@@ -8,7 +9,7 @@
 //! >   1.1.1 1 - 1, 10
 //! ```
 //!
-//! Reading order: `call.rt` (a call and how it ends), `written.rt` (the dumps of scripts), `questions.rt` (answers from a dump),
+//! Reading order: `call.rt` (a call and how it ends; transcripts), `written.rt` (the dumps of scripts), `questions.rt` (answers from a dump),
 //! `reenacting.rt` (past transactions replayed), `damage.rt` (dumps that are refused), `outside.rt` (arguments, files and output that
 //! fail), `sheets.rt` (sheets loaded as scripts, and answers exported as CSV), `travel.rt` (the rows of past versions).
 #![tactic(auto)]

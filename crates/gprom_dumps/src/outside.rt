@@ -5,14 +5,35 @@ use crate::questions::BANK;
 use std::alloc::{AllocError, Global};
 use std::test::Fail;
 
-const SCRIPT: &[u8] =
-    b"s1: CREATE TABLE r (a INT, b INT)\ns1: BEGIN\ns1: INSERT INTO r VALUES (1, 10)\ns1: SELECT * FROM r\ns1: COMMIT\n";
+const SCRIPT: &[u8] = b"\
+s1: CREATE TABLE r (a INT, b INT)
+s1: BEGIN
+s1: INSERT INTO r VALUES (1, 10)
+s1: SELECT * FROM r
+s1: COMMIT
+";
 
-const REPLIES: &[u8] =
-    b"1 created r\n2 begin 1 at 0\n3 wrote 1\n4 rows 1\n  1, 10\n5 committed 1 as 1\n";
+const REPLIES: &[u8] = b"\
+1 created r
+2 begin 1 at 0
+3 wrote 1
+4 rows 1
+  1, 10
+5 committed 1 as 1
+";
 
-const DUMP: &[u8] =
-    b"gprom-dump 1\nlog 5\n1 s1 CREATE TABLE r (a INT, b INT)\n2 s1 BEGIN\n3 s1 INSERT INTO r VALUES (1, 10)\n4 s1 SELECT * FROM r\n5 s1 COMMIT\ntable r 1\n1.1.1 1 - 1, 10\nend\n";
+const DUMP: &[u8] = b"\
+gprom-dump 1
+log 5
+1 s1 CREATE TABLE r (a INT, b INT)
+2 s1 BEGIN
+3 s1 INSERT INTO r VALUES (1, 10)
+4 s1 SELECT * FROM r
+5 s1 COMMIT
+table r 1
+1.1.1 1 - 1, 10
+end
+";
 
 const USAGE: &[u8] =
     b"usage: gprom run SCRIPT DUMP, gprom ask DUMP QUESTIONS, gprom gen N, gprom load CSV TABLE SCRIPT, gprom export DUMP QUESTIONS\n";
@@ -297,11 +318,45 @@ fn a_dump_that_is_not_written_is_told(rt: HostRuntime) -> Result<(), Fail> {
 }
 
 /// Questions of every kind about the bank.
-const QUESTIONS: &[u8] =
-    b"REENACT 2 AFTER 2 SELECT * FROM acct\nREENACT 3 COMMIT SELECT * FROM acct\nPROVENANCE OF AS OF 5 SELECT * FROM acct WHERE id > 10\nVALUE IN COST (i = 5, u2 = 2, ELSE 1) OF AS OF 5 SELECT * FROM acct WHERE id > 10\nVALUE IN LEVEL (u4 = 2, q6.1 = 1, ELSE 0) OF AS OF 5 SELECT * FROM acct WHERE id > 10\nVERSIONS OF audit\nEXPLAIN AS OF 1 SELECT id FROM acct\nLOG 7\n";
+const QUESTIONS: &[u8] = b"\
+REENACT 2 AFTER 2 SELECT * FROM acct
+REENACT 3 COMMIT SELECT * FROM acct
+PROVENANCE OF AS OF 5 SELECT * FROM acct WHERE id > 10
+VALUE IN COST (i = 5, u2 = 2, ELSE 1) OF AS OF 5 SELECT * FROM acct WHERE id > 10
+VALUE IN LEVEL (u4 = 2, q6.1 = 1, ELSE 0) OF AS OF 5 SELECT * FROM acct WHERE id > 10
+VERSIONS OF audit
+EXPLAIN AS OF 1 SELECT id FROM acct
+LOG 7
+";
 
-const ANSWERS: &[u8] =
-    b"1 rows 3\n  1, 70\n  2, 80\n  3, 0\n2 rows 3\n  1, 70\n  2, 80\n  3, 7\n3 rows 2\n  11, 141 : i1.1.1^2*q2.3*q6.1*u2.1^2*u4.1\n  12, 161 : i1.1.2^2*q2.3*q6.1*u2.2^2*u4.1\n4 rows 2\n  11, 141 : 17\n  12, 161 : 17\n5 rows 2\n  11, 141 : 2\n  12, 161 : 2\n6 versions 2\n  2.3.1(1.1.1) 2 - 1, 70\n  2.3.1(1.1.2) 2 - 2, 80\n7 program 1\n  QUERY PROJECT(SCAN(acct, 1), #1)\n8 log 3\n  28 s2 BEGIN\n  29 s2 DELETE FROM owner WHERE (name = 'Cy')\n  30 s2 ROLLBACK\n";
+const ANSWERS: &[u8] = b"\
+1 rows 3
+  1, 70
+  2, 80
+  3, 0
+2 rows 3
+  1, 70
+  2, 80
+  3, 7
+3 rows 2
+  11, 141 : i1.1.1^2*q2.3*q6.1*u2.1^2*u4.1
+  12, 161 : i1.1.2^2*q2.3*q6.1*u2.2^2*u4.1
+4 rows 2
+  11, 141 : 17
+  12, 161 : 17
+5 rows 2
+  11, 141 : 2
+  12, 161 : 2
+6 versions 2
+  2.3.1(1.1.1) 2 - 1, 70
+  2.3.1(1.1.2) 2 - 2, 80
+7 program 1
+  QUERY PROJECT(SCAN(acct, 1), #1)
+8 log 3
+  28 s2 BEGIN
+  29 s2 DELETE FROM owner WHERE (name = 'Cy')
+  30 s2 ROLLBACK
+";
 
 /// The status of these questions to the bank's dump where the output fails at this call, or None unless their answers were written: all of
 /// them under status 0, and a proper prefix under others.

@@ -11,10 +11,19 @@ const EXPORT: &[&str] = &["export", "D", "Q"];
 const USAGE: &[u8] =
     b"usage: gprom run SCRIPT DUMP, gprom ask DUMP QUESTIONS, gprom gen N, gprom load CSV TABLE SCRIPT, gprom export DUMP QUESTIONS\n";
 
-const SHEET: &[u8] = b"id,name\n1,Ann\n2,\"O'Hara, B\"\n,\\N\n";
+const SHEET: &[u8] = b"\
+id,name
+1,Ann
+2,\"O'Hara, B\"
+,\\N
+";
 
-const SCRIPT: &[u8] =
-    b"s1: CREATE TABLE people (id INT, name TEXT)\ns1: BEGIN\ns1: INSERT INTO people VALUES (1, 'Ann'), (2, 'O''Hara, B'), (NULL, NULL)\ns1: COMMIT\n";
+const SCRIPT: &[u8] = b"\
+s1: CREATE TABLE people (id INT, name TEXT)
+s1: BEGIN
+s1: INSERT INTO people VALUES (1, 'Ann'), (2, 'O''Hara, B'), (NULL, NULL)
+s1: COMMIT
+";
 
 /// Whether a call on a sheet, and on a file D that holds `old`, ends so.
 fn loads(
@@ -242,8 +251,12 @@ fn exports(
     Ok(ended == status && out.bytes() == output)
 }
 
-const TEXTS: &[u8] =
-    b"s1: CREATE TABLE t (a TEXT)\ns1: BEGIN\ns1: INSERT INTO t VALUES ('\\N'), (''), ('a,b'), ('say \"x\"'), (NULL)\ns1: COMMIT\n";
+const TEXTS: &[u8] = b"\
+s1: CREATE TABLE t (a TEXT)
+s1: BEGIN
+s1: INSERT INTO t VALUES ('\\N'), (''), ('a,b'), ('say \"x\"'), (NULL)
+s1: COMMIT
+";
 
 /// Scripts, questions to their dumps, and the status and output of their export.
 const EXPORTS: &[(&[u8], &[u8], u8, &[u8])] = &[
@@ -251,35 +264,105 @@ const EXPORTS: &[(&[u8], &[u8], u8, &[u8])] = &[
         SCRIPT,
         b"AS OF 1 SELECT * FROM people",
         0,
-        b"line,c1,c2\n1,\\N,\\N\n1,1,Ann\n1,2,\"O'Hara, B\"\n",
+        b"\
+line,c1,c2
+1,\\N,\\N
+1,1,Ann
+1,2,\"O'Hara, B\"
+",
     ),
     // Each question has a header of its own, and one without rows the header alone.
     (
         SCRIPT,
-        b"-- the ids\nAS OF 0 SELECT id FROM people\nreenact 1 after 1 select id from people where id is not null;\nREENACT 1 COMMIT SELECT name FROM people WHERE id = 1\n",
+        b"\
+-- the ids
+AS OF 0 SELECT id FROM people
+reenact 1 after 1 select id from people where id is not null;
+REENACT 1 COMMIT SELECT name FROM people WHERE id = 1
+",
         0,
-        b"line\nline,c1\n3,1\n3,2\nline,c1\n4,Ann\n",
+        b"\
+line
+line,c1
+3,1
+3,2
+line,c1
+4,Ann
+",
     ),
     // A backslash in front is doubled, and an empty text is no NULL.
     (
         TEXTS,
         b"AS OF 1 SELECT a FROM t",
         0,
-        b"line,c1\n1,\\N\n1,\n1,\\\\N\n1,\"a,b\"\n1,\"say \"\"x\"\"\"\n",
+        b"\
+line,c1
+1,\\N
+1,
+1,\\\\N
+1,\"a,b\"
+1,\"say \"\"x\"\"\"
+",
     ),
     // Other questions are not exported, whatever else they would be refused for, but for their text.
     (
         SCRIPT,
-        b"LOG 1\nLOG 9\nVERSIONS OF people\nVERSIONS OF\nEXPLAIN AS OF 1 SELECT * FROM people\nPROVENANCE OF REENACT 9 COMMIT SELECT * FROM people\nVALUE IN COUNT OF AS OF 1 SELECT * FROM nobody\nREENACT 9 COMMIT SELECT * FROM people\nWITHOUT i1.1.1 OF AS OF 1 SELECT * FROM people\nVALUE IN WITNESS OF AS OF 1 SELECT * FROM people\n",
+        b"\
+LOG 1
+LOG 9
+VERSIONS OF people
+VERSIONS OF
+EXPLAIN AS OF 1 SELECT * FROM people
+PROVENANCE OF REENACT 9 COMMIT SELECT * FROM people
+VALUE IN COUNT OF AS OF 1 SELECT * FROM nobody
+REENACT 9 COMMIT SELECT * FROM people
+WITHOUT i1.1.1 OF AS OF 1 SELECT * FROM people
+VALUE IN WITNESS OF AS OF 1 SELECT * FROM people
+",
         1,
-        b"line,refusal\n1,E30 not exported\nline,refusal\n2,E30 not exported\nline,refusal\n3,E30 not exported\nline,refusal\n4,E03 syntax fault at column 12\nline,refusal\n5,E30 not exported\nline,refusal\n6,E30 not exported\nline,refusal\n7,E30 not exported\nline,refusal\n8,E20 no transaction 9\nline,refusal\n9,E30 not exported\nline,refusal\n10,E30 not exported\n",
+        b"\
+line,refusal
+1,E30 not exported
+line,refusal
+2,E30 not exported
+line,refusal
+3,E30 not exported
+line,refusal
+4,E03 syntax fault at column 12
+line,refusal
+5,E30 not exported
+line,refusal
+6,E30 not exported
+line,refusal
+7,E30 not exported
+line,refusal
+8,E20 no transaction 9
+line,refusal
+9,E30 not exported
+line,refusal
+10,E30 not exported
+",
     ),
     // Nor are questions about what would have been.
     (
         SCRIPT,
-        b"WHATIF DROP 1 1 OF AS OF 1 SELECT * FROM people\nWHATIF REPLACE 9 1 BY (DELETE FROM nobody) OF REENACT 1 COMMIT SELECT * FROM people\nWHATIF DROP 1 OF AS OF 1 SELECT * FROM people\nAS OF 1 SELECT id FROM people WHERE id = 1\n",
+        b"\
+WHATIF DROP 1 1 OF AS OF 1 SELECT * FROM people
+WHATIF REPLACE 9 1 BY (DELETE FROM nobody) OF REENACT 1 COMMIT SELECT * FROM people
+WHATIF DROP 1 OF AS OF 1 SELECT * FROM people
+AS OF 1 SELECT id FROM people WHERE id = 1
+",
         1,
-        b"line,refusal\n1,E30 not exported\nline,refusal\n2,E30 not exported\nline,refusal\n3,E03 syntax fault at column 15\nline,c1\n4,1\n",
+        b"\
+line,refusal
+1,E30 not exported
+line,refusal
+2,E30 not exported
+line,refusal
+3,E03 syntax fault at column 15
+line,c1
+4,1
+",
     ),
 ];
 

@@ -8,8 +8,23 @@ use std::alloc::Global;
 use std::test::Fail;
 
 /// Version 2 changes a row and deletes another.
-const DUMP: &[u8] =
-    b"gprom-dump 1\nlog 8\n1 s1 CREATE TABLE r (a INT)\n2 s1 BEGIN\n3 s1 INSERT INTO r VALUES (1), (2)\n4 s1 COMMIT\n5 s1 BEGIN\n6 s1 UPDATE r SET a = 5 WHERE (a = 1)\n7 s1 DELETE FROM r WHERE (a = 2)\n8 s1 COMMIT\ntable r 3\n1.1.1 1 2 1\n1.1.1 2 - 5\n1.1.2 1 2 2\nend\n";
+const DUMP: &[u8] = b"\
+gprom-dump 1
+log 8
+1 s1 CREATE TABLE r (a INT)
+2 s1 BEGIN
+3 s1 INSERT INTO r VALUES (1), (2)
+4 s1 COMMIT
+5 s1 BEGIN
+6 s1 UPDATE r SET a = 5 WHERE (a = 1)
+7 s1 DELETE FROM r WHERE (a = 2)
+8 s1 COMMIT
+table r 3
+1.1.1 1 2 1
+1.1.1 2 - 5
+1.1.2 1 2 2
+end
+";
 
 /// A table, a version, and the rows of the table there: the cells, the identity and the mark of each.
 type Scan = (u32, u32, &'static [u8]);
