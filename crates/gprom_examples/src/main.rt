@@ -116,10 +116,13 @@ fn writes<H: Shelf>(
     gprom(alloc, &args, shelf, &mut out) == status && shows(shelf, shown, out.bytes())
 }
 
-/// Tells that a file shows something else.
-fn tell<K: Sink>(out: &mut K, file: &str) {
-    let _ = out.write_all(file.as_bytes());
-    let _ = out.write_all(b"\n");
+/// What was found of a file, which is named where it shows something else.
+fn told<K: Sink>(same: bool, file: &str, out: &mut K) -> bool {
+    if !same {
+        let _ = out.write_all(file.as_bytes());
+        let _ = out.write_all(b"\n");
+    }
+    same
 }
 
 /// Whether each script has the replies that are shown.
@@ -129,10 +132,8 @@ fn scripts_are_as_shown<H: Shelf, K: Sink>(alloc: Global, shelf: &mut H, out: &m
         let Ok(shown) = file(alloc, name, ".replies") else {
             return false;
         };
-        if !writes(alloc, running(alloc, name), *status, &shown, shelf) {
-            same = false;
-            tell(out, &shown);
-        }
+        let is_shown = writes(alloc, running(alloc, name), *status, &shown, shelf);
+        same = told(is_shown, &shown, out) && same;
     }
     same
 }
@@ -145,10 +146,8 @@ fn answers_are_as_shown<H: Shelf, K: Sink>(alloc: Global, shelf: &mut H, out: &m
             return false;
         };
         let args = asking(alloc, "ask", name, script);
-        if !writes(alloc, args, *status, &shown, shelf) {
-            same = false;
-            tell(out, &shown);
-        }
+        let is_shown = writes(alloc, args, *status, &shown, shelf);
+        same = told(is_shown, &shown, out) && same;
     }
     same
 }
@@ -190,8 +189,11 @@ fn main(rt: HostRuntime) -> ExitCode {
     let scripts = scripts_are_as_shown(alloc, &mut shelf, &mut out);
     let answers = answers_are_as_shown(alloc, &mut shelf, &mut out);
     let export = export_is_as_shown(alloc, &mut shelf);
+    let export = told(export, "tutorial-report.csv", &mut out);
     let dump = dump_is_as_shown(&mut shelf);
+    let dump = told(dump, "accounts.dump", &mut out);
     let sheet = sheet_is_as_shown(alloc, &mut shelf);
+    let sheet = told(sheet, "tutorial.script", &mut out);
     if scripts && answers && export && dump && sheet {
         let _ = out.write_all(b"every example is as shown\n");
         ExitCode::from(0)
