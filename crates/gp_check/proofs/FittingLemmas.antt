@@ -433,9 +433,9 @@ fits tables (y.select query) columns statement valid none =
     let w = none_of (unless (widths_agree tables (y.select query)) E15) _ cols.1 in
     select_fit tables query columns valid n.0 (holds_if _ _ w.0)
 
--- ---- what the check returns
+-- ---- what the check returns: no phase found a fault, and it is the meaning
 
-accepted : {A : Type 0} (fault : Option Refusal) (meaning value : A) → refused_by fault meaning ≡ Ok value → (fault ≡ None) × (meaning ≡ value)
+pub accepted : {A : Type 0} (fault : Option Refusal) (meaning value : A) → refused_by fault meaning ≡ Ok value → (fault ≡ None) × (meaning ≡ value)
 accepted None meaning value is = (refl, ap (λ r. result_unwrap_or r meaning) is)
 accepted (Some refusal) meaning value is = cc
 

@@ -1,9 +1,8 @@
 -- In every version of a history, and in all that its transactions read, rows fit the columns of their tables, and identities can be read from their
 -- texts.
-use Rattle.std.proofs.Common.{◌≡◌, ℕ, zero, suc, Bool, true, false, List, [], ◌∷◌, ◌++◌, Option, Some, None, Result, Ok, Err, slice_get, refl, ap, subst, arith, ⊎_elim}
+use Rattle.std.proofs.Common.{◌≡◌, ℕ, zero, suc, Bool, true, false, List, [], ◌∷◌, ◌++◌, Option, Some, None, Result, Ok, Err, slice_get, refl, subst, arith, ⊎_elim}
 use Rattle.std.specs.Prelude.{nat_le, not, ◌==◌, if◌then◌else◌}
 use Rattle.std.specs.List.{filter}
-use Rattle.std.specs.Result.{result_unwrap_or}
 use Rattle.gp_base.specs.Annotated.{Annotations, Database}
 use Rattle.gp_base.specs.declared.refusal.Refusal.{Refusal}
 use Rattle.gp_base.specs.declared.table.Table.{Table}
@@ -16,6 +15,7 @@ use Rattle.gp_algebra.specs.Statements.{Statement}
 use Rattle.gp_check.specs.Checking.{refused_by}
 use Rattle.gp_check.specs.Faults.{first_refusal}
 use Rattle.gp_check.specs.Meaning.{statement_of}
+use Rattle.gp_check.proofs.FittingLemmas.{accepted}
 use Rattle.gp_machine.proofs.Distinct.{each_filter, each_weaker}
 use Rattle.gp_machine.proofs.LimitLemmas.{counts_are_within}
 use Rattle.gp_machine.proofs.ReachedLemmas.{all_reached, value_cases, within_limits}
@@ -70,10 +70,6 @@ started_fits tables old new now seen f g = by (new == old)
     by false = merged_fits tables now seen.view (pairs seen.written) f g
 
 -- ---- lines
-
-pub checked_is : (fault : Option Refusal) (meaning statement : Statement) → refused_by fault meaning ≡ Ok statement → (fault ≡ None) × (meaning ≡ statement)
-checked_is None meaning statement e = (refl, ap (λ r. result_unwrap_or r meaning) e)
-checked_is (Some refusal) meaning statement e = cc
 
 some_active : {M : Type 0} (a b : Active M) → Some a ≡ Some b → a ≡ b
 some_active a b e = cc
@@ -134,7 +130,7 @@ module _ {M : Type 0} (domain : Annotations M) (state : State M) (line session :
     check_it command read (Some refusal) checked is = fitting
     check_it command read None (Err refusal) is = fitting
     check_it command read None (Ok statement) is =
-        let c = checked_is (first_refusal state.catalogue command) (statement_of state.catalogue command) statement is in
+        let c = accepted (first_refusal state.catalogue command) (statement_of state.catalogue command) statement is in
         subst (λ s. Fitting (ran domain state line session active command s (refusal_of domain parameters state.catalogue active.transaction (suc active.statements) s (start_now state active))).0) c.1
         (run_it command read c.0 (refusal_of domain parameters state.catalogue active.transaction (suc active.statements) (statement_of state.catalogue command) (start_now state active)) refl)
 

@@ -1,12 +1,11 @@
 -- The statements and the row versions of a well-formed dump fit its tables. What was checked fits the tables of its time, and what fits some tables fits
 -- them with more behind.
-use Rattle.std.proofs.Common.{◌≡◌, ◌≤◌, ℕ, zero, suc, Bool, true, false, true≢false, nat_le, List, [], ◌∷◌, ◌++◌, bytes_eq, codes, length, Option, Some, None, if◌then◌else◌, Result, Ok, Err, refl, sym, ap, subst}
+use Rattle.std.proofs.Common.{◌≡◌, ◌≤◌, ℕ, zero, suc, Bool, true, false, true≢false, List, [], ◌∷◌, ◌++◌, bytes_eq, codes, length, Some, None, if◌then◌else◌, Result, Ok, Err, refl, sym, ap, subst}
 use Rattle.std.specs.Prelude.{slice_index_or}
 use Rattle.std.specs.List.{AllByRecursion, list_all}
 use Rattle.std.proofs.lemmas.Bool.{eq-eqb, and_from, and_parts}
 use Rattle.gp_base.specs.declared.cell.Cell.{Cell}
 use Rattle.gp_base.specs.declared.cell.Cell.TheVariants as cell
-use Rattle.gp_base.specs.declared.refusal.Refusal.{Refusal}
 use Rattle.gp_base.specs.declared.row_id.TheConstants.{MAX_NODES}
 use Rattle.gp_base.specs.declared.table.Column.{Column}
 use Rattle.gp_base.specs.declared.table.Kind.{Kind}
@@ -18,23 +17,19 @@ use Rattle.gp_grammar.specs.Canonical.{command_text}
 use Rattle.gp_grammar.specs.LineReading.{Fault}
 use Rattle.gp_grammar.specs.Reading.{command_of}
 use Rattle.gp_grammar.specs.Syntax as y
-use Rattle.gp_grammar.specs.Syntax.{Command, is_statement}
+use Rattle.gp_grammar.specs.Syntax.{Command}
 use Rattle.gp_algebra.specs.Fitting.{row_fits, statement_fits}
-use Rattle.gp_algebra.specs.Statements.{Statement, width_of}
+use Rattle.gp_algebra.specs.Statements.{Statement}
 use Rattle.gp_algebra.proofs.FittingMore.{statement_more}
-use Rattle.gp_check.specs.Checking.{checked}
 use Rattle.gp_check.specs.Faults.{first_refusal}
 use Rattle.gp_check.specs.Meaning.{statement_of}
 use Rattle.gp_check.specs.Valid.{is_valid, tables_are_valid}
-use Rattle.gp_check.proofs.FittingLemmas.{fits}
+use Rattle.gp_check.proofs.FittingLemmas.{accepted, fits}
 use Rattle.gp_check.proofs.ValidLemmas.{tables-added}
-use Rattle.gp_machine.specs.Actions as action
-use Rattle.gp_machine.specs.Actions.{allowed}
-use Rattle.gp_machine.specs.Entries.{Began, Committed, Created, Ended, Entry, Ran, statement_count, statements_in, transactions_in, versions_in}
-use Rattle.gp_machine.specs.Event.{count_refusal}
+use Rattle.gp_machine.specs.Entries.{Began, Committed, Created, Ended, Entry, Ran, versions_in}
 use Rattle.gp_versions.specs.declared.span.Span.{Span}
-use Rattle.gp_log.specs.Discipline as d
-use Rattle.gp_log.specs.Discipline.{Disorder, Does, IsLog, Loses, doing, next_entry, transaction_in}
+use Rattle.gp_log.specs.Discipline.{Does, IsLog, Loses, next_entry}
+use Rattle.gp_log.proofs.CheckedEntries.{was_checked}
 use Rattle.gp_log.specs.LogFacts.{tables_in}
 use Rattle.gp_log.specs.LogFitting.{SpanFits, SpansFit, statements_fit}
 use Rattle.gp_log.specs.Parameters.{parameters}
@@ -43,7 +38,6 @@ use Rattle.gp_dumpline.specs.Rows.{IsReadable}
 use Rattle.gp_dumpline.specs.Texts.{said_text}
 use Rattle.gp_dump.specs.Dumps.{AreInPlace, AreOfTables, AreReadable, Dump, IsDump, fits_columns, is_of_kind}
 use Rattle.gp_dumpline.proofs.SaidLaws.{is-said}
-use Rattle.gp_dump.proofs.FittingRows.{checked_is}
 use Rattle.gp_dump.proofs.ReadCommands.{read_valid}
 
 -- ---- more tables behind
@@ -82,69 +76,13 @@ said_valid command said = read_valid command (go (bytes_eq (command_text command
 
 -- ---- statements of a log were checked
 
-module _ (older : List Entry) (line session : ℕ) (command : Command) (t : ℕ) (statement : Statement) where
-  abbrev Follows : Option ℕ → action.Action → Type 0
-  Follows active done = doing parameters older line session (allowed active done) ≡ Ok (Ran line session command t statement)
-
-  was_checked : (active : Option ℕ) → Follows active (action.Run command) → checked (tables_in older) command ≡ Ok statement
-  was_checked None e = cc
-  was_checked (Some own) e = go (count_refusal parameters (statement_count own older) (statements_in older)) (checked (tables_in older) command) e
-    where
-      go : (refusal : Option Refusal) (found : Result Statement Refusal)
-          → d.running parameters older line session own command refusal found ≡ Ok (Ran line session command t statement) → found ≡ Ok statement
-      go (Some refusal) found e = cc
-      go None (Err refusal) e = cc
-      go None (Ok found) e = cc
-
-  no_table : (active : Option ℕ) (table : Table) → Follows active (action.Create table) → ⊥
-  no_table (Some own) table e = cc
-  no_table None table e = go (nat_le parameters.tables (length (tables_in older))) (parameters.created (tables_in older) table) e
-    where
-      go : (full : Bool) (refusal : Option Refusal)
-          → (if full then Err Disorder else d.creating parameters older line session table refusal) ≡ Ok (Ran line session command t statement) → ⊥
-      go true refusal e = cc
-      go false (Some refusal) e = cc
-      go false None e = cc
-
-  no_begin : (read_committed : Bool) (active : Option ℕ) → Follows active (action.Begin read_committed) → ⊥
-  no_begin read_committed (Some own) e = cc
-  no_begin read_committed None e = go (nat_le parameters.transactions (transactions_in older)) e
-    where
-      go : (full : Bool) → (if full then Err Disorder else Ok (Began line session (suc (transactions_in older)) read_committed)) ≡ Ok (Ran line session command t statement) → ⊥
-      go true e = cc
-      go false e = cc
-
-  no_commit : (active : Option ℕ) → Follows active action.Commit → ⊥
-  no_commit None e = cc
-  no_commit (Some own) e = cc
-
-  no_rollback : (active : Option ℕ) → Follows active action.Rollback → ⊥
-  no_rollback None e = cc
-  no_rollback (Some own) e = cc
-
-  fits_then : is_statement command ≡ true → is_valid command ≡ true → tables_are_valid (tables_in older) ≡ true
-      → (active : Option ℕ) → Follows active (action.Run command) → statement_fits (tables_in older) statement ≡ true
-  fits_then kind valid columns active e =
-      let is = checked_is (first_refusal (tables_in older) command) (statement_of (tables_in older) command) statement (was_checked active e) in
-      subst (λ made. statement_fits (tables_in older) made ≡ true) is.1 (fits (tables_in older) command columns kind valid is.0)
-
 ran_fits : (older : List Entry) (line session : ℕ) (command : Command) (t : ℕ) (statement : Statement)
     → next_entry parameters older line session (Does command) ≡ Ok (Ran line session command t statement)
     → is_valid command ≡ true → tables_are_valid (tables_in older) ≡ true → statement_fits (tables_in older) statement ≡ true
-ran_fits older line session (y.create table) t statement e valid columns = absurd (no_table older line session _ t statement (transaction_in session older) table e)
-ran_fits older line session (y.begin read_committed) t statement e valid columns = absurd (no_begin older line session _ t statement read_committed (transaction_in session older) e)
-ran_fits older line session y.Command.commit t statement e valid columns = absurd (no_commit older line session _ t statement (transaction_in session older) e)
-ran_fits older line session y.rollback t statement e valid columns = absurd (no_rollback older line session _ t statement (transaction_in session older) e)
-ran_fits older line session (y.insert table rows) t statement e valid columns =
-    fits_then older line session (y.insert table rows) t statement refl valid columns (transaction_in session older) e
-ran_fits older line session (y.insert_select table query) t statement e valid columns =
-    fits_then older line session (y.insert_select table query) t statement refl valid columns (transaction_in session older) e
-ran_fits older line session (y.update table sets cond) t statement e valid columns =
-    fits_then older line session (y.update table sets cond) t statement refl valid columns (transaction_in session older) e
-ran_fits older line session (y.delete table cond) t statement e valid columns =
-    fits_then older line session (y.delete table cond) t statement refl valid columns (transaction_in session older) e
-ran_fits older line session (y.select query) t statement e valid columns =
-    fits_then older line session (y.select query) t statement refl valid columns (transaction_in session older) e
+ran_fits older line session command t statement follows valid columns =
+    let was = was_checked older line session command t statement follows in
+    let is = accepted (first_refusal (tables_in older) command) (statement_of (tables_in older) command) statement was.1 in
+    subst (λ made. statement_fits (tables_in older) made ≡ true) is.1 (fits (tables_in older) command columns was.0 valid is.0)
 
 log_valid : (entries : List Entry) → AreReadable entries → tables_are_valid (tables_in entries) ≡ true
 log_valid [] readable = refl

@@ -11,7 +11,7 @@ use Rattle.gp_grammar.specs.Syntax as y
 use Rattle.gp_grammar.specs.Syntax.{Bytes, Command}
 use Rattle.gp_check.specs.Faults.{first_refusal, or_else, query_tables_fault, table_fault}
 use Rattle.gp_check.specs.Meaning.{number_of_table, statement_of}
-use Rattle.gp_check.proofs.FittingLemmas.{known, none_of}
+use Rattle.gp_check.proofs.FittingLemmas.{accepted, known, none_of}
 use Rattle.gp_versions.specs.declared.span.Span.{Span}
 use Rattle.gp_versions.specs.Spans.{span_cmp}
 use Rattle.gp_machine.proofs.CountLemmas.{all_counted}
@@ -28,7 +28,7 @@ use Rattle.gp_machine.specs.State.{State, start}
 use Rattle.gp_log.specs.Parameters.{parameters}
 use Rattle.gp_dump.specs.Dumps.{AreInPlace, AreOfTables, IsDump, dump_of, spans_in, spans_in_order}
 use Rattle.gp_log.specs.ScriptLines.{AreScriptLines}
-use Rattle.gp_dump.proofs.FittingRows.{Fitting, all_fitting, checked_is}
+use Rattle.gp_dump.proofs.FittingRows.{Fitting, all_fitting}
 use Rattle.gp_dump.proofs.LoggedLines.{all_logged}
 use Rattle.gp_dump.proofs.RowPlaces.{all_in_place, sorted_length, spans_begin}
 use Rattle.gp_dump.proofs.StepKinds.{Fits, FitsRow}
@@ -52,7 +52,7 @@ has_target tables y.rollback none = tt
 
 pub checks_targets : ChecksTargets parameters
 checks_targets tables command statement e =
-    let c = checked_is (first_refusal tables command) (statement_of tables command) statement e in
+    let c = accepted (first_refusal tables command) (statement_of tables command) statement e in
     subst (HasTarget (length tables)) c.1 (has_target tables command c.0)
 
 -- ---- the spans of all tables

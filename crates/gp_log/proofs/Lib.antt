@@ -1,3 +1,4 @@
+pub mod CheckedEntries
 pub mod CountLemmas
 pub mod EntryLemmas
 pub mod FittingLogs

@@ -1,6 +1,6 @@
 -- The statements of a log, and of a changed one, are what the check makes of their commands.
-use Rattle.std.proofs.Common.{◌≡◌, ℕ, suc, Bool, true, false, cond, List, [], ◌∷◌, length, map, Option, Some, None, refl, sym, ap, ◌∙◌, subst}
-use Rattle.std.specs.Prelude.{◌==◌, ◌&&◌, nat_le, Result, Ok, Err}
+use Rattle.std.proofs.Common.{◌≡◌, ℕ, suc, Bool, true, false, cond, List, [], ◌∷◌, map, Option, Some, None, refl, sym, ap, ◌∙◌, subst}
+use Rattle.std.specs.Prelude.{◌==◌, ◌&&◌, Result, Ok, Err}
 use Rattle.std.specs.Option.{option_or}
 use Rattle.gp_base.specs.declared.refusal.Refusal.{Refusal}
 use Rattle.gp_base.specs.declared.table.Table.{Table}
@@ -12,18 +12,15 @@ use Rattle.gp_check.specs.Checking.{checked, refused_by}
 use Rattle.gp_check.specs.Faults.{block_columns_fault, block_types, block_where_is_typed, first_refusal, or_else, query_tables_fault, table_fault, tables_fault}
 use Rattle.gp_check.specs.Meaning.{branch_of, number_of_table, select_of, set_of, where_of}
 use Rattle.gp_check.specs.Scopes.{target_scope}
-use Rattle.gp_machine.specs.Actions.{Action, Begin, Commit, Create, Rollback, Run, action_of, allowed}
-use Rattle.gp_machine.specs.Entries.{Entry, Created, Began, Ran, Committed, Ended, statement_count, statements_in, transactions_in, line_of, session_of}
-use Rattle.gp_machine.specs.Event.{count_refusal}
+use Rattle.gp_machine.specs.Entries.{Entry, Created, Began, Ran, Committed, Ended, line_of, session_of}
 use Rattle.gp_machine.specs.Questions.{statement_refusal, transaction_refusal}
-use Rattle.gp_log.specs.Discipline.{Disorder, Flaw, IsLog, creating, doing, running, transaction_in}
+use Rattle.gp_log.specs.Discipline.{IsLog}
 use Rattle.gp_log.specs.Parameters.{parameters}
 use Rattle.gp_log.specs.LogFacts.{tables_in}
 use Rattle.gp_whatif.specs.Changed.{changed, doubled, dropped_command, dropped_statement, is_at, is_step_of, nothing_at, nothing_from, rewritten, steps_refusal, tables_at_end, tables_before, with_added, with_other}
 use Rattle.gp_whatif.specs.ChangedForms.{AreChecked}
 use Rattle.gp_whatif.proofs.ChangedLemmas.{added_same, doubled_same, other_same}
 use Rattle.gp_whatif.proofs.ChangingLemmas.{count_doubled}
-use Rattle.gp_whatif.proofs.FittingMore.{checked_is}
 
 -- ---- a statement that is dropped
 
@@ -44,24 +41,24 @@ stays tables command select statement is e = subst (λ made. IsSame (checked tab
 
 dropped_checked : (tables : List Table) (command : Command) (statement : Statement) → IsSame (checked tables command) (Ok statement) → IsSame (checked tables (dropped_command command)) (Ok (dropped_statement statement))
 dropped_checked tables (y.insert table rows) statement e =
-    let is = checked_is (first_refusal tables (y.insert table rows)) (s.insert (number_of_table tables table) rows) statement e in
+    let is = accepted (first_refusal tables (y.insert table rows)) (s.insert (number_of_table tables table) rows) statement e in
     subst (λ made. IsSame (checked tables (nothing_from table)) (Ok (dropped_statement made))) is.1 (nothing_checked tables table (first_none (table_fault tables table) _ is.0))
 dropped_checked tables (y.insert_select table query) statement e =
-    let is = checked_is (first_refusal tables (y.insert_select table query)) (s.insert_select (number_of_table tables table) (select_of tables query)) statement e in
+    let is = accepted (first_refusal tables (y.insert_select table query)) (s.insert_select (number_of_table tables table) (select_of tables query)) statement e in
     subst (λ made. IsSame (checked tables (nothing_from table)) (Ok (dropped_statement made))) is.1
     (nothing_checked tables table (first_none (table_fault tables table) (query_tables_fault tables query) (first_none (tables_fault tables (y.insert_select table query)) _ is.0)))
 dropped_checked tables (y.update table sets c) statement e =
-    let is = checked_is (first_refusal tables (y.update table sets c)) (s.update (number_of_table tables table) (map (set_of (target_scope tables table)) sets) (where_of (target_scope tables table) c)) statement e in
+    let is = accepted (first_refusal tables (y.update table sets c)) (s.update (number_of_table tables table) (map (set_of (target_scope tables table)) sets) (where_of (target_scope tables table) c)) statement e in
     subst (λ made. IsSame (checked tables (nothing_from table)) (Ok (dropped_statement made))) is.1 (nothing_checked tables table (first_none (table_fault tables table) _ is.0))
 dropped_checked tables (y.Command.delete table c) statement e =
-    let is = checked_is (first_refusal tables (y.Command.delete table c)) (s.delete (number_of_table tables table) (where_of (target_scope tables table) c)) statement e in
+    let is = accepted (first_refusal tables (y.Command.delete table c)) (s.delete (number_of_table tables table) (where_of (target_scope tables table) c)) statement e in
     subst (λ made. IsSame (checked tables (nothing_from table)) (Ok (dropped_statement made))) is.1 (nothing_checked tables table (first_none (table_fault tables table) _ is.0))
 dropped_checked tables (y.select query) statement e =
-    stays tables (y.select query) (select_of tables query) statement (checked_is (first_refusal tables (y.select query)) (s.read (select_of tables query)) statement e).1 e
-dropped_checked tables (y.create table) statement e = stays tables (y.create table) [] statement (checked_is None (s.read []) statement e).1 e
-dropped_checked tables (y.begin level) statement e = stays tables (y.begin level) [] statement (checked_is None (s.read []) statement e).1 e
-dropped_checked tables y.Command.commit statement e = stays tables y.Command.commit [] statement (checked_is None (s.read []) statement e).1 e
-dropped_checked tables y.rollback statement e = stays tables y.rollback [] statement (checked_is None (s.read []) statement e).1 e
+    stays tables (y.select query) (select_of tables query) statement (accepted (first_refusal tables (y.select query)) (s.read (select_of tables query)) statement e).1 e
+dropped_checked tables (y.create table) statement e = stays tables (y.create table) [] statement (accepted None (s.read []) statement e).1 e
+dropped_checked tables (y.begin level) statement e = stays tables (y.begin level) [] statement (accepted None (s.read []) statement e).1 e
+dropped_checked tables y.Command.commit statement e = stays tables y.Command.commit [] statement (accepted None (s.read []) statement e).1 e
+dropped_checked tables y.rollback statement e = stays tables y.rollback [] statement (accepted None (s.read []) statement e).1 e
 
 -- ---- whole logs
 
@@ -136,61 +133,11 @@ module _ (t : ℕ) where
 
 -- ---- a log that keeps the rules of its entries
 
-abbrev IsNow : Result Entry Flaw → Result Entry Flaw → Type 0
-IsNow one other = one ≡ other
-
-module _ (older : List Entry) (line session t : ℕ) (command : Command) (statement : Statement) where
-  abbrev here : Entry
-  here = Ran line session command t statement
-
-  abbrev refused : Flaw → Result Entry Flaw
-  refused flaw = Err flaw
-
-  abbrev accepted : Entry → Result Entry Flaw
-  accepted entry = Ok entry
-
-  same-command : (u : ℕ) (other : Command) (found : Statement) → accepted (Ran line session other u found) ≡ accepted here → (other ≡ command) × (found ≡ statement)
-  same-command u other found e = (cc, cc)
-
-  created : (table : Table) (o : Option Refusal) → creating parameters older line session table o ≡ accepted here → ⊥
-  created table (Some refusal) e = cc
-  created table None e = cc
-
-  creates : (b : Bool) (table : Table) (o : Option Refusal) → cond b (refused Disorder) (creating parameters older line session table o) ≡ accepted here → ⊥
-  creates true table o e = cc
-  creates false table o e = created table o e
-
-  begins : (b : Bool) (u : ℕ) (level : Bool) → cond b (refused Disorder) (accepted (Began line session u level)) ≡ accepted here → ⊥
-  begins true u level e = cc
-  begins false u level e = cc
-
-  runs : (u : ℕ) (other : Command) (o : Option Refusal) (r : Result Statement Refusal) → running parameters older line session u other o r ≡ accepted here → (other ≡ command) × IsSame r (Ok statement)
-  runs u other (Some refusal) r e = absurd cc
-  runs u other None (Err refusal) e = absurd cc
-  runs u other None (Ok found) e = let same = same-command u other found e in (same.0, ap (λ (made : Statement). result made) same.1)
-    where
-      result : Statement → Result Statement Refusal
-      result made = Ok made
-
-  does : (o : Option ℕ) (a : Action) → IsNow (doing parameters older line session (allowed o a)) (Ok here) → IsSame (checked (tables_in older) command) (Ok statement)
-  does None (Create table) e = absurd (creates (nat_le parameters.tables (length (tables_in older))) table (parameters.created (tables_in older) table) e)
-  does None (Begin level) e = absurd (begins (nat_le parameters.transactions (transactions_in older)) (suc (transactions_in older)) level e)
-  does None Commit e = absurd cc
-  does None Rollback e = absurd cc
-  does None (Run other) e = absurd cc
-  does (Some u) (Create table) e = absurd cc
-  does (Some u) (Begin level) e = absurd cc
-  does (Some u) Commit e = absurd cc
-  does (Some u) Rollback e = absurd cc
-  does (Some u) (Run other) e =
-      let is = runs u other (count_refusal parameters (statement_count u older) (statements_in older)) (parameters.checked (tables_in older) other) e in
-      subst (λ (x : Command). IsSame (checked (tables_in older) x) (Ok statement)) is.0 is.1
-
 pub logs_checked : (entries : List Entry) → IsLog parameters entries → AreChecked entries
 logs_checked [] log = tt
 logs_checked (Created line session table ∷ older) log = logs_checked older log.1
 logs_checked (Began line session t level ∷ older) log = logs_checked older log.1
-logs_checked (Ran line session command t statement ∷ older) log = (does older line session t command statement (transaction_in session older) (action_of command) log.0.follows, logs_checked older log.1)
+logs_checked (Ran line session command t statement ∷ older) log = ((was_checked older line session command t statement log.0.follows).1, logs_checked older log.1)
 logs_checked (Committed line session t ∷ older) log = logs_checked older log.1
 logs_checked (Ended line session end t ∷ older) log = logs_checked older log.1
 

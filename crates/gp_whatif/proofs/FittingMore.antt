@@ -1,24 +1,22 @@
 -- What the check passes on the tables before a line fits all tables of the log.
-use Rattle.std.proofs.Common.{◌≡◌, ℕ, Bool, true, false, cond, List, [], ◌∷◌, ◌++◌, Option, Some, None, refl, sym, ap, ◌∙◌, subst}
+use Rattle.std.proofs.Common.{◌≡◌, ℕ, Bool, true, false, cond, List, [], ◌∷◌, ◌++◌, refl, sym, ap, ◌∙◌, subst}
 use Rattle.std.proofs.lemmas.Bool.{and_parts}
 use Rattle.std.proofs.lemmas.List.{append-nil}
 use Rattle.std.proofs.lemmas.List.Folds.{list_all-append}
 use Rattle.std.specs.List.{list_all}
-use Rattle.std.specs.Prelude.{Result, Ok}
-use Rattle.std.specs.Result.{result_unwrap_or}
-use Rattle.gp_base.specs.declared.refusal.Refusal.{Refusal}
+use Rattle.std.specs.Prelude.{Ok}
 use Rattle.gp_base.specs.declared.table.Table.{Table}
 use Rattle.gp_grammar.specs.Laws.{has_statement}
 use Rattle.gp_grammar.specs.Syntax as y
 use Rattle.gp_grammar.specs.Syntax.{Command, LogChange, is_statement}
 use Rattle.gp_algebra.specs.Fitting.{statement_fits}
-use Rattle.gp_algebra.specs.Statements.{Statement, width_of}
+use Rattle.gp_algebra.specs.Statements.{Statement}
 use Rattle.gp_algebra.proofs.FittingMore.{statement_more}
-use Rattle.gp_check.specs.Checking.{checked, refused_by}
+use Rattle.gp_check.specs.Checking.{checked}
 use Rattle.gp_check.specs.Faults.{first_refusal}
 use Rattle.gp_check.specs.Meaning.{statement_of}
 use Rattle.gp_check.specs.Valid.{change_is_valid, is_valid, table_is_valid, tables_are_valid}
-use Rattle.gp_check.proofs.FittingLemmas.{fits}
+use Rattle.gp_check.proofs.FittingLemmas.{accepted, fits}
 use Rattle.gp_machine.specs.Entries.{Began, Committed, Created, Ended, Entry, Ran}
 use Rattle.gp_log.specs.Parameters.{parameters}
 use Rattle.gp_log.specs.LogFacts.{tables_in}
@@ -74,17 +72,10 @@ end_first t (entry ∷ older) = by (is_step_of t entry) (end_first t older)
 
 -- ---- what the check passes
 
-abbrev IsSame : Result Statement Refusal → Result Statement Refusal → Type 0
-IsSame one other = one ≡ other
-
-pub checked_is : (fault : Option Refusal) (meaning statement : Statement) → IsSame (refused_by fault meaning) (Ok statement) → (fault ≡ None) × (meaning ≡ statement)
-checked_is None meaning statement e = (refl, ap (λ r. result_unwrap_or r meaning) e)
-checked_is (Some refusal) meaning statement e = absurd cc
-
 pub fits_all : (front whole : List Table) (command : Command) (statement : Statement) → Extends front whole → tables_are_valid whole ≡ true → is_statement command ≡ true → is_valid command ≡ true
     → checked front command ≡ Ok statement → statement_fits whole statement ≡ true
 fits_all front whole command statement extends valid kind fine e =
-    let is = checked_is (first_refusal front command) (statement_of front command) statement e in
+    let is = accepted (first_refusal front command) (statement_of front command) statement e in
     subst (λ tables. statement_fits tables statement ≡ true) (sym extends.1)
     (statement_more front extends.0 statement
     (subst (λ made. statement_fits front made ≡ true) is.1
