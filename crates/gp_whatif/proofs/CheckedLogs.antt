@@ -12,10 +12,12 @@ use Rattle.gp_check.specs.Checking.{checked, refused_by}
 use Rattle.gp_check.specs.Faults.{block_columns_fault, block_types, block_where_is_typed, first_refusal, or_else, query_tables_fault, table_fault, tables_fault}
 use Rattle.gp_check.specs.Meaning.{branch_of, number_of_table, select_of, set_of, where_of}
 use Rattle.gp_check.specs.Scopes.{target_scope}
+use Rattle.gp_check.proofs.FittingLemmas.{accepted}
 use Rattle.gp_machine.specs.Entries.{Entry, Created, Began, Ran, Committed, Ended, line_of, session_of}
 use Rattle.gp_machine.specs.Questions.{statement_refusal, transaction_refusal}
 use Rattle.gp_log.specs.Discipline.{IsLog}
 use Rattle.gp_log.specs.Parameters.{parameters}
+use Rattle.gp_log.proofs.CheckedEntries.{was_checked}
 use Rattle.gp_log.specs.LogFacts.{tables_in}
 use Rattle.gp_whatif.specs.Changed.{changed, doubled, dropped_command, dropped_statement, is_at, is_step_of, nothing_at, nothing_from, rewritten, steps_refusal, tables_at_end, tables_before, with_added, with_other}
 use Rattle.gp_whatif.specs.ChangedForms.{AreChecked}
