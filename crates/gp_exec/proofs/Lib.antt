@@ -3,10 +3,10 @@ pub mod ChoosingLemmas
 pub mod EarlyLemmas
 pub mod EqualityLemmas
 pub mod EvaluationLemmas
-pub mod LevelLemmas
 pub mod ListLemmas
 pub mod IndexLemmas
 pub mod InputLemmas
+pub mod JoinLemmas
 pub mod JoiningLemmas
 pub mod LivenessLemmas
 pub mod LookingLemmas

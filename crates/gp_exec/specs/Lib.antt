@@ -4,8 +4,8 @@ pub mod Evaluating
 pub mod Indexing
 pub mod Inputs
 pub mod Joining
+pub mod Joins
 pub mod Keys
-pub mod Levels
 pub mod Liveness
 pub mod Looking
 pub mod Products

@@ -3,16 +3,17 @@
 //! In reading order: [`Views`] are the rows of the tables and [`choose`] the answer of a query over them, one [`Chosen`] for
 //! each choice of rows. [`Env`] is what a program scans; [`run`] gives the rows of its last query and [`run_table`] those of
 //! a program that ends in a table, without a limit on their number. [`ExecStop`] and [`ChooseStop`] are the reasons
-//! why there are none. A [`Backend`] is whatever runs plain programs, and [`Plain`] is this executor as one. [`conjuncts_hold`],
-//! [`joined`], [`simple_values`], and [`Input`] with [`column_behind`] are parts of it that other executors share.
+//! why there are none. A [`Backend`] is whatever runs plain programs, and [`Plain`] is this executor as one. [`give_choices`], with
+//! [`Chooser`], [`refs`], [`joined`], [`values_beside`], [`value`] and [`truth`] are parts of it that other executors share.
 //!
-//! Inside, `search` is the nested loops of [`choose`] and `early` the tests that prune them. Where a condition has an
-//! equality of columns, which `equality` finds, `input` gives the rows that join a row: it knows the places of the cells of
-//! a column, by `cell_index` and `key`. `found` has the rows of a query where they stand, and filters them there; `relation`
-//! makes the rows of a product one by one, and `projection` makes rows of rows. `publication` puts a transaction onto a
-//! later version: its rows are `pending`, and the marks and identities that they will have are found by a `look` before they
-//! are made. `evaluation` evaluates a query by these, up to a limit where there is one, and `program` takes the steps of a
-//! program in turn. `liveness` tells which of them later ones still read.
+//! Inside, `join` chooses one row of each table by nested loops, and gives each choice to a [`Chooser`]: `search` makes the elements
+//! of an answer of them, `relation` the rows of a product. `early` has the tests that prune the loops. Where a condition has an
+//! equality of columns, which `equality` finds, `input` gives the rows that join a row: it knows the places of the cells of a column,
+//! by `cell_index` and `key`. `beside` computes on the rows chosen so far and one more, side by side, with the
+//! operations of `cells`. `found` has the rows of a query where they stand, and filters them there; `projection` makes rows of rows.
+//! `publication` puts a transaction onto a later version: its rows are `pending`, and the marks and identities that they will have
+//! are found by a `look` before they are made. `evaluation` evaluates a query by these, up to a limit where there is one, and
+//! `program` takes the steps of a program in turn. `liveness` tells which of them later ones still read.
 //!
 //! ```text
 //! // every element of the answer, at most 50,000
@@ -21,7 +22,9 @@
 #![tactic(auto)]
 
 mod backend;
+mod beside;
 mod cell_index;
+mod cells;
 mod early;
 mod env;
 mod equality;
@@ -29,6 +32,7 @@ mod error;
 mod evaluation;
 mod found;
 mod input;
+mod join;
 mod key;
 mod liveness;
 mod look;
@@ -41,11 +45,11 @@ mod row;
 mod search;
 
 pub use backend::{Backend, Plain};
-pub use early::conjuncts_hold;
+pub use beside::{truth, value};
 pub use env::{Env, Scanned};
-pub use equality::column_behind;
 pub use error::{ChooseStop, ExecStop};
-pub use input::{HasRow, Input};
+pub use input::HasRow;
+pub use join::{Chooser, give_choices};
 pub use program::{run, run_table};
-pub use row::{joined, simple_values};
+pub use row::{joined, refs, values_beside};
 pub use search::{Chosen, Views, choose};
