@@ -11,3 +11,8 @@ pub mod Rows
 pub mod Running
 pub mod Valuing
 pub mod SemiringForms
+pub mod Counting
+pub mod Deletion
+pub mod Minimal
+pub mod Remaining
+pub mod CountForms

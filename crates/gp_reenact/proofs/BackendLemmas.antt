@@ -27,8 +27,8 @@ use Rattle.gp_machine.specs.Entries.{Entry}
 use Rattle.gp_machine.specs.HistorySpans as machine
 use Rattle.gp_machine.specs.Points.{at_point}
 use Rattle.gp_machine.specs.Questions.{answer_refusal, given, log_refusal, own_stop, rows_answer}
-use Rattle.gp_travel.specs.Encoding as travel
-use Rattle.gp_travel.specs.Travel as travels
+use Rattle.gp_reenact.specs.Encoding as travel
+use Rattle.gp_reenact.specs.Travel as travels
 use Rattle.gp_versions.specs.Spans.{Versions}
 use Rattle.gp_reenact.specs.Backends.{GivesOver, IsGivenOver, IsStop, ReenactsBy, RefusedBy}
 use Rattle.gp_reenact.specs.declared.error.ReenactStop.{ReenactStop}

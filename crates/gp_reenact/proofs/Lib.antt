@@ -2,3 +2,4 @@ pub mod BackendLemmas
 pub mod HeldLemmas
 pub mod ReplayLemmas
 pub mod StopLemmas
+pub mod EncodingLemmas

@@ -51,10 +51,10 @@ use Rattle.gp_prov.specs.Encoding as enc
 use Rattle.gp_prov.specs.ToPlain.{plain_program}
 use Rattle.gp_prov.proofs.BuiltLemmas.{program_built}
 use Rattle.gp_prov.proofs.MeaningLemmas.{HaveWidths, answers_are, rows_between, steps_are}
-use Rattle.gp_travel.specs.Encoding as travel
-use Rattle.gp_travel.specs.Travel as travels
-use Rattle.gp_travel.specs.Travel.{no_table}
-use Rattle.gp_travel.proofs.EncodingLemmas.{rows-plain}
+use Rattle.gp_reenact.specs.Encoding as travel
+use Rattle.gp_reenact.specs.Travel as travels
+use Rattle.gp_reenact.specs.Travel.{no_table}
+use Rattle.gp_reenact.proofs.EncodingLemmas.{rows-plain}
 use Rattle.gp_merge.proofs.BuiltLemmas.{merged_built}
 use Rattle.gp_merge.proofs.Orders.{program_ordered}
 use Rattle.gp_merge.proofs.RebuildingLemmas.{merged_is}

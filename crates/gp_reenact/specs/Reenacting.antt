@@ -13,7 +13,7 @@ use Rattle.gp_algebra.specs.Stops.{rows, ancestry, program_stop}
 use Rattle.gp_exec.specs.declared.error.ExecStop.{ExecStop}
 use Rattle.gp_exec.specs.declared.error.ExecStop.TheVariants as exec
 use Rattle.gp_base.specs.declared.limit.TheConstants.{MAX_TABLE_ROWS, MAX_ANSWER_ROWS}
-use Rattle.gp_travel.specs.Travel.{no_table}
+use Rattle.gp_reenact.specs.Travel.{no_table}
 use Rattle.gp_versions.specs.declared.span.Span.{Span}
 use Rattle.gp_versions.specs.Spans.{Versions}
 use Rattle.gp_reenact.specs.declared.error.ReenactStop.{ReenactStop}

@@ -4,8 +4,15 @@
 //! In reading order: [`log_refusal`] says whether a log has a state, and [`reenact`] gives the rows of a query over it: a version,
 //! what a transaction saw after one of its statements, or what its commit published. [`planned`] composes the statements of the
 //! transaction into a program ([`gp_compose`]), makes that a plain one ([`gp_prov`]) and merges it ([`gp_merge`]); a backend
-//! ([`reenact_by`]), as the executor ([`gp_exec`]), runs it over the rows of past versions ([`gp_travel`]). In `specs/`, `Reenacting` says what it answers, in terms of the run of the transaction, in which
-//! neither programs nor their columns are seen.
+//! ([`reenact_by`]), as the executor ([`gp_exec`]), runs it over the rows of past versions ([`env_at`]).
+//!
+//! A plain program reads tables in versions, and its rows have columns for what SQL does not show: the cells of a table's row, then the
+//! row's identity, then the mark NO, as no running transaction has written it. [`env_at`] takes them from the row versions of all
+//! tables, for the scans that it is asked for. [`asked_scans_suffice`] is a law: a program whose scans are all asked has the rows, and
+//! stops, as over all past versions.
+//!
+//! In `specs/`, `Reenacting` says what is answered, in terms of the run of the transaction, in which neither programs nor their columns
+//! are seen; `Travel` has the rows of past versions, and `Encoding` those columns.
 //!
 //! ```text
 //! let state = State::Commit { t: 2 };
@@ -15,8 +22,13 @@
 //! ```
 #![tactic(auto)]
 
+mod encoding;
+mod env;
 mod error;
 mod replay;
+mod scan_laws;
 
+pub use env::env_at;
 pub use error::ReenactStop;
 pub use replay::{log_refusal, planned, reenact, reenact_by};
+pub use scan_laws::{annotations_are_left_out, asked_scans_suffice};

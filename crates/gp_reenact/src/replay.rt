@@ -16,13 +16,14 @@ ghost use Rattle.gp_machine.specs.Questions as m;
 ghost use Rattle.gp_machine.specs.Questions.{rows_answer};
 ghost use Rattle.gp_merge.specs.Merging.{merged};
 ghost use Rattle.gp_prov.specs.ToPlain as to;
-ghost use Rattle.gp_travel.specs.Encoding.{encoded};
-ghost use Rattle.gp_travel.specs.Travel.{as_of};
+ghost use Rattle.gp_reenact.specs.Encoding.{encoded};
+ghost use Rattle.gp_reenact.specs.Travel.{as_of};
 ghost use Rattle.gp_reenact.specs.Backends.{GivesOver, ReenactsBy};
 ghost use Rattle.gp_reenact.specs.Reenacting as r;
 ghost use Rattle.gp_reenact.specs.Reenacting.{Plans, Reenacts, spans_of};
 ghost use Rattle.gp_reenact.specs.Programs.{merged_at};
 
+use crate::env::env_at;
 use crate::error::ReenactStop;
 use gp_algebra::{AProgram, PProgram, Select, scans};
 use gp_base::{Refusal, Row};
@@ -32,7 +33,6 @@ use gp_log::Log;
 use gp_merge::merge;
 use gp_prov::to_plain;
 use gp_syntax::State;
-use gp_travel::env_at;
 use gp_versions::VersionTable;
 use std::alloc::Global;
 

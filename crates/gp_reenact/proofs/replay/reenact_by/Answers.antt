@@ -9,8 +9,8 @@ use Rattle.gp_algebra.specs.Views.{select_view}
 use Rattle.gp_algebra.specs.WellBuilt.{is_well_built}
 use Rattle.gp_log.specs.Logs.{log_view}
 use Rattle.gp_machine.specs.Questions.{log_refusal}
-use Rattle.gp_travel.specs.Encoding.{encoded}
-use Rattle.gp_travel.specs.Travel.{as_of}
+use Rattle.gp_reenact.specs.Encoding.{encoded}
+use Rattle.gp_reenact.specs.Travel.{as_of}
 use Rattle.gp_reenact.specs.Backends.{GivesOver, IsGivenOver, ReenactsBy}
 use Rattle.gp_reenact.specs.declared.error.ReenactStop.{ReenactStop}
 use Rattle.gp_reenact.specs.Reenacting.{stopped, transaction_at}

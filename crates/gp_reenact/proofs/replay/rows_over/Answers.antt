@@ -5,8 +5,8 @@ use Rattle.gp_algebra.specs.Scans.{program_scans}
 use Rattle.gp_base.specs.declared.row.Row.{Row}
 use Rattle.gp_base.specs.Annotated.{plain}
 use Rattle.gp_exec.specs.Running.{environment_view}
-use Rattle.gp_travel.specs.Encoding.{encoded}
-use Rattle.gp_travel.specs.Travel.{as_of}
+use Rattle.gp_reenact.specs.Encoding.{encoded}
+use Rattle.gp_reenact.specs.Travel.{as_of}
 use Rattle.gp_reenact.proofs.BackendLemmas.{gives_over}
 use Rattle.gp_reenact.proofs.replay.rows_over.Goals as goal
 
