@@ -29,7 +29,7 @@ use Rattle.gp_machine.specs.Runs.{at_commit}
 use Rattle.gp_machine.proofs.PointReannotation.{VersionsReannotate, at_commit_reannotated, run_stop_reannotated}
 use Rattle.gp_reenact.proofs.StopLemmas.{scanned_once, step_stop}
 use Rattle.gp_rewrite.specs.Meaning.{AreAsWide, IsMonoid}
-use Rattle.gp_values.proofs.VersionReannotation.{annotated_reannotated, computed_reannotated}
+use Rattle.gp_history.proofs.VersionReannotation.{annotated_reannotated, computed_reannotated}
 use Rattle.gp_versions.specs.declared.span.Span.{Span}
 use Rattle.gp_history.specs.Changes.{is_scan}
 use Rattle.gp_history.specs.Images.{IsImage}

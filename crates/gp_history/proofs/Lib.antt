@@ -8,6 +8,7 @@ mod ElementLemmas
 mod FoundLemmas
 mod HistoryLemmas
 mod ImageLemmas
+mod KeepingLemmas
 mod MakerLemmas
 mod MatchingLemmas
 mod NotedLemmas
@@ -20,3 +21,17 @@ mod StartLemmas
 mod StopLemmas
 mod TableLemmas
 mod ValuingLemmas
+mod AnswerCounts
+mod Bounds
+pub mod DistinctLemmas
+pub mod HeldLemmas
+pub mod IgnoringLemmas
+mod MakerBounds
+mod OrderLemmas
+pub mod RoomLemmas
+mod RunBounds
+mod SmallLemmas
+mod SpanValues
+mod StatementBounds
+pub mod ValueLemmas
+pub mod VersionReannotation

@@ -211,13 +211,15 @@ module _ (entries : List Entry) (versions : List Versions) (sound : IsSound entr
       ∙ ap (option_map (refusal_at t)) (sym (steps_stop_is entries versions sound select fits (y.State.commit t) known n t (statement_count t entries) (program entries versions sound select fits (y.State.commit t) known).last (built entries versions sound select fits (y.State.commit t) known n).steps))
 
 -- the versions that a state needs are enough
-pub needed_suffice : (entries : List Entry) (versions : List Versions) → IsSound entries versions → (select : Select) (point : y.State) → log_refusal entries point ≡ None → needed_version entries point ≤ versions_in entries
+pub needed_suffice : (entries : List Entry) (versions : List Versions) → IsSound entries versions → (select : Select) (point : y.State) → log_refusal entries point ≡ None
+    → (n : ℕ) → needed_version entries point ≤ n → n ≤ versions_in entries
     → AgreeOn (program_scans (plain_program (width_of (tables_in entries)) true (program_at (width_of (tables_in entries)) entries point select)))
-    (encoded true (annotated monomials (spans_of versions) (computed monomials (log_of entries) (spans_of versions) (needed_version entries point))))
+    (encoded true (annotated monomials (spans_of versions) (computed monomials (log_of entries) (spans_of versions) n)))
     (encoded true (annotated monomials (spans_of versions) (computed monomials (log_of entries) (spans_of versions) (versions_in entries))))
-needed_suffice entries versions sound select point known most scan among =
+needed_suffice entries versions sound select point known n enough most scan among =
     let columns = width_of (tables_in entries) in
     let program = program_at columns entries point select in
     let there = subst (λ (scans : List ScanAt). Contains scans scan) (program_kept columns true program) among in
-    let few : scan.version ≤ needed_version entries point = scans_are_needed columns entries sound.sessions point known select scan there in
-    sym (ap (map (encoded_row true)) (rows_stay monomials (log_of entries) (spans_of versions) (needed_version entries point) (versions_in entries) scan.version scan.table few most))
+    let needed : scan.version ≤ needed_version entries point = scans_are_needed columns entries sound.sessions point known select scan there in
+    let few : scan.version ≤ n = omega (arith, needed, enough) in
+    sym (ap (map (encoded_row true)) (rows_stay monomials (log_of entries) (spans_of versions) n (versions_in entries) scan.version scan.table few most))

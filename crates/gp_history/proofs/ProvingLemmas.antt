@@ -175,15 +175,16 @@ module _ {X : Type 0} (view : X → List (List Cell)) (entries : List Entry) (ve
       subst (λ d. Proves view (Err (stopped (transaction_at point) exec.Answer)) d) (sym (due_is none None runs.0 true many)) refl
   stop_is none exec.NoMemory runs = tt
 
-  -- what a run over the needed versions gave, told over all
-  pub over_all : (known_monomials : List (List Monomial)) → AreAnnotated monomials (log_of entries) (spans_of versions) needed known_monomials
+  -- what a run over the needed versions gave, or over more of them, told over all
+  pub over_all : (n : ℕ) → needed ≤ n → n ≤ versions_in entries
+      → (known_monomials : List (List Monomial)) → AreAnnotated monomials (log_of entries) (spans_of versions) n known_monomials
       → (planned : PlainProgram) → planned ≡ program
       → (result : Result X ExecStop) → RunsOver view result (encoded true (versions_with (spans_of versions) known_monomials)) planned
       → RunsOver view result (encoded true (past (versions_in entries))) program
-  over_all all are planned is result runs =
-      let agree = needed_suffice entries versions sound select point known (needed_within entries point known) in
-      moved_over view result (encoded true (past needed)) (encoded true (past (versions_in entries))) program
-      (program_meaning_agrees (encoded true (past needed)) (encoded true (past (versions_in entries))) program agree)
-      (program_stop_agrees (encoded true (past needed)) (encoded true (past (versions_in entries))) MAX_TABLE_ROWS MAX_NODES program agree)
-      (subst (λ (p : PlainProgram). RunsOver view result (encoded true (past needed)) p) is
-      (subst (λ (env : Environment Monomial). RunsOver view result (encoded true env) planned) (versions_are monomials (log_of entries) (spans_of versions) needed all are) runs))
+  over_all n enough most all are planned is result runs =
+      let agree = needed_suffice entries versions sound select point known n enough most in
+      moved_over view result (encoded true (past n)) (encoded true (past (versions_in entries))) program
+      (program_meaning_agrees (encoded true (past n)) (encoded true (past (versions_in entries))) program agree)
+      (program_stop_agrees (encoded true (past n)) (encoded true (past (versions_in entries))) MAX_TABLE_ROWS MAX_NODES program agree)
+      (subst (λ (p : PlainProgram). RunsOver view result (encoded true (past n)) p) is
+      (subst (λ (env : Environment Monomial). RunsOver view result (encoded true env) planned) (versions_are monomials (log_of entries) (spans_of versions) n all are) runs))

@@ -7,7 +7,7 @@ use Rattle.gp_base.specs.Annotated.{Annotations}
 use Rattle.gp_log.specs.LogFacts.{tables_in}
 use Rattle.gp_machine.specs.Entries.{Entry, Log}
 use Rattle.gp_reenact.specs.Reenacting.{spans_of}
-use Rattle.gp_travel.specs.Travel.{no_table}
+use Rattle.gp_reenact.specs.Travel.{no_table}
 use Rattle.gp_versions.specs.declared.span.Span.{Span}
 use Rattle.gp_versions.specs.Spans.{Versions}
 use Rattle.gp_history.specs.Changes.{ones}

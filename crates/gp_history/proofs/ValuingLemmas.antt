@@ -50,11 +50,11 @@ use Rattle.gp_reenact.specs.Reenacting.{spans_of, stopped, transaction_at}
 use Rattle.gp_reenact.proofs.ReplayLemmas.{refusal_at, run_refused}
 use Rattle.gp_rewrite.specs.Meaning.{of_element, unmarked}
 use Rattle.gp_semiring.specs.Sums.{summed}
-use Rattle.gp_values.specs.Room.{HasRoom}
-use Rattle.gp_values.specs.ValueAnswers.{limited}
-use Rattle.gp_values.specs.AnswerForms.{IgnoreAnnotations, summed_answer, sums_of}
-use Rattle.gp_values.proofs.RoomLemmas.{has_room}
-use Rattle.gp_values.proofs.VersionReannotation.{annotation_stop_reannotated}
+use Rattle.gp_history.specs.Room.{HasRoom}
+use Rattle.gp_history.specs.ValueAnswers.{limited}
+use Rattle.gp_history.specs.AnswerForms.{IgnoreAnnotations, summed_answer, sums_of}
+use Rattle.gp_history.proofs.RoomLemmas.{has_room}
+use Rattle.gp_history.proofs.VersionReannotation.{annotation_stop_reannotated}
 use Rattle.gp_versions.specs.declared.span.Span.{Span}
 use Rattle.gp_versions.specs.Spans.{Versions}
 use Rattle.gp_history.specs.Agreement.{agree, key_of, keys_agree}
@@ -63,10 +63,13 @@ use Rattle.gp_history.specs.Provenance.{AnnotatesOr}
 use Rattle.gp_history.specs.Running.{SumsOver}
 use Rattle.gp_history.specs.Scanning.{AgreesOn}
 use Rattle.gp_history.specs.Sound.{IsSound}
-use Rattle.gp_history.specs.SpanAnnotations.{AreAnnotated, versions_with}
+use Rattle.gp_history.specs.Keeping.{Reaches}
+use Rattle.gp_history.specs.SpanAnnotations.{versions_with}
 use Rattle.gp_history.specs.Values.{Gives, HasFewItems}
+use Rattle.gp_history.specs.declared.kept.Kept.{Kept}
 use Rattle.gp_history.proofs.AgreementLemmas.{key_from}
 use Rattle.gp_history.proofs.AnnotatedScans.{program_meaning_agrees, program_stop_agrees}
+use Rattle.gp_history.proofs.KeepingLemmas.{none_before}
 use Rattle.gp_history.proofs.ImageLemmas.{env, env_carried, meaning_carried, steps_stop_is, word_env, word_monoid}
 use Rattle.gp_history.proofs.ProvenanceLemmas.{rows_stay}
 use Rattle.gp_history.proofs.ProvingLemmas.{needed_within}
@@ -202,18 +205,18 @@ module _ {K : Type 0} (domain : Annotations K) (image : IsImage domain) (plus : 
   annotated_err view P (Refused refusal) told = subst (λ (d : Result (List (List Cell × K)) Refusal). Gives view (Err (Refused refusal)) d) (sym (due_is (Some refusal) told _ refl)) refl
   annotated_err view P NoMemory told = tt
 
-  -- what a run over the needed versions gave, told over all
-  over_all : {X : Type 0} (view : X → List (List Cell × K)) (annotations : List (List K)) → AreAnnotated domain (log_of entries) (spans_of versions) (needed_version entries point) annotations
-      → (result : Result X ExecStop) → SumsOver domain plus view result (versions_with (spans_of versions) annotations) asked → SumsOver domain plus view result all asked
-  over_all view annotations are result sums = by result (subst (λ (e : Environment K). SumsOver domain plus view result e asked) (versions_are domain (log_of entries) (spans_of versions) (needed_version entries point) annotations are) sums)
+  -- what a run over the needed versions gave, or over more of them, told over all
+  over_all : {X : Type 0} (view : X → List (List Cell × K)) (kept : Kept K) → Reaches domain entries (spans_of versions) (needed_version entries point) kept
+      → (result : Result X ExecStop) → SumsOver domain plus view result (versions_with (spans_of versions) kept.annotated) asked → SumsOver domain plus view result all asked
+  over_all view kept reaches result sums = by result (subst (λ (e : Environment K). SumsOver domain plus view result e asked) (versions_are domain (log_of entries) (spans_of versions) kept.version kept.annotated reaches.0.annotated) sums)
     where
       few : Environment K
-      few = past domain image plus entries versions sound select fits point known (needed_version entries point)
+      few = past domain image plus entries versions sound select fits point known kept.version
 
       same : AgreesOn (annotated_program_scans asked) few all
       same scan among =
-          sym (rows_stay domain (log_of entries) (spans_of versions) (needed_version entries point) (versions_in entries) scan.version scan.table
-          (scans_are_needed (width_of (tables_in entries)) entries sound.sessions point known select scan among) (needed_within entries point known))
+          let needed : scan.version ≤ needed_version entries point = scans_are_needed (width_of (tables_in entries)) entries sound.sessions point known select scan among in
+          sym (rows_stay domain (log_of entries) (spans_of versions) kept.version (versions_in entries) scan.version scan.table (omega (arith, needed, reaches.1)) reaches.0.within)
 
       stop_moved : program_stop domain MAX_TABLE_ROWS MAX_NODES few asked ≡ program_stop domain MAX_TABLE_ROWS MAX_NODES all asked
       stop_moved = program_stop_agrees domain few all MAX_TABLE_ROWS MAX_NODES asked same
@@ -231,26 +234,31 @@ module _ {K : Type 0} (domain : Annotations K) (image : IsImage domain) (plus : 
   sums_same : summed row_cmp plus (k.pairs_of (program_meaning domain all asked)) ≡ sums_of plus chosen
   sums_same = ap (summed row_cmp plus) (pairs domain image plus entries versions sound select fits point known)
 
-  module _ {X : Type 0} (view : X → List (List Cell × K)) (annotations : List (List K)) (are : AnnotatesOr (AreAnnotated domain (log_of entries) (spans_of versions) (needed_version entries point)) (Ok annotations) refused) where
-    pub found_is : (found : X) → SumsOver domain plus view (Ok found) (versions_with (spans_of versions) annotations) asked → Gives view (Ok found) wanted
+  module _ {X : Type 0} (view : X → List (List Cell × K)) (kept : Kept K) (reaches : Reaches domain entries (spans_of versions) (needed_version entries point) kept) where
+    unrefused : refused ≡ None
+    unrefused =
+        sym (stop_same domain image entries (spans_of versions) (needed_version entries point))
+        ∙ none_before domain (tables_in entries) (log_of entries) (spans_of versions) (needed_version entries point) kept.version reaches.1 reaches.0.unstopped
+
+    pub found_is : (found : X) → SumsOver domain plus view (Ok found) (versions_with (spans_of versions) kept.annotated) asked → Gives view (Ok found) wanted
     found_is found sums =
-        let ran = over_all view annotations are.1 (Ok found) sums in
+        let ran = over_all view kept reaches (Ok found) sums in
         let count : length (sums_of plus chosen) ≤ MAX_ANSWER_ROWS = subst (λ (rows : List (List Cell × K)). length rows ≤ MAX_ANSWER_ROWS) sums_same ran.1.1 in
         let few : nat_lt MAX_ANSWER_ROWS (length (sums_of plus chosen)) ≡ false = grind (arith, nat_tests) in
         subst (λ (d : Result (List (List Cell × K)) Refusal). Gives view (Ok found) d)
-        (sym (due_is None are.0 None ran.0 ∙ (λ i. given (cond (few i) (Some E27) None) (sums_of plus chosen)))) (ran.1.0 ∙ sums_same)
+        (sym (due_is None unrefused None ran.0 ∙ (λ i. given (cond (few i) (Some E27) None) (sums_of plus chosen)))) (ran.1.0 ∙ sums_same)
 
-    pub stop_is : (stop : ExecStop) → SumsOver domain plus view (Err stop) (versions_with (spans_of versions) annotations) asked → Gives view (Err (stopped (transaction_at point) stop)) wanted
-    stop_is stop sums = by stop (over_all view annotations are.1 (Err stop) sums)
+    pub stop_is : (stop : ExecStop) → SumsOver domain plus view (Err stop) (versions_with (spans_of versions) kept.annotated) asked → Gives view (Err (stopped (transaction_at point) stop)) wanted
+    stop_is stop sums = by stop (over_all view kept reaches (Err stop) sums)
       where
         by : (stop : ExecStop) → SumsOver domain plus view (Err stop) all asked → Gives view (Err (stopped (transaction_at point) stop)) wanted
-        by (exec.Rows j) ran = subst (λ (d : Result (List (List Cell × K)) Refusal). Gives view (Err (stopped (transaction_at point) (exec.Rows j))) d) (sym (due_is None are.0 (Some (s.rows j)) ran)) refl
-        by (exec.Ancestry j) ran = subst (λ (d : Result (List (List Cell × K)) Refusal). Gives view (Err (stopped (transaction_at point) (exec.Ancestry j))) d) (sym (due_is None are.0 (Some (s.ancestry j)) ran)) refl
+        by (exec.Rows j) ran = subst (λ (d : Result (List (List Cell × K)) Refusal). Gives view (Err (stopped (transaction_at point) (exec.Rows j))) d) (sym (due_is None unrefused (Some (s.rows j)) ran)) refl
+        by (exec.Ancestry j) ran = subst (λ (d : Result (List (List Cell × K)) Refusal). Gives view (Err (stopped (transaction_at point) (exec.Ancestry j))) d) (sym (due_is None unrefused (Some (s.ancestry j)) ran)) refl
         by exec.Answer ran =
             let count : MAX_ANSWER_ROWS < length (sums_of plus chosen) = subst (λ (rows : List (List Cell × K)). MAX_ANSWER_ROWS < length rows) sums_same ran.1 in
             let many : nat_lt MAX_ANSWER_ROWS (length (sums_of plus chosen)) ≡ true = grind (arith, nat_tests) in
             subst (λ (d : Result (List (List Cell × K)) Refusal). Gives view (Err (stopped (transaction_at point) exec.Answer)) d)
-            (sym (due_is None are.0 None ran.0 ∙ (λ i. given (cond (many i) (Some E27) None) (sums_of plus chosen)))) refl
+            (sym (due_is None unrefused None ran.0 ∙ (λ i. given (cond (many i) (Some E27) None) (sums_of plus chosen)))) refl
         by exec.NoMemory ran = tt
 
 -- a state that the log does not have

@@ -8,9 +8,9 @@ use Rattle.gp_kexec.specs.SemiringForms.{counted, word_value, words}
 use Rattle.gp_kexec.specs.Valuing.{values_by}
 use Rattle.gp_kexec.proofs.WordLemmas.{counted_carries, word_carries}
 use Rattle.gp_semiring.specs.Semirings.{SemiringLaws}
-use Rattle.gp_valuation.specs.declared.rules.Rule.{Rule}
-use Rattle.gp_valuation.specs.Rules.{number_by}
-use Rattle.gp_valuation.specs.Values.{token_value, value_by}
+use Rattle.gp_semiring.specs.declared.rules.Rule.{Rule}
+use Rattle.gp_semiring.specs.Rules.{number_by}
+use Rattle.gp_semiring.specs.Values.{token_value, value_by}
 
 pub record IsImage {M : Type 0} (domain : Annotations M) : Type 0 where
   pub image : List Token → M

@@ -3,6 +3,7 @@ pub mod Annotating
 pub mod Changes
 pub mod Decoded
 pub mod Images
+pub mod Keeping
 pub mod Matching
 pub mod Noted
 pub mod Provenance
@@ -11,3 +12,7 @@ pub mod Scanning
 pub mod Sound
 pub mod SpanAnnotations
 pub mod Values
+pub mod DistinctRows
+pub mod Room
+pub mod ValueAnswers
+pub mod AnswerForms

@@ -16,8 +16,7 @@ use gp_base::{NoMemory, Sequence};
 use gp_exec::ExecStop;
 use gp_kexec::{Held, KEnv, KScanned, KStored, run_k_table};
 use gp_log::Log;
-use gp_semiring::Semiring;
-use gp_valuation::{Answers, Valuation};
+use gp_semiring::{Answers, Semiring, Valuation};
 use gp_versions::{Span, VersionTable};
 use std::alloc::Global;
 

@@ -5,10 +5,13 @@
 //! published over the versions before, as they are annotated by then, compares the rows with those of the spans, and gives each
 //! span that begins there the monomial of its row. [`annotate_in`] does the same with the elements of a semiring. Both are
 //! [`annotate_by`] over an [`Annotator`], which knows how programs are run over its annotations. [`provenance`] answers a query
-//! over a past state with monomials, [`values`] with elements.
+//! over a past state with monomials, [`values`] with elements. The functions of `value_laws.rt` say that what is computed with elements
+//! is what the monomials of the history come to.
 //!
 //! In `specs/`, `Agreement` says when two tables have the same rows, `SpanAnnotations` what annotated spans hold, `Annotating` what
-//! annotating answers, `Images` why elements may stand for monomials, and `Provenance` and `Values` what questions answer.
+//! annotating answers, `Images` why elements may stand for monomials, and `Provenance` and `Values` what questions answer;
+//! `ValueAnswers` has the answer for values by the monomials of the annotated answer, and what is computed for it, `DistinctRows` the rows
+//! of an answer, and `Room` how often a token can occur in an annotation.
 //!
 //! ```text
 //! let known = annotate(alloc, &log, &versions, v)?; // a monomial for each row version
@@ -26,12 +29,14 @@ mod changes;
 mod elements;
 mod error;
 mod found;
+mod kept;
 mod laws;
 mod matching;
 mod monomials;
 mod proving;
 mod published;
 mod spans;
+mod value_laws;
 mod valuing;
 
 pub use annotated::Annotated;
@@ -39,10 +44,16 @@ pub use annotating::{annotate, annotate_by, annotate_in};
 pub use annotator::{Annotator, Publication};
 pub use elements::k_env;
 pub use error::HistoryStop;
+pub use kept::Kept;
 pub use laws::{
     agreement_is_having_the_same_rows, annotated_versions_are_the_committed_ones,
     histories_are_annotated,
 };
 pub use monomials::{Monomials, env};
-pub use proving::provenance;
-pub use valuing::values;
+pub use proving::{provenance, provenance_from};
+pub use value_laws::{
+    annotated_answers_are_carried, distinct_rows_are_each_once, tokens_are_within_nodes,
+    values_are_sums_over_the_history, values_are_those_of_the_history,
+    versions_have_the_values_of_their_monomials,
+};
+pub use valuing::{values, values_from};

@@ -18,14 +18,15 @@ ghost use Rattle.gp_prov.specs.ToPlain as to;
 ghost use Rattle.gp_reenact.specs.Reenacting.{RunsOver, spans_of};
 ghost use Rattle.gp_syntax.specs.Views.{state_view};
 ghost use Rattle.gp_history.specs.Agreement.{agree};
+ghost use Rattle.gp_history.specs.Keeping.{MayBeKept, Reaches};
 ghost use Rattle.gp_history.specs.Provenance.{AnnotatesOr, Proves};
 ghost use Rattle.gp_history.specs.Sound.{IsSound};
-ghost use Rattle.gp_history.specs.SpanAnnotations.{AreAnnotated, versions_with};
+ghost use Rattle.gp_history.specs.SpanAnnotations.{versions_with};
 
 use crate::annotated::Annotated;
-use crate::annotating::annotate;
 use crate::asking::{needed_version, refused, stopped, transaction_at};
-use crate::monomials::env;
+use crate::kept::{Kept, annotate_on};
+use crate::monomials::{Monomials, env};
 use gp_algebra::{PProgram, Select, programs_read_their_scans, scans};
 use gp_base::{Monomial, NoMemory, Row};
 use gp_compose::{ComposeStop, program};
@@ -37,21 +38,24 @@ use gp_reenact::{ReenactStop, log_refusal};
 use gp_syntax::State;
 use gp_versions::VersionTable;
 use std::alloc::Global;
+use std::mem;
 
-/// The monomials of the versions up to this one.
+/// The monomials of the versions up to this one, from those that are kept.
 fn annotated_to(
     alloc: Global,
     log: &Log,
     versions: &[VersionTable],
+    kept: Option<Kept<Monomial>>,
     v: u32,
-) -> Result<Annotated<Monomial>, ReenactStop>
+) -> Result<Kept<Monomial>, ReenactStop>
     requires sound { IsSound (entries log.now) versions.now }
     requires within { v ≤ m.versions_in (entries log.now) }
-    ensures { AnnotatesOr (AreAnnotated monomials (m.log_of (entries log.now))
-        (spans_of versions.now) v) result (annotation_stop monomials parameters agree (tables log.now)
+    requires kept { MayBeKept monomials (entries log.now) (spans_of versions.now) kept }
+    ensures { AnnotatesOr (Reaches monomials (entries log.now) (spans_of versions.now) v) result
+        (annotation_stop monomials parameters agree (tables log.now)
         (m.log_of (entries log.now)) (spans_of versions.now) v) }
 {
-    match annotate(alloc, log, versions, v) {
+    match annotate_on(alloc, &Monomials, log, versions, kept, v) {
         Ok(known) => Ok(known),
         Err(stop) => Err(refused(log, stop)),
     }
@@ -94,7 +98,7 @@ fn rows_over(
 }
 
 /// The rows of a query over a state with their monomials, in no particular order: a monomial stands behind the cells of each row. Refused
-/// as [`log_refusal`] refuses the state; else as [`annotate`] stops (E24 to E26), for the versions up to the one that the state needs;
+/// as [`log_refusal`] refuses the state; else as [`annotate`](crate::annotate) stops (E24 to E26), for the versions up to the one that the state needs;
 /// else if a statement of the transaction passes a limit (E25, E26); else if the answer has more than
 /// [`MAX_ANSWER_ROWS`](gp_base::MAX_ANSWER_ROWS) rows (E27).
 pub fn provenance(
@@ -110,33 +114,82 @@ pub fn provenance(
         (annotated_answer monomials parameters agree (tables log.now)
         (entries log.now) (spans_of versions.now) (state_view state) (select_view select.now)) }
 {
+    let mut none = None;
+    provenance_from(alloc, log, versions, state, select, &mut none)
+}
+
+/// The same, from the annotations that earlier questions about this log and these row versions have left, if there are any. It leaves those
+/// that it has, unless it stops on the way to them.
+pub fn provenance_from(
+    alloc: Global,
+    log: &Log,
+    versions: &[VersionTable],
+    state: State,
+    select: &Select,
+    kept: &mut Option<Kept<Monomial>>,
+) -> Result<Vec<Row>, ReenactStop>
+    requires sound { IsSound (entries log.now) versions.now }
+    requires fits { select_fits (tables log.now) (select_view select.now) ≡ true }
+    requires kept { MayBeKept monomials (entries log.now) (spans_of versions.now) kept.old }
+    ensures kept { MayBeKept monomials (entries log.now) (spans_of versions.now) kept.new }
+    ensures answer { Proves (λ rows. rows.items) result
+        (annotated_answer monomials parameters agree (tables log.now)
+        (entries log.now) (spans_of versions.now) (state_view state) (select_view select.now)) }
+{
     if let Some(refusal) = log_refusal(log, state) {
         return Err(ReenactStop::Refused(refusal));
     }
-    known_provenance(alloc, log, versions, state, select)
+    kept_provenance(alloc, log, versions, state, select, kept)
 }
 
 /// The same of a state that the log has.
+fn kept_provenance(
+    alloc: Global,
+    log: &Log,
+    versions: &[VersionTable],
+    state: State,
+    select: &Select,
+    kept: &mut Option<Kept<Monomial>>,
+) -> Result<Vec<Row>, ReenactStop>
+    requires sound { IsSound (entries log.now) versions.now }
+    requires fits { select_fits (tables log.now) (select_view select.now) ≡ true }
+    requires known { q.log_refusal (entries log.now) (state_view state) ≡ None }
+    requires kept { MayBeKept monomials (entries log.now) (spans_of versions.now) kept.old }
+    ensures kept { MayBeKept monomials (entries log.now) (spans_of versions.now) kept.new }
+    ensures answer { Proves (λ rows. rows.items) result
+        (annotated_answer monomials parameters agree (tables log.now)
+        (entries log.now) (spans_of versions.now) (state_view state) (select_view select.now)) }
+{
+    let old = mem::replace(kept, None);
+    let known = match annotated_to(alloc, log, versions, old, needed_version(log, state)) {
+        Ok(known) => known,
+        Err(stop) => return Err(stop),
+    };
+    let answer = known_provenance(alloc, log, versions, &known, state, select);
+    *kept = Some(known);
+    answer
+}
+
+/// The rows of a query over a state that the log has, over annotated versions.
 fn known_provenance(
     alloc: Global,
     log: &Log,
     versions: &[VersionTable],
+    known: &Kept<Monomial>,
     state: State,
     select: &Select,
 ) -> Result<Vec<Row>, ReenactStop>
     requires sound { IsSound (entries log.now) versions.now }
     requires fits { select_fits (tables log.now) (select_view select.now) ≡ true }
     requires known { q.log_refusal (entries log.now) (state_view state) ≡ None }
+    requires reaches { Reaches monomials (entries log.now) (spans_of versions.now)
+        (q.needed_version (entries log.now) (state_view state)) known.now }
     ensures { Proves (λ rows. rows.items) result
         (annotated_answer monomials parameters agree (tables log.now)
         (entries log.now) (spans_of versions.now) (state_view state) (select_view select.now)) }
 {
-    let known = match annotated_to(alloc, log, versions, needed_version(log, state)) {
-        Ok(known) => known,
-        Err(stop) => return Err(stop),
-    };
     let plain = planned(alloc, log, state, select)?;
-    match rows_over(alloc, versions, &known, &plain) {
+    match rows_over(alloc, versions, &known.annotated, &plain) {
         Ok(rows) => Ok(rows),
         Err(stop) => Err(stopped(transaction_at(log, state), stop)),
     }

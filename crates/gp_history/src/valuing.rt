@@ -17,19 +17,23 @@ ghost use Rattle.gp_machine.specs.Questions as q;
 ghost use Rattle.gp_machine.specs.Questions.{annotation_stop};
 ghost use Rattle.gp_reenact.specs.Reenacting.{spans_of};
 ghost use Rattle.gp_syntax.specs.Views.{state_view};
-ghost use Rattle.gp_valuation.specs.Values.{token_value};
-ghost use Rattle.gp_values.specs.ValueAnswers.{value_answer};
+ghost use Rattle.gp_semiring.specs.Values.{token_value};
+ghost use Rattle.gp_history.specs.ValueAnswers.{value_answer};
 ghost use Rattle.gp_history.specs.Agreement.{agree};
+ghost use Rattle.gp_history.specs.Annotating.{Annotates};
+ghost use Rattle.gp_history.specs.Keeping.{MayBeKept, Reaches};
 ghost use Rattle.gp_history.specs.Provenance.{AnnotatesOr};
 ghost use Rattle.gp_history.specs.Running.{SumsOver};
 ghost use Rattle.gp_history.specs.Sound.{IsSound};
-ghost use Rattle.gp_history.specs.SpanAnnotations.{AreAnnotated, versions_with};
+ghost use Rattle.gp_history.specs.SpanAnnotations.{versions_with};
 ghost use Rattle.gp_history.specs.Values.{Gives, HasFewItems};
 
 use crate::annotated::Annotated;
-use crate::annotating::annotate_in;
 use crate::asking::{needed_version, refused, stopped, transaction_at};
 use crate::elements::k_env;
+use crate::error::HistoryStop;
+use crate::kept::{Kept, annotate_on};
+use crate::value_laws::values_are_sums_over_the_history;
 use gp_algebra::{AProgram, Select, scans_of};
 use gp_base::NoMemory;
 use gp_compose::{ComposeStop, program};
@@ -37,30 +41,56 @@ use gp_exec::ExecStop;
 use gp_kexec::{KRow, run_k};
 use gp_log::Log;
 use gp_reenact::{ReenactStop, log_refusal};
-use gp_semiring::Semiring;
+use gp_semiring::{Answers, Semiring, Valuation};
 use gp_syntax::State;
-use gp_valuation::{Answers, Valuation};
-use gp_values::values_are_sums_over_the_history;
 use gp_versions::VersionTable;
 use std::alloc::Global;
+use std::mem;
 
-/// The values of the versions up to this one.
+/// Values of the versions up to this one or a later one, from those that are kept. It stops as monomials do.
+fn annotate_in_on<K: Semiring, F: Answers<K>>(
+    alloc: Global,
+    log: &Log,
+    versions: &[VersionTable],
+    kept: Option<Kept<K>>,
+    v: u32,
+    valuation: &Valuation<K, F>,
+) -> Result<Kept<K>, HistoryStop>
+    requires sound { IsSound (entries log.now) versions.now }
+    requires within { v ≤ m.versions_in (entries log.now) }
+    requires kept { MayBeKept
+        (values_by K.one_of K.times_of K.number_of K.itself_of valuation.now)
+        (entries log.now) (spans_of versions.now) kept }
+    ensures { Annotates (Reaches
+        (values_by K.one_of K.times_of K.number_of K.itself_of valuation.now)
+        (entries log.now) (spans_of versions.now) v) (tables log.now) result
+        (annotation_stop monomials parameters agree (tables log.now)
+        (m.log_of (entries log.now)) (spans_of versions.now) v) }
+{
+    annotate_on(alloc, valuation, log, versions, kept, v)
+}
+
+/// The values of the versions up to this one, from those that are kept.
 fn annotated_to<K: Semiring, F: Answers<K>>(
     alloc: Global,
     log: &Log,
     versions: &[VersionTable],
+    kept: Option<Kept<K>>,
     v: u32,
     valuation: &Valuation<K, F>,
-) -> Result<Annotated<K>, ReenactStop>
+) -> Result<Kept<K>, ReenactStop>
     requires sound { IsSound (entries log.now) versions.now }
     requires within { v ≤ m.versions_in (entries log.now) }
-    ensures { AnnotatesOr (AreAnnotated
+    requires kept { MayBeKept
         (values_by K.one_of K.times_of K.number_of K.itself_of valuation.now)
-        (m.log_of (entries log.now)) (spans_of versions.now) v) result
+        (entries log.now) (spans_of versions.now) kept }
+    ensures { AnnotatesOr (Reaches
+        (values_by K.one_of K.times_of K.number_of K.itself_of valuation.now)
+        (entries log.now) (spans_of versions.now) v) result
         (annotation_stop monomials parameters agree (tables log.now)
         (m.log_of (entries log.now)) (spans_of versions.now) v) }
 {
-    match annotate_in(alloc, log, versions, v, valuation) {
+    match annotate_in_on(alloc, log, versions, kept, v, valuation) {
         Ok(known) => Ok(known),
         Err(stop) => Err(refused(log, stop)),
     }
@@ -119,17 +149,91 @@ pub fn values<K: Semiring, F: Answers<K>>(
         (tables log.now) (entries log.now)
         (spans_of versions.now) (state_view state) (select_view select.now)) }
 {
+    let mut none = None;
+    values_from(alloc, log, versions, state, select, valuation, &mut none)
+}
+
+/// The same, from the values that earlier questions about this log and these row versions have left under this valuation, if there are
+/// any. It leaves those that it has, unless it stops on the way to them.
+pub fn values_from<K: Semiring, F: Answers<K>>(
+    alloc: Global,
+    log: &Log,
+    versions: &[VersionTable],
+    state: State,
+    select: &Select,
+    valuation: &Valuation<K, F>,
+    kept: &mut Option<Kept<K>>,
+) -> Result<Vec<KRow<K>>, ReenactStop>
+    requires sound { IsSound (entries log.now) versions.now }
+    requires fits { select_fits (tables log.now) (select_view select.now) ≡ true }
+    requires few { HasFewItems (select_view select.now) }
+    requires kept { MayBeKept
+        (values_by K.one_of K.times_of K.number_of K.itself_of valuation.now)
+        (entries log.now) (spans_of versions.now) kept.old }
+    ensures kept { MayBeKept
+        (values_by K.one_of K.times_of K.number_of K.itself_of valuation.now)
+        (entries log.now) (spans_of versions.now) kept.new }
+    ensures answer { Gives (λ rows. map pair_view rows.items) result
+        (value_answer parameters K.plus_of K.zero_of K.one_of K.times_of
+        (token_value K.one_of K.number_of K.itself_of valuation.now) agree
+        (tables log.now) (entries log.now)
+        (spans_of versions.now) (state_view state) (select_view select.now)) }
+{
     if let Some(refusal) = log_refusal(log, state) {
         return Err(ReenactStop::Refused(refusal));
     }
-    known_values(alloc, log, versions, state, select, valuation)
+    kept_values(alloc, log, versions, state, select, valuation, kept)
 }
 
 /// The same of a state that the log has.
+fn kept_values<K: Semiring, F: Answers<K>>(
+    alloc: Global,
+    log: &Log,
+    versions: &[VersionTable],
+    state: State,
+    select: &Select,
+    valuation: &Valuation<K, F>,
+    kept: &mut Option<Kept<K>>,
+) -> Result<Vec<KRow<K>>, ReenactStop>
+    requires sound { IsSound (entries log.now) versions.now }
+    requires fits { select_fits (tables log.now) (select_view select.now) ≡ true }
+    requires few { HasFewItems (select_view select.now) }
+    requires known { q.log_refusal (entries log.now) (state_view state) ≡ None }
+    requires kept { MayBeKept
+        (values_by K.one_of K.times_of K.number_of K.itself_of valuation.now)
+        (entries log.now) (spans_of versions.now) kept.old }
+    ensures kept { MayBeKept
+        (values_by K.one_of K.times_of K.number_of K.itself_of valuation.now)
+        (entries log.now) (spans_of versions.now) kept.new }
+    ensures answer { Gives (λ rows. map pair_view rows.items) result
+        (value_answer parameters K.plus_of K.zero_of K.one_of K.times_of
+        (token_value K.one_of K.number_of K.itself_of valuation.now) agree
+        (tables log.now) (entries log.now)
+        (spans_of versions.now) (state_view state) (select_view select.now)) }
+{
+    let old = mem::replace(kept, None);
+    let known = match annotated_to(
+        alloc,
+        log,
+        versions,
+        old,
+        needed_version(log, state),
+        valuation,
+    ) {
+        Ok(known) => known,
+        Err(stop) => return Err(stop),
+    };
+    let answer = known_values(alloc, log, versions, &known, state, select, valuation);
+    *kept = Some(known);
+    answer
+}
+
+/// The sums over a state that the log has, over versions with values.
 fn known_values<K: Semiring, F: Answers<K>>(
     alloc: Global,
     log: &Log,
     versions: &[VersionTable],
+    known: &Kept<K>,
     state: State,
     select: &Select,
     valuation: &Valuation<K, F>,
@@ -138,6 +242,10 @@ fn known_values<K: Semiring, F: Answers<K>>(
     requires fits { select_fits (tables log.now) (select_view select.now) ≡ true }
     requires few { HasFewItems (select_view select.now) }
     requires known { q.log_refusal (entries log.now) (state_view state) ≡ None }
+    requires reaches { Reaches
+        (values_by K.one_of K.times_of K.number_of K.itself_of valuation.now)
+        (entries log.now) (spans_of versions.now)
+        (q.needed_version (entries log.now) (state_view state)) known.now }
     ensures { Gives (λ rows. map pair_view rows.items) result
         (value_answer parameters K.plus_of K.zero_of K.one_of K.times_of
         (token_value K.one_of K.number_of K.itself_of valuation.now) agree
@@ -147,12 +255,8 @@ fn known_values<K: Semiring, F: Answers<K>>(
     values_are_sums_over_the_history::<K>();
     // The number of commits has 32 bits.
     let _commits = log.commits();
-    let known = match annotated_to(alloc, log, versions, needed_version(log, state), valuation) {
-        Ok(known) => known,
-        Err(stop) => return Err(stop),
-    };
     let program = planned(alloc, log, state, select)?;
-    match sums_over(alloc, versions, &known, &program, valuation) {
+    match sums_over(alloc, versions, &known.annotated, &program, valuation) {
         Ok(rows) => Ok(rows),
         Err(stop) => Err(stopped(transaction_at(log, state), stop)),
     }

@@ -14,8 +14,8 @@ use Rattle.gp_machine.specs.Questions.{annotation_stop}
 use Rattle.gp_reenact.specs.declared.error.ReenactStop.{ReenactStop}
 use Rattle.gp_reenact.specs.Reenacting.{spans_of, stopped, transaction_at}
 use Rattle.gp_syntax.specs.Views.{state_view}
-use Rattle.gp_valuation.specs.Values.{token_value}
-use Rattle.gp_values.specs.ValueAnswers.{value_answer}
+use Rattle.gp_semiring.specs.Values.{token_value}
+use Rattle.gp_history.specs.ValueAnswers.{value_answer}
 use Rattle.gp_history.specs.Agreement.{agree}
 use Rattle.gp_history.specs.Images.{value_in, values_are_images}
 use Rattle.gp_history.specs.Provenance.{AnnotatesOr}
@@ -25,11 +25,6 @@ use Rattle.gp_history.specs.Values.{Gives}
 use Rattle.gp_history.proofs.ProvingLemmas.{needed_within}
 use Rattle.gp_history.proofs.ValuingLemmas.{agree_ignores, found_is, program_is_built, room, stop_is}
 use Rattle.gp_history.proofs.valuing.known_values.Goals as goal
-
-pub annotated_to-requires-clause-within : goal.annotated_to-requires-clause-within
-annotated_to-requires-clause-within g c =
-    let entries = log_view c.args.log.now.entries in
-    subst (λ (v : ℕ). v ≤ versions_in entries) (sym c.needed_version.ensures) (needed_within entries (state_view c.args.state) c.requires.known)
 
 pub planned-requires-clause-query : goal.planned-requires-clause-query
 planned-requires-clause-query g c = record { fits = c.requires.fits; statements = c.requires.sound.statements }
@@ -43,8 +38,8 @@ sums_over-requires g c =
     (program_is_built (values_by k.one_of k.times_of k.number_of k.itself_of rules) (values_are_images met.laws k.number_of k.itself_of met.number_in met.itself_in rules) k.plus_of (log_view c.args.log.now.entries)
     c.args.versions.now c.requires.sound (select_view c.args.select.now) c.requires.fits (state_view c.args.state) c.requires.known)
 
-pub returns-in-Ok-sums_over : goal.returns-in-Ok-sums_over
-returns-in-Ok-sums_over g c =
+pub returns-in-Ok : goal.returns-in-Ok
+returns-in-Ok g c =
     let k = g.K.Semiring in
     let met = g.met.K.Semiring in
     let rules = c.args.valuation.now in
@@ -61,12 +56,10 @@ returns-in-Ok-sums_over g c =
     let same =
     c.values_are_sums_over_the_history.ensures.answers value (value_in met.laws k.number_of k.itself_of met.number_in met.itself_in rules) parameters agree agree agree_ignores (tables_in entries) entries spans point select
     (room entries versions c.requires.sound few select c.requires.few) in
-    let are =
-    subst (λ (v : ℕ). AnnotatesOr (λ (all : List (List g.row.K.Denot)). AreAnnotated domain (log_of entries) spans v all) (Ok c.in-Ok.known) (annotation_stop monomials parameters agree (tables_in entries) (log_of entries) spans v))
-    c.needed_version.ensures c.in-Ok.ensures in
-    let sums = subst (λ (program : Program). SumsOver domain k.plus_of view (Ok c.in-Ok-sums_over.rows) (versions_with spans c.in-Ok.known) program) c.in_ok-program.ensures c.in-Ok-sums_over.ensures in
-    subst (Gives view (Ok c.in-Ok-sums_over.rows)) same
-    (found_is domain image k.plus_of entries versions c.requires.sound select c.requires.fits point c.requires.known view c.in-Ok.known are c.in-Ok-sums_over.rows sums)
+    let kept = c.args.known.now in
+    let sums = subst (λ (program : Program). SumsOver domain k.plus_of view (Ok c.in-Ok.rows) (versions_with spans kept.annotated) program) c.in_ok-program.ensures c.in-Ok.ensures in
+    subst (Gives view (Ok c.in-Ok.rows)) same
+    (found_is domain image k.plus_of entries versions c.requires.sound select c.requires.fits point c.requires.known view kept c.requires.reaches c.in-Ok.rows sums)
 
 pub returns : goal.returns
 returns g c =
@@ -86,11 +79,9 @@ returns g c =
     let same =
     c.values_are_sums_over_the_history.ensures.answers value (value_in met.laws k.number_of k.itself_of met.number_in met.itself_in rules) parameters agree agree agree_ignores (tables_in entries) entries spans point select
     (room entries versions c.requires.sound few select c.requires.few) in
-    let are =
-    subst (λ (v : ℕ). AnnotatesOr (λ (all : List (List g.row.K.Denot)). AreAnnotated domain (log_of entries) spans v all) (Ok c.in-Ok.known) (annotation_stop monomials parameters agree (tables_in entries) (log_of entries) spans v))
-    c.needed_version.ensures c.in-Ok.ensures in
-    let sums = subst (λ (program : Program). SumsOver domain k.plus_of view (Err c.in-Err-sums_over.stop) (versions_with spans c.in-Ok.known) program) c.in_ok-program.ensures c.in-Err-sums_over.ensures in
+    let kept = c.args.known.now in
+    let sums = subst (λ (program : Program). SumsOver domain k.plus_of view (Err c.in-Err.stop) (versions_with spans kept.annotated) program) c.in_ok-program.ensures c.in-Err.ensures in
     subst (λ (stop : ReenactStop). Gives view (Err stop) (value_answer parameters k.plus_of k.zero_of k.one_of k.times_of value agree (tables_in entries) entries spans point select))
-    (sym (c.stopped.ensures ∙ ap (λ (t : ℕ). stopped t c.in-Err-sums_over.stop) c.transaction_at.ensures))
-    (subst (Gives view (Err (stopped (transaction_at point) c.in-Err-sums_over.stop))) same
-    (stop_is domain image k.plus_of entries versions c.requires.sound select c.requires.fits point c.requires.known view c.in-Ok.known are c.in-Err-sums_over.stop sums))
+    (sym (c.stopped.ensures ∙ ap (λ (t : ℕ). stopped t c.in-Err.stop) c.transaction_at.ensures))
+    (subst (Gives view (Err (stopped (transaction_at point) c.in-Err.stop))) same
+    (stop_is domain image k.plus_of entries versions c.requires.sound select c.requires.fits point c.requires.known view kept c.requires.reaches c.in-Err.stop sums))

@@ -1,0 +1,109 @@
+//! Annotations that are kept from one question to the next.
+
+ghost use Rattle.std.specs.Prelude.{◌≡◌, ◌<◌, ◌≤◌, suc, IfOk};
+ghost use Rattle.gp_log.specs.Contents.{entries, tables};
+ghost use Rattle.gp_log.specs.Parameters.{parameters};
+ghost use Rattle.gp_machine.specs.Entries as m;
+ghost use Rattle.gp_machine.specs.Questions.{annotation_stop};
+ghost use Rattle.gp_reenact.specs.Reenacting.{spans_of};
+ghost use Rattle.gp_history.specs.Agreement.{agree};
+ghost use Rattle.gp_history.specs.Annotating.{Annotates};
+ghost use Rattle.gp_history.specs.Keeping.{GoesOn, IsKept, MayBeKept, Reaches};
+ghost use Rattle.gp_history.specs.Sound.{IsSound};
+
+use crate::annotated::Annotated;
+use crate::annotating::next_annotated;
+use crate::annotator::Annotator;
+use crate::error::HistoryStop;
+use gp_base::NoMemory;
+use gp_log::Log;
+use gp_versions::VersionTable;
+use std::alloc::Global;
+
+/// The annotations of the row versions that begin with the versions up to one of them.
+#[derive(Drop)]
+pub struct Kept<A> {
+    /// The version.
+    pub version: u32,
+    /// The annotations. Those of later row versions are one.
+    pub annotated: Annotated<A>,
+}
+
+/// One more version.
+fn next_kept<A: Drop, N: Annotator<A>>(
+    alloc: Global,
+    annotator: &N,
+    log: &Log,
+    versions: &[VersionTable],
+    kept: Kept<A>,
+) -> Result<Kept<A>, HistoryStop>
+    requires sound { IsSound (entries log.now) versions.now }
+    requires kept { IsKept (N.domain annotator.now) (entries log.now) (spans_of versions.now) kept }
+    requires more { kept.version < m.versions_in (entries log.now) }
+    ensures { Annotates (GoesOn (N.domain annotator.now) (entries log.now)
+        (spans_of versions.now) kept.version) (tables log.now) result
+        (annotation_stop (N.domain annotator.now) parameters agree (tables log.now)
+        (m.log_of (entries log.now)) (spans_of versions.now) (suc kept.version)) }
+{
+    // The number of commits has 32 bits.
+    let _commits = log.commits();
+    let version = kept.version;
+    match next_annotated(alloc, annotator, log, versions, kept.annotated, version) {
+        Ok(annotated) => Ok(Kept {
+            version: version + 1,
+            annotated,
+        }),
+        Err(stop) => Err(stop),
+    }
+}
+
+/// The annotations that are kept, or those of no version.
+fn begun<A: Drop, N: Annotator<A>>(
+    alloc: Global,
+    annotator: &N,
+    log: &Log,
+    versions: &[VersionTable],
+    kept: Option<Kept<A>>,
+) -> Result<Kept<A>, NoMemory>
+    requires kept { MayBeKept (N.domain annotator.now) (entries log.now)
+        (spans_of versions.now) kept }
+    ensures { IfOk result
+        (IsKept (N.domain annotator.now) (entries log.now) (spans_of versions.now)) }
+{
+    match kept {
+        Some(kept) => Ok(kept),
+        None => Ok(Kept {
+            version: 0,
+            annotated: Annotated::new(alloc, annotator, versions)?,
+        }),
+    }
+}
+
+/// The annotations of the row versions that begin with the versions up to v, or up to a later version, from those that are kept. It stops
+/// as [`annotate`](crate::annotate) does.
+pub fn annotate_on<A: Drop, N: Annotator<A>>(
+    alloc: Global,
+    annotator: &N,
+    log: &Log,
+    versions: &[VersionTable],
+    kept: Option<Kept<A>>,
+    v: u32,
+) -> Result<Kept<A>, HistoryStop>
+    requires sound { IsSound (entries log.now) versions.now }
+    requires within { v ≤ m.versions_in (entries log.now) }
+    requires kept { MayBeKept (N.domain annotator.now) (entries log.now)
+        (spans_of versions.now) kept }
+    ensures { Annotates (Reaches (N.domain annotator.now) (entries log.now)
+        (spans_of versions.now) v) (tables log.now) result
+        (annotation_stop (N.domain annotator.now) parameters agree (tables log.now)
+        (m.log_of (entries log.now)) (spans_of versions.now) v) }
+{
+    let mut known = begun(alloc, annotator, log, versions, kept)?;
+    while known.version < v {
+        known = match next_kept(alloc, annotator, log, versions, known) {
+            Ok(next) => next,
+            Err(stop) => return Err(stop),
+        };
+    }
+    Ok(known)
+}

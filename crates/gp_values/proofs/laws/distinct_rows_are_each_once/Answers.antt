@@ -1,5 +1,0 @@
-use Rattle.gp_values.proofs.OrderLemmas.{distinct_ascending, distinct_members}
-use Rattle.gp_values.proofs.laws.distinct_rows_are_each_once.Goals as goal
-
-pub returns : goal.returns
-returns c = record { ascending = λ rows. distinct_ascending rows; members = λ row rows. distinct_members row rows }

@@ -1,4 +1,0 @@
-pub mod DistinctRows
-pub mod Room
-pub mod ValueAnswers
-pub mod AnswerForms
