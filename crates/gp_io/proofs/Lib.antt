@@ -1,3 +1,3 @@
 pub mod FileListLemmas
-pub mod ShelfLemmas
-pub mod SinkLemmas
+pub mod ContentsLemmas
+pub mod TraceWalks

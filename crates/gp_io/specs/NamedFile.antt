@@ -1,7 +1,7 @@
 -- Part of the statement: the files that a list of named files is.
 use Rattle.std.specs.Prelude.{List, map, string_bytes}
 use Rattle.gp_io.specs.declared.named_file.NamedFile.{NamedFile}
-use Rattle.gp_io.specs.Shelf.{Files}
+use Rattle.gp_io.specs.Files.{Files}
 
 -- the names with the bytes of their files
 abbrev pub files_of : List NamedFile → Files

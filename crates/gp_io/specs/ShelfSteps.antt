@@ -1,26 +1,18 @@
--- Part of the statement: how a call to a shelf stops.
-use Rattle.std.specs.Prelude.{◌≡◌, ℕ, List, [], take, Option}
-use Rattle.std.specs.Option.{option_map}
+-- Part of the statement: how a call to a shelf stops, by the events before it and after it. Where a replacement fails, nothing is known of that
+-- one file, as after an open that truncates and a write that fails (IEEE Std 1003.1, open and write).
+use Rattle.std.specs.Prelude.{◌≡◌, ℕ, List, [], ◌∷◌, ◌++◌}
 use Rattle.gp_io.specs.declared.error.ShelfStop.{ShelfStop}
 use Rattle.gp_io.specs.declared.error.ShelfStop.TheVariants.{Absent, Failed, NoMemory}
-use Rattle.gp_io.specs.Shelf.{Files, ReportsMiss, ReportsReadFault, ReportsReplaceFault, ShelfState, content}
+use Rattle.gp_io.specs.Events.{Event, Missing, Unreadable, NotReplaced}
 
--- the first `most` of these bytes
-abbrev pub prefix_of : List ℕ → ℕ → Files → Option (List ℕ)
-prefix_of name most files = option_map (take most) (content name files)
-
--- the state with these files in which nothing has been reported
-abbrev pub unreported : Option Files → ShelfState
-unreported files = record { holds = files; misses = []; read_faults = []; replace_faults = [] }
-
--- what a read that stopped leaves
-abbrev pub ReadStops : List ℕ → ShelfState → ShelfState → ShelfStop → Type 0
-ReadStops name old new Absent = ReportsMiss name old new
-ReadStops name old new Failed = ReportsReadFault name old new
+-- the event of a read that stopped
+abbrev pub ReadStops : List ℕ → List Event → List Event → ShelfStop → Type 0
+ReadStops name old new Absent = new ≡ old ++ Missing name ∷ []
+ReadStops name old new Failed = new ≡ old ++ Unreadable name ∷ []
 ReadStops name old new NoMemory = new ≡ old
 
--- what a replacement that stopped leaves; it never stops at a file that does not exist
-abbrev pub ReplaceStops : List ℕ → ShelfState → ShelfState → ShelfStop → Type 0
-ReplaceStops name old new Absent = ⊥
-ReplaceStops name old new Failed = ReportsReplaceFault name old new
-ReplaceStops name old new NoMemory = new ≡ old
+-- the event of a replacement that stopped; it never stops at a file that does not exist
+abbrev pub ReplaceStops : List ℕ → List ℕ → List Event → List Event → ShelfStop → Type 0
+ReplaceStops name bytes old new Absent = ⊥
+ReplaceStops name bytes old new Failed = new ≡ old ++ NotReplaced name bytes ∷ []
+ReplaceStops name bytes old new NoMemory = new ≡ old

@@ -1,11 +1,10 @@
 -- Part of the statement: how a call to a sink stops.
-use Rattle.std.specs.Prelude.{◌≡◌, ℕ, Result, Ok, Err}
+use Rattle.std.specs.Prelude.{◌≡◌, ℕ, List}
 use Rattle.gp_io.specs.declared.error.SinkStop.{SinkStop}
 use Rattle.gp_io.specs.declared.error.SinkStop.TheVariants.{Failed, NoMemory}
-use Rattle.gp_io.specs.Sink.{Increased}
+use Rattle.gp_io.specs.Sink.{SinkState, after_failure}
 
--- the number of write errors increases with the answer Failed and with no other
-abbrev pub CountsFault : {T : Type 0} → Result T SinkStop → ℕ → ℕ → Type 0
-CountsFault (Ok value) old new = new ≡ old
-CountsFault (Err Failed) old new = Increased old new
-CountsFault (Err NoMemory) old new = new ≡ old
+-- a write that failed is noted, and one for which memory ran out is not: nothing of it was written
+abbrev pub WriteStops : List ℕ → SinkState → SinkState → SinkStop → Type 0
+WriteStops bytes old new Failed = new ≡ after_failure bytes old
+WriteStops bytes old new NoMemory = new ≡ old

@@ -7,13 +7,13 @@ use thiserror::Error;
 /// Why a file was not read or not replaced.
 #[derive(Clone, Copy, Debug, PartialEq, Eq, Error)]
 pub enum ShelfStop {
-    /// There is no such file. Only a read gives this answer, and reports the name as missing.
+    /// There is no such file. Only a read gives this answer.
     #[error("no such file")]
     Absent,
-    /// The file could not be read or replaced, and its name was reported as such.
+    /// The file could not be read or replaced.
     #[error("the file cannot be read or replaced")]
     Failed,
-    /// Out of memory: nothing was reported, and no file changed.
+    /// Out of memory: there is no event, and no file changed.
     #[error("out of memory")]
     NoMemory,
 }
@@ -21,10 +21,10 @@ pub enum ShelfStop {
 /// Why bytes were not written, or not all of them.
 #[derive(Clone, Copy, Debug, PartialEq, Eq, Error)]
 pub enum SinkStop {
-    /// A write error, which was counted.
+    /// A write error. A prefix of the bytes may have been written.
     #[error("the output cannot be written")]
     Failed,
-    /// Out of memory: no write error was counted.
+    /// Out of memory: nothing was written.
     #[error("out of memory")]
     NoMemory,
 }

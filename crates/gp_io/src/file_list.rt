@@ -2,8 +2,7 @@
 ghost use Rattle.std.specs.Prelude.{◌≡◌, ◌≤◌, OnOk, OnErr, IfSome, length, take};
 ghost use Rattle.std.specs.Option.{option_copied};
 ghost use Rattle.std.specs.List.{position};
-ghost use Rattle.gp_io.specs.Shelf.{content, Replaced};
-ghost use Rattle.gp_io.specs.ShelfSteps.{prefix_of};
+ghost use Rattle.gp_io.specs.Files.{content, prefix_of, Replaces};
 ghost use Rattle.gp_io.specs.NamedFile.{files_of};
 ghost use Rattle.gp_io.specs.Stored.{has_name};
 
@@ -54,7 +53,7 @@ pub(crate) fn put(
     bytes: &[u8],
 ) -> Result<(), AllocError>
     ensures ok { OnOk result
-        (Replaced name.now bytes.now (files_of files.old.items) (files_of files.new.items)) }
+        (Replaces name.now bytes.now (files_of files.old.items) (files_of files.new.items)) }
     ensures err { OnErr result (files.new.items ≡ files.old.items) }
 {
     let bytes = Vec::from_slice(alloc, bytes)?;

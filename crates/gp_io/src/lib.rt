@@ -4,7 +4,7 @@
 //! - [`Shelf`] and [`Sink`] are the traits. Their contracts say what each answer means.
 //! - [`ShelfStop`] and [`SinkStop`] are the reasons why a call stopped.
 //! - [`CalmShelf`] and [`CalmSink`] keep everything in memory and never fail but for memory.
-//! - [`MemShelf`] and [`MemSink`] add injected failures, for tests.
+//! - [`MemShelf`] and [`MemSink`] add injected failures, for tests. [`events_lead_to_files`] is the law of both shelves.
 //! - [`DiskShelf`] and [`OutSink`] are the operating system's files and its standard output.
 //!
 //! A caller is generic over both, and so runs on a disk, in memory and under injected failures:
@@ -24,17 +24,19 @@ mod disk;
 mod error;
 mod fault_plan;
 mod file_list;
+mod laws;
 mod mem;
 mod named_file;
-mod reports;
 mod shelf;
 mod sink;
 mod stdout;
 mod stream;
+mod trace;
 
 pub use calm::{CalmShelf, CalmSink};
 pub use disk::DiskShelf;
 pub use error::{ShelfStop, SinkStop};
+pub use laws::events_lead_to_files;
 pub use mem::{MemShelf, MemSink};
 pub use named_file::NamedFile;
 pub use shelf::Shelf;

@@ -1,36 +1,45 @@
 //! The standard output as a sink.
-ghost use Rattle.std.specs.Prelude.{◌≡◌, None};
+ghost use Rattle.std.specs.Prelude.{◌≡◌, []};
 
 use crate::error::SinkStop;
 use crate::sink::Sink;
 use crate::stream::write_and_flush;
+use crate::trace::{Note, Trace};
 use std::io;
 
-/// The standard output. It does not know the bytes written before.
+/// The standard output.
+///
+/// How many bytes the system took of a write that failed is not known. No proof shows that the notes below are true. They are read by eye:
+/// two lines `self.trace = ..`, each behind what the system answered.
 #[derive(Drop)]
 pub struct OutSink<R: Print + Drop> {
     rt: R,
-    faults: u64,
+    trace: Trace,
 }
 
 impl<R: Print + Drop> OutSink<R> {
-    /// The standard output of `rt`, with no write error counted.
+    /// The standard output of `rt`, to which nothing has been written.
     pub fn new(rt: R) -> OutSink<R>
-        ensures { ⟦<OutSink<R> as Sink>⟧.state result ≡ record { taken = None; faults = 0 } }
+        ensures { ⟦<OutSink<R> as Sink>⟧.state result ≡ record { taken = []; failed = [] } }
     {
-        OutSink { rt, faults: 0 }
+        OutSink {
+            rt,
+            trace: Trace::new(),
+        }
     }
 }
 
 impl<R: Print + Drop> Sink for OutSink<R> {
-    ghost state = { λ sink. record { taken = None; faults = sink.faults } };
+    ghost state = { λ sink. record { taken = sink.trace.taken; failed = sink.trace.failed } };
 
-    #[tactic(auto, using(crate::proofs::SinkLemmas::one_call))]
     fn write_all(&mut self, bytes: &[u8]) -> Result<(), SinkStop> {
         match write_and_flush(&mut io::writer(&self.rt), bytes) {
-            Ok(()) => Ok(()),
+            Ok(()) => {
+                self.trace = self.trace.and(&Note::Written(bytes));
+                Ok(())
+            }
             Err(_) => {
-                self.faults = self.faults.saturating_add(1);
+                self.trace = self.trace.and(&Note::NotWritten(bytes));
                 Err(SinkStop::Failed)
             }
         }

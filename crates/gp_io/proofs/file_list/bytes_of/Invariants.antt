@@ -1,5 +1,5 @@
 use Rattle.std.proofs.Common.{◌≡◌, drop}
-use Rattle.gp_io.specs.Shelf.{content}
+use Rattle.gp_io.specs.Files.{content}
 use Rattle.gp_io.specs.NamedFile.{files_of}
 use Rattle.gp_io.proofs.file_list.bytes_of.Given as goal
 
