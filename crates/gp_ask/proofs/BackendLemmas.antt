@@ -19,8 +19,8 @@ use Rattle.gp_log.specs.LogFitting.{SpansFit, statements_fit}
 use Rattle.gp_machine.specs.Entries.{Entry}
 use Rattle.gp_machine.specs.HistorySpans as machine
 use Rattle.gp_machine.specs.Questions.{log_refusal, rows_answer}
-use Rattle.gp_travel.specs.Encoding.{encoded}
-use Rattle.gp_travel.specs.Travel as travels
+use Rattle.gp_reenact.specs.Encoding.{encoded}
+use Rattle.gp_reenact.specs.Travel as travels
 use Rattle.gp_versions.specs.declared.span.Span.{Span}
 use Rattle.gp_versions.specs.Spans.{Versions}
 use Rattle.gp_reenact.specs.Backends.{IsGivenOver, RefusedBy}

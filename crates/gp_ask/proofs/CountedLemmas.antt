@@ -17,8 +17,8 @@ use Rattle.gp_machine.specs.Annotating.{annotated_versions}
 use Rattle.gp_machine.specs.Entries.{Entry}
 use Rattle.gp_machine.specs.Points.{at_point}
 use Rattle.gp_semiring.specs.SumForms.{Each}
-use Rattle.gp_values.proofs.VersionReannotation.{answer_reannotated_at}
-use Rattle.gp_witness.specs.CountForms.{HasCounts}
+use Rattle.gp_history.proofs.VersionReannotation.{answer_reannotated_at}
+use Rattle.gp_kexec.specs.CountForms.{HasCounts}
 
 -- ---- products
 

@@ -12,21 +12,17 @@ use Rattle.gp_history.specs.Agreement.{agree}
 use Rattle.gp_history.specs.Values.{Gives}
 use Rattle.gp_log.specs.Parameters.{parameters}
 use Rattle.gp_log.specs.LogFacts.{tables_in}
-use Rattle.gp_log.specs.Logs.{log_view}
 use Rattle.gp_machine.specs.Annotating.{annotated_versions}
 use Rattle.gp_machine.specs.Entries.{Entry}
 use Rattle.gp_machine.specs.Points.{at_point}
 use Rattle.gp_reenact.specs.declared.error.ReenactStop.{ReenactStop}
 use Rattle.gp_reenact.specs.declared.error.ReenactStop.TheVariants as stop
-use Rattle.gp_reenact.specs.Reenacting.{spans_of}
 use Rattle.gp_semiring.specs.Elements.{greatest}
 use Rattle.gp_semiring.specs.Sums.{plus_up_to, times_up_to}
-use Rattle.gp_valuation.specs.declared.rules.Rule.{Rule}
-use Rattle.gp_values.specs.ValueAnswers.{history_refusal, value_answer}
+use Rattle.gp_semiring.specs.declared.rules.Rule.{Rule}
+use Rattle.gp_history.specs.ValueAnswers.{history_refusal, value_answer}
 use Rattle.gp_versions.specs.declared.span.Span.{Span}
-use Rattle.gp_versions.specs.Spans.{Versions}
-use Rattle.gp_dump.specs.declared.dump.Dump as code
-use Rattle.gp_dump.specs.Views.{dump_view, tables_view}
+use Rattle.gp_dump.specs.Dumps.{Dump}
 use Rattle.gp_ask.specs.declared.answered.Answered.TheVariants.{Refused}
 use Rattle.gp_ask.specs.Asking.{dump_remaining, spans_at}
 use Rattle.gp_ask.specs.Counted.{counted_answer}
@@ -34,14 +30,14 @@ use Rattle.gp_ask.specs.Remaining.{is_left_out, pattern_of}
 use Rattle.gp_ask.specs.Values.{count}
 use Rattle.gp_ask.proofs.CountedLemmas.{EachCounts, answers_count}
 use Rattle.gp_ask.proofs.RemainingLemmas.{by_patterns, expected, found_is, refused_is}
-use Rattle.gp_ask.proofs.ValueLemmas.{found_in, moved}
+use Rattle.gp_ask.proofs.ValueLemmas.{found_in}
 
-module _ (dump : code.Dump) (versions : List Versions) (same : versions ≡ dump.versions) (patterns : List y.Rule) (kept : List Rule × Option ℕ) (by : kept ≡ (map pattern_of patterns, Some 1)) (point : y.State) (select : Select) where
+module _ (dump : Dump) (patterns : List y.Rule) (own : List Rule × Option ℕ) (by : own ≡ (map pattern_of patterns, Some 1)) (point : y.State) (select : Select) where
   abbrev entries : List Entry
-  entries = log_view dump.log.entries
+  entries = dump.entries
 
   abbrev spans : ℕ → List Span
-  spans = spans_at (tables_view dump.versions)
+  spans = spans_at dump.tables
 
   abbrev matches : Token → Bool
   matches = is_left_out (map pattern_of patterns)
@@ -56,15 +52,15 @@ module _ (dump : code.Dump) (versions : List Versions) (same : versions ≡ dump
   refusal = history_refusal monomials parameters agree (tables_in entries) entries spans point
 
   abbrev found : Result (List (List Cell × ℕ)) Refusal
-  found = found_in count kept entries (tables_in entries) (spans_of versions) point select
+  found = found_in count own entries (tables_in entries) spans point select
 
   over_counts : {X : Type 0} (view : X → List (List Cell × ℕ)) (result : Result X ReenactStop) → Gives view result found → Gives view result (expected matches select db counts refusal)
   over_counts view result gives =
       subst (λ (value : Token → ℕ). Gives view result (value_answer parameters (plus_up_to greatest) 0 1 (times_up_to greatest) value agree (tables_in entries) entries spans point select)) (by_patterns patterns)
-      (moved dump versions same count kept (map pattern_of patterns, Some 1) by point select view result gives)
+      (subst (λ (rules : List Rule × Option ℕ). Gives view result (found_in count rules entries (tables_in entries) spans point select)) by gives)
 
-  pub rows_remain : {X : Type 0} (view : X → List (List Cell × ℕ)) (rows : X) → Gives view (Ok rows) found → counted_answer (view rows) ≡ dump_remaining (map pattern_of patterns) (dump_view dump) point select
+  pub rows_remain : {X : Type 0} (view : X → List (List Cell × ℕ)) (rows : X) → Gives view (Ok rows) found → counted_answer (view rows) ≡ dump_remaining (map pattern_of patterns) dump point select
   rows_remain view rows gives = found_is matches select db counts view rows refusal (over_counts view (Ok rows) gives)
 
-  pub none_remain : {X : Type 0} (view : X → List (List Cell × ℕ)) (own : Refusal) → Gives view (Err (stop.Refused own)) found → Refused own ≡ dump_remaining (map pattern_of patterns) (dump_view dump) point select
-  none_remain view own gives = refused_is matches select db counts view own refusal (over_counts view (Err (stop.Refused own)) gives)
+  pub none_remain : {X : Type 0} (view : X → List (List Cell × ℕ)) (refused : Refusal) → Gives view (Err (stop.Refused refused)) found → Refused refused ≡ dump_remaining (map pattern_of patterns) dump point select
+  none_remain view refused gives = refused_is matches select db counts view refused refusal (over_counts view (Err (stop.Refused refused)) gives)

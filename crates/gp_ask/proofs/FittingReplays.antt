@@ -33,7 +33,7 @@ use Rattle.gp_log.specs.LogFitting.{SpanFits, SpansFit, statements_fit}
 use Rattle.gp_rewrite.specs.Meaning.{AreAsWide}
 use Rattle.gp_rewrite.proofs.WidthLemmas.{step_wide}
 use Rattle.gp_reenact.proofs.HeldLemmas.{AreHeld, FitsIfSome, IsHeld, held_step, logged_fits}
-use Rattle.gp_travel.specs.Travel.{no_table}
+use Rattle.gp_reenact.specs.Travel.{no_table}
 use Rattle.gp_whatif.specs.Replays.{IsMade, IsReplayable}
 use Rattle.gp_dump.specs.Views.{tables_view}
 use Rattle.gp_ask.specs.Answerable.{IsAnswerable}

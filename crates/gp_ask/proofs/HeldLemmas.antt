@@ -28,8 +28,8 @@ use Rattle.gp_machine.specs.Questions.{AreAlike, annotated_answer, given, held_a
 use Rattle.gp_machine.specs.State.{State}
 use Rattle.gp_machine.specs.StateReannotation.{state_reannotated}
 use Rattle.gp_semiring.specs.Witnesses.{sets_text}
-use Rattle.gp_valuation.specs.declared.rules.Rule.{Rule}
-use Rattle.gp_values.specs.ValueAnswers.{history_refusal, limited}
+use Rattle.gp_semiring.specs.declared.rules.Rule.{Rule}
+use Rattle.gp_history.specs.ValueAnswers.{history_refusal, limited}
 use Rattle.gp_versions.specs.declared.span.Span.{Span}
 use Rattle.gp_dump.specs.Dumps.{Dump, dump_of, dump_with, spans_in_order}
 use Rattle.gp_history.specs.Agreement.{agree}

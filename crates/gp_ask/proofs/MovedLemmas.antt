@@ -25,10 +25,10 @@ use Rattle.gp_base.proofs.Bags.SameBag.{none, swapped, through}
 use Rattle.gp_semiring.specs.SumForms.{Each}
 use Rattle.gp_semiring.proofs.GroupLemmas.{summed_bag}
 use Rattle.gp_base.proofs.Permutations.{unpermuted}
-use Rattle.gp_values.specs.DistinctRows.{distinct_rows}
-use Rattle.gp_values.proofs.DistinctLemmas.{rows_of, rows_summed}
-use Rattle.gp_witness.specs.Deletion.{has_token}
-use Rattle.gp_witness.proofs.DeletionLemmas.{answer_reduced, monomials_find}
+use Rattle.gp_history.specs.DistinctRows.{distinct_rows}
+use Rattle.gp_history.proofs.DistinctLemmas.{rows_of, rows_summed}
+use Rattle.gp_kexec.specs.Deletion.{has_token}
+use Rattle.gp_kexec.proofs.DeletionLemmas.{answer_reduced, monomials_find}
 use Rattle.gp_ask.specs.declared.answered.Answered.TheVariants.{Rows}
 use Rattle.gp_ask.specs.Asking.{of_elements}
 use Rattle.gp_ask.specs.Remaining.{are_too_many, remaining, remaining_answer}

@@ -1,11 +1,11 @@
 -- The rows that provenance finds, listed, are the answer; and a well-formed dump can be asked: it has a log and row versions that go together.
-use Rattle.std.proofs.Common.{◌≡◌, ℕ, suc, List, [], ◌∷◌, length, map, Result, Ok, Err, sym, refl, ap, ◌∙◌, subst}
+use Rattle.std.proofs.Common.{◌≡◌, ℕ, suc, List, [], ◌∷◌, length, map, Option, Result, Ok, Err, sym, refl, ap, ◌∙◌, subst}
 use Rattle.std.specs.List.Sorted.{IsPermutation}
 use Rattle.std.proofs.lemmas.List.{length-map}
 use Rattle.gp_base.specs.declared.cell.Cell.{Cell}
 use Rattle.gp_base.specs.declared.refusal.Refusal.{Refusal}
 use Rattle.gp_base.specs.declared.table.Table.{Table}
-use Rattle.gp_base.specs.Annotated.{monomials}
+use Rattle.gp_base.specs.Annotated.{Annotations, monomials}
 use Rattle.gp_base.specs.Tokens.{Monomial}
 use Rattle.gp_grammar.specs.Syntax as y
 use Rattle.gp_algebra.specs.Answers.{Element}
@@ -19,6 +19,7 @@ use Rattle.gp_machine.specs.Entries.{Entry, versions_in}
 use Rattle.gp_machine.specs.Questions.{annotated_answer}
 use Rattle.gp_versions.specs.declared.span.Span.{Span}
 use Rattle.gp_versions.specs.Spans.{Versions}
+use Rattle.gp_reenact.specs.declared.error.ReenactStop.{ReenactStop}
 use Rattle.gp_reenact.specs.declared.error.ReenactStop.TheVariants as stop
 use Rattle.gp_reenact.specs.Reenacting.{spans_of}
 use Rattle.gp_whatif.specs.Replays.{IsReplayable}
@@ -27,13 +28,16 @@ use Rattle.gp_dump.specs.Dumps.{AreOfTables, Dump, IsDump}
 use Rattle.gp_dump.specs.Views.{dump_view, tables_view}
 use Rattle.gp_dump.proofs.FittingTables.{spans_of_dumps, statements_of_dumps}
 use Rattle.gp_history.specs.Agreement.{agree}
+use Rattle.gp_history.specs.declared.kept.Kept.{Kept}
+use Rattle.gp_history.specs.Keeping.{MayBeKept}
 use Rattle.gp_history.specs.Provenance.{Proves}
 use Rattle.gp_history.specs.Agreement.{occurrence}
 use Rattle.gp_history.specs.Sound.{IsSound}
-use Rattle.gp_monomials.specs.Listing.{grouped, listed}
+use Rattle.gp_semiring.specs.Listing.{grouped, listed}
 use Rattle.gp_ask.specs.declared.answered.Answered.TheVariants.{Listed, Refused}
 use Rattle.gp_ask.specs.Answerable.{IsAnswerable}
 use Rattle.gp_ask.specs.Asking.{dump_provenance, spans_at, with_monomials}
+use Rattle.gp_ask.specs.Keeping.{MayBeKeptOf}
 use Rattle.gp_ask.proofs.ReenactedLemmas.{dump-spans, same-order}
 
 -- occurrences in any order are listed alike
@@ -77,14 +81,11 @@ sound dump rules = record {
   spans = subst (λ (spans : ℕ → List Span). SpansFit (tables_in (log_view dump.log.entries)) spans) (sym (dump-spans dump.versions)) rules.spans;
 }
 
--- ---- what provenance answers, over the row versions of a dump
+-- ---- the row versions of a dump
 
-module _ (dump : code.Dump) (versions : List Versions) (same : versions ≡ dump.versions) (point : y.State) (select : Select) where
+module _ (dump : code.Dump) (versions : List Versions) (same : versions ≡ dump.versions) where
   abbrev entries : List Entry
   entries = log_view dump.log.entries
-
-  abbrev expected : (ℕ → List Span) → Result (List (Element Monomial)) Refusal
-  expected spans = annotated_answer monomials parameters agree (tables_in entries) entries spans point select
 
   pub spans-are : spans_of versions ≡ spans_at (tables_view dump.versions)
   spans-are = ap spans_of same ∙ dump-spans dump.versions
@@ -92,11 +93,24 @@ module _ (dump : code.Dump) (versions : List Versions) (same : versions ≡ dump
   pub sound-versions : IsAnswerable (dump_view dump) → IsSound entries versions
   sound-versions rules = subst (λ (own : List Versions). IsSound entries own) (sym same) (sound dump rules)
 
-  pub is-listed : {X : Type 0} (view : X → List (List Cell)) (found : X) → Proves view (Ok found) (expected (spans_of versions)) → Listed (listed (view found)) ≡ dump_provenance (dump_view dump) point select
-  is-listed view found proves =
-      in-list view found (expected (spans_at (tables_view dump.versions))) (subst (λ (spans : ℕ → List Span). Proves view (Ok found) (expected spans)) spans-are proves)
+  -- what is kept of the dump is kept of them, and the other way round
+  pub kept-of : {M : Type 0} (domain : Annotations M) (kept : Option (Kept M)) → MayBeKeptOf domain dump kept → MayBeKept domain entries (spans_of versions) kept
+  kept-of domain kept are = subst (λ (own : List Versions). MayBeKept domain entries (spans_of own) kept) (sym same) are
 
-  pub is-refused : {X : Type 0} (view : X → List (List Cell)) (refusal : Refusal) → Proves view (Err (stop.Refused refusal)) (expected (spans_of versions))
-      → Refused refusal ≡ dump_provenance (dump_view dump) point select
-  is-refused view refusal proves =
-      unproven view refusal (expected (spans_at (tables_view dump.versions))) (subst (λ (spans : ℕ → List Span). Proves view (Err (stop.Refused refusal)) (expected spans)) spans-are proves)
+  pub of-kept : {M : Type 0} (domain : Annotations M) (kept : Option (Kept M)) → MayBeKept domain entries (spans_of versions) kept → MayBeKeptOf domain dump kept
+  of-kept domain kept are = subst (λ (own : List Versions). MayBeKept domain entries (spans_of own) kept) same are
+
+-- ---- what provenance answers
+
+module _ (dump : Dump) (point : y.State) (select : Select) where
+  abbrev expected : (ℕ → List Span) → Result (List (Element Monomial)) Refusal
+  expected spans = annotated_answer monomials parameters agree (tables_in dump.entries) dump.entries spans point select
+
+  pub proves-moved : {X : Type 0} (view : X → List (List Cell)) (found : Result X ReenactStop) (own : ℕ → List Span) → own ≡ spans_at dump.tables → Proves view found (expected own) → Proves view found (expected (spans_at dump.tables))
+  proves-moved view found own same proves = subst (λ (spans : ℕ → List Span). Proves view found (expected spans)) same proves
+
+  pub is-listed : {X : Type 0} (view : X → List (List Cell)) (found : X) → Proves view (Ok found) (expected (spans_at dump.tables)) → Listed (listed (view found)) ≡ dump_provenance dump point select
+  is-listed view found proves = in-list view found (expected (spans_at dump.tables)) proves
+
+  pub is-refused : {X : Type 0} (view : X → List (List Cell)) (refusal : Refusal) → Proves view (Err (stop.Refused refusal)) (expected (spans_at dump.tables)) → Refused refusal ≡ dump_provenance dump point select
+  is-refused view refusal proves = unproven view refusal (expected (spans_at dump.tables)) proves

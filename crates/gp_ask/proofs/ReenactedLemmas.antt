@@ -8,7 +8,7 @@ use Rattle.gp_base.specs.declared.refusal.Refusal.{Refusal}
 use Rattle.gp_base.specs.Order.{row_cmp, sorted_by}
 use Rattle.gp_base.proofs.OrderLemmas.{rows_permuted, rows_sorted, sorted_rows_unique}
 use Rattle.gp_algebra.specs.Answers.{Element, cells_of}
-use Rattle.gp_travel.specs.Travel.{no_table}
+use Rattle.gp_reenact.specs.Travel.{no_table}
 use Rattle.gp_versions.specs.Spans.{Versions}
 use Rattle.gp_reenact.specs.declared.error.ReenactStop.TheVariants as stop
 use Rattle.gp_reenact.specs.Reenacting.{Reenacts, spans_of}

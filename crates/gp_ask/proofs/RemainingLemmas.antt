@@ -21,15 +21,15 @@ use Rattle.gp_semiring.specs.Elements.{greatest, no_token, number_up_to}
 use Rattle.gp_semiring.specs.NumberLaws.{count_laws}
 use Rattle.gp_semiring.specs.Sums.{plus_up_to, summed, times_up_to}
 use Rattle.gp_semiring.specs.SumForms.{Each}
-use Rattle.gp_valuation.specs.declared.rules.Rule.{Rule}
-use Rattle.gp_valuation.specs.Values.{monomial_value, token_value}
-use Rattle.gp_values.specs.DistinctRows.{distinct_rows}
-use Rattle.gp_values.specs.ValueAnswers.{limited, values_of}
-use Rattle.gp_values.proofs.ValueLemmas.{values_summed}
-use Rattle.gp_witness.specs.Counting.{counted_by, counted_pairs}
-use Rattle.gp_witness.specs.Deletion.{has_token}
-use Rattle.gp_witness.specs.Remaining.{number_of, repeated}
-use Rattle.gp_witness.proofs.CountLemmas.{answer_kept, counted_up_to, listed_again, monomial_counted, token_counted}
+use Rattle.gp_semiring.specs.declared.rules.Rule.{Rule}
+use Rattle.gp_semiring.specs.Values.{monomial_value, token_value}
+use Rattle.gp_history.specs.DistinctRows.{distinct_rows}
+use Rattle.gp_history.specs.ValueAnswers.{limited, values_of}
+use Rattle.gp_history.proofs.ValueLemmas.{values_summed}
+use Rattle.gp_kexec.specs.Counting.{counted_by, counted_pairs}
+use Rattle.gp_kexec.specs.Deletion.{has_token}
+use Rattle.gp_kexec.specs.Remaining.{number_of, repeated}
+use Rattle.gp_kexec.proofs.CountLemmas.{answer_kept, counted_up_to, listed_again, monomial_counted, token_counted}
 use Rattle.gp_ask.specs.declared.answered.Answered.{Answered}
 use Rattle.gp_ask.specs.declared.answered.Answered.TheVariants.{Refused, Rows}
 use Rattle.gp_ask.specs.Asking.{of_elements}

@@ -24,10 +24,10 @@ use Rattle.gp_reenact.specs.Reenacting.{spans_of}
 use Rattle.gp_versions.specs.Spans.{Versions}
 use Rattle.gp_dump.specs.declared.dump.Dump as code
 use Rattle.gp_dump.specs.Views.{tables_view}
-use Rattle.gp_valuation.specs.declared.rules.Rule.{Rule}
-use Rattle.gp_valuation.specs.Rules.{number_by}
-use Rattle.gp_valuation.specs.Values.{token_value, value_by}
-use Rattle.gp_values.specs.ValueAnswers.{held_value_answer, value_answer}
+use Rattle.gp_semiring.specs.declared.rules.Rule.{Rule}
+use Rattle.gp_semiring.specs.Rules.{number_by}
+use Rattle.gp_semiring.specs.Values.{token_value, value_by}
+use Rattle.gp_history.specs.ValueAnswers.{held_value_answer, value_answer}
 use Rattle.gp_ask.specs.declared.answered.Answered.TheVariants.{Refused, Values}
 use Rattle.gp_ask.specs.Asking.{spans_at}
 use Rattle.gp_ask.specs.Values.{Semiring, semiring_of, value_of, valued, with_values}
@@ -66,7 +66,7 @@ module _ (dump : code.Dump) (versions : List Versions) (same : versions ≡ dump
       → Gives view found (found_in semiring rules entries (tables_in entries) (spans_at (tables_view dump.versions)) point select)
   moved view found gives =
       subst (λ (own : List Rule × Option ℕ). Gives view found (found_in semiring own entries (tables_in entries) (spans_at (tables_view dump.versions)) point select)) by
-      (subst (λ (spans : ℕ → List Span). Gives view found (found_in semiring kept entries (tables_in entries) spans point select)) (spans-are dump versions same point select) gives)
+      (subst (λ (spans : ℕ → List Span). Gives view found (found_in semiring kept entries (tables_in entries) spans point select)) (spans-are dump versions same) gives)
 
 module _ {K X : Type 0} (text_of : K → List ℕ) (view : X → List (List Cell × K)) where
   pub is-valued : (found : X) (expected : Result (List (List Cell × K)) Refusal) → Gives view (Ok found) expected → Values (map (valued text_of) (view found)) ≡ with_values text_of expected

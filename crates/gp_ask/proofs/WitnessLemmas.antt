@@ -22,11 +22,11 @@ use Rattle.gp_semiring.specs.SumForms.{Each}
 use Rattle.gp_semiring.specs.Witnesses.{Sets, sets_text, witness_plus, witness_times}
 use Rattle.gp_semiring.specs.WitnessLaws.{token_witness_laws, witness_token_in}
 use Rattle.gp_base.proofs.Permutations.{unpermuted}
-use Rattle.gp_values.specs.DistinctRows.{distinct_rows}
-use Rattle.gp_values.specs.ValueAnswers.{history_refusal, limited, values_of}
-use Rattle.gp_values.proofs.ValueLemmas.{values_moved}
-use Rattle.gp_witness.specs.CountForms.{HasCounts, itself}
-use Rattle.gp_witness.proofs.WitnessValueLemmas.{witness_value}
+use Rattle.gp_history.specs.DistinctRows.{distinct_rows}
+use Rattle.gp_history.specs.ValueAnswers.{history_refusal, limited, values_of}
+use Rattle.gp_history.proofs.ValueLemmas.{values_moved}
+use Rattle.gp_kexec.specs.CountForms.{HasCounts, itself}
+use Rattle.gp_kexec.proofs.WitnessValueLemmas.{witness_value}
 use Rattle.gp_dump.specs.Dumps.{Dump}
 use Rattle.gp_ask.specs.Answers.{answer_to}
 use Rattle.gp_ask.specs.Asking.{dump_minimal, dump_query, dump_valued, dump_values, spans_at}

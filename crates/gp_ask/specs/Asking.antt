@@ -21,11 +21,11 @@ use Rattle.gp_machine.specs.State.{State}
 use Rattle.gp_log.specs.Parameters.{parameters}
 use Rattle.gp_log.specs.LogFacts.{tables_in}
 use Rattle.gp_dump.specs.Dumps.{Dump, dump_of}
-use Rattle.gp_valuation.specs.declared.rules.Rule.{Rule}
+use Rattle.gp_semiring.specs.declared.rules.Rule.{Rule}
 use Rattle.gp_semiring.specs.Witnesses.{sets_text}
-use Rattle.gp_values.specs.ValueAnswers.{all_elements, held_value_answer, history_refusal, limited, value_answer}
+use Rattle.gp_history.specs.ValueAnswers.{all_elements, held_value_answer, history_refusal, limited, value_answer}
 use Rattle.gp_history.specs.Agreement.{agree, occurrence}
-use Rattle.gp_monomials.specs.Listing.{listed}
+use Rattle.gp_semiring.specs.Listing.{listed}
 use Rattle.gp_ask.specs.declared.answered.Answered.{Answered}
 use Rattle.gp_ask.specs.declared.answered.Answered.TheVariants.{Rows, Listed, Program, Refused}
 use Rattle.gp_ask.specs.Programs.{program_lines}

@@ -16,7 +16,7 @@ use Rattle.gp_exec.specs.declared.error.ExecStop.TheVariants as exec
 use Rattle.gp_log.specs.LogFacts.{tables_in}
 use Rattle.gp_machine.specs.HistorySpans.{as_of}
 use Rattle.gp_machine.specs.Questions.{log_refusal}
-use Rattle.gp_travel.specs.Encoding.{encoded}
+use Rattle.gp_reenact.specs.Encoding.{encoded}
 use Rattle.gp_reenact.specs.Backends.{IsGivenOver}
 use Rattle.gp_reenact.specs.Reenacting.{transaction_at}
 use Rattle.gp_reenact.specs.Programs.{merged_at}

@@ -3,7 +3,7 @@ use Rattle.std.specs.Prelude.{ℕ, nat_lt, List, if◌then◌else◌}
 use Rattle.gp_base.specs.declared.cell.Cell.{Cell}
 use Rattle.gp_base.specs.declared.refusal.Refusal.TheVariants.{E27}
 use Rattle.gp_base.specs.declared.limit.TheConstants.{MAX_ANSWER_ROWS}
-use Rattle.gp_witness.specs.Remaining.{number_of, repeated}
+use Rattle.gp_kexec.specs.Remaining.{number_of, repeated}
 use Rattle.gp_ask.specs.declared.answered.Answered.{Answered}
 use Rattle.gp_ask.specs.declared.answered.Answered.TheVariants.{Refused, Rows}
 

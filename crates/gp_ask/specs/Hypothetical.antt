@@ -19,7 +19,7 @@ use Rattle.gp_machine.specs.Event.{name_at}
 use Rattle.gp_machine.specs.Questions.{log_refusal, stop_refusal}
 use Rattle.gp_machine.specs.Replayed.{replayed_state}
 use Rattle.gp_machine.specs.Replaying as made
-use Rattle.gp_valuation.specs.Rules.{first_outside}
+use Rattle.gp_semiring.specs.Rules.{first_outside}
 use Rattle.gp_whatif.specs.Changed.{changed}
 use Rattle.gp_dump.specs.Dumps.{Dump, dump_of}
 use Rattle.gp_ask.specs.declared.answered.Answered.{Answered}

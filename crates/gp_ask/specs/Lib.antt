@@ -6,6 +6,7 @@ pub mod Counted
 pub mod Explained
 pub mod Formats
 pub mod Hypothetical
+pub mod Keeping
 pub mod Lines
 pub mod Operations
 pub mod Programs

@@ -13,10 +13,10 @@ use Rattle.gp_algebra.specs.Answers.{Element, answer, cells_of}
 use Rattle.gp_algebra.specs.Statements.{Select}
 use Rattle.gp_log.specs.Parameters.{parameters}
 use Rattle.gp_machine.specs.Questions.{given}
-use Rattle.gp_valuation.specs.declared.rules.Rule.{Rule}
-use Rattle.gp_valuation.specs.Rules.{fits_rule}
-use Rattle.gp_values.specs.DistinctRows.{distinct_rows}
-use Rattle.gp_witness.specs.Deletion.{has_token, reduced}
+use Rattle.gp_semiring.specs.declared.rules.Rule.{Rule}
+use Rattle.gp_semiring.specs.Rules.{fits_rule}
+use Rattle.gp_history.specs.DistinctRows.{distinct_rows}
+use Rattle.gp_kexec.specs.Deletion.{has_token, reduced}
 use Rattle.gp_ask.specs.Values.{kind_of}
 
 -- a pattern of tokens, as a rule by which they count nothing

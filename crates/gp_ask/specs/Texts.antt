@@ -6,7 +6,7 @@ use Rattle.gp_base.specs.Numbered.{newline, numbered, refused_text, rows_text}
 use Rattle.gp_base.specs.Texts.{row_text}
 use Rattle.gp_base.specs.Tokens.{monomial_text}
 use Rattle.gp_base.specs.Writing.{joined}
-use Rattle.gp_monomials.specs.declared.listed.Listed as l
+use Rattle.gp_semiring.specs.declared.listed.Listed as l
 use Rattle.gp_ask.specs.declared.answered.Answered.{Answered}
 use Rattle.gp_ask.specs.declared.answered.Valued.{Valued}
 use Rattle.gp_ask.specs.declared.answered.Answered.TheVariants.{Rows, Listed, Values, Log, Versions, Program, Refused}

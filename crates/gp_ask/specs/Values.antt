@@ -16,11 +16,11 @@ use Rattle.gp_semiring.specs.Elements.{cost_text, greatest, no_token, nobody, nu
 use Rattle.gp_semiring.specs.Polynomials.{Terms, poly_number, poly_one, poly_plus, poly_text, poly_times, poly_token}
 use Rattle.gp_semiring.specs.Sums.{plus_up_to, times_up_to}
 use Rattle.gp_semiring.specs.Witnesses.{Sets, sets_text, witness_number, witness_plus, witness_times, witness_token}
-use Rattle.gp_valuation.specs.declared.rules.Rule.{Rule}
-use Rattle.gp_valuation.specs.declared.token_kind.TokenKind.{TokenKind}
-use Rattle.gp_valuation.specs.declared.token_kind.TokenKind.TheVariants.{I, Q, U}
-use Rattle.gp_valuation.specs.Rules.{first_outside}
-use Rattle.gp_valuation.specs.Values.{token_value}
+use Rattle.gp_semiring.specs.declared.rules.Rule.{Rule}
+use Rattle.gp_semiring.specs.declared.token_kind.TokenKind.{TokenKind}
+use Rattle.gp_semiring.specs.declared.token_kind.TokenKind.TheVariants.{I, Q, U}
+use Rattle.gp_semiring.specs.Rules.{first_outside}
+use Rattle.gp_semiring.specs.Values.{token_value}
 use Rattle.gp_ask.specs.declared.answered.Answered.{Answered}
 use Rattle.gp_ask.specs.declared.answered.Answered.TheVariants.{Values, Refused}
 use Rattle.gp_ask.specs.declared.answered.Valued.{Valued}

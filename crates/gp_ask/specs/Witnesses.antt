@@ -5,8 +5,8 @@ use Rattle.gp_base.specs.declared.cell.Cell.{Cell}
 use Rattle.gp_base.specs.Tokens.{Monomial}
 use Rattle.gp_algebra.specs.Answers.{Element, cells_of, pairs_of}
 use Rattle.gp_semiring.specs.Witnesses.{Sets}
-use Rattle.gp_values.specs.DistinctRows.{distinct_rows}
-use Rattle.gp_witness.specs.Minimal.{minimal}
+use Rattle.gp_history.specs.DistinctRows.{distinct_rows}
+use Rattle.gp_kexec.specs.Minimal.{minimal}
 
 -- each distinct row in row order, with the minimal ones of the token sets of its monomials
 abbrev pub minimal_of : List (Element Monomial) → List (List Cell × Sets)

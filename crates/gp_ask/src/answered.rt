@@ -3,7 +3,7 @@
 ghost use Rattle.std.specs.Prelude.{◌≡◌};
 
 use gp_base::{Refusal, Row, Sequence, Text};
-use gp_monomials::Listed;
+use gp_semiring::Listed;
 
 /// A row with its value in a semiring.
 #[derive(Drop)]

@@ -12,10 +12,12 @@ ghost use Rattle.gp_ask.specs.Answers.{answer_to};
 ghost use Rattle.gp_ask.specs.Backends.{AnswersBy};
 ghost use Rattle.gp_ask.specs.Explained.{ExplainsQuestion};
 ghost use Rattle.gp_ask.specs.Formats.{asks_rows};
+ghost use Rattle.gp_ask.specs.Keeping.{AreKept};
 
 use crate::answered::Answered;
 use crate::asking::ask_answer;
 use crate::hypothetical::what_if_answer;
+use crate::keeping::KeptAnnotations;
 use crate::logs::log_answer;
 use crate::queries::query_answer_by;
 use crate::row_versions::versions_answer;
@@ -53,10 +55,31 @@ pub fn answer(alloc: Global, dump: &Dump, question: &Question) -> Result<Answere
     ensures explained { IfOk result (λ answered.
         ExplainsQuestion (dump_view dump.now).entries (question_view question.now)) }
 {
+    let mut kept = KeptAnnotations::new();
+    answer_from(alloc, dump, question, &mut kept)
+}
+
+/// Answers as [`answer`] does, from the annotations that earlier questions about the dump left, and leaves its own.
+pub fn answer_from(
+    alloc: Global,
+    dump: &Dump,
+    question: &Question,
+    kept: &mut KeptAnnotations,
+) -> Result<Answered, NoMemory>
+    requires rules { IsDump (dump_view dump.now) }
+    requires valid { tables_are_valid (tables_in (dump_view dump.now).entries) ≡ true }
+    requires question { question_is_valid (question_view question.now) ≡ true }
+    requires kept { AreKept dump.now kept.old }
+    ensures kept { AreKept dump.now kept.new }
+    ensures answered { IfOk result (λ answered. answered
+        ≡ answer_to (dump_view dump.now) (question_view question.now)) }
+    ensures explained { IfOk result (λ answered.
+        ExplainsQuestion (dump_view dump.now).entries (question_view question.now)) }
+{
     match question {
         Question::Log { t } => log_answer(alloc, &dump.log, *t),
         Question::Versions { table } => versions_answer(alloc, dump, table),
-        Question::Ask { how, state, query } => ask_answer(alloc, dump, how, *state, query),
+        Question::Ask { how, state, query } => { ask_answer(alloc, dump, how, *state, query, kept) }
         Question::WhatIf {
             change,
             how,

@@ -9,9 +9,11 @@ ghost use Rattle.gp_dump.specs.Views.{dump_view};
 ghost use Rattle.gp_ask.specs.Answerable.{IsAnswerable, has_few_items};
 ghost use Rattle.gp_ask.specs.Answers.{answer_to};
 ghost use Rattle.gp_ask.specs.Explained.{ExplainsQuestion};
+ghost use Rattle.gp_ask.specs.Keeping.{AreKept};
 
 use crate::answered::Answered;
 use crate::deletion::remaining_answer;
+use crate::keeping::KeptAnnotations;
 use crate::programs::program_answer;
 use crate::provenance::provenance_answer;
 use crate::queries::query_answer;
@@ -28,11 +30,14 @@ pub fn ask_answer(
     how: &How,
     state: State,
     query: &Query,
+    kept: &mut KeptAnnotations,
 ) -> Result<Answered, NoMemory>
     requires rules { IsAnswerable (dump_view dump.now) }
     requires valid { tables_are_valid (tables_in (dump_view dump.now).entries) ≡ true }
     requires query { query_is_valid (query_view query.now) ≡ true }
     requires few { has_few_items (query_view query.now) ≡ true }
+    requires kept { AreKept dump.now kept.old }
+    ensures kept { AreKept dump.now kept.new }
     ensures answered { IfOk result (λ answered. answered ≡ answer_to (dump_view dump.now)
         (y.ask (how_view how.now) (state_view state) (query_view query.now))) }
     ensures explained { IfOk result (λ answered. ExplainsQuestion (dump_view dump.now).entries
@@ -40,7 +45,7 @@ pub fn ask_answer(
 {
     match how {
         How::Rows => query_answer(alloc, dump, state, query),
-        How::Provenance => provenance_answer(alloc, dump, state, query),
+        How::Provenance => { provenance_answer(alloc, dump, state, query, &mut kept.monomials) },
         How::Explain { prov } => program_answer(alloc, &dump.log, *prov, state, query),
         How::Value {
             semiring,
@@ -54,7 +59,15 @@ pub fn ask_answer(
             *other,
             state,
             query,
+            kept,
         ),
-        How::Without { rules } => { remaining_answer(alloc, dump, rules.as_slice(), state, query) }
+        How::Without { rules } => remaining_answer(
+            alloc,
+            dump,
+            rules.as_slice(),
+            state,
+            query,
+            &mut kept.without,
+        ),
     }
 }

@@ -14,22 +14,22 @@ ghost use Rattle.gp_ask.specs.Answerable.{IsAnswerable, has_few_items};
 ghost use Rattle.gp_ask.specs.Answers.{answer_to};
 ghost use Rattle.gp_ask.specs.Asking.{dump_remaining};
 ghost use Rattle.gp_ask.specs.Counted.{counted_answer};
+ghost use Rattle.gp_ask.specs.Keeping.{MayBeKeptBy, elements_by};
 ghost use Rattle.gp_ask.specs.Remaining as r;
+ghost use Rattle.gp_ask.specs.Values.{count};
 
 use crate::answered::Answered;
+use crate::keeping::{KeptValues, rows_with_values};
 use crate::queries::asked;
 use crate::rules::left_out;
 use gp_algebra::Select;
 use gp_base::{NoMemory, Refusal, Sequence};
 use gp_check::CheckStop;
 use gp_dump::Dump;
-use gp_history::values;
-use gp_kexec::KRow;
+use gp_kexec::{KRow, RemainStop, remaining};
 use gp_reenact::ReenactStop;
 use gp_semiring::Count;
 use gp_syntax::{Query, Rule, State};
-use gp_valuation::by_rules;
-use gp_witness::{RemainStop, remaining};
 use std::alloc::Global;
 
 /// The rows, each as often as it is counted, or E27 if there are too many.
@@ -51,25 +51,20 @@ fn selected_remaining(
     rules: &[Rule],
     state: State,
     select: &Select,
+    slot: &mut Option<KeptValues<Count>>,
 ) -> Result<Answered, NoMemory>
     requires rules { IsAnswerable (dump_view dump.now) }
     requires fits { select_fits (tables_in (dump_view dump.now).entries) (select_view select.now)
         ≡ true }
     requires few { HasFewItems (select_view select.now) }
-    ensures { IfOk result (λ answered. answered
+    requires kept { MayBeKeptBy (elements_by count) dump.now slot.old }
+    ensures kept { MayBeKeptBy (elements_by count) dump.now slot.new }
+    ensures answered { IfOk result (λ answered. answered
         ≡ dump_remaining (map r.pattern_of (map rule_view rules.now)) (dump_view dump.now)
         (state_view state) (select_view select.now)) }
 {
     let patterns = left_out(alloc, rules)?;
-    let valuation = by_rules::<Count>(alloc, patterns)?;
-    match values(
-        alloc,
-        &dump.log,
-        dump.versions.as_slice(),
-        state,
-        select,
-        &valuation,
-    ) {
+    match rows_with_values::<Count>(alloc, dump, state, select, patterns, slot) {
         Ok(rows) => counted_rows(alloc, rows),
         Err(ReenactStop::Refused(refusal)) => Ok(Answered::Refused(refusal)),
         Err(ReenactStop::NoMemory) => Err(NoMemory),
@@ -85,16 +80,19 @@ pub fn remaining_answer(
     rules: &[Rule],
     state: State,
     query: &Query,
+    slot: &mut Option<KeptValues<Count>>,
 ) -> Result<Answered, NoMemory>
     requires rules { IsAnswerable (dump_view dump.now) }
     requires valid { tables_are_valid (tables_in (dump_view dump.now).entries) ≡ true }
     requires query { query_is_valid (query_view query.now) ≡ true }
     requires few { has_few_items (query_view query.now) ≡ true }
-    ensures { IfOk result (λ answered. answered ≡ answer_to (dump_view dump.now) (y.ask
+    requires kept { MayBeKeptBy (elements_by count) dump.now slot.old }
+    ensures kept { MayBeKeptBy (elements_by count) dump.now slot.new }
+    ensures answered { IfOk result (λ answered. answered ≡ answer_to (dump_view dump.now) (y.ask
         (y.without (map rule_view rules.now)) (state_view state) (query_view query.now))) }
 {
     match asked(alloc, &dump.log, state, query) {
-        Ok(select) => selected_remaining(alloc, dump, rules, state, &select),
+        Ok(select) => selected_remaining(alloc, dump, rules, state, &select, slot),
         Err(CheckStop::Refused(refusal)) => Ok(Answered::Refused(refusal)),
         Err(CheckStop::NoMemory) => Err(NoMemory),
     }

@@ -13,7 +13,7 @@ use gp_base::{
     Monomial, NoMemory, Refusal, Row, Sequence, Text, TextFormat, append_all, refused_text,
     rows_text, text_of_pieces, write_joined, write_monomial, write_row,
 };
-use gp_monomials::Listed;
+use gp_semiring::Listed;
 use std::alloc::Global;
 
 /// Appends the texts, each on a line of its own.

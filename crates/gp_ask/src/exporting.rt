@@ -13,12 +13,14 @@ ghost use Rattle.gp_ask.specs.Answerable.{question_is_valid};
 ghost use Rattle.gp_ask.specs.Answers.{answer_to};
 ghost use Rattle.gp_ask.specs.Explained.{ExplainsQuestion, ExplainsRead};
 ghost use Rattle.gp_ask.specs.Formats.{ExplainsIn, answers_in, asks_rows, exported, exported_records, text_in};
+ghost use Rattle.gp_ask.specs.Keeping.{AreKept};
 ghost use Rattle.gp_ask.specs.Questions.{answered};
 
 use crate::answered::Answered;
-use crate::answering::answer;
+use crate::answering::{answer, answer_from};
 use crate::display::write_answer;
 use crate::format::Format;
+use crate::keeping::KeptAnnotations;
 use gp_base::{NoMemory, Refusal};
 use gp_csv::{write_answer_csv, write_refusal_csv};
 use gp_dump::Dump;
@@ -74,17 +76,20 @@ fn answer_in(
     format: Format,
     dump: &Dump,
     question: &Question,
+    kept: &mut KeptAnnotations,
 ) -> Result<Answered, NoMemory>
     requires rules { IsDump (dump_view dump.now) }
     requires valid { tables_are_valid (tables_in (dump_view dump.now).entries) ≡ true }
     requires question { question_is_valid (question_view question.now) ≡ true }
+    requires kept { AreKept dump.now kept.old }
+    ensures kept { AreKept dump.now kept.new }
     ensures answered { IfOk result (λ found. found
         ≡ answers_in format (answer_to (dump_view dump.now)) (question_view question.now)) }
     ensures explained { IfOk result (λ found.
         ExplainsIn format (ExplainsQuestion (dump_view dump.now).entries (question_view question.now))) }
 {
     match format {
-        Format::Text => answer(alloc, dump, question),
+        Format::Text => answer_from(alloc, dump, question, kept),
         Format::Csv => exported(alloc, dump, question),
     }
 }
@@ -92,21 +97,26 @@ fn answer_in(
 /// Answers a line of a file of questions from a dump, in a format. A line that is no question is refused as
 /// [`read_question`](gp_syntax::read_question) refuses it, in either format. Any other is answered as [`answer`] does, but CSV refuses a
 /// question that is no plain AS OF or REENACT (E30). Running out of memory is the only error.
+///
+/// The annotations that earlier lines left are used, and the line leaves its own. Whatever they are, the answer is that of the line alone.
 pub fn answer_line_in(
     alloc: Global,
     format: Format,
     dump: &Dump,
     line: &[u8],
+    kept: &mut KeptAnnotations,
 ) -> Result<Answered, NoMemory>
     requires rules { IsDump (dump_view dump.now) }
     requires valid { tables_are_valid (tables_in (dump_view dump.now).entries) ≡ true }
+    requires kept { AreKept dump.now kept.old }
+    ensures kept { AreKept dump.now kept.new }
     ensures answered { IfOk result (λ found. found
         ≡ answered (answers_in format (answer_to (dump_view dump.now))) (question_of line.now)) }
     ensures explained { IfOk result (λ found.
         ExplainsIn format (ExplainsRead (dump_view dump.now).entries (question_of line.now))) }
 {
     match read_question(alloc, line) {
-        Ok(question) => answer_in(alloc, format, dump, &question),
+        Ok(question) => answer_in(alloc, format, dump, &question, kept),
         Err(ReadStop::Refused(refusal)) => Ok(Answered::Refused(refusal)),
         Err(ReadStop::NoMemory) => Err(NoMemory),
     }
@@ -122,7 +132,8 @@ pub fn answer_line(alloc: Global, dump: &Dump, line: &[u8]) -> Result<Answered, 
     ensures explained { IfOk result (λ found.
         ExplainsRead (dump_view dump.now).entries (question_of line.now)) }
 {
-    answer_line_in(alloc, Format::Text, dump, line)
+    let mut kept = KeptAnnotations::new();
+    answer_line_in(alloc, Format::Text, dump, line, &mut kept)
 }
 
 /// The CSV text of an answer. Only rows and refusals are exported.

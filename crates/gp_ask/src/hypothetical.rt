@@ -22,6 +22,7 @@ ghost use Rattle.gp_ask.specs.Hypothetical.{replayed_dump};
 
 use crate::answered::Answered;
 use crate::asking::ask_answer;
+use crate::keeping::KeptAnnotations;
 use crate::laws::changed_histories_answer_their_questions;
 use crate::programs::program_answer;
 use crate::queries::asked;
@@ -134,7 +135,8 @@ fn replayed_answer(
         Ok(versions) => {
             let versions = Sequence::from_vec(versions);
             let dump = Dump { log, versions };
-            ask_answer(alloc, &dump, how, state, query)
+            let mut kept = KeptAnnotations::new();
+            ask_answer(alloc, &dump, how, state, query, &mut kept)
         }
         Err(stop) => Ok(Answered::Refused(remaking_refusal(&log, stop)?)),
     }

@@ -18,9 +18,9 @@ ghost use Rattle.gp_machine.specs.Replaying.{CommitsInOrder, replay_stop, replay
 ghost use Rattle.gp_machine.specs.State.{State, start};
 ghost use Rattle.gp_machine.specs.Unstopped.{IsUnstopped};
 ghost use Rattle.gp_dump.specs.Dumps.{Dump, IsDump, dump_of};
-ghost use Rattle.gp_valuation.specs.declared.rules.Rule.{Rule};
-ghost use Rattle.gp_valuation.specs.Values.{token_value};
-ghost use Rattle.gp_values.specs.ValueAnswers.{held_value_answer, value_answer};
+ghost use Rattle.gp_semiring.specs.declared.rules.Rule.{Rule};
+ghost use Rattle.gp_semiring.specs.Values.{token_value};
+ghost use Rattle.gp_history.specs.ValueAnswers.{held_value_answer, value_answer};
 ghost use Rattle.gp_versions.specs.declared.span.Span.{Span};
 ghost use Rattle.gp_whatif.specs.Replays.{IsCoherent, IsReplayable, stop_upto};
 ghost use Rattle.gp_ask.specs.Answerable.{question_is_valid};
@@ -31,13 +31,12 @@ ghost use Rattle.gp_ask.specs.Replays.{dump_in};
 
 use gp_algebra::annotations_commute;
 use gp_base::Monomial as BaseMonomial;
-use gp_history::agreement_is_having_the_same_rows;
+use gp_history::{agreement_is_having_the_same_rows, values_are_those_of_the_history};
 use gp_machine::{
     annotations_change_no_replay, annotations_change_no_reply, commits_publish_the_spans,
     histories_do_not_stop, unstopped_histories_answer_their_questions,
 };
 use gp_semiring::{Bool, Cost, Count, Level, Poly, PosBool, Semiring};
-use gp_values::values_are_those_of_the_history;
 use gp_whatif::{
     changed_logs_are_coherent, logs_keep_their_sessions, replays_have_the_tables_of_their_logs,
 };

@@ -10,12 +10,14 @@
 //!
 //! In reading order: [`Answered`] is the answer to a question, [`answer`] answers a question that was read, [`answer_line`]
 //! a line, [`answer_by`] a plain AS OF or REENACT by what a [`Backend`] gives, of which [`Plain`] is the executor, and
-//! [`write_answer`] writes the answer. [`answer_line_in`] and [`write_answer_in`] do the same in a [`Format`]: as text, or as CSV. In
+//! [`write_answer`] writes the answer. [`answer_line_in`] and [`write_answer_in`] do the same in a [`Format`]: as text, or as CSV. The
+//! lines of a file share their [`KeptAnnotations`], so that the row versions of a dump are annotated once for all its questions. In
 //! `specs/`, `Asking` and `Answers` say what the answer is, `Hypothetical` what the history answers that would have been, `Formats`
 //! which answers are exported as CSV, `Questions` which answers the lines of a file get (`QuestionFiles` by its bytes), and `Texts` how they are written. `Values` has
 //! the semirings and the rules of VALUE IN, `Witnesses` the minimal witnesses of rows, and `Remaining` what remains for WITHOUT. Inside,
 //! `logs` answers LOG, `row_versions` VERSIONS, `asking` any question about a state, by `queries` AS OF and REENACT, by `provenance`
-//! PROVENANCE OF, by `values` VALUE IN, by `deletion` WITHOUT and by `programs` EXPLAIN, and `hypothetical` WHATIF.
+//! PROVENANCE OF, by `values` VALUE IN, by `deletion` WITHOUT and by `programs` EXPLAIN, and `hypothetical` WHATIF. `keeping` has what
+//! one question leaves to the next.
 //!
 //! ```text
 //! let answered = answer_line(alloc, &dump, b"as of 2 select * from acct")?;
@@ -32,6 +34,7 @@ mod display;
 mod exporting;
 mod format;
 mod hypothetical;
+mod keeping;
 mod laws;
 mod logs;
 mod programs;
@@ -47,6 +50,7 @@ pub use display::write_answer;
 pub use exporting::{answer_line, answer_line_in, write_answer_in};
 pub use format::Format;
 pub use gp_exec::{Backend, Plain};
+pub use keeping::KeptAnnotations;
 pub use laws::{
     changed_histories_answer_their_questions, dumps_answer_as_changed_histories,
     histories_answer_as_their_dumps, read_questions_are_valid, replays_answer_as_their_histories,

@@ -3,26 +3,61 @@
 ghost use Rattle.std.specs.Prelude.{◌≡◌, true, IfOk};
 ghost use Rattle.gp_algebra.specs.Fitting.{select_fits};
 ghost use Rattle.gp_algebra.specs.Views.{select_view};
+ghost use Rattle.gp_base.specs.Annotated.{monomials};
 ghost use Rattle.gp_check.specs.Valid.{query_is_valid, tables_are_valid};
 ghost use Rattle.gp_dump.specs.Views.{dump_view};
 ghost use Rattle.gp_grammar.specs.Syntax as y;
+ghost use Rattle.gp_history.specs.Agreement.{agree};
+ghost use Rattle.gp_history.specs.Provenance.{Proves};
 ghost use Rattle.gp_log.specs.LogFacts.{tables_in};
+ghost use Rattle.gp_log.specs.Parameters.{parameters};
+ghost use Rattle.gp_machine.specs.Questions.{annotated_answer};
 ghost use Rattle.gp_syntax.specs.Views.{query_view, state_view};
 ghost use Rattle.gp_ask.specs.Answerable.{IsAnswerable};
 ghost use Rattle.gp_ask.specs.Answers.{answer_to};
-ghost use Rattle.gp_ask.specs.Asking.{dump_provenance};
+ghost use Rattle.gp_ask.specs.Asking.{dump_provenance, spans_at};
+ghost use Rattle.gp_ask.specs.Keeping.{MayBeKeptOf};
 
 use crate::answered::Answered;
 use crate::queries::asked;
 use gp_algebra::Select;
-use gp_base::NoMemory;
+use gp_base::{Monomial, NoMemory, Row};
 use gp_check::CheckStop;
 use gp_dump::Dump;
-use gp_history::provenance;
-use gp_monomials::list;
+use gp_history::{Kept, provenance_from};
 use gp_reenact::ReenactStop;
+use gp_semiring::list;
 use gp_syntax::{Query, State};
 use std::alloc::Global;
+
+/// The rows of a checked query with their monomials, in no particular order, from the monomials that an earlier question left, or the
+/// refusal of its annotation, of its run or of its answer. It leaves its own to the next.
+fn rows_with_monomials(
+    alloc: Global,
+    dump: &Dump,
+    state: State,
+    select: &Select,
+    kept: &mut Option<Kept<Monomial>>,
+) -> Result<Vec<Row>, ReenactStop>
+    requires rules { IsAnswerable (dump_view dump.now) }
+    requires fits { select_fits (tables_in (dump_view dump.now).entries) (select_view select.now)
+        ≡ true }
+    requires kept { MayBeKeptOf monomials dump.now kept.old }
+    ensures kept { MayBeKeptOf monomials dump.now kept.new }
+    ensures answer { Proves (λ rows. rows.items) result
+        (annotated_answer monomials parameters agree
+        (tables_in (dump_view dump.now).entries) (dump_view dump.now).entries
+        (spans_at (dump_view dump.now).tables) (state_view state) (select_view select.now)) }
+{
+    provenance_from(
+        alloc,
+        &dump.log,
+        dump.versions.as_slice(),
+        state,
+        select,
+        kept,
+    )
+}
 
 /// The distinct rows of a checked query with their monomials, or the refusal of its annotation, of its run or of its answer.
 fn selected_provenance(
@@ -30,14 +65,17 @@ fn selected_provenance(
     dump: &Dump,
     state: State,
     select: &Select,
+    kept: &mut Option<Kept<Monomial>>,
 ) -> Result<Answered, NoMemory>
     requires rules { IsAnswerable (dump_view dump.now) }
     requires fits { select_fits (tables_in (dump_view dump.now).entries) (select_view select.now)
         ≡ true }
-    ensures { IfOk result (λ answered. answered
+    requires kept { MayBeKeptOf monomials dump.now kept.old }
+    ensures kept { MayBeKeptOf monomials dump.now kept.new }
+    ensures answered { IfOk result (λ answered. answered
         ≡ dump_provenance (dump_view dump.now) (state_view state) (select_view select.now)) }
 {
-    match provenance(alloc, &dump.log, dump.versions.as_slice(), state, select) {
+    match rows_with_monomials(alloc, dump, state, select, kept) {
         Ok(rows) => Ok(Answered::Listed(list(alloc, rows)?)),
         Err(ReenactStop::Refused(refusal)) => Ok(Answered::Refused(refusal)),
         Err(ReenactStop::NoMemory) => Err(NoMemory),
@@ -51,15 +89,18 @@ pub fn provenance_answer(
     dump: &Dump,
     state: State,
     query: &Query,
+    kept: &mut Option<Kept<Monomial>>,
 ) -> Result<Answered, NoMemory>
     requires rules { IsAnswerable (dump_view dump.now) }
     requires valid { tables_are_valid (tables_in (dump_view dump.now).entries) ≡ true }
     requires query { query_is_valid (query_view query.now) ≡ true }
-    ensures { IfOk result (λ answered. answered ≡ answer_to (dump_view dump.now)
+    requires kept { MayBeKeptOf monomials dump.now kept.old }
+    ensures kept { MayBeKeptOf monomials dump.now kept.new }
+    ensures answered { IfOk result (λ answered. answered ≡ answer_to (dump_view dump.now)
         (y.ask y.provenance (state_view state) (query_view query.now))) }
 {
     match asked(alloc, &dump.log, state, query) {
-        Ok(select) => selected_provenance(alloc, dump, state, &select),
+        Ok(select) => selected_provenance(alloc, dump, state, &select, kept),
         Err(CheckStop::Refused(refusal)) => Ok(Answered::Refused(refusal)),
         Err(CheckStop::NoMemory) => Err(NoMemory),
     }

@@ -9,19 +9,22 @@ ghost use Rattle.gp_dump.specs.Views.{dump_view};
 ghost use Rattle.gp_history.specs.Agreement.{agree};
 ghost use Rattle.gp_history.specs.Values.{HasFewItems};
 ghost use Rattle.gp_kexec.specs.Rows.{pair_view};
+ghost use Rattle.gp_kexec.specs.Valuing.{values_by};
 ghost use Rattle.gp_log.specs.Parameters.{parameters};
 ghost use Rattle.gp_log.specs.LogFacts.{tables_in};
 ghost use Rattle.gp_syntax.specs.Views.{how_view, query_view, rule_view, state_view};
-ghost use Rattle.gp_valuation.specs.Rules as r;
-ghost use Rattle.gp_valuation.specs.Values.{token_value};
-ghost use Rattle.gp_values.specs.ValueAnswers as a;
+ghost use Rattle.gp_semiring.specs.Rules as r;
+ghost use Rattle.gp_semiring.specs.Values.{token_value};
+ghost use Rattle.gp_history.specs.ValueAnswers as a;
 ghost use Rattle.gp_ask.specs.Answerable.{IsAnswerable, has_few_items};
 ghost use Rattle.gp_ask.specs.Asking.{dump_query, dump_values, spans_at};
 ghost use Rattle.gp_ask.specs.Hypothetical as h;
+ghost use Rattle.gp_ask.specs.Keeping.{AreKept, MayBeKeptBy};
 ghost use Rattle.gp_ask.specs.Operations.{semiring_with};
 ghost use Rattle.gp_ask.specs.Values as v;
 
 use crate::answered::{Answered, Valued};
+use crate::keeping::{KeptAnnotations, KeptValues, rows_with_values};
 use crate::queries::asked;
 use crate::rules::rules_of;
 use gp_algebra::Select;
@@ -29,12 +32,10 @@ use gp_base::{NoMemory, Refusal, Sequence, Text};
 use gp_check::CheckStop;
 use gp_dump::Dump;
 use gp_grammar::SemiringName;
-use gp_history::values;
 use gp_kexec::KRow;
 use gp_reenact::ReenactStop;
-use gp_semiring::{Bool, Cost, Count, Level, Poly, PosBool, Semiring};
+use gp_semiring::{Bool, Cost, Count, Level, Poly, PosBool, Rules, Semiring, first_outside};
 use gp_syntax::{How, Query, Rule, State};
-use gp_valuation::{Rules, by_rules, first_outside};
 use std::alloc::Global;
 
 /// The name of a semiring, as it is printed.
@@ -145,26 +146,23 @@ fn rows_by<K: Semiring>(
     state: State,
     select: &Select,
     rules: Rules,
+    slot: &mut Option<KeptValues<K>>,
 ) -> Result<Answered, NoMemory>
     requires rules { IsAnswerable (dump_view dump.now) }
     requires fits { select_fits (tables_in (dump_view dump.now).entries) (select_view select.now)
         ≡ true }
     requires few { HasFewItems (select_view select.now) }
-    ensures { IfOk result (λ answered. answered ≡ v.with_values K.text_of
+    requires kept { MayBeKeptBy (values_by K.one_of K.times_of K.number_of K.itself_of)
+        dump.now slot.old }
+    ensures kept { MayBeKeptBy (values_by K.one_of K.times_of K.number_of K.itself_of)
+        dump.now slot.new }
+    ensures answered { IfOk result (λ answered. answered ≡ v.with_values K.text_of
         (a.value_answer parameters K.plus_of K.zero_of K.one_of K.times_of
         (token_value K.one_of K.number_of K.itself_of (rules.rules, rules.other)) agree
         (tables_in (dump_view dump.now).entries) (dump_view dump.now).entries
         (spans_at (dump_view dump.now).tables) (state_view state) (select_view select.now))) }
 {
-    let valuation = by_rules::<K>(alloc, rules)?;
-    match values(
-        alloc,
-        &dump.log,
-        dump.versions.as_slice(),
-        state,
-        select,
-        &valuation,
-    ) {
+    match rows_with_values::<K>(alloc, dump, state, select, rules, slot) {
         Ok(rows) => Ok(Answered::Values(valued_rows(alloc, rows.as_slice())?)),
         Err(ReenactStop::Refused(refusal)) => Ok(Answered::Refused(refusal)),
         Err(ReenactStop::NoMemory) => Err(NoMemory),
@@ -179,18 +177,23 @@ fn values_in<K: Semiring>(
     select: &Select,
     name: SemiringName,
     rules: Rules,
+    slot: &mut Option<KeptValues<K>>,
 ) -> Result<Answered, NoMemory>
     requires rules { IsAnswerable (dump_view dump.now) }
     requires fits { select_fits (tables_in (dump_view dump.now).entries) (select_view select.now)
         ≡ true }
     requires few { HasFewItems (select_view select.now) }
-    ensures { IfOk result (λ answered. answered ≡ dump_values (semiring_with K.zero_of K.one_of
+    requires kept { MayBeKeptBy (values_by K.one_of K.times_of K.number_of K.itself_of)
+        dump.now slot.old }
+    ensures kept { MayBeKeptBy (values_by K.one_of K.times_of K.number_of K.itself_of)
+        dump.now slot.new }
+    ensures answered { IfOk result (λ answered. answered ≡ dump_values (semiring_with K.zero_of K.one_of
         K.plus_of K.times_of K.number_of K.itself_of K.text_of) name (rules.rules, rules.other)
         (dump_view dump.now) (state_view state) (select_view select.now)) }
 {
     match first_outside::<K>(alloc, &rules)? {
         Some(number) => Ok(Answered::Refused(outside(alloc, number, name)?)),
-        None => rows_by::<K>(alloc, dump, state, select, rules),
+        None => rows_by::<K>(alloc, dump, state, select, rules, slot),
     }
 }
 
@@ -202,21 +205,36 @@ fn selected_values(
     select: &Select,
     name: SemiringName,
     rules: Rules,
+    kept: &mut KeptAnnotations,
 ) -> Result<Answered, NoMemory>
     requires rules { IsAnswerable (dump_view dump.now) }
     requires fits { select_fits (tables_in (dump_view dump.now).entries) (select_view select.now)
         ≡ true }
     requires few { HasFewItems (select_view select.now) }
-    ensures { IfOk result (λ answered. answered ≡ dump_values (v.semiring_of name) name
+    requires kept { AreKept dump.now kept.old }
+    ensures kept { AreKept dump.now kept.new }
+    ensures answered { IfOk result (λ answered. answered ≡ dump_values (v.semiring_of name) name
         (rules.rules, rules.other) (dump_view dump.now) (state_view state) (select_view select.now)) }
 {
     match name {
-        SemiringName::Count => values_in::<Count>(alloc, dump, state, select, name, rules),
-        SemiringName::Bool => values_in::<Bool>(alloc, dump, state, select, name, rules),
-        SemiringName::Cost => values_in::<Cost>(alloc, dump, state, select, name, rules),
-        SemiringName::Level => values_in::<Level>(alloc, dump, state, select, name, rules),
-        SemiringName::Poly => values_in::<Poly>(alloc, dump, state, select, name, rules),
-        SemiringName::Witness => values_in::<PosBool>(alloc, dump, state, select, name, rules),
+        SemiringName::Count => {
+            values_in::<Count>(alloc, dump, state, select, name, rules, &mut kept.count)
+        }
+        SemiringName::Bool => {
+            values_in::<Bool>(alloc, dump, state, select, name, rules, &mut kept.bool)
+        }
+        SemiringName::Cost => {
+            values_in::<Cost>(alloc, dump, state, select, name, rules, &mut kept.cost)
+        }
+        SemiringName::Level => {
+            values_in::<Level>(alloc, dump, state, select, name, rules, &mut kept.level)
+        }
+        SemiringName::Poly => {
+            values_in::<Poly>(alloc, dump, state, select, name, rules, &mut kept.poly)
+        }
+        SemiringName::Witness => {
+            values_in::<PosBool>(alloc, dump, state, select, name, rules, &mut kept.witness)
+        }
     }
 }
 
@@ -231,19 +249,22 @@ pub fn value_answer(
     other: Option<u64>,
     state: State,
     query: &Query,
+    kept: &mut KeptAnnotations,
 ) -> Result<Answered, NoMemory>
     requires rules { IsAnswerable (dump_view dump.now) }
     requires valid { tables_are_valid (tables_in (dump_view dump.now).entries) ≡ true }
     requires query { query_is_valid (query_view query.now) ≡ true }
     requires few { has_few_items (query_view query.now) ≡ true }
-    ensures { IfOk result (λ answered. answered ≡ dump_query (dump_view dump.now)
+    requires kept { AreKept dump.now kept.old }
+    ensures kept { AreKept dump.now kept.new }
+    ensures answered { IfOk result (λ answered. answered ≡ dump_query (dump_view dump.now)
         (dump_values (v.semiring_of name) name (v.rules_of (map rule_view rules.now) other)
         (dump_view dump.now) (state_view state)) (state_view state) (query_view query.now)) }
 {
     match asked(alloc, &dump.log, state, query) {
         Ok(select) => {
             let rules = rules_of(alloc, rules, other)?;
-            selected_values(alloc, dump, state, &select, name, rules)
+            selected_values(alloc, dump, state, &select, name, rules, kept)
         }
         Err(CheckStop::Refused(refusal)) => Ok(Answered::Refused(refusal)),
         Err(CheckStop::NoMemory) => Err(NoMemory),

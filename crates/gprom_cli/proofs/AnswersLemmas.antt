@@ -1,12 +1,10 @@
 -- Answers that are written one after another.
-use Rattle.std.proofs.Common.{◌≡◌, ℕ, Bool, true, false, ◌||◌, cond, List, [], ◌∷◌, ◌++◌, Result, Ok, Err, refl, sym, ap, ◌∙◌, subst, append_assoc}
+use Rattle.std.proofs.Common.{◌≡◌, ℕ, inl, Bool, true, false, ◌||◌, cond, List, [], ◌∷◌, ◌++◌, Result, Ok, Err, refl, sym, ap, ◌∙◌, subst, append_assoc}
 use Rattle.std.specs.List.{AllByRecursion, flat_map, list_any}
 use Rattle.std.specs.Result.{IsErrAnd}
 use Rattle.std.proofs.lemmas.List.{append-nil}
 use Rattle.gp_io.specs.declared.error.SinkStop.{SinkStop}
-use Rattle.gp_io.specs.Sink.{SinkState, appended, WritesPrefix}
-use Rattle.gp_io.specs.SinkSteps.{CountsFault}
-use Rattle.gp_io.proofs.SinkLemmas.{appended-append, appended-nothing, WritesPrefix-all, WritesPrefix-longer, WritesPrefix-then}
+use Rattle.gp_io.specs.Sink.{SinkState, after_failure, after_write}
 use Rattle.gp_syntax.specs.Lines.{script_lines}
 use Rattle.gp_grammar.specs.LineReading.{Fault}
 use Rattle.gp_grammar.specs.Reading.{question_of}
@@ -22,7 +20,11 @@ use Rattle.gp_ask.specs.Formats.{ExplainsIn, answers_in, asks_rows, text_in}
 use Rattle.gp_machine.specs.Entries.{Entry}
 use Rattle.gp_ask.specs.Questions.{answered, is_refused}
 use Rattle.gp_ask.specs.QuestionFiles.{answers_text, has_refused, line_answer_in, line_answer_text}
-use Rattle.gprom_cli.specs.Steps.{WritesAnswers}
+use Rattle.gprom_cli.specs.declared.status.Status.TheVariants as exit
+use Rattle.gprom_cli.specs.Call.{AreLines, IsAnswered, WritesOutput, all_written, some_written, write_failed}
+use Rattle.gprom_cli.specs.Steps.{WritesAnswers, stop_status}
+use Rattle.gprom_cli.proofs.LinesLemmas.{after-lines, answer-lines}
+use Rattle.gprom_cli.proofs.WritesLemmas.{after-nothing, unanswered}
 use Rattle.gp_base.proofs.SmallLemmas.{or_nothing}
 
 abbrev pub is_line_refused : Format → (y.Question → Answered) → ℕ × List ℕ → Bool
@@ -35,8 +37,8 @@ AreExplained entries lines = AllByRecursion (λ (line : ℕ × List ℕ). Explai
 -- the answers to the lines before were written, and the remaining ones decide the rest
 pub record IsProgress (format : Format) (answers : y.Question → Answered) (entries : List Entry) (questions : List ℕ) (lines : List (ℕ × List ℕ)) (refused : Bool) (old new : SinkState) : Type 0 where
   pub text : List ℕ
-  pub taken : new.taken ≡ appended old.taken text
-  pub faults : new.faults ≡ old.faults
+  pub are : AreLines text
+  pub grown : new ≡ after_write text old
   pub all : text ++ flat_map (line_answer_text format answers) lines ≡ answers_text format answers questions
   pub refusals : (refused || list_any (is_line_refused format answers) lines) ≡ has_refused format answers questions
   pub explained : ExplainsIn format (AreExplained entries lines) → ExplainsIn format (ExplainsQuestions entries questions)
@@ -55,13 +57,21 @@ or-again : (a b c : Bool) → ((a || b) || c) ≡ (a || (b || c))
 or-again true b c = refl
 or-again false b c = refl
 
+-- parts of a text, in order
+joined-behind : (first some rest later : List ℕ) → first ++ ((some ++ rest) ++ later) ≡ (first ++ some) ++ (rest ++ later)
+joined-behind first some rest later = ap (λ (t : List ℕ). first ++ t) (append_assoc some rest later) ∙ sym (append_assoc first some (rest ++ later))
+
 module _ (format : Format) (answers : y.Question → Answered) (entries : List Entry) (questions : List ℕ) (old new : SinkState) where
+  -- one write and another one
+  write-twice : (first second : List ℕ) → after_write second (after_write first old) ≡ after_write (first ++ second) old
+  write-twice first second = λ i. record { taken = append_assoc old.taken first second i; failed = old.failed }
+
   -- before the first line
   pub starts : (lines : List (ℕ × List ℕ)) → lines ≡ script_lines questions → IsProgress format answers entries questions lines false old old
   starts lines whole = record {
     text = [];
-    taken = sym (appended-nothing old.taken);
-    faults = refl;
+    are = inl refl;
+    grown = after-nothing old;
     all = ap (flat_map (line_answer_text format answers)) whole;
     refusals = ap (list_any (is_line_refused format answers)) whole;
     explained = λ are. subst (λ (all : List (ℕ × List ℕ)). ExplainsIn format (AreExplained entries all)) whole are;
@@ -71,13 +81,7 @@ module _ (format : Format) (answers : y.Question → Answered) (entries : List E
   pub ends : (refused : Bool) → IsProgress format answers entries questions [] refused old new → WritesAnswers (answers_text format answers questions) (has_refused format answers questions) old new (Ok refused)
   ends refused way =
       let whole : way.text ≡ answers_text format answers questions = sym (append-nil way.text) ∙ way.all in
-      let taken : new.taken ≡ appended old.taken (answers_text format answers questions) = way.taken ∙ ap (appended old.taken) whole in
-      record {
-        refused = sym (or_nothing refused) ∙ way.refusals;
-        complete = taken;
-        prefix = WritesPrefix-all (answers_text format answers questions) old.taken new.taken taken;
-        faults = way.faults;
-      }
+      record { refused = sym (or_nothing refused) ∙ way.refusals; written = way.grown ∙ ap (λ (text : List ℕ). after_write text old) whole }
 
   pub ends-explained : (refused : Bool) → IsProgress format answers entries questions [] refused old new → ExplainsIn format (ExplainsQuestions entries questions)
   ends-explained refused way = way.explained (none-explained format entries)
@@ -89,13 +93,17 @@ module _ (format : Format) (answers : y.Question → Answered) (entries : List E
     abbrev later_text : List ℕ
     later_text = flat_map (line_answer_text format answers) lines
 
+    -- all answers, by the parts of this one
+    whole-of : (way : IsProgress format answers entries questions (line ∷ lines) refused old new) (parts : List ℕ) → line_text ≡ parts → answers_text format answers questions ≡ way.text ++ (parts ++ later_text)
+    whole-of way parts split = sym way.all ∙ ap (λ (t : List ℕ). way.text ++ (t ++ later_text)) split
+
     -- one more line was answered
     pub goes_on : (one : Bool) → IsProgress format answers entries questions (line ∷ lines) refused old new → WritesAnswers line_text (is_line_refused format answers line) new newest (Ok one)
         → ExplainsIn format (ExplainsRead entries (question_of line.1)) → IsProgress format answers entries questions lines (refused || one) old newest
     goes_on one way wrote explains = record {
       text = way.text ++ line_text;
-      taken = wrote.complete ∙ ap (λ t. appended t line_text) way.taken ∙ appended-append old.taken way.text line_text;
-      faults = wrote.faults ∙ way.faults;
+      are = after-lines way.text line_text way.are (answer-lines format answers line);
+      grown = wrote.written ∙ ap (after_write line_text) way.grown ∙ write-twice way.text line_text;
       all = append_assoc way.text line_text later_text ∙ way.all;
       refusals =
           or-again refused one (list_any (is_line_refused format answers) lines)
@@ -103,18 +111,21 @@ module _ (format : Format) (answers : y.Question → Answered) (entries : List E
       explained = λ later. way.explained (both-explained format entries line lines explains later);
     }
 
-    -- the answer to a line was not written
+    -- the answer to a line was not written, or a part of its lines
+    stops-in : (stop : SinkStop) → IsProgress format answers entries questions (line ∷ lines) refused old new → WritesOutput line_text exit.Done new newest (stop_status stop)
+        → WritesOutput (answers_text format answers questions) exit.Done old newest (stop_status stop)
+    stops-in stop way (all_written all is) = absurd (unanswered stop (subst IsAnswered (sym is) tt))
+    stops-in stop way (some_written some rest split are grown memory) =
+        some_written (way.text ++ some) (rest ++ later_text) (whole-of way (some ++ rest) split ∙ joined-behind way.text some rest later_text) (after-lines way.text some way.are are)
+        (grown ∙ ap (after_write some) way.grown ∙ write-twice way.text some) memory
+    stops-in stop way (write_failed some next rest split are grown unwritten) =
+        write_failed (way.text ++ some) next (rest ++ later_text)
+        (whole-of way (some ++ (next ++ rest)) split ∙ joined-behind way.text some (next ++ rest) later_text ∙ ap (λ (t : List ℕ). (way.text ++ some) ++ t) (append_assoc next rest later_text))
+        (after-lines way.text some way.are are) (grown ∙ ap (λ (k : SinkState). after_failure next (after_write some k)) way.grown ∙ ap (after_failure next) (write-twice way.text some)) unwritten
+
     pub stops : (stop : SinkStop) → IsProgress format answers entries questions (line ∷ lines) refused old new → WritesAnswers line_text (is_line_refused format answers line) new newest (Err stop)
         → WritesAnswers (answers_text format answers questions) (has_refused format answers questions) old newest (Err stop)
-    stops stop way wrote = record {
-      refused = tt;
-      complete = tt;
-      prefix =
-          let some : WritesPrefix (way.text ++ line_text) old.taken newest.taken = WritesPrefix-then way.text line_text old.taken new.taken newest.taken way.taken wrote.prefix in
-          subst (λ (text : List ℕ). WritesPrefix text old.taken newest.taken) (append_assoc way.text line_text later_text ∙ way.all)
-          (WritesPrefix-longer (way.text ++ line_text) later_text old.taken newest.taken some);
-      faults = subst (λ (n : ℕ). CountsFault {T = Bool} (Err stop) n newest.faults) way.faults wrote.faults;
-    }
+    stops stop way wrote = record { refused = tt; written = stops-in stop way wrote.written }
 
     -- the same, where the error is handed on
     pub stops_with : (result : Result Bool SinkStop) (stop : SinkStop) → IsErrAnd result (λ other. other ≡ stop) → IsProgress format answers entries questions (line ∷ lines) refused old new

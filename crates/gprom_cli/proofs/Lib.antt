@@ -1,4 +1,3 @@
-pub mod ReadingLemmas
 pub mod WordsLemmas
 pub mod GeneratedLemmas
 pub mod RoundsLemmas
@@ -6,10 +5,13 @@ pub mod CountingLemmas
 pub mod RowCountLemmas
 pub mod SummaryLemmas
 pub mod WritesLemmas
+pub mod LinesLemmas
 pub mod AnswersLemmas
-pub mod StepsLemmas
 pub mod EngineLemmas
-pub mod FilesLemmas
 pub mod OutcomeLemmas
+pub mod StepsLemmas
+pub mod ToldLemmas
+pub mod EventLemmas
 pub mod PromisesLemmas
+pub mod OverFilesLemmas
 pub mod UnchangedLemmas

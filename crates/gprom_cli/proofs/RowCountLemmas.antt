@@ -37,13 +37,13 @@ use Rattle.gp_whatif.specs.Changed.{changed}
 use Rattle.gp_dump.specs.Dumps.{Dump}
 use Rattle.gp_dump.proofs.RowPlaces.{sorted_length}
 use Rattle.gp_history.specs.Agreement.{occurrence}
-use Rattle.gp_monomials.specs.Listing as listing
-use Rattle.gp_monomials.specs.declared.listed.Listed.{Listed}
+use Rattle.gp_semiring.specs.Listing as listing
+use Rattle.gp_semiring.specs.declared.listed.Listed.{Listed}
 use Rattle.gp_semiring.specs.Witnesses.{sets_text}
-use Rattle.gp_valuation.specs.declared.rules.Rule.{Rule}
-use Rattle.gp_valuation.specs.Rules.{first_outside}
-use Rattle.gp_values.specs.DistinctRows.{distinct_rows}
-use Rattle.gp_values.specs.ValueAnswers.{all_elements, history_refusal, limited, value_answer, values_of}
+use Rattle.gp_semiring.specs.declared.rules.Rule.{Rule}
+use Rattle.gp_semiring.specs.Rules.{first_outside}
+use Rattle.gp_history.specs.DistinctRows.{distinct_rows}
+use Rattle.gp_history.specs.ValueAnswers.{all_elements, history_refusal, limited, value_answer, values_of}
 use Rattle.gp_history.specs.Agreement.{agree}
 use Rattle.gp_ask.specs.declared.answered.Answered.{Answered}
 use Rattle.gp_ask.specs.Answers.{answer_to, versions_answer}

@@ -19,7 +19,7 @@ use Rattle.gp_dump.specs.Views.{tables_view}
 use Rattle.gp_dump.proofs.LawLemmas.{read, written-well-formed}
 use Rattle.gp_ask.specs.Answers.{answer_to, held_to}
 use Rattle.gprom_cli.specs.declared.summary.Summary.{Summary}
-use Rattle.gprom_cli.specs.Outcomes.{script_dump}
+use Rattle.gprom_cli.specs.Steps.{script_dump}
 use Rattle.gprom_cli.specs.Generated.{Pieces, closing_lines, generated_questions, generated_script, line_text, lines_text, replay_line}
 use Rattle.gprom_cli.specs.Summary.{committed_in, committed_up_to, has_committed, is_lost, lost_in, lost_up_to, questions_about}
 use Rattle.gprom_cli.specs.Summaries.{rows_in, summary_by, summary_of, summary_with}

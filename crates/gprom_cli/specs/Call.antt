@@ -1,10 +1,10 @@
 -- Part of the statement: one call of the program, what it comes to, and how that is written.
-use Rattle.std.specs.Prelude.{◌≡◌, ◌≢◌, ℕ, ◌≤◌, ◌<◌, ◌⊎◌, Bool, List, [], ◌∷◌, length, Option, Some, None, Ok, IfSome, IsSomeAnd, if◌then◌else◌, nat_lt, codes}
+use Rattle.std.specs.Prelude.{◌≡◌, ℕ, ◌+◌, ◌≤◌, ◌<◌, ◌⊎◌, Bool, List, [], ◌∷◌, ◌++◌, length, Option, Some, None, Ok, if◌then◌else◌, nat_lt, codes}
 use Rattle.std.specs.Fmt.{decimal}
 use Rattle.std.specs.List.{concat}
 use Rattle.gp_base.specs.Annotated.{plain}
-use Rattle.gp_io.specs.Shelf.{ShelfState, content, ReportsMiss, ReportsReadFault, ReplacesFile, ReportsReplaceFault}
-use Rattle.gp_io.specs.Sink.{SinkState, appended, WritesPrefix, Increased}
+use Rattle.gp_io.specs.Events.{Event, Read, Missing, Unreadable, Replaced, NotReplaced}
+use Rattle.gp_io.specs.Sink.{SinkState, after_failure, after_write}
 use Rattle.gp_script.specs.History.{IsScript, ReadLine, has_refusal, last_state, replies_text, replies_to}
 use Rattle.gp_script.specs.declared.script.TheConstants.{MAX_SCRIPT_LENGTH}
 use Rattle.gp_dump.specs.declared.dump.TheConstants.{MAX_DUMP_LENGTH}
@@ -24,13 +24,12 @@ use Rattle.gprom_cli.specs.declared.summary.Summary.{Summary}
 use Rattle.gprom_cli.specs.Args.{Command, Run, Ask, Generate, Load}
 use Rattle.gprom_cli.specs.Summary.{IsSummary, summary_text}
 
--- One call: what it was asked to do, and what it found and left. The shelf and the sink are as contracts see them.
+-- One call: what it was asked to do, and what it has done.
 pub record Call : Type 0 where
   -- the command of the arguments, if they are valid
   pub command : Option Command
-  -- the shelf of files before and after the call
-  pub shelf : ShelfState
-  pub shelf_after : ShelfState
+  -- what the shelf of files has done in the call
+  pub events : List Event
   -- the output before and after the call
   pub sink : SinkState
   pub sink_after : SinkState
@@ -43,26 +42,30 @@ pub record Call : Type 0 where
 abbrev pub IsOrFails : Status → Status → Type 0
 IsOrFails expected actual = (actual ≡ expected) ⊎ ((actual ≡ exit.Unwritten) ⊎ (actual ≡ exit.OutOfMemory))
 
--- the output has all of the text, and no new write error
-abbrev pub WritesAll : List ℕ → SinkState → SinkState → Type 0
-WritesAll text before after = after ≡ record { taken = appended before.taken text; faults = before.faults }
-
--- How a text is written under a status. If the output has no new write error and memory did not run out, it has all of the text, and the status is
--- the expected one. Otherwise it has a prefix, and the status is `Unwritten` or `OutOfMemory`.
-pub record WritesOutput (text : List ℕ) (expected : Status) (before after : SinkState) (actual : Status) : Type 0 where
-  pub status : IsOrFails expected actual
-  pub prefix : WritesPrefix text before.taken after.taken
-  pub complete : WritesAll text before after
-      ⊎ ((actual ≡ exit.OutOfMemory) ⊎ ((actual ≡ exit.Unwritten) × Increased before.faults after.faults))
-  -- `Unwritten` means a write error, unless it is expected
-  pub unwritten : actual ≡ exit.Unwritten → expected ≢ exit.Unwritten → Increased before.faults after.faults
-  pub out_of_memory : actual ≡ exit.OutOfMemory → after.faults ≡ before.faults
-
--- ---- texts
-
 -- the byte that ends a line
 abbrev pub newline : List ℕ
 newline = 10 ∷ []
+
+-- the text is whole lines, or empty
+abbrev pub AreLines : List ℕ → Type 0
+AreLines text = (text ≡ []) ⊎ ((front : List ℕ) × (text ≡ front ++ newline))
+
+-- How a text is written under a status. A reader is never shown a part of a line, unless the system took a part of the write that failed, which is the last one.
+pub data WritesOutput (text : List ℕ) (expected : Status) (before after : SinkState) (actual : Status) : Type 0 where
+  -- all of it, and the status is the expected one
+  all_written : after ≡ after_write text before → actual ≡ expected → WritesOutput text expected before after actual
+  -- whole lines of it, and then memory ran out
+  some_written : (lines rest : List ℕ) → text ≡ lines ++ rest → AreLines lines → after ≡ after_write lines before → actual ≡ exit.OutOfMemory
+      → WritesOutput text expected before after actual
+  -- whole lines of it, and then the write of the next ones failed
+  write_failed : (lines next rest : List ℕ) → text ≡ lines ++ (next ++ rest) → AreLines lines → after ≡ after_failure next (after_write lines before) → actual ≡ exit.Unwritten
+      → WritesOutput text expected before after actual
+
+-- a write failed
+abbrev pub HasFailed : SinkState → SinkState → Type 0
+HasFailed before after = (bytes : List ℕ) × (after.failed ≡ before.failed ++ bytes ∷ [])
+
+-- ---- texts
 
 -- a message about a file
 abbrev pub message : List ℕ → List ℕ → List ℕ
@@ -93,20 +96,6 @@ answered_status refused = if refused then exit.Refused else exit.Done
 abbrev pub history_dump : List ReadLine → List ℕ
 history_dump lines = written_text (dump_of (last_state plain lines))
 
--- ---- files
-
--- where the shelf knows its files, the file of this name has these bytes
-abbrev pub HasContent : List ℕ → ShelfState → List ℕ → Type 0
-HasContent name shelf bytes = IfSome shelf.holds (λ files. content name files ≡ Some bytes)
-
--- a file of this name was read: where the shelf knows its files, it exists, and is not longer than this
-abbrev pub IsRead : List ℕ → ℕ → ShelfState → Type 0
-IsRead name most shelf = IfSome shelf.holds (λ files. IsSomeAnd (content name files) (λ bytes. length bytes ≤ most))
-
--- and it is longer
-abbrev pub IsLonger : List ℕ → ℕ → ShelfState → Type 0
-IsLonger name most shelf = IfSome shelf.holds (λ files. IsSomeAnd (content name files) (λ bytes. most < length bytes))
-
 -- every line was answered
 abbrev pub IsAnswered : Status → Type 0
 IsAnswered exit.Done = Unit {0}
@@ -115,65 +104,68 @@ IsAnswered status = ⊥
 
 -- ---- what a call comes to
 
--- A file that is read by a command, and how long it may be. `ask` and `export` read the questions after the dump.
-pub data IsReadBy (shelf : ShelfState) : Command → List ℕ → ℕ → Type 0 where
-  reads_script : (script dump : List ℕ) → IsReadBy shelf (Run script dump) script MAX_SCRIPT_LENGTH
-  reads_dump : (format : Format) (dump questions : List ℕ) → IsReadBy shelf (Ask format dump questions) dump MAX_DUMP_LENGTH
-  reads_questions : (format : Format) (dump questions : List ℕ) → IsRead dump MAX_DUMP_LENGTH shelf → IsReadBy shelf (Ask format dump questions) questions MAX_SCRIPT_LENGTH
-  reads_sheet : (csv table script : List ℕ) → IsReadBy shelf (Load csv table script) csv MAX_SHEET_LENGTH
+-- These bytes were read of a file that may have so many: one more was asked for, which shows that a file is too long.
+abbrev pub read_of : List ℕ → ℕ → List ℕ → Event
+read_of name most bytes = Read name (most + 1) bytes
 
--- a file of this name that may be so long was read, and has these bytes
-pub record ReadsFile (name : List ℕ) (most : ℕ) (shelf : ShelfState) (bytes : List ℕ) : Type 0 where
-  pub short : length bytes ≤ most
-  pub content : HasContent name shelf bytes
+-- A file that is read by a command, after these events, and how long it may be. `ask` and `export` read the questions after the dump.
+pub data IsReadBy : Command → List Event → List ℕ → ℕ → Type 0 where
+  reads_script : (script dump : List ℕ) → IsReadBy (Run script dump) [] script MAX_SCRIPT_LENGTH
+  reads_dump : (format : Format) (dump questions : List ℕ) → IsReadBy (Ask format dump questions) [] dump MAX_DUMP_LENGTH
+  reads_questions : (format : Format) (dump questions bytes : List ℕ) → length bytes ≤ MAX_DUMP_LENGTH
+      → IsReadBy (Ask format dump questions) (read_of dump MAX_DUMP_LENGTH bytes ∷ []) questions MAX_SCRIPT_LENGTH
+  reads_sheet : (csv table script : List ℕ) → IsReadBy (Load csv table script) [] csv MAX_SHEET_LENGTH
 
--- a script was read and run: these are its lines
-pub record RunsScript (name : List ℕ) (shelf : ShelfState) (lines : List ReadLine) : Type 0 where
-  pub bytes : List ℕ
-  pub read : ReadsFile name MAX_SCRIPT_LENGTH shelf bytes
+-- a script that is not too long was run: these are its lines
+pub record RunsScript (bytes : List ℕ) (lines : List ReadLine) : Type 0 where
+  pub short : length bytes ≤ MAX_SCRIPT_LENGTH
   pub are : IsScript bytes lines
 
-module _ (call : Call) where
-  abbrev pub LeavesShelf : Type 0
-  LeavesShelf = call.shelf_after ≡ call.shelf
-
-  -- What a call comes to, unless memory runs out: the text that it writes, and its status. The first step that fails decides.
-  pub data ComesTo : Option Command → List ℕ → Status → Type 0 where
+module _ (ended : Status) where
+  -- What a call comes to that has done this, unless memory runs out: the text that it writes, and its status. The first step that fails decides.
+  pub data ComesTo : Option Command → List Event → List ℕ → Status → Type 0 where
     -- the arguments are invalid
-    usage : LeavesShelf → ComesTo None usage_text exit.Usage
+    usage : ComesTo None [] usage_text exit.Usage
     -- a file does not exist, cannot be read, or is too long
-    absent : (command : Command) (name : List ℕ) (most : ℕ) → IsReadBy call.shelf command name most → ReportsMiss name call.shelf call.shelf_after
-        → ComesTo (Some command) (message (codes "absent") name) exit.Absent
-    unreadable : (command : Command) (name : List ℕ) (most : ℕ) → IsReadBy call.shelf command name most → ReportsReadFault name call.shelf call.shelf_after
-        → ComesTo (Some command) (message (codes "cannot read") name) exit.Unreadable
-    too_long : (command : Command) (name : List ℕ) (most : ℕ) → IsReadBy call.shelf command name most → LeavesShelf → IsLonger name most call.shelf
-        → ComesTo (Some command) (message (codes "too long") name) exit.TooLong
+    absent : (command : Command) (before : List Event) (name : List ℕ) (most : ℕ) → IsReadBy command before name most
+        → ComesTo (Some command) (before ++ Missing name ∷ []) (message (codes "absent") name) exit.Absent
+    unreadable : (command : Command) (before : List Event) (name : List ℕ) (most : ℕ) → IsReadBy command before name most
+        → ComesTo (Some command) (before ++ Unreadable name ∷ []) (message (codes "cannot read") name) exit.Unreadable
+    too_long : (command : Command) (before : List Event) (name : List ℕ) (most : ℕ) (bytes : List ℕ) → IsReadBy command before name most → most < length bytes
+        → ComesTo (Some command) (before ++ read_of name most bytes ∷ []) (message (codes "too long") name) exit.TooLong
     -- `run`: the dump of the script would be too long, is not replaced, or is, and then the replies are due
-    long_dump : (script dump : List ℕ) (lines : List ReadLine) → RunsScript script call.shelf lines → LeavesShelf → MAX_DUMP_LENGTH < length (history_dump lines)
-        → ComesTo (Some (Run script dump)) (message (codes "too long") dump) exit.TooLong
-    lost_dump : (script dump : List ℕ) (lines : List ReadLine) → RunsScript script call.shelf lines → length (history_dump lines) ≤ MAX_DUMP_LENGTH
-        → ReportsReplaceFault dump call.shelf call.shelf_after → ComesTo (Some (Run script dump)) (message (codes "cannot write") dump) exit.Unwritten
-    replied : (script dump : List ℕ) (lines : List ReadLine) → RunsScript script call.shelf lines → length (history_dump lines) ≤ MAX_DUMP_LENGTH
-        → ReplacesFile dump (history_dump lines) call.shelf call.shelf_after
-        → ComesTo (Some (Run script dump)) (replies_text (replies_to lines)) (answered_status (has_refusal (replies_to lines)))
+    long_dump : (script dump bytes : List ℕ) (lines : List ReadLine) → RunsScript bytes lines → MAX_DUMP_LENGTH < length (history_dump lines)
+        → ComesTo (Some (Run script dump)) (read_of script MAX_SCRIPT_LENGTH bytes ∷ []) (message (codes "too long") dump) exit.TooLong
+    lost_dump : (script dump bytes : List ℕ) (lines : List ReadLine) → RunsScript bytes lines → length (history_dump lines) ≤ MAX_DUMP_LENGTH
+        → ComesTo (Some (Run script dump)) (read_of script MAX_SCRIPT_LENGTH bytes ∷ NotReplaced dump (history_dump lines) ∷ []) (message (codes "cannot write") dump) exit.Unwritten
+    replied : (script dump bytes : List ℕ) (lines : List ReadLine) → RunsScript bytes lines → length (history_dump lines) ≤ MAX_DUMP_LENGTH
+        → ComesTo (Some (Run script dump)) (read_of script MAX_SCRIPT_LENGTH bytes ∷ Replaced dump (history_dump lines) ∷ [])
+        (replies_text (replies_to lines)) (answered_status (has_refusal (replies_to lines)))
     -- `ask` and `export`: the dump has a fault, or the questions are answered. Where they all are, each program that is printed explains its query.
-    damaged : (format : Format) (dump questions bytes : List ℕ) (f line : ℕ) → LeavesShelf → ReadsFile dump MAX_DUMP_LENGTH call.shelf bytes
-        → IsRead questions MAX_SCRIPT_LENGTH call.shelf → FirstFault bytes f line → ComesTo (Some (Ask format dump questions)) (damage_message f line) exit.Damaged
-    answered : (format : Format) (dump questions bytes asked : List ℕ) (contents : Dump) (lines : List ReadQuestion) → LeavesShelf → ReadsFile dump MAX_DUMP_LENGTH call.shelf bytes
-        → ReadsFile questions MAX_SCRIPT_LENGTH call.shelf asked → WellFormed bytes contents → AreQuestions asked lines
-        → (IsAnswered call.status → ExplainsIn format (ExplainsLines contents.entries lines))
-        → ComesTo (Some (Ask format dump questions)) (answer_texts format (answer_to contents) lines) (answered_status (refuses_some format (answer_to contents) lines))
+    damaged : (format : Format) (dump questions bytes asked : List ℕ) (f line : ℕ) → length bytes ≤ MAX_DUMP_LENGTH → length asked ≤ MAX_SCRIPT_LENGTH → FirstFault bytes f line
+        → ComesTo (Some (Ask format dump questions)) (read_of dump MAX_DUMP_LENGTH bytes ∷ read_of questions MAX_SCRIPT_LENGTH asked ∷ []) (damage_message f line) exit.Damaged
+    answered : (format : Format) (dump questions bytes asked : List ℕ) (contents : Dump) (lines : List ReadQuestion) → length bytes ≤ MAX_DUMP_LENGTH → length asked ≤ MAX_SCRIPT_LENGTH
+        → WellFormed bytes contents → AreQuestions asked lines → (IsAnswered ended → ExplainsIn format (ExplainsLines contents.entries lines))
+        → ComesTo (Some (Ask format dump questions)) (read_of dump MAX_DUMP_LENGTH bytes ∷ read_of questions MAX_SCRIPT_LENGTH asked ∷ [])
+        (answer_texts format (answer_to contents) lines) (answered_status (refuses_some format (answer_to contents) lines))
     -- `gen`: the summary
-    summarized : (rounds : ℕ) (summary : Summary) → LeavesShelf → IsSummary rounds summary → ComesTo (Some (Generate rounds)) (summary_text summary) exit.Done
+    summarized : (rounds : ℕ) (summary : Summary) → IsSummary rounds summary → ComesTo (Some (Generate rounds)) [] (summary_text summary) exit.Done
     -- `load`: the sheet has a fault; or its script is not replaced, or is, and loads its rows
-    faulty_sheet : (csv table script bytes : List ℕ) (c number : ℕ) → LeavesShelf → ReadsFile csv MAX_SHEET_LENGTH call.shelf bytes → loaded_of table bytes ≡ refuse c number
-        → ComesTo (Some (Load csv table script)) (sheet_message c number) exit.SheetRefused
-    lost_script : (csv table script bytes : List ℕ) (made : List ℕ × ℕ) → ReadsFile csv MAX_SHEET_LENGTH call.shelf bytes → loaded_of table bytes ≡ Ok made
-        → ReportsReplaceFault script call.shelf call.shelf_after → ComesTo (Some (Load csv table script)) (message (codes "cannot write") script) exit.Unwritten
-    loaded : (csv table script bytes text : List ℕ) (rows : ℕ) → ReadsFile csv MAX_SHEET_LENGTH call.shelf bytes → loaded_of table bytes ≡ Ok (text, rows) → LoadsText table bytes text
-        → ReplacesFile script text call.shelf call.shelf_after → ComesTo (Some (Load csv table script)) (loaded_message rows) exit.Done
+    faulty_sheet : (csv table script bytes : List ℕ) (c number : ℕ) → length bytes ≤ MAX_SHEET_LENGTH → loaded_of table bytes ≡ refuse c number
+        → ComesTo (Some (Load csv table script)) (read_of csv MAX_SHEET_LENGTH bytes ∷ []) (sheet_message c number) exit.SheetRefused
+    lost_script : (csv table script bytes text : List ℕ) (rows : ℕ) → length bytes ≤ MAX_SHEET_LENGTH → loaded_of table bytes ≡ Ok (text, rows)
+        → ComesTo (Some (Load csv table script)) (read_of csv MAX_SHEET_LENGTH bytes ∷ NotReplaced script text ∷ []) (message (codes "cannot write") script) exit.Unwritten
+    loaded : (csv table script bytes text : List ℕ) (rows : ℕ) → length bytes ≤ MAX_SHEET_LENGTH → loaded_of table bytes ≡ Ok (text, rows) → LoadsText table bytes text
+        → ComesTo (Some (Load csv table script)) (read_of csv MAX_SHEET_LENGTH bytes ∷ Replaced script text ∷ []) (loaded_message rows) exit.Done
 
-  -- The arguments, the files and what the shelf reported determine what the call comes to, and that what is written; where memory ran out before, nothing is.
-  pub data HasOutcome : Type 0 where
-    comes_to : (text : List ℕ) (status : Status) → ComesTo call.command text status → WritesOutput text status call.sink call.sink_after call.status → HasOutcome
-    out_of_memory : LeavesShelf → call.sink_after ≡ call.sink → call.status ≡ exit.OutOfMemory → HasOutcome
+-- what a command has read where memory runs out: nothing, or files that are not too long
+pub data HasRead : Option Command → List Event → Type 0 where
+  nothing : (command : Option Command) → HasRead command []
+  files : (command : Command) (before : List Event) (name : List ℕ) (most : ℕ) (bytes : List ℕ) → IsReadBy command before name most → length bytes ≤ most
+      → HasRead (Some command) (before ++ read_of name most bytes ∷ [])
+
+-- The arguments and what the shelf has done determine what the call comes to, and that what is written. Where memory ran out before, nothing is written
+-- and nothing replaced.
+pub data HasOutcome (call : Call) : Type 0 where
+  comes_to : (text : List ℕ) (status : Status) → ComesTo call.status call.command call.events text status → WritesOutput text status call.sink call.sink_after call.status → HasOutcome call
+  out_of_memory : HasRead call.command call.events → call.sink_after ≡ call.sink → call.status ≡ exit.OutOfMemory → HasOutcome call

@@ -6,6 +6,6 @@ pub mod Generated
 pub mod Summary
 pub mod Summaries
 pub mod Call
-pub mod Outcomes
 pub mod Steps
 pub mod Promises
+pub mod OverFiles

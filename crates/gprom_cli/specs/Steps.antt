@@ -1,17 +1,32 @@
 -- Machinery: what the steps of a call come to.
-use Rattle.std.specs.Prelude.{◌≡◌, ℕ, ◌≤◌, Bool, List, length, Some, Result, IfOk, OnOk}
-use Rattle.gp_io.specs.Shelf.{ShelfState, ReportsMiss, ReportsReadFault}
-use Rattle.gp_io.specs.Sink.{SinkState, appended, WritesPrefix}
-use Rattle.gp_io.specs.SinkSteps.{CountsFault}
+use Rattle.std.specs.Prelude.{◌≡◌, ℕ, ◌≤◌, ◌<◌, Bool, List, [], ◌∷◌, ◌++◌, length, Option, Result, Ok, Err, IfOk, codes}
+use Rattle.gp_base.specs.Annotated.{plain}
+use Rattle.gp_io.specs.Events.{Event, Missing, Unreadable}
+use Rattle.gp_io.specs.Sink.{SinkState, after_write}
 use Rattle.gp_io.specs.declared.error.SinkStop.{SinkStop}
 use Rattle.gp_io.specs.declared.error.SinkStop.TheVariants.{Failed, NoMemory}
-use Rattle.gp_dump.specs.Dumps.{WellFormed}
-use Rattle.gp_dump.specs.Verdicts.{first_fault}
+use Rattle.gp_script.specs.Scripts.{final_state}
+use Rattle.gp_dump.specs.Dumps.{Dump, WellFormed, dump_of, written_text}
+use Rattle.gp_dump.specs.Rules.{FirstFault}
 use Rattle.gp_ask.specs.declared.format.Format.{Format}
+use Rattle.gp_ask.specs.Answers.{answer_to}
+use Rattle.gp_ask.specs.Explained.{ExplainsLines}
+use Rattle.gp_ask.specs.Formats.{ExplainsIn}
+use Rattle.gp_ask.specs.Questions.{AreQuestions, ReadQuestion, answer_texts, refuses_some}
 use Rattle.gprom_cli.specs.declared.status.Status.{Status}
 use Rattle.gprom_cli.specs.declared.status.Status.TheVariants as exit
-use Rattle.gprom_cli.specs.Call.{HasContent, IsLonger}
-use Rattle.gprom_cli.specs.Outcomes.{Outcome, Usage, Absent, Unreadable, TooLong, NotReplaced, Replied, Damaged, Answered, Summarized, SheetRefused, Loaded, OutOfMemory, ExplainsOutcome, Writes}
+use Rattle.gprom_cli.specs.Args.{Command}
+use Rattle.gprom_cli.specs.Call.{HasOutcome, IsAnswered, WritesOutput, answered_status, damage_message, message, read_of}
+
+-- the text of the dump of a script
+abbrev pub script_dump : List ℕ → List ℕ
+script_dump script = written_text (dump_of (final_state plain script))
+
+-- a call that begins where the shelf has done the first events, and ends where it has done the second
+pub record Ends (command : Option Command) (before after : List Event) (sink sink_after : SinkState) (status : Status) : Type 0 where
+  pub events : List Event
+  pub grown : after ≡ before ++ events
+  pub outcome : HasOutcome (record { command = command; events = events; sink = sink; sink_after = sink_after; status = status })
 
 -- ---- writing
 
@@ -20,61 +35,40 @@ abbrev pub stop_status : SinkStop → Status
 stop_status Failed = exit.Unwritten
 stop_status NoMemory = exit.OutOfMemory
 
+-- how a text is written, by the result: all of it, or whole lines before an error
+abbrev pub WritesText : {T : Type 0} → List ℕ → SinkState → SinkState → Result T SinkStop → Type 0
+WritesText text before after (Ok value) = after ≡ after_write text before
+WritesText text before after (Err stop) = WritesOutput text exit.Done before after (stop_status stop)
+
 -- ---- reading a file
 
 -- the whole file was read
-pub record Reads (name : List ℕ) (most : ℕ) (before after : ShelfState) (bytes : List ℕ) : Type 0 where
-  pub unchanged : after ≡ before
-  pub content : HasContent name before bytes
+pub record Reads (name : List ℕ) (most : ℕ) (before after : List Event) (bytes : List ℕ) : Type 0 where
+  pub grown : after ≡ before ++ read_of name most bytes ∷ []
   pub short : length bytes ≤ most
 
--- the outcome of a call that ends since a file was not read
-abbrev pub ReadEnds : List ℕ → ℕ → ShelfState → ShelfState → Outcome → Type 0
-ReadEnds file most before after (Absent name) = (name ≡ file) × ReportsMiss file before after
-ReadEnds file most before after (Unreadable name) = (name ≡ file) × ReportsReadFault file before after
-ReadEnds file most before after (TooLong name) = (after ≡ before) × (name ≡ file) × IsLonger file most before
-ReadEnds file most before after OutOfMemory = after ≡ before
-ReadEnds file most before after Usage = ⊥
-ReadEnds file most before after (NotReplaced name) = ⊥
-ReadEnds file most before after (Replied script) = ⊥
-ReadEnds file most before after (Damaged f line) = ⊥
-ReadEnds file most before after (Answered format dump questions) = ⊥
-ReadEnds file most before after (Summarized rounds) = ⊥
-ReadEnds file most before after (SheetRefused c number) = ⊥
-ReadEnds file most before after (Loaded text rows) = ⊥
-
 -- the file was not read, and this was written
-pub record StopsReading (file : List ℕ) (most : ℕ) (before after : ShelfState) (sink sink_after : SinkState) (status : Status) : Type 0 where
-  pub outcome : Outcome
-  pub is : ReadEnds file most before after outcome
-  pub writes : Writes outcome sink sink_after status
+pub data StopsReading (name : List ℕ) (most : ℕ) (before after : List Event) (sink sink_after : SinkState) (status : Status) : Type 0 where
+  is_absent : after ≡ before ++ Missing name ∷ [] → WritesOutput (message (codes "absent") name) exit.Absent sink sink_after status
+      → StopsReading name most before after sink sink_after status
+  is_unreadable : after ≡ before ++ Unreadable name ∷ [] → WritesOutput (message (codes "cannot read") name) exit.Unreadable sink sink_after status
+      → StopsReading name most before after sink sink_after status
+  is_long : (bytes : List ℕ) → after ≡ before ++ read_of name most bytes ∷ [] → most < length bytes → WritesOutput (message (codes "too long") name) exit.TooLong sink sink_after status
+      → StopsReading name most before after sink sink_after status
+  no_memory : after ≡ before → sink_after ≡ sink → status ≡ exit.OutOfMemory → StopsReading name most before after sink sink_after status
 
 -- ---- answering questions
 
--- how the answer to a question, or those to several, are written: all, or a prefix before an error; and whether one of them was refused
+-- how the answer to a question, or those to several, are written: all, or whole lines before an error; and whether one of them was refused
 pub record WritesAnswers (text : List ℕ) (refuses : Bool) (before after : SinkState) (result : Result Bool SinkStop) : Type 0 where
   pub refused : IfOk result (λ refused. refused ≡ refuses)
-  pub complete : OnOk result (after.taken ≡ appended before.taken text)
-  pub prefix : WritesPrefix text before.taken after.taken
-  pub faults : CountsFault result before.faults after.faults
+  pub written : WritesText text before after result
 
--- the outcome of a call that has read a dump and questions
-abbrev pub AnswerEnds : Format → List ℕ → List ℕ → Outcome → Type 0
-AnswerEnds format bytes asked (Damaged f line) = first_fault bytes ≡ Some (f, line)
-AnswerEnds format bytes asked (Answered chosen dump questions) = (chosen ≡ format) × (questions ≡ asked) × WellFormed bytes dump
-AnswerEnds format bytes asked OutOfMemory = Unit {0}
-AnswerEnds format bytes asked Usage = ⊥
-AnswerEnds format bytes asked (Absent name) = ⊥
-AnswerEnds format bytes asked (Unreadable name) = ⊥
-AnswerEnds format bytes asked (TooLong name) = ⊥
-AnswerEnds format bytes asked (NotReplaced name) = ⊥
-AnswerEnds format bytes asked (Replied script) = ⊥
-AnswerEnds format bytes asked (Summarized rounds) = ⊥
-AnswerEnds format bytes asked (SheetRefused c number) = ⊥
-AnswerEnds format bytes asked (Loaded text rows) = ⊥
-
-pub record Answers (format : Format) (bytes asked : List ℕ) (sink sink_after : SinkState) (status : Status) : Type 0 where
-  pub outcome : Outcome
-  pub is : AnswerEnds format bytes asked outcome
-  pub writes : Writes outcome sink sink_after status
-  pub explains : ExplainsOutcome status outcome
+-- what becomes of a call that has read a dump and questions
+pub data Answers (format : Format) (bytes asked : List ℕ) (sink sink_after : SinkState) (status : Status) : Type 0 where
+  is_damaged : (f line : ℕ) → FirstFault bytes f line → WritesOutput (damage_message f line) exit.Damaged sink sink_after status → Answers format bytes asked sink sink_after status
+  is_answered : (contents : Dump) (lines : List ReadQuestion) → WellFormed bytes contents → AreQuestions asked lines
+      → (IsAnswered status → ExplainsIn format (ExplainsLines contents.entries lines))
+      → WritesOutput (answer_texts format (answer_to contents) lines) (answered_status (refuses_some format (answer_to contents) lines)) sink sink_after status
+      → Answers format bytes asked sink sink_after status
+  no_answer : sink_after ≡ sink → status ≡ exit.OutOfMemory → Answers format bytes asked sink sink_after status

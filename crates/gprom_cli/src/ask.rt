@@ -1,6 +1,7 @@
 //! `ask DUMP QUESTIONS` and `export DUMP QUESTIONS`: answers questions from a dump, as text or as CSV.
 
-ghost use Rattle.std.specs.Prelude.{◌≡◌, ◌≤◌, ℕ, List, IfOk, length, Some, true};
+ghost use Rattle.std.specs.Prelude.{◌≡◌, ◌≤◌, ℕ, List, [], ◌∷◌, ◌++◌, IfOk, length, Some, true};
+ghost use Rattle.gp_io.specs.Events.{Event};
 ghost use Rattle.gp_check.specs.Valid.{tables_are_valid};
 ghost use Rattle.gp_log.specs.LogFacts.{tables_in};
 ghost use Rattle.gp_grammar.specs.Reading.{question_of};
@@ -8,19 +9,19 @@ ghost use Rattle.gp_ask.specs.Answers.{answer_to};
 ghost use Rattle.gp_ask.specs.Explained.{ExplainsRead};
 ghost use Rattle.gp_ask.specs.QuestionFiles.{ExplainsQuestions};
 ghost use Rattle.gp_ask.specs.Formats.{ExplainsIn};
+ghost use Rattle.gp_ask.specs.Keeping.{AreKept};
 ghost use Rattle.gp_ask.specs.Questions.{is_refused};
 ghost use Rattle.gp_ask.specs.QuestionFiles.{answers_text, has_refused, line_answer_in, line_answer_text};
 ghost use Rattle.gp_dump.specs.Dumps.{IsDump};
 ghost use Rattle.gp_dump.specs.Views.{dump_view};
 ghost use Rattle.gprom_cli.specs.Args.{Ask};
-ghost use Rattle.gprom_cli.specs.Call.{HasContent, IsAnswered, WritesOutput, answered_status};
-ghost use Rattle.gprom_cli.specs.Outcomes.{HasOutcome};
-ghost use Rattle.gprom_cli.specs.Steps.{Answers, WritesAnswers};
+ghost use Rattle.gprom_cli.specs.Call.{IsAnswered, WritesOutput, answered_status, read_of};
+ghost use Rattle.gprom_cli.specs.Steps.{Answers, Ends, WritesAnswers};
 
 use crate::output::{stop_status, write_damage};
 use crate::read::read_file;
 use crate::status::Status;
-use gp_ask::{Format, answer_line_in, write_answer_in};
+use gp_ask::{Format, KeptAnnotations, answer_line_in, write_answer_in};
 use gp_base::NoMemory;
 use gp_dump::{Dump, DumpStop, MAX_DUMP_LENGTH, read_dump};
 use gp_io::{Shelf, Sink, SinkStop};
@@ -42,9 +43,12 @@ fn answered(
     dump: &Dump,
     number: u32,
     bytes: &[u8],
+    kept: &mut KeptAnnotations,
 ) -> Result<LineAnswer, NoMemory>
     requires rules { IsDump (dump_view dump.now) }
     requires valid { tables_are_valid (tables_in (dump_view dump.now).entries) ≡ true }
+    requires kept { AreKept dump.now kept.old }
+    ensures kept { AreKept dump.now kept.new }
     ensures text { IfOk result (λ answer. answer.text.items
         ≡ line_answer_text format (answer_to (dump_view dump.now)) (number, bytes.now)) }
     ensures refused { IfOk result (λ answer. answer.refused
@@ -52,11 +56,21 @@ fn answered(
     ensures explained { IfOk result (λ answer.
         ExplainsIn format (ExplainsRead (dump_view dump.now).entries (question_of bytes.now))) }
 {
-    let answer = answer_line_in(alloc, format, dump, bytes)?;
+    let answer = answer_line_in(alloc, format, dump, bytes, kept)?;
     let refused = answer.is_refused();
     let mut text = Vec::new(alloc);
     write_answer_in(alloc, format, number, answer, &mut text)?;
     Ok(LineAnswer { text, refused })
+}
+
+/// Writes the answer to a line, which is whole lines, at once. Gives whether the question was refused.
+fn write_answered<K: Sink>(answer: &LineAnswer, out: &mut K) -> Result<bool, SinkStop>
+    ensures { WritesAnswers answer.now.text.items answer.now.refused (K.state out.old) (K.state out.new) result }
+{
+    match out.write_all(&answer.text) {
+        Ok(()) => Ok(answer.refused),
+        Err(stop) => Err(stop),
+    }
 }
 
 /// Answers a line of questions and writes the answer. Gives whether the question was refused.
@@ -66,10 +80,13 @@ fn write_line<K: Sink>(
     dump: &Dump,
     number: u32,
     bytes: &[u8],
+    kept: &mut KeptAnnotations,
     out: &mut K,
 ) -> Result<bool, SinkStop>
     requires rules { IsDump (dump_view dump.now) }
     requires valid { tables_are_valid (tables_in (dump_view dump.now).entries) ≡ true }
+    requires kept { AreKept dump.now kept.old }
+    ensures kept { AreKept dump.now kept.new }
     ensures written { WritesAnswers
         (line_answer_text format (answer_to (dump_view dump.now)) (number, bytes.now))
         (is_refused (line_answer_in format (answer_to (dump_view dump.now)) (number, bytes.now)))
@@ -77,11 +94,8 @@ fn write_line<K: Sink>(
     ensures explained { IfOk result (λ refused.
         ExplainsIn format (ExplainsRead (dump_view dump.now).entries (question_of bytes.now))) }
 {
-    match answered(alloc, format, dump, number, bytes) {
-        Ok(answer) => match out.write_all(&answer.text) {
-            Ok(()) => Ok(answer.refused),
-            Err(stop) => Err(stop),
-        },
+    match answered(alloc, format, dump, number, bytes, kept) {
+        Ok(answer) => write_answered(&answer, out),
         Err(NoMemory) => Err(SinkStop::NoMemory),
     }
 }
@@ -105,9 +119,11 @@ fn write_lines<K: Sink>(
         ExplainsIn format (ExplainsQuestions (dump_view dump.now).entries questions.now)) }
 {
     let mut refused = false;
+    let mut kept = KeptAnnotations::new();
     let mut rest = lines(questions);
     while let Some(line) = rest.next() {
-        refused = refused | write_line(alloc, format, dump, line.number, line.bytes, out)?;
+        refused = refused
+            | write_line(alloc, format, dump, line.number, line.bytes, &mut kept, out)?;
     }
     Ok(refused)
 }
@@ -165,15 +181,9 @@ fn ask_bytes<H: Shelf, K: Sink>(
     out: &mut K,
 ) -> Status
     requires { length bytes.now ≤ MAX_DUMP_LENGTH }
-    ensures { (dump : List ℕ) → HasContent dump (H.state shelf.old) bytes.now
-        → HasOutcome (record {
-          command = Some (Ask format dump questions.now);
-          shelf = H.state shelf.old;
-          shelf_after = H.state shelf.new;
-          sink = K.state out.old;
-          sink_after = K.state out.new;
-          status = result;
-        }) }
+    ensures { (dump : List ℕ) (before : List Event)
+        → H.events shelf.old ≡ before ++ read_of dump MAX_DUMP_LENGTH bytes.now ∷ []
+        → Ends (Some (Ask format dump questions.now)) before (H.events shelf.new) (K.state out.old) (K.state out.new) result }
 {
     match read_file(alloc, questions, MAX_SCRIPT_LENGTH, shelf, out) {
         Ok(asked) => answer(alloc, format, bytes, &asked, out),
@@ -190,14 +200,8 @@ pub(crate) fn ask<H: Shelf, K: Sink>(
     shelf: &mut H,
     out: &mut K,
 ) -> Status
-    ensures { HasOutcome (record {
-      command = Some (Ask format dump.now questions.now);
-      shelf = H.state shelf.old;
-      shelf_after = H.state shelf.new;
-      sink = K.state out.old;
-      sink_after = K.state out.new;
-      status = result;
-    }) }
+    ensures { Ends (Some (Ask format dump.now questions.now)) (H.events shelf.old) (H.events shelf.new)
+        (K.state out.old) (K.state out.new) result }
 {
     match read_file(alloc, dump, MAX_DUMP_LENGTH, shelf, out) {
         Ok(bytes) => ask_bytes(alloc, format, &bytes, questions, shelf, out),

@@ -1,6 +1,7 @@
 //! The whole call: from the arguments of the program to the bytes written and the exit status.
 
-ghost use Rattle.std.specs.Prelude.{◌≡◌, map, string_bytes};
+ghost use Rattle.std.specs.Prelude.{◌≡◌, List, ◌++◌, map, string_bytes};
+ghost use Rattle.gp_io.specs.Events.{Event};
 ghost use Rattle.gprom_cli.specs.Args.{command_of};
 ghost use Rattle.gprom_cli.specs.Promises.{Promises};
 ghost use Rattle.gprom_cli.specs.Status.{number_of, status_of};
@@ -28,14 +29,14 @@ use std::alloc::Global;
 /// | 9 | the sheet has a fault |
 pub fn gprom<H: Shelf, K: Sink>(alloc: Global, args: &[String], shelf: &mut H, out: &mut K) -> u8
     ensures number { result ≡ number_of (status_of result) }
-    ensures promises { Promises (record {
-      command = command_of (map string_bytes args.now);
-      shelf = H.state shelf.old;
-      shelf_after = H.state shelf.new;
-      sink = K.state out.old;
-      sink_after = K.state out.new;
-      status = status_of result;
-    }) }
+    ensures promises { (events : List Event) × (H.events shelf.new ≡ H.events shelf.old ++ events)
+        × Promises (record {
+          command = command_of (map string_bytes args.now);
+          events = events;
+          sink = K.state out.old;
+          sink_after = K.state out.new;
+          status = status_of result;
+        }) }
 {
     // What `ask` promises of dumps, and of the dumps of scripts, rests on these laws. The calls do nothing.
     scripts_have_well_formed_dumps();

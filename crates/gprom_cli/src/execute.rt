@@ -3,7 +3,7 @@
 ghost use Rattle.std.specs.Prelude.{IfSome, map, string_bytes};
 ghost use Rattle.std.specs.Option.{option_map};
 ghost use Rattle.gprom_cli.specs.Args.{command_of};
-ghost use Rattle.gprom_cli.specs.Outcomes.{HasOutcome};
+ghost use Rattle.gprom_cli.specs.Steps.{Ends};
 ghost use Rattle.gprom_cli.specs.Views.{HasFewRounds, command_view};
 
 use crate::args::{Command, parse};
@@ -29,14 +29,8 @@ fn execute_command<H: Shelf, K: Sink>(
     out: &mut K,
 ) -> Status
     requires { IfSome command HasFewRounds }
-    ensures { HasOutcome (record {
-      command = option_map command_view command.entry;
-      shelf = H.state shelf.old;
-      shelf_after = H.state shelf.new;
-      sink = K.state out.old;
-      sink_after = K.state out.new;
-      status = result;
-    }) }
+    ensures { Ends (option_map command_view command.entry) (H.events shelf.old) (H.events shelf.new)
+        (K.state out.old) (K.state out.new) result }
 {
     match command {
         Some(Command::Run { script, dump }) => run(alloc, script, dump, shelf, out),
@@ -60,14 +54,8 @@ pub(crate) fn execute<H: Shelf, K: Sink>(
     shelf: &mut H,
     out: &mut K,
 ) -> Status
-    ensures { HasOutcome (record {
-      command = command_of (map string_bytes args.now);
-      shelf = H.state shelf.old;
-      shelf_after = H.state shelf.new;
-      sink = K.state out.old;
-      sink_after = K.state out.new;
-      status = result;
-    }) }
+    ensures { Ends (command_of (map string_bytes args.now)) (H.events shelf.old) (H.events shelf.new)
+        (K.state out.old) (K.state out.new) result }
 {
     match parse(alloc, args) {
         Ok(command) => execute_command(alloc, command, shelf, out),

@@ -1,18 +1,26 @@
-//! Laws of dumps and of the dumps of scripts. Each function does nothing: its postconditions are the laws, and it cites laws of the crates below.
+//! Laws of dumps, of the dumps of scripts, and of calls over files in memory. Each function does nothing: its postconditions are the laws, and it cites laws of the crates below.
 
-ghost use Rattle.std.specs.Prelude.{◌≡◌, ◌≤◌, ℕ, List, None, length};
+ghost use Rattle.std.specs.Prelude.{◌≡◌, ◌≤◌, ℕ, List, ◌++◌, None, length};
 ghost use Rattle.gp_base.specs.Annotated.{monomials, plain};
+ghost use Rattle.gp_io.specs.Contents.{contents_of};
+ghost use Rattle.gp_io.specs.MemoryFiles.{calm_files, mem_files};
+ghost use Rattle.gp_io.specs.declared.calm.CalmShelf.{CalmShelf};
+ghost use Rattle.gp_io.specs.declared.mem.MemShelf.{MemShelf};
 ghost use Rattle.gp_script.specs.Scripts.{final_state};
 ghost use Rattle.gp_dump.specs.Dumps.{Dump, IsDump, dump_of};
 ghost use Rattle.gp_ask.specs.declared.format.Format.{Format};
 ghost use Rattle.gp_ask.specs.Answers.{answer_to, held_to, remade_to};
 ghost use Rattle.gp_ask.specs.Hypothetical.{remaking_refusal, replayed_dump};
 ghost use Rattle.gp_ask.specs.QuestionFiles.{answers_text, has_refused};
+ghost use Rattle.gprom_cli.specs.Call.{Call};
+ghost use Rattle.gprom_cli.specs.OverFiles.{OverFiles};
+ghost use Rattle.gprom_cli.specs.Promises.{Promises};
 ghost use Rattle.gprom_cli.specs.Summaries.{rows_in};
 
 use gp_ask::{dumps_answer_as_changed_histories, histories_answer_as_their_dumps};
 use gp_base::Monomial;
 use gp_dump::dumps_of_histories_are_well_formed;
+use gp_io::{CalmShelf, MemShelf, Shelf, events_lead_to_files};
 use gp_script::{MAX_SCRIPT_LENGTH, lines_of_scripts_are_script_lines, scripts_lead_to_histories};
 use gp_whatif::histories_are_replayed_as_they_were;
 
@@ -55,4 +63,17 @@ pub fn dumps_answer_for_changed_histories()
         ≡ has_refused format (remade_to dump) questions }
 {
     dumps_answer_as_changed_histories()
+}
+
+/// What a call promises of what the shelf has done, it promises of the files, where the shelf knows them: which files were read, and what they are
+/// after the call.
+pub fn calls_keep_promises_over_files()
+    ensures calm { (call : Call) (before after : CalmShelf) → Promises call
+        → ⟦<CalmShelf as Shelf>⟧.events after ≡ ⟦<CalmShelf as Shelf>⟧.events before ++ call.events
+        → OverFiles call (contents_of (calm_files before)) (contents_of (calm_files after)) }
+    ensures mem { (call : Call) (before after : MemShelf) → Promises call
+        → ⟦<MemShelf as Shelf>⟧.events after ≡ ⟦<MemShelf as Shelf>⟧.events before ++ call.events
+        → OverFiles call (contents_of (mem_files before)) (contents_of (mem_files after)) }
+{
+    events_lead_to_files()
 }

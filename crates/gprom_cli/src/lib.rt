@@ -2,9 +2,9 @@
 //!
 //! In reading order: `status.rt` (how a call ends), `words.rt` and `args.rt` (what the arguments ask for), `output.rt` and `read.rt` (what is
 //! written and read), `run.rt`, `ask.rt` and `load.rt` (the commands over files), `generated.rt` and `summary.rt` (scripts and
-//! questions that are generated, and what they come to), `laws.rt` (what dumps answer, and those of scripts),
+//! questions that are generated, and what they come to), `laws.rt` (what dumps answer, and those of scripts; calls over files in memory),
 //! `execute.rt` (what the arguments ask for is done), `call.rt` (the call). The contract of [`gprom`] is `Promises` in `specs/Promises.antt`. In `specs/`,
-//! `Call` says what a call comes to, by the lines that its files are read as, and `Outcomes` how the parts of the code say the same.
+//! `Call` says what a call comes to, by what the shelf has done and the lines that its files are read as, and `Steps` how the parts of the code say the same.
 //!
 //! ```
 //! let mut shelf = DiskShelf::new(rt, rt.alloc());
@@ -29,7 +29,10 @@ mod words;
 
 pub use call::gprom;
 pub use generated::{MAX_ROUNDS, generate_questions, generate_script};
-pub use laws::{dumps_answer_for_changed_histories, scripts_have_well_formed_dumps};
+pub use laws::{
+    calls_keep_promises_over_files, dumps_answer_for_changed_histories,
+    scripts_have_well_formed_dumps,
+};
 pub use load::MAX_SHEET_LENGTH;
 pub use status::Status;
 pub use summary::Summary;

@@ -1,10 +1,11 @@
 //! `load CSV TABLE SCRIPT`: replaces the script by one that loads a sheet, then writes the number of its rows.
 
-ghost use Rattle.std.specs.Prelude.{◌≡◌, ◌≤◌, ℕ, List, Ok, length, Some};
+ghost use Rattle.std.specs.Prelude.{◌≡◌, ◌≤◌, ℕ, List, [], ◌∷◌, ◌++◌, Ok, length, Some};
+ghost use Rattle.gp_io.specs.Events.{Event};
 ghost use Rattle.gp_load.specs.Loading.{LoadsText, loaded_of};
 ghost use Rattle.gprom_cli.specs.Args.{Load};
-ghost use Rattle.gprom_cli.specs.Call.{HasContent};
-ghost use Rattle.gprom_cli.specs.Outcomes.{HasOutcome};
+ghost use Rattle.gprom_cli.specs.Call.{read_of};
+ghost use Rattle.gprom_cli.specs.Steps.{Ends};
 
 use crate::output::{write_loaded, write_message, write_sheet_fault};
 use crate::read::read_file;
@@ -31,15 +32,9 @@ fn write_results<H: Shelf, K: Sink>(
     requires short { length bytes.now ≤ MAX_SHEET_LENGTH }
     requires exact { loaded_of table.now bytes.now ≡ Ok (made.now.text.items, made.now.rows) }
     requires loads { LoadsText table.now bytes.now made.now.text.items }
-    ensures { (name : List ℕ) → HasContent name (H.state shelf.old) bytes.now
-        → HasOutcome (record {
-          command = Some (Load name table.now script.now);
-          shelf = H.state shelf.old;
-          shelf_after = H.state shelf.new;
-          sink = K.state out.old;
-          sink_after = K.state out.new;
-          status = result;
-        }) }
+    ensures { (name : List ℕ) (before : List Event)
+        → H.events shelf.old ≡ before ++ read_of name MAX_SHEET_LENGTH bytes.now ∷ []
+        → Ends (Some (Load name table.now script.now)) before (H.events shelf.new) (K.state out.old) (K.state out.new) result }
 {
     match shelf.replace(script, &made.text) {
         Ok(()) => write_loaded(alloc, out, made.rows),
@@ -65,15 +60,9 @@ fn load_bytes<H: Shelf, K: Sink>(
     out: &mut K,
 ) -> Status
     requires { length bytes.now ≤ MAX_SHEET_LENGTH }
-    ensures { (name : List ℕ) → HasContent name (H.state shelf.old) bytes.now
-        → HasOutcome (record {
-          command = Some (Load name table.now script.now);
-          shelf = H.state shelf.old;
-          shelf_after = H.state shelf.new;
-          sink = K.state out.old;
-          sink_after = K.state out.new;
-          status = result;
-        }) }
+    ensures { (name : List ℕ) (before : List Event)
+        → H.events shelf.old ≡ before ++ read_of name MAX_SHEET_LENGTH bytes.now ∷ []
+        → Ends (Some (Load name table.now script.now)) before (H.events shelf.new) (K.state out.old) (K.state out.new) result }
 {
     match load_script(alloc, table, bytes) {
         Ok(made) => write_results(alloc, bytes, table, &made, script, shelf, out),
@@ -91,14 +80,8 @@ pub(crate) fn load<H: Shelf, K: Sink>(
     shelf: &mut H,
     out: &mut K,
 ) -> Status
-    ensures { HasOutcome (record {
-      command = Some (Load csv.now table.now script.now);
-      shelf = H.state shelf.old;
-      shelf_after = H.state shelf.new;
-      sink = K.state out.old;
-      sink_after = K.state out.new;
-      status = result;
-    }) }
+    ensures { Ends (Some (Load csv.now table.now script.now)) (H.events shelf.old) (H.events shelf.new)
+        (K.state out.old) (K.state out.new) result }
 {
     match read_file(alloc, csv, MAX_SHEET_LENGTH, shelf, out) {
         Ok(bytes) => load_bytes(alloc, &bytes, table, script, shelf, out),

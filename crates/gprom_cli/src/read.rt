@@ -1,7 +1,7 @@
 //! Reading the files of a call.
 
-ghost use Rattle.std.specs.Prelude.{◌≡◌, ◌<◌, ◌^◌, ℕ, IfOk, IfErr, OnOk};
-ghost use Rattle.gp_io.specs.Shelf.{ShelfState};
+ghost use Rattle.std.specs.Prelude.{◌≡◌, ◌<◌, ◌^◌, ℕ, List, IfOk, IfErr, OnOk};
+ghost use Rattle.gp_io.specs.Events.{Event};
 ghost use Rattle.gp_io.specs.ShelfSteps.{ReadStops};
 ghost use Rattle.gprom_cli.specs.Steps.{Reads, StopsReading};
 
@@ -12,7 +12,7 @@ use std::alloc::Global;
 
 /// Writes why a file was not read, and returns the status of the call.
 fn write_stop<K: Sink>(alloc: Global, out: &mut K, name: &str, stop: ShelfStop) -> Status
-    ensures { (most : ℕ) (before after : ShelfState) → ReadStops name.now before after stop
+    ensures { (most : ℕ) (before after : List Event) → ReadStops name.now before after stop
         → StopsReading name.now most before after (K.state out.old) (K.state out.new) result }
 {
     match stop {
@@ -33,10 +33,10 @@ pub(crate) fn read_file<H: Shelf, K: Sink>(
 ) -> Result<Vec<u8>, Status>
     requires { most < 2 ^ 32 }
     ensures read { IfOk result (λ bytes.
-        Reads name.now most (H.state shelf.old) (H.state shelf.new) bytes.items) }
+        Reads name.now most (H.events shelf.old) (H.events shelf.new) bytes.items) }
     ensures unwritten { OnOk result (K.state out.new ≡ K.state out.old) }
     ensures stopped { IfErr result (λ status. StopsReading name.now most
-        (H.state shelf.old) (H.state shelf.new) (K.state out.old) (K.state out.new) status) }
+        (H.events shelf.old) (H.events shelf.new) (K.state out.old) (K.state out.new) status) }
 {
     // One byte more than the longest file shows that a file is too long, without reading all of it.
     match shelf.read(name, most + 1) {

@@ -1,11 +1,12 @@
 //! `run SCRIPT DUMP`: runs a script, replaces the dump, then writes the replies.
 
-ghost use Rattle.std.specs.Prelude.{◌≡◌, ◌≤◌, ℕ, List, IfOk, length, Some};
+ghost use Rattle.std.specs.Prelude.{◌≡◌, ◌≤◌, ℕ, List, [], ◌∷◌, ◌++◌, IfOk, length, Some};
+ghost use Rattle.gp_io.specs.Events.{Event};
 ghost use Rattle.gp_script.specs.History.{has_refusal, replies_text};
 ghost use Rattle.gp_script.specs.Scripts.{replies_of};
 ghost use Rattle.gprom_cli.specs.Args.{Run};
-ghost use Rattle.gprom_cli.specs.Call.{HasContent};
-ghost use Rattle.gprom_cli.specs.Outcomes.{HasOutcome, script_dump};
+ghost use Rattle.gprom_cli.specs.Call.{read_of};
+ghost use Rattle.gprom_cli.specs.Steps.{Ends, script_dump};
 
 use crate::output::{write_message, write_output};
 use crate::read::read_file;
@@ -59,15 +60,9 @@ fn write_results<H: Shelf, K: Sink>(
     requires replies { made.now.replies.items ≡ replies_text (replies_of script.now) }
     requires refused { made.now.refused ≡ has_refusal (replies_of script.now) }
     requires dump { made.now.dump.items ≡ script_dump script.now }
-    ensures { (name : List ℕ) → HasContent name (H.state shelf.old) script.now
-        → HasOutcome (record {
-          command = Some (Run name dump.now);
-          shelf = H.state shelf.old;
-          shelf_after = H.state shelf.new;
-          sink = K.state out.old;
-          sink_after = K.state out.new;
-          status = result;
-        }) }
+    ensures { (name : List ℕ) (before : List Event)
+        → H.events shelf.old ≡ before ++ read_of name MAX_SCRIPT_LENGTH script.now ∷ []
+        → Ends (Some (Run name dump.now)) before (H.events shelf.new) (K.state out.old) (K.state out.new) result }
 {
     if made.dump.len() > MAX_DUMP_LENGTH {
         return write_message(alloc, out, "too long", dump, Status::TooLong);
@@ -95,15 +90,9 @@ fn run_bytes<H: Shelf, K: Sink>(
     out: &mut K,
 ) -> Status
     requires { length script.now ≤ MAX_SCRIPT_LENGTH }
-    ensures { (name : List ℕ) → HasContent name (H.state shelf.old) script.now
-        → HasOutcome (record {
-          command = Some (Run name dump.now);
-          shelf = H.state shelf.old;
-          shelf_after = H.state shelf.new;
-          sink = K.state out.old;
-          sink_after = K.state out.new;
-          status = result;
-        }) }
+    ensures { (name : List ℕ) (before : List Event)
+        → H.events shelf.old ≡ before ++ read_of name MAX_SCRIPT_LENGTH script.now ∷ []
+        → Ends (Some (Run name dump.now)) before (H.events shelf.new) (K.state out.old) (K.state out.new) result }
 {
     match run_all(alloc, script) {
         Ok(made) => write_results(alloc, script, &made, dump, shelf, out),
@@ -119,14 +108,8 @@ pub(crate) fn run<H: Shelf, K: Sink>(
     shelf: &mut H,
     out: &mut K,
 ) -> Status
-    ensures { HasOutcome (record {
-      command = Some (Run script.now dump.now);
-      shelf = H.state shelf.old;
-      shelf_after = H.state shelf.new;
-      sink = K.state out.old;
-      sink_after = K.state out.new;
-      status = result;
-    }) }
+    ensures { Ends (Some (Run script.now dump.now)) (H.events shelf.old) (H.events shelf.new)
+        (K.state out.old) (K.state out.new) result }
 {
     match read_file(alloc, script, MAX_SCRIPT_LENGTH, shelf, out) {
         Ok(bytes) => run_bytes(alloc, &bytes, dump, shelf, out),

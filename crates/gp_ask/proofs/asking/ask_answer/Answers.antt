@@ -27,7 +27,7 @@ returns-in-Value-clause-answered c =
     c.as_slice.ensures
     (IfOk-weaker c.value_answer.result (λ (a : Answered). a ≡ dump_query dump (dump_values (semiring_of name) name (rules_of own other) dump point) point query)
     (λ (a : Answered). a ≡ answer_to dump (y.ask (y.value name own other) point query))
-    (λ a is. is ∙ asked_values name own other dump point query) c.value_answer.ensures))
+    (λ a is. is ∙ asked_values name own other dump point query) c.value_answer.ensures.answered))
 
 pub returns-in-Without-clause-answered : goal.returns-in-Without-clause-answered
 returns-in-Without-clause-answered c =
@@ -37,4 +37,32 @@ returns-in-Without-clause-answered c =
     subst (λ (how : How). IfOk c.remaining_answer.result (λ answered. answered ≡ answer_to dump (y.ask (how_view how) point query)))
     (sym c.in-Without.is)
     (subst (λ (rules : List Rule). IfOk c.remaining_answer.result (λ answered. answered ≡ answer_to dump (y.ask (y.without (map rule_view rules)) point query)))
-    c.as_slice-in-Without.ensures c.remaining_answer.ensures)
+    c.as_slice-in-Without.ensures c.remaining_answer.ensures.answered)
+
+pub returns-in-Provenance-clause-kept : goal.returns-in-Provenance-clause-kept
+returns-in-Provenance-clause-kept c =
+    let old = c.requires.kept in
+    record {
+      monomials = c.provenance_answer.ensures.kept;
+      count = old.count;
+      truth = old.truth;
+      cost = old.cost;
+      level = old.level;
+      polynomial = old.polynomial;
+      witness = old.witness;
+      without = old.without;
+    }
+
+pub returns-in-Without-clause-kept : goal.returns-in-Without-clause-kept
+returns-in-Without-clause-kept c =
+    let old = c.requires.kept in
+    record {
+      monomials = old.monomials;
+      count = old.count;
+      truth = old.truth;
+      cost = old.cost;
+      level = old.level;
+      polynomial = old.polynomial;
+      witness = old.witness;
+      without = c.remaining_answer.ensures.kept;
+    }

@@ -1,7 +1,6 @@
-use Rattle.std.proofs.Common.{Global, List, Vec, ap, map, ◌∙◌, ◌≡◌}
+use Rattle.std.proofs.Common.{Global, Vec, ap, map, ◌∙◌, ◌≡◌}
 use Rattle.std.proofs.lemmas.Result.{IfOk-weaker}
 use Rattle.gp_algebra.specs.Views.{select_view}
-use Rattle.gp_kexec.specs.declared.env.KRow.{KRow}
 use Rattle.gp_kexec.specs.Rows.{pair_view}
 use Rattle.gp_dump.specs.Views.{dump_view}
 use Rattle.gp_syntax.specs.Views.{rule_view, state_view}
@@ -11,26 +10,22 @@ use Rattle.gp_ask.specs.Asking.{dump_remaining}
 use Rattle.gp_ask.specs.Counted.{counted_answer}
 use Rattle.gp_ask.specs.Remaining.{pattern_of}
 use Rattle.gp_ask.proofs.DeletionLemmas.{none_remain, rows_remain}
-use Rattle.gp_ask.proofs.ProvenanceLemmas.{sound-versions}
 use Rattle.gp_ask.proofs.deletion.selected_remaining.Goals as goal
 
-pub values-requires-clause-sound : goal.values-requires-clause-sound
-values-requires-clause-sound c =
-    sound-versions c.args.dump.now c.as_slice.result.now c.as_slice.ensures (state_view c.args.state) (select_view c.args.select.now) c.requires.rules
-
-pub returns-in-Ok : goal.returns-in-Ok
-returns-in-Ok c =
+pub returns-in-Ok-clause-answered : goal.returns-in-Ok-clause-answered
+returns-in-Ok-clause-answered c =
+    let dump = dump_view c.args.dump.now in
     let patterns = map rule_view c.args.rules.now in
     IfOk-weaker c.counted_rows.result (λ (a : Answered). a ≡ counted_answer (map pair_view c.in-Ok.rows.items))
-    (λ (a : Answered). a ≡ dump_remaining (map pattern_of patterns) (dump_view c.args.dump.now) (state_view c.args.state) (select_view c.args.select.now))
+    (λ (a : Answered). a ≡ dump_remaining (map pattern_of patterns) dump (state_view c.args.state) (select_view c.args.select.now))
     (λ a is.
     is
-    ∙ rows_remain c.args.dump.now c.as_slice.result.now c.as_slice.ensures patterns c.in_ok-valuation.valuation (c.in_ok-valuation.ensures ∙ c.in_ok-patterns.ensures) (state_view c.args.state) (select_view c.args.select.now)
-    (λ (rows : Vec _ Global). map pair_view rows.items) c.in-Ok.rows c.in-Ok.ensures)
+    ∙ rows_remain dump patterns (c.in_ok-patterns.patterns.rules, c.in_ok-patterns.patterns.other) c.in_ok-patterns.ensures (state_view c.args.state) (select_view c.args.select.now)
+    (λ (rows : Vec _ Global). map pair_view rows.items) c.in-Ok.rows c.in-Ok.ensures.answer)
     c.counted_rows.ensures
 
-pub returns-in-Err-Refused : goal.returns-in-Err-Refused
-returns-in-Err-Refused c =
+pub returns-in-Err-Refused-clause-answered : goal.returns-in-Err-Refused-clause-answered
+returns-in-Err-Refused-clause-answered c =
     ap Refused c.in-Err-Refused.refusal-is
-    ∙ none_remain c.args.dump.now c.as_slice.result.now c.as_slice.ensures (map rule_view c.args.rules.now) c.in_ok-valuation.valuation (c.in_ok-valuation.ensures ∙ c.in_ok-patterns.ensures) (state_view c.args.state) (select_view c.args.select.now)
-    (λ (rows : Vec _ Global). map pair_view rows.items) c.in-Err-Refused.refusal (rw c.in-Err-Refused.field-0-is at c.in-Err-Refused.ensures)
+    ∙ none_remain (dump_view c.args.dump.now) (map rule_view c.args.rules.now) (c.in_ok-patterns.patterns.rules, c.in_ok-patterns.patterns.other) c.in_ok-patterns.ensures (state_view c.args.state) (select_view c.args.select.now)
+    (λ (rows : Vec _ Global). map pair_view rows.items) c.in-Err-Refused.refusal (rw c.in-Err-Refused.field-0-is at c.in-Err-Refused.ensures.answer)

@@ -9,4 +9,4 @@ returns-in-Csv-clause-explained c =
     unexplained c.exported.result c.args.format (ExplainsQuestion (dump_view c.args.dump.now).entries (question_view c.args.question.now)) c.in-Csv.is
 
 pub returns-in-Text-clause-answered : goal.returns-in-Text-clause-answered
-returns-in-Text-clause-answered c = rw c.in-Text.is c.answer.ensures.answered
+returns-in-Text-clause-answered c = rw c.in-Text.is c.answer_from.ensures.answered

@@ -20,6 +20,9 @@ ask_answer-requires-clause-rules c =
     subst (λ (own : List Versions). IsAnswerable (dump_in (log_view c.args.log.entries) (tables_view own))) (sym c.from_vec-versions.ensures)
     (replay_answerable (log_view c.args.log.entries) c.requires.replayable c.in-Ok.versions.items c.in-Ok.ensures.made)
 
+pub ask_answer-requires-clause-kept : goal.ask_answer-requires-clause-kept
+ask_answer-requires-clause-kept c = c.new-kept.ensures _
+
 pub returns-in-Ok : goal.returns-in-Ok
 returns-in-Ok c =
     let entries = log_view c.args.log.entries in

@@ -1,6 +1,6 @@
 use Rattle.gp_history.specs.Agreement.{agree}
 use Rattle.gp_log.specs.Parameters.{parameters}
-use Rattle.gp_valuation.specs.Values.{token_value}
+use Rattle.gp_semiring.specs.Values.{token_value}
 use Rattle.gp_ask.proofs.ValueLemmas.{token-in}
 use Rattle.gp_ask.proofs.laws.rules_give_the_values_of_the_history.Goals as goal
 

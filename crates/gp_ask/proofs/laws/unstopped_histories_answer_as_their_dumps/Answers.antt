@@ -8,7 +8,7 @@ use Rattle.gp_log.specs.Parameters.{parameters}
 use Rattle.gp_machine.specs.HistorySpans.{state_spans}
 use Rattle.gp_machine.specs.Unstopped.{IsUnstopped}
 use Rattle.gp_machine.proofs.AskedLemmas.{asked}
-use Rattle.gp_values.proofs.HeldLemmas.{log_refuses}
+use Rattle.gp_history.proofs.HeldLemmas.{log_refuses}
 use Rattle.gp_versions.specs.declared.span.Span.{Span}
 use Rattle.gp_ask.specs.Asking.{spans_at}
 use Rattle.gp_ask.proofs.HeldLemmas as held

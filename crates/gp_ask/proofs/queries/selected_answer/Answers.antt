@@ -10,8 +10,8 @@ use Rattle.gp_machine.specs.Questions.{log_refusal}
 use Rattle.gp_reenact.specs.Backends.{IsGivenOver, RefusedBy}
 use Rattle.gp_reenact.specs.Reenacting.{transaction_at}
 use Rattle.gp_reenact.specs.Programs.{merged_at}
-use Rattle.gp_travel.specs.Encoding.{encoded}
-use Rattle.gp_travel.specs.Travel.{as_of}
+use Rattle.gp_reenact.specs.Encoding.{encoded}
+use Rattle.gp_reenact.specs.Travel.{as_of}
 use Rattle.gp_dump.specs.Views.{dump_view}
 use Rattle.gp_ask.specs.declared.answered.Answered.{Answered}
 use Rattle.gp_ask.specs.declared.answered.Answered.TheVariants.{Rows}

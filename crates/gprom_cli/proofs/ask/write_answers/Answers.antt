@@ -4,7 +4,7 @@ use Rattle.gp_ask.specs.QuestionFiles.{answers_text, has_refused}
 use Rattle.gp_dump.specs.Views.{dump_view}
 use Rattle.gprom_cli.specs.declared.status.Status.{Status}
 use Rattle.gprom_cli.specs.Call.{IsAnswered, WritesOutput, answered_status}
-use Rattle.gprom_cli.proofs.WritesLemmas.{unanswered, written}
+use Rattle.gprom_cli.proofs.WritesLemmas.{unanswered, written-parts}
 use Rattle.gprom_cli.proofs.ask.write_answers.Goals as goal
 
 pub returns-in-Ok-clause-written : goal.returns-in-Ok-clause-written
@@ -16,7 +16,7 @@ returns-in-Ok-clause-written g c =
     let new = g.K.Sink.state c.write_lines.new.out in
     let wrote = c.in-Ok.ensures.written in
     subst (λ (s : Status). WritesOutput text status old new s) (sym (c.answered.ensures ∙ ap answered_status wrote.refused))
-    (written (Ok c.in-Ok.refused) text status old new wrote.complete wrote.prefix wrote.faults)
+    (written-parts (Ok c.in-Ok.refused) text status old new wrote.written)
 
 pub returns-in-Err-clause-written : goal.returns-in-Err-clause-written
 returns-in-Err-clause-written g c =
@@ -27,7 +27,7 @@ returns-in-Err-clause-written g c =
     let new = g.K.Sink.state c.write_lines.new.out in
     let wrote = c.in-Err.ensures.written in
     subst (λ (s : Status). WritesOutput text status old new s) (sym c.stop_status.ensures)
-    (written {T = Bool} (Err c.in-Err.stop) text status old new wrote.complete wrote.prefix wrote.faults)
+    (written-parts {T = Bool} (Err c.in-Err.stop) text status old new wrote.written)
 
 pub returns-in-Err-clause-explained : goal.returns-in-Err-clause-explained
 returns-in-Err-clause-explained g c = λ answered. absurd (unanswered c.in-Err.stop (subst IsAnswered c.stop_status.ensures answered))

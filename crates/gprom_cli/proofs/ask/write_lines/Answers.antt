@@ -7,7 +7,10 @@ use Rattle.gprom_cli.proofs.ask.write_lines.Goals as goal
 pub loop-line-init : goal.loop-line-init
 loop-line-init g c =
     let sink = g.K.Sink.state c.args.out.now in
-    starts c.args.format (answer_to (dump_view c.args.dump.now)) (dump_view c.args.dump.now).entries c.args.questions.now sink sink c.lines-rest.result c.lines-rest.ensures.lines
+    record {
+      progress = starts c.args.format (answer_to (dump_view c.args.dump.now)) (dump_view c.args.dump.now).entries c.args.questions.now sink sink c.lines-rest.result c.lines-rest.ensures.lines;
+      kept = c.new-kept.ensures c.args.dump.now;
+    }
 
 pub loop-line-preserved : goal.loop-line-preserved
 loop-line-preserved g c =
@@ -15,9 +18,13 @@ loop-line-preserved g c =
     let old = g.K.Sink.state c.args.out.now in
     let new = g.K.Sink.state c.loop-line.out in
     let line = c.in-Some.line in
-    let way = subst (λ (lines : List (ℕ × List ℕ)). IsProgress c.args.format answers (dump_view c.args.dump.now).entries c.args.questions.now lines c.loop-line.refused old new) c.in-Some.ensures.steps c.loop-line.invariant in
-    goes_on c.args.format answers (dump_view c.args.dump.now).entries c.args.questions.now old new (line.number, line.bytes.now) c.next.new.self c.loop-line.refused (g.K.Sink.state c.write_line.new.out)
-    c.in_ok-refused.field-0 way c.in_ok-refused.ensures.written c.in_ok-refused.ensures.explained
+    let way = subst (λ (lines : List (ℕ × List ℕ)). IsProgress c.args.format answers (dump_view c.args.dump.now).entries c.args.questions.now lines c.loop-line.refused old new) c.in-Some.ensures.steps c.loop-line.invariant.progress in
+    record {
+      progress =
+          goes_on c.args.format answers (dump_view c.args.dump.now).entries c.args.questions.now old new (line.number, line.bytes.now) c.next.new.self c.loop-line.refused (g.K.Sink.state c.write_line.new.out)
+          c.in_ok-refused.field-0 way c.in_ok-refused.ensures.written c.in_ok-refused.ensures.explained;
+      kept = c.write_line.ensures.kept;
+    }
 
 pub returns-in_err-refused-clause-written : goal.returns-in_err-refused-clause-written
 returns-in_err-refused-clause-written g c =
@@ -25,7 +32,7 @@ returns-in_err-refused-clause-written g c =
     let old = g.K.Sink.state c.args.out.now in
     let new = g.K.Sink.state c.loop-line.out in
     let line = c.in-Some.line in
-    let way = subst (λ (lines : List (ℕ × List ℕ)). IsProgress c.args.format answers (dump_view c.args.dump.now).entries c.args.questions.now lines c.loop-line.refused old new) c.in-Some.ensures.steps c.loop-line.invariant in
+    let way = subst (λ (lines : List (ℕ × List ℕ)). IsProgress c.args.format answers (dump_view c.args.dump.now).entries c.args.questions.now lines c.loop-line.refused old new) c.in-Some.ensures.steps c.loop-line.invariant.progress in
     stops_with c.args.format answers (dump_view c.args.dump.now).entries c.args.questions.now old new (line.number, line.bytes.now) c.next.new.self c.loop-line.refused (g.K.Sink.state c.write_line.new.out)
     c.from_residual.result c.in_err-refused.field-0.0 c.from_residual.ensures.1 way c.in_err-refused.ensures.written
 
@@ -34,7 +41,7 @@ returns-clause-written g c =
     let answers = answer_to (dump_view c.args.dump.now) in
     let old = g.K.Sink.state c.args.out.now in
     let new = g.K.Sink.state c.loop-line.out in
-    let way = subst (λ (lines : List (ℕ × List ℕ)). IsProgress c.args.format answers (dump_view c.args.dump.now).entries c.args.questions.now lines c.loop-line.refused old new) c.in_default.ensures.steps.0 c.loop-line.invariant in
+    let way = subst (λ (lines : List (ℕ × List ℕ)). IsProgress c.args.format answers (dump_view c.args.dump.now).entries c.args.questions.now lines c.loop-line.refused old new) c.in_default.ensures.steps.0 c.loop-line.invariant.progress in
     ends c.args.format answers (dump_view c.args.dump.now).entries c.args.questions.now old new c.loop-line.refused way
 
 pub returns-clause-explained : goal.returns-clause-explained
@@ -43,5 +50,5 @@ returns-clause-explained g c =
     let entries = (dump_view c.args.dump.now).entries in
     let old = g.K.Sink.state c.args.out.now in
     let new = g.K.Sink.state c.loop-line.out in
-    let way = subst (λ (lines : List (ℕ × List ℕ)). IsProgress c.args.format answers entries c.args.questions.now lines c.loop-line.refused old new) c.in_default.ensures.steps.0 c.loop-line.invariant in
+    let way = subst (λ (lines : List (ℕ × List ℕ)). IsProgress c.args.format answers entries c.args.questions.now lines c.loop-line.refused old new) c.in_default.ensures.steps.0 c.loop-line.invariant.progress in
     ends-explained c.args.format answers entries c.args.questions.now old new c.loop-line.refused way

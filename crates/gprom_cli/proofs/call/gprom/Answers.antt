@@ -2,8 +2,8 @@ use Rattle.std.proofs.Common.{sym, ap, ◌∙◌, subst, map}
 use Rattle.std.specs.Prelude.{string_bytes}
 use Rattle.gprom_cli.specs.declared.status.Status.{Status}
 use Rattle.gprom_cli.specs.Args.{command_of}
+use Rattle.gprom_cli.specs.Call.{HasOutcome}
 use Rattle.gprom_cli.specs.Status.{status_of}
-use Rattle.gprom_cli.specs.Outcomes.{HasOutcome}
 use Rattle.gp_dump.proofs.LawLemmas.{read}
 use Rattle.gprom_cli.proofs.PromisesLemmas.{promised, status_of-number_of}
 use Rattle.gprom_cli.proofs.call.gprom.Goals as goal
@@ -12,4 +12,10 @@ use Rattle.gprom_cli.proofs.call.gprom.Goals as goal
 pub returns-clause-promises : goal.returns-clause-promises
 returns-clause-promises g c =
     let same = sym (ap status_of c.number.ensures ∙ status_of-number_of c.execute.result) in
-    promised (record { reads = read; formed = c.scripts_have_well_formed_dumps.ensures.formed; texts = c.scripts_have_well_formed_dumps.ensures.answers; refusals = c.scripts_have_well_formed_dumps.ensures.refusals; remade_texts = c.dumps_answer_for_changed_histories.ensures.answers; remade_refusals = c.dumps_answer_for_changed_histories.ensures.refusals; unchanged = c.scripts_have_well_formed_dumps.ensures.unchanged }) _ (subst (λ (s : Status). HasOutcome (record { command = command_of (map string_bytes c.args.args.now); shelf = g.H.Shelf.state c.args.shelf.now; shelf_after = g.H.Shelf.state c.execute.new.shelf; sink = g.K.Sink.state c.args.out.now; sink_after = g.K.Sink.state c.execute.new.out; status = s })) same c.execute.ensures)
+    let ends = c.execute.ensures in (
+      ends.events,
+      ends.grown,
+      promised (record { reads = read; formed = c.scripts_have_well_formed_dumps.ensures.formed; texts = c.scripts_have_well_formed_dumps.ensures.answers; refusals = c.scripts_have_well_formed_dumps.ensures.refusals; remade_texts = c.dumps_answer_for_changed_histories.ensures.answers; remade_refusals = c.dumps_answer_for_changed_histories.ensures.refusals; unchanged = c.scripts_have_well_formed_dumps.ensures.unchanged })
+          _
+          (subst (λ (s : Status). HasOutcome (record { command = command_of (map string_bytes c.args.args.now); events = ends.events; sink = g.K.Sink.state c.args.out.now; sink_after = g.K.Sink.state c.execute.new.out; status = s })) same ends.outcome),
+    )

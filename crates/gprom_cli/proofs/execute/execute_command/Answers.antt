@@ -1,42 +1,49 @@
-use Rattle.std.proofs.Common.{Option, Some, refl, subst, ap, sym, ◌∙◌}
+use Rattle.std.proofs.Common.{Option, None, Some, subst, ap, sym, ◌∙◌}
 use Rattle.std.specs.Option.{option_map}
+use Rattle.gprom_cli.specs.declared.status.Status.TheVariants as exit
 use Rattle.gprom_cli.specs.Args as spec
+use Rattle.gprom_cli.specs.Call as call
+use Rattle.gprom_cli.specs.Call.{usage_text}
+use Rattle.gprom_cli.specs.Steps.{Ends}
+use Rattle.gprom_cli.specs.Summary.{summary_text}
+use Rattle.gprom_cli.specs.Summaries.{summary_of}
 use Rattle.gprom_cli.specs.Views.{command_view}
-use Rattle.gprom_cli.specs.Outcomes.{HasOutcome, Summarized, Usage}
+use Rattle.gprom_cli.proofs.OutcomeLemmas.{is-summary}
+use Rattle.gprom_cli.proofs.StepsLemmas.{quiet-end}
 use Rattle.gprom_cli.proofs.execute.execute_command.Goals as goal
 
 pub returns-in-Some-Run : goal.returns-in-Some-Run
 returns-in-Some-Run g c =
     let is = ap (option_map command_view) (sym (c.in-Some-Run.is ∙ ap Some c.in-Some-Run.field-0-is)) in
-    subst
-    (λ (command : Option spec.Command). HasOutcome (record { command = command; shelf = g.H.Shelf.state c.args.shelf.now; shelf_after = g.H.Shelf.state c.run.new.shelf; sink = g.K.Sink.state c.args.out.now; sink_after = g.K.Sink.state c.run.new.out; status = c.run.result }))
+    subst (λ (command : Option spec.Command). Ends command (g.H.Shelf.events c.args.shelf.now) (g.H.Shelf.events c.run.new.shelf) (g.K.Sink.state c.args.out.now) (g.K.Sink.state c.run.new.out) c.run.result)
     is c.run.ensures
 
 pub returns-in-Some-Ask : goal.returns-in-Some-Ask
 returns-in-Some-Ask g c =
     let is = ap (option_map command_view) (sym (c.in-Some-Ask.is ∙ ap Some c.in-Some-Ask.field-0-is)) in
-    subst
-    (λ (command : Option spec.Command). HasOutcome (record { command = command; shelf = g.H.Shelf.state c.args.shelf.now; shelf_after = g.H.Shelf.state c.ask.new.shelf; sink = g.K.Sink.state c.args.out.now; sink_after = g.K.Sink.state c.ask.new.out; status = c.ask.result }))
+    subst (λ (command : Option spec.Command). Ends command (g.H.Shelf.events c.args.shelf.now) (g.H.Shelf.events c.ask.new.shelf) (g.K.Sink.state c.args.out.now) (g.K.Sink.state c.ask.new.out) c.ask.result)
     is c.ask.ensures
-
-pub returns-in-None : goal.returns-in-None
-returns-in-None g c =
-    let shelf = g.H.Shelf.state c.args.shelf.now in
-    subst
-    (λ (command : Option spec.Command). HasOutcome (record { command = command; shelf = shelf; shelf_after = shelf; sink = g.K.Sink.state c.args.out.now; sink_after = g.K.Sink.state c.write_output.new.out; status = c.write_output.result }))
-    (ap (option_map command_view) (sym c.in-None.is)) (record { outcome = Usage; is = (refl, refl); writes = c.write_output.ensures; explains = tt })
-
-pub returns-in-Some-Generate : goal.returns-in-Some-Generate
-returns-in-Some-Generate g c =
-    let shelf = g.H.Shelf.state c.args.shelf.now in
-    let is = ap (option_map command_view) (sym (c.in-Some-Generate.is ∙ ap Some c.in-Some-Generate.field-0-is)) in
-    subst
-    (λ (command : Option spec.Command). HasOutcome (record { command = command; shelf = shelf; shelf_after = shelf; sink = g.K.Sink.state c.args.out.now; sink_after = g.K.Sink.state c.generate.new.out; status = c.generate.result }))
-    is (record { outcome = Summarized c.in-Some-Generate.rounds; is = (refl, refl); writes = c.generate.ensures; explains = tt })
 
 pub returns-in-Some-Load : goal.returns-in-Some-Load
 returns-in-Some-Load g c =
     let is = ap (option_map command_view) (sym (c.in-Some-Load.is ∙ ap Some c.in-Some-Load.field-0-is)) in
-    subst
-    (λ (command : Option spec.Command). HasOutcome (record { command = command; shelf = g.H.Shelf.state c.args.shelf.now; shelf_after = g.H.Shelf.state c.load.new.shelf; sink = g.K.Sink.state c.args.out.now; sink_after = g.K.Sink.state c.load.new.out; status = c.load.result }))
+    subst (λ (command : Option spec.Command). Ends command (g.H.Shelf.events c.args.shelf.now) (g.H.Shelf.events c.load.new.shelf) (g.K.Sink.state c.args.out.now) (g.K.Sink.state c.load.new.out) c.load.result)
     is c.load.ensures
+
+pub returns-in-None : goal.returns-in-None
+returns-in-None g c =
+    let events = g.H.Shelf.events c.args.shelf.now in
+    let sink = g.K.Sink.state c.args.out.now in
+    let sink_after = g.K.Sink.state c.write_output.new.out in
+    subst (λ (command : Option spec.Command). Ends command events events sink sink_after c.write_output.result) (ap (option_map command_view) (sym c.in-None.is))
+    (quiet-end None events sink sink_after c.write_output.result usage_text exit.Usage call.usage c.write_output.ensures)
+
+pub returns-in-Some-Generate : goal.returns-in-Some-Generate
+returns-in-Some-Generate g c =
+    let events = g.H.Shelf.events c.args.shelf.now in
+    let sink = g.K.Sink.state c.args.out.now in
+    let sink_after = g.K.Sink.state c.generate.new.out in
+    let rounds = c.in-Some-Generate.rounds in
+    let is = ap (option_map command_view) (sym (c.in-Some-Generate.is ∙ ap Some c.in-Some-Generate.field-0-is)) in
+    subst (λ (command : Option spec.Command). Ends command events events sink sink_after c.generate.result) is
+    (quiet-end (Some (spec.Generate rounds)) events sink sink_after c.generate.result (summary_text (summary_of rounds)) exit.Done (call.summarized rounds (summary_of rounds) (is-summary rounds)) c.generate.ensures)

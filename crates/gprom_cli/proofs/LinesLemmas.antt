@@ -1,0 +1,104 @@
+-- The texts of answers are whole lines.
+use Rattle.std.proofs.Common.{◌≡◌, ℕ, inl, inr, List, [], ◌∷◌, ◌++◌, length, map, refl, sym, ap, ◌∙◌, subst, append_assoc, append-nil, codes}
+use Rattle.std.specs.Fmt.{decimal}
+use Rattle.std.specs.List.{flat_map}
+use Rattle.gp_base.specs.Numbered.{numbered, refused_text, row_line, rows_text}
+use Rattle.gp_base.specs.Order.{sorted_by, row_cmp}
+use Rattle.gp_base.specs.Refusals.{refusal_text}
+use Rattle.gp_base.specs.Texts as cells
+use Rattle.gp_base.specs.declared.cell.Cell.{Cell}
+use Rattle.gp_base.specs.declared.refusal.Refusal.{Refusal}
+use Rattle.gp_csv.specs.Answers.{csv_text}
+use Rattle.gp_grammar.specs.Syntax as y
+use Rattle.gp_ask.specs.declared.answered.Answered.{Answered}
+use Rattle.gp_ask.specs.declared.answered.Answered.TheVariants.{Rows, Listed, Values, Log, Versions, Program, Refused}
+use Rattle.gp_ask.specs.declared.format.Format.{Format}
+use Rattle.gp_ask.specs.declared.format.Format.TheVariants.{Text, Csv}
+use Rattle.gp_ask.specs.Formats.{exported_records, text_in}
+use Rattle.gp_ask.specs.QuestionFiles.{line_answer_in, line_answer_text}
+use Rattle.gp_ask.specs.Texts.{answer_text, listed_line, listed_text, provenance_text, value_text}
+use Rattle.gprom_cli.specs.Call.{AreLines, newline}
+
+-- the text ends with the end of a line
+abbrev EndsLine : List ℕ → Type 0
+EndsLine text = (front : List ℕ) × (text ≡ front ++ newline)
+
+-- a text that ends so behind another one
+behind : (first text : List ℕ) → EndsLine text → EndsLine (first ++ text)
+behind first text ends = (first ++ ends.0, ap (λ (t : List ℕ). first ++ t) ends.1 ∙ sym (append_assoc first ends.0 newline))
+
+then-nothing : (text : List ℕ) → EndsLine text → EndsLine (text ++ [])
+then-nothing text ends = subst EndsLine (sym (append-nil text)) ends
+
+-- whole lines behind such a text
+then-lines : (text lines : List ℕ) → EndsLine text → AreLines lines → EndsLine (text ++ lines)
+then-lines text lines ends (inl none) = subst (λ (more : List ℕ). EndsLine (text ++ more)) (sym none) (then-nothing text ends)
+then-lines text lines ends (inr more) = behind text lines more
+
+pub after-lines : (lines more : List ℕ) → AreLines lines → AreLines more → AreLines (lines ++ more)
+after-lines lines more (inl none) are = subst (λ (first : List ℕ). AreLines (first ++ more)) (sym none) are
+after-lines lines more (inr ends) are = inr (then-lines lines more ends are)
+
+all-lines : {X : Type 0} (text_of : X → List ℕ) → ((item : X) → EndsLine (text_of item)) → (items : List X) → AreLines (flat_map text_of items)
+all-lines text_of each [] = inl refl
+all-lines text_of each (item ∷ items) = inr (then-lines (text_of item) (flat_map text_of items) (each item) (all-lines text_of each items))
+
+newline-ends : EndsLine newline
+newline-ends = ([], refl)
+
+-- ---- as text
+
+numbered-ends : (number : ℕ) (text : List ℕ) → EndsLine text → EndsLine (numbered number text)
+numbered-ends number text ends = behind (decimal number) (codes " " ++ (text ++ [])) (behind (codes " ") (text ++ []) (then-nothing text ends))
+
+row-ends : (row : List Cell) → EndsLine (row_line row)
+row-ends row = behind (codes "  ") (cells.row_text row ++ (newline ++ [])) (behind (cells.row_text row) (newline ++ []) newline-ends)
+
+rows-ends : (rows : List (List Cell)) → EndsLine (rows_text rows)
+rows-ends rows =
+    let lines = flat_map row_line (sorted_by row_cmp rows) in
+    let after : EndsLine (newline ++ (lines ++ [])) =
+    then-lines newline (lines ++ []) newline-ends (subst AreLines (sym (append-nil lines)) (all-lines row_line row-ends (sorted_by row_cmp rows))) in
+    behind (codes "rows ") (decimal (length rows) ++ (newline ++ (lines ++ []))) (behind (decimal (length rows)) (newline ++ (lines ++ [])) after)
+
+refused-ends : (refusal : Refusal) → EndsLine (refused_text refusal)
+refused-ends refusal = behind (refusal_text refusal) (newline ++ []) newline-ends
+
+listed-line-ends : (text : List ℕ) → EndsLine (listed_line text)
+listed-line-ends text = behind (codes "  ") (text ++ (newline ++ [])) (behind text (newline ++ []) newline-ends)
+
+listed-ends : (number : ℕ) (word : List ℕ) (texts : List (List ℕ)) → EndsLine (listed_text number word texts)
+unfolding listed_text
+listed-ends number word texts =
+    let lines = flat_map listed_line texts in
+    let count = decimal (length texts) in
+    let after : EndsLine (newline ++ (lines ++ [])) =
+    then-lines newline (lines ++ []) newline-ends (subst AreLines (sym (append-nil lines)) (all-lines listed_line listed-line-ends texts)) in
+    behind (decimal number) (codes " " ++ (word ++ (codes " " ++ (count ++ (newline ++ (lines ++ []))))))
+    (behind (codes " ") (word ++ (codes " " ++ (count ++ (newline ++ (lines ++ [])))))
+    (behind word (codes " " ++ (count ++ (newline ++ (lines ++ []))))
+    (behind (codes " ") (count ++ (newline ++ (lines ++ []))) (behind count (newline ++ (lines ++ [])) after))))
+
+text-ends : (number : ℕ) (answer : Answered) → EndsLine (answer_text number answer)
+text-ends number (Rows rows) = numbered-ends number (rows_text rows) (rows-ends rows)
+text-ends number (Listed rows) = listed-ends number (codes "rows") (map provenance_text rows)
+text-ends number (Values rows) = listed-ends number (codes "rows") (map value_text rows)
+text-ends number (Log texts) = listed-ends number (codes "log") texts
+text-ends number (Versions texts) = listed-ends number (codes "versions") texts
+text-ends number (Program texts) = listed-ends number (codes "program") texts
+text-ends number (Refused refusal) = numbered-ends number (refused_text refusal) (refused-ends refusal)
+
+-- ---- as CSV
+
+csv-lines : (records : List (List (List ℕ))) → AreLines (csv_text records)
+csv-lines [] = inl refl
+csv-lines (fields ∷ records) = inr (then-lines _ (csv_text records) (behind _ _ (behind _ _ newline-ends)) (csv-lines records))
+
+-- ---- each answer
+
+lines-in : (format : Format) (number : ℕ) (answer : Answered) → AreLines (text_in format number answer)
+lines-in Text number answer = inr (text-ends number answer)
+lines-in Csv number answer = csv-lines (exported_records number answer)
+
+pub answer-lines : (format : Format) (answers : y.Question → Answered) (line : ℕ × List ℕ) → AreLines (line_answer_text format answers line)
+answer-lines format answers line = lines-in format line.0 (line_answer_in format answers line)
