@@ -1,12 +1,11 @@
 //! Steps over values of any type.
 //!
-//! An exit that drops a command, a query or a row takes seconds to prove, and one that drops a value of a type parameter almost nothing. So what
+//! An exit that drops a program, a command or a row takes seconds to prove, and one that drops a value of a type parameter almost nothing. So what
 //! may fail while it owns such a value is here, and the tests only look at values.
 //!
 //! A comparison of one case answers `false` also where memory runs out.
 
 use gp_base::NoMemory;
-use std::alloc::Global;
 
 /// What is seen of a value, which is dropped.
 pub(crate) fn inspect<T: Drop, R, F: FnOnce(&T) -> R>(value: T, look: F) -> R
@@ -38,18 +37,4 @@ pub(crate) fn pair<T: Drop, U: Drop>(
 /// A value that was made in place of another one.
 pub(crate) fn instead<T: Drop, U: Drop>(made: Result<T, NoMemory>, _old: U) -> Result<T, NoMemory> {
     made
-}
-
-/// A value that was made, in a box.
-pub(crate) fn boxed<T: Drop>(alloc: Global, made: Result<T, NoMemory>) -> Result<Box<T>, NoMemory> {
-    Ok(Box::new(alloc, made?)?)
-}
-
-/// Two values that were made, in boxes.
-pub(crate) fn boxed_pair<T: Drop>(
-    alloc: Global,
-    first: Result<T, NoMemory>,
-    second: Result<T, NoMemory>,
-) -> Result<(Box<T>, Box<T>), NoMemory> {
-    pair(boxed(alloc, first), boxed(alloc, second))
 }

@@ -1,8 +1,8 @@
-//! Cells, rows and refusals: their texts, their order and their copies.
+//! Cells, rows and names: their texts, their order and their copies.
 
 use gp_base::{
-    Cell, CellFormat, Name, NoMemory, Refusal, Row, Sequence, Text, TextFormat, is_name,
-    row_text_is_injective, sort_rows, sorting_is_unique, write_joined, write_refusal, write_row,
+    Cell, CellFormat, Name, NoMemory, Row, Sequence, Text, TextFormat, is_name,
+    row_text_is_injective, sort_rows, sorting_is_unique, write_joined, write_row,
 };
 use std::alloc::Global;
 use std::test::Fail;
@@ -19,7 +19,7 @@ pub(crate) enum Given {
 }
 
 /// The cell.
-pub(crate) fn cell_of(alloc: Global, given: Given) -> Result<Cell, NoMemory> {
+fn cell_of(alloc: Global, given: Given) -> Result<Cell, NoMemory> {
     match given {
         Given::Null => Ok(Cell::Null),
         Given::Int(number) => Ok(Cell::Int(number)),
@@ -107,19 +107,6 @@ fn rows_are_sorted(rt: HostRuntime) -> Result<(), Fail> {
     Ok(())
 }
 
-/// Whether the refusal has this text.
-pub(crate) fn is_refusal(alloc: Global, refusal: &Refusal, text: &str) -> bool {
-    let mut out = Vec::new(alloc);
-    write_refusal(alloc, refusal, &mut out).is_ok() && out.as_slice() == text.as_bytes()
-}
-
-#[test]
-fn refusals_have_texts(rt: HostRuntime) {
-    assert!(rt; is_refusal(rt.alloc(), &Refusal::E09, "E09 transaction active"));
-    assert!(rt; is_refusal(rt.alloc(), &Refusal::E10, "E10 no transaction"));
-    assert!(rt; is_refusal(rt.alloc(), &Refusal::E16, "E16 line too long"));
-}
-
 /// Whether a copy of the row is equal to it.
 fn is_copied(row: &Row) -> bool {
     match row.clone() {
@@ -149,7 +136,7 @@ fn sequences_are_compared(rt: HostRuntime) -> Result<(), Fail> {
 }
 
 /// Whether the cell has this text.
-pub(crate) fn is_written(alloc: Global, cell: &Cell, text: &str) -> bool {
+fn is_written(alloc: Global, cell: &Cell, text: &str) -> bool {
     let mut out = Vec::new(alloc);
     CellFormat.write(alloc, cell, &mut out).is_ok() && out.as_slice() == text.as_bytes()
 }
