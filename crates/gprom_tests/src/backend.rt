@@ -30,7 +30,7 @@ fn number_row(alloc: Global, number: i64) -> Result<Row, NoMemory>
 
 /// A backend that gives the rows 7 and 3 for every program.
 #[derive(Clone, Copy)]
-pub struct Fixed;
+pub(crate) struct Fixed;
 
 impl Backend for Fixed {
     ghost use Rattle.gprom_tests.specs.Fixed.{GivesTwoRows};
@@ -85,7 +85,7 @@ fn plain_answer(alloc: Global, dump: &Dump, question: &Question) -> Result<Answe
 }
 
 /// The answer to a line over the fixed backend, from a dump that was read. A line that is no question is refused as it is read.
-pub fn fixed_answer(alloc: Global, dump: &Dump, line: &[u8]) -> Result<Answered, NoMemory>
+pub(crate) fn fixed_answer(alloc: Global, dump: &Dump, line: &[u8]) -> Result<Answered, NoMemory>
     requires rules { IsDump (dump_view dump.now) }
     requires valid { tables_are_valid (tables_in (dump_view dump.now).entries) ≡ true }
 {

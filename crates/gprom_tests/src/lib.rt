@@ -15,6 +15,7 @@
 //! ```
 #![tactic(auto)]
 
+#[cfg(test)]
 mod backend;
 #[cfg(test)]
 mod cases;
@@ -40,5 +41,3 @@ mod spelling;
 mod values;
 #[cfg(test)]
 mod versions;
-
-pub use backend::{Fixed, fixed_answer};
