@@ -1,7 +1,7 @@
 -- Commands and questions that were read are valid: their literals are lexemes of a text, their lists are not empty by the grammar, and
 -- few by the limits.
 use Rattle.std.proofs.Common.{◌≡◌, ◌<◌, ◌≤◌, ◌-◌, ◌^◌, ℕ, suc, pos, negsuc, Bool, true, false, ltb, not, nat_lt, List, [], ◌∷◌, ◌++◌, length, Some, None, Ok, refl, sym, ap, ◌∙◌, arith}
-use Rattle.std.specs.Prelude.{◌&&◌, codes}
+use Rattle.std.specs.Prelude.{codes}
 use Rattle.std.specs.Char.{is_ascii_control}
 use Rattle.std.specs.List.{AllByRecursion, list_all, list_any}
 use Rattle.std.specs.Option.{option_map}
@@ -25,14 +25,14 @@ use Rattle.gp_lexer.proofs.ProperLemmas.{lexemes-proper}
 use Rattle.gp_lexer.proofs.Utf8Lemmas.{texts-utf8}
 use Rattle.gp_grammar.specs.declared.limits.TheConstants.{MAX_BRANCHES, MAX_VALUES}
 use Rattle.gp_grammar.specs.Syntax as y
-use Rattle.gp_grammar.specs.Syntax.{Lexemes, Bytes, Term, SetTerm, Item, Items, Block, Query, Command, ScriptLine, How, State, LogChange, Question}
+use Rattle.gp_grammar.specs.Syntax.{Lexemes, Bytes, Term, SetTerm, Item, Items, Block, Query, Command, ScriptLine, How, State, LogChange, Side, Question}
 use Rattle.gp_grammar.specs.Grammar as t
 use Rattle.gp_grammar.specs.Grammar.{Phrase, Derives, IsTerm}
 use Rattle.gp_grammar.specs.CommandGrammar as g
 use Rattle.gp_grammar.specs.CommandGrammar.{IsList, comma, union_all, IsColumn, IsLiteral, IsTuple, IsItem, IsItems, IsWhere, IsBlock, IsQuery, IsSetTerm, IsCommand, Closed, IsSessionCommand, IsScriptLine}
 use Rattle.gp_grammar.specs.QuestionGrammar as q
-use Rattle.gp_grammar.specs.QuestionGrammar.{IsAsk, IsChange, IsOpenQuestion, IsQuestion}
-use Rattle.gp_grammar.specs.Limits.{Shape, passed_limit, query_shape, command_shape, line_shape, change_shape, question_shape}
+use Rattle.gp_grammar.specs.QuestionGrammar.{IsAsk, IsChange, IsSide, IsOpenQuestion, IsQuestion}
+use Rattle.gp_grammar.specs.Limits.{Shape, passed_limit, query_shape, command_shape, line_shape, change_shape, side_shape, both, question_shape}
 use Rattle.gp_grammar.specs.LineReading.{HasLexemes, ReadsText, ReadsLine}
 use Rattle.gp_grammar.specs.Reading.{command_of, script_line_of, question_of}
 use Rattle.gp_grammar.specs.CommandParsing.{command, script_line}
@@ -43,7 +43,7 @@ use Rattle.gp_grammar.proofs.LineLaws.{texts-read, lines-read}
 use Rattle.gp_grammar.proofs.ParserLaws.{lawful-command, lawful-line, lawful-question}
 use Rattle.gp_grammar.proofs.ShapeLemmas.{first_limit, of_shape, commands-fair, lines-fair, questions-fair}
 use Rattle.gp_algebra.specs.Fitting.{is_countable}
-use Rattle.gp_check.specs.Valid.{term_is_valid, condition_is_valid, items_are_valid, block_is_valid, query_is_valid, set_is_valid, is_valid, change_is_valid, table_is_valid, tables_are_valid}
+use Rattle.gp_check.specs.Valid.{term_is_valid, condition_is_valid, items_are_valid, block_is_valid, query_is_valid, set_is_valid, is_valid, change_is_valid, side_is_valid, question_is_valid, table_is_valid, tables_are_valid}
 
 -- ---- the lexemes of a text
 
@@ -219,15 +219,26 @@ change-valid _ _ (q.add t a x i) h none = command-valid a x i.command (inner a h
 ask-valid : (a : Lexemes) (how : How) (state : State) (query : Query) → IsAsk a how state query → AreOfText a → passed_limit (query_shape query) ≡ None → query_is_valid query ≡ true
 ask-valid _ how state query (q.asked a b c _ _ _ i j k) h none = query-valid c query k (second b c (second a (b ++ c) h)) none
 
--- the query of a question and the command of its change, if it has them
-abbrev question_is_valid : Question → Bool
-question_is_valid (y.ask how state query) = query_is_valid query
-question_is_valid (y.what_if change how state query) = change_is_valid change && query_is_valid query
-question_is_valid _ = true
+-- the change of a side
+side-valid : (a : Lexemes) (x : Side) → IsSide a x → AreOfText a → passed_limit (side_shape x) ≡ None → side_is_valid x ≡ true
+side-valid _ _ (q.as_is a kept i) h none = refl
+side-valid _ _ (q.changed a b change kept i j) h none = change-valid a change i (first a (Word (codes "of") ∷ b) h.1) none
 
 question-valid : (a : Lexemes) (x : Question) → IsOpenQuestion a x → AreOfText a → passed_limit (question_shape x) ≡ None → question_is_valid x ≡ true
+question-valid _ _ q.transactions h none = refl
 question-valid _ _ (q.log n) h none = refl
 question-valid _ _ (q.versions table) h none = refl
+question-valid _ _ (q.saw t k a query i) h none = query-valid a query i h.1.1.1.1 none
+question-valid _ _ (q.changes t k) h none = refl
+question-valid _ _ (q.commit_changes t) h none = refl
+question-valid _ _ q.check h none = refl
+question-valid _ _ (q.diff a b c x z query i j k) h none =
+    let within : (passed_limit (both (side_shape x) (side_shape z)) ≡ None) × (passed_limit (query_shape query) ≡ None) = both-within (both (side_shape x) (side_shape z)) (query_shape query) none in
+    let sides : (passed_limit (side_shape x) ≡ None) × (passed_limit (side_shape z) ≡ None) = both-within (side_shape x) (side_shape z) within.0 in
+    let behind : AreOfText (b ++ c) = (second a (Word (codes "to") ∷ (b ++ c)) h.1).1 in
+    and_from _ _ (and_from _ _ (side-valid a x i (first a (Word (codes "to") ∷ (b ++ c)) h.1) sides.0) (side-valid b z j (first b c behind) sides.1))
+    (query-valid c query k (second b c behind) within.1)
+question-valid _ _ (q.causes a b kept query i j) h none = query-valid b query j (second a b h.1.1) none
 question-valid _ _ (q.ask a how state query i) h none = ask-valid a how state query i h none
 question-valid _ _ (q.what_if a b change how state query i j) h none =
     let within : (passed_limit (change_shape change) ≡ None) × (passed_limit (query_shape query) ≡ None) = both-within (change_shape change) (query_shape query) none in
@@ -256,27 +267,13 @@ line-derived text x r =
 pub line-read : (text : Bytes) (x : ScriptLine) → script_line_of text ≡ Ok x → is_valid x.command ≡ true
 line-read text x e = line-derived text x ((lines-read script_line IsScriptLine capped_line line_shape lawful-line lines-fair text x).0 e)
 
-derived-valid : (text : Bytes) (x : Question) → ReadsLine IsQuestion question_shape text x → question_is_valid x ≡ true
-derived-valid text x r =
+pub question-derived : (text : Bytes) (x : Question) → ReadsLine IsQuestion question_shape text x → question_is_valid x ≡ true
+question-derived text x r =
     closed-valid IsOpenQuestion question_shape question_is_valid question-valid r.text.lexemes x r.text.derived
     (lexed-of_text text r.text.lexemes r.text.columns r.text.lexical) r.text.within
 
-read-valid : (text : Bytes) (x : Question) → question_of text ≡ Ok x → question_is_valid x ≡ true
-read-valid text x e = derived-valid text x ((lines-read question IsQuestion capped_question question_shape lawful-question questions-fair text x).0 e)
-
-pub question-derived : (text : Bytes) (how : How) (state : State) (query : Query) → ReadsLine IsQuestion question_shape text (y.ask how state query) → query_is_valid query ≡ true
-question-derived text how state query r = derived-valid text (y.ask how state query) r
-
-pub question-read : (text : Bytes) (how : How) (state : State) (query : Query) → question_of text ≡ Ok (y.ask how state query) → query_is_valid query ≡ true
-question-read text how state query e = read-valid text (y.ask how state query) e
-
-pub change-derived : (text : Bytes) (change : LogChange) (how : How) (state : State) (query : Query) → ReadsLine IsQuestion question_shape text (y.what_if change how state query)
-    → change_is_valid change && query_is_valid query ≡ true
-change-derived text change how state query r = derived-valid text (y.what_if change how state query) r
-
-pub change-read : (text : Bytes) (change : LogChange) (how : How) (state : State) (query : Query) → question_of text ≡ Ok (y.what_if change how state query)
-    → change_is_valid change && query_is_valid query ≡ true
-change-read text change how state query e = read-valid text (y.what_if change how state query) e
+pub question-read : (text : Bytes) (x : Question) → question_of text ≡ Ok x → question_is_valid x ≡ true
+question-read text x e = question-derived text x ((lines-read question IsQuestion capped_question question_shape lawful-question questions-fair text x).0 e)
 
 -- ---- catalogues
 

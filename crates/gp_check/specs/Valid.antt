@@ -1,13 +1,12 @@
 -- Part of the statement: valid commands, queries and tables. What the check makes of a valid command over valid tables fits them, and every
--- command that was read from a text is valid: so say the laws `read_commands_are_valid`, `read_lines_are_valid`, `read_questions_are_valid`,
--- `read_changes_are_valid`.
+-- command that was read from a text is valid: so say the laws `read_commands_are_valid`, `read_lines_are_valid`, `read_questions_are_valid`.
 use Rattle.std.specs.Prelude.{nat_lt, Bool, true, ◌&&◌, List, length, Option, Some, None}
 use Rattle.std.specs.List.{list_all}
 use Rattle.gp_base.specs.declared.cell.Cell.TheVariants as cell
 use Rattle.gp_base.specs.declared.table.Table.{Table}
 use Rattle.gp_base.specs.UserCells.{is_user_cell}
 use Rattle.gp_grammar.specs.Syntax as y
-use Rattle.gp_grammar.specs.Syntax.{Term, SetTerm, Items, Block, Query, Command, LogChange}
+use Rattle.gp_grammar.specs.Syntax.{Term, SetTerm, Items, Block, Query, Command, LogChange, Side, Question}
 use Rattle.gp_algebra.specs.Fitting.{is_countable}
 
 -- the literals of a term are cells that a user can write
@@ -64,3 +63,21 @@ abbrev pub change_is_valid : LogChange → Bool
 change_is_valid (y.drop t k) = true
 change_is_valid (y.replace t k command) = is_valid command
 change_is_valid (y.add t command) = is_valid command
+
+abbrev pub side_is_valid : Side → Bool
+side_is_valid (y.as_is kept) = true
+side_is_valid (y.changed change kept) = change_is_valid change
+
+-- the query of a question and the commands of its changes, if it has them
+abbrev pub question_is_valid : Question → Bool
+question_is_valid y.transactions = true
+question_is_valid (y.log t) = true
+question_is_valid (y.versions table) = true
+question_is_valid (y.saw t k query) = query_is_valid query
+question_is_valid (y.changes t k) = true
+question_is_valid (y.commit_changes t) = true
+question_is_valid y.check = true
+question_is_valid (y.diff first second query) = (side_is_valid first && side_is_valid second) && query_is_valid query
+question_is_valid (y.causes kept query) = query_is_valid query
+question_is_valid (y.ask how state query) = query_is_valid query
+question_is_valid (y.what_if change how state query) = change_is_valid change && query_is_valid query

@@ -1,6 +1,6 @@
 //! Laws of the definitions that contracts cite. Each function does nothing: its postconditions are the laws.
 
-ghost use Rattle.std.specs.Prelude.{◌≡◌, ◌&&◌, ◌++◌, ◌∷◌, [], ℕ, true, List, Ok};
+ghost use Rattle.std.specs.Prelude.{◌≡◌, ◌++◌, ◌∷◌, [], ℕ, true, List, Ok};
 ghost use Rattle.gp_base.specs.declared.table.Table.{Table};
 ghost use Rattle.gp_grammar.specs.CommandGrammar.{IsCommand, IsScriptLine};
 ghost use Rattle.gp_grammar.specs.Limits.{command_shape, line_shape, question_shape};
@@ -8,9 +8,9 @@ ghost use Rattle.gp_grammar.specs.LineReading.{ReadsLine, ReadsText};
 ghost use Rattle.gp_grammar.specs.Reading.{command_of, question_of, script_line_of};
 ghost use Rattle.gp_grammar.specs.QuestionGrammar.{IsQuestion};
 ghost use Rattle.gp_grammar.specs.Syntax as y;
-ghost use Rattle.gp_grammar.specs.Syntax.{Command, How, LogChange, Query, ScriptLine, State};
+ghost use Rattle.gp_grammar.specs.Syntax.{Command, Question, ScriptLine};
 ghost use Rattle.gp_check.specs.Typing.{TypesAre};
-ghost use Rattle.gp_check.specs.Valid.{change_is_valid, is_valid, query_is_valid, tables_are_valid};
+ghost use Rattle.gp_check.specs.Valid.{is_valid, question_is_valid, tables_are_valid};
 
 /// A term is well typed by the rules exactly where the function gives it a type, so it has at most one.
 pub fn typing_follows_the_rules()
@@ -36,23 +36,12 @@ pub fn read_lines_are_valid()
         → script_line_of text ≡ Ok line → is_valid line.command ≡ true }
 {}
 
-/// The same for the query of a question that was read, and [`crate::check_query`].
+/// The same for the query of a question that was read, for [`crate::check_query`], and for the commands of its changes.
 pub fn read_questions_are_valid()
-    ensures derived { (text : List ℕ) (how : How) (state : State) (query : Query)
-        → ReadsLine IsQuestion question_shape text (y.ask how state query)
-        → query_is_valid query ≡ true }
-    ensures read { (text : List ℕ) (how : How) (state : State) (query : Query)
-        → question_of text ≡ Ok (y.ask how state query) → query_is_valid query ≡ true }
-{}
-
-/// The same for a question about a change of the log: the command of the change, and the query.
-pub fn read_changes_are_valid()
-    ensures derived { (text : List ℕ) (change : LogChange) (how : How) (state : State) (query : Query)
-        → ReadsLine IsQuestion question_shape text (y.what_if change how state query)
-        → change_is_valid change && query_is_valid query ≡ true }
-    ensures read { (text : List ℕ) (change : LogChange) (how : How) (state : State) (query : Query)
-        → question_of text ≡ Ok (y.what_if change how state query)
-        → change_is_valid change && query_is_valid query ≡ true }
+    ensures derived { (text : List ℕ) (question : Question)
+        → ReadsLine IsQuestion question_shape text question → question_is_valid question ≡ true }
+    ensures read { (text : List ℕ) (question : Question)
+        → question_of text ≡ Ok question → question_is_valid question ≡ true }
 {}
 
 /// The tables of a catalogue are valid where each is that of a valid CREATE TABLE: those of an empty catalogue are, and

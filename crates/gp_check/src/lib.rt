@@ -31,6 +31,6 @@ mod widths;
 pub use checker::{check, check_query, check_table};
 pub use error::CheckStop;
 pub use laws::{
-    created_tables_are_valid, read_changes_are_valid, read_commands_are_valid,
-    read_lines_are_valid, read_questions_are_valid, typing_follows_the_rules,
+    created_tables_are_valid, read_commands_are_valid, read_lines_are_valid,
+    read_questions_are_valid, typing_follows_the_rules,
 };

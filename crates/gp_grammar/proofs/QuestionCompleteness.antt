@@ -9,14 +9,14 @@ use Rattle.gp_grammar.specs.declared.token_kind.TokenKind.{TokenKind}
 use Rattle.gp_grammar.specs.declared.token_kind.TokenKind.TheVariants as token
 use Rattle.gp_grammar.specs.declared.limits.TheConstants.{MAX_PATTERN_NUMBER}
 use Rattle.gp_grammar.specs.Syntax as syntax
-use Rattle.gp_grammar.specs.Syntax.{Lexemes, Bytes, Command, State, Pattern, Rule, rule_of, Rules, How, Query, LogChange, Question}
-use Rattle.gp_grammar.specs.Capping.{capped_block, capped_command, capped_change, capped_question}
+use Rattle.gp_grammar.specs.Syntax.{Lexemes, Bytes, Command, State, Pattern, Rule, rule_of, Rules, How, Query, LogChange, Kept, Side, Question}
+use Rattle.gp_grammar.specs.Capping.{capped_block, capped_command, capped_change, capped_side, capped_question}
 use Rattle.gp_grammar.specs.CommandGrammar as l
 use Rattle.gp_grammar.specs.CommandGrammar.{IsList, comma, IsQuery, IsStatement, Closed}
 use Rattle.gp_grammar.specs.QuestionGrammar as g
-use Rattle.gp_grammar.specs.QuestionGrammar.{IsState, IsSemiring, IsPattern, IsRule, IsRules, IsLeftOut, IsHow, IsAsk, IsChange, IsOpenQuestion, pattern_name}
-use Rattle.gp_grammar.specs.Parsing.{Outcome, Parser, ◌>>=◌, by_option, strip, expect, identifier}
-use Rattle.gp_grammar.specs.CommandParsing.{◌then◌, where_next, accept, strip_word, where_word, expect_word, push, separated, query, statement}
+use Rattle.gp_grammar.specs.QuestionGrammar.{IsState, IsSemiring, IsPattern, IsRule, IsRules, IsLeftOut, IsHow, IsAsk, IsChange, IsKept, IsKeptHow, IsSide, IsOpenQuestion, pattern_name}
+use Rattle.gp_grammar.specs.Parsing.{Outcome, Parser, ◌>>=◌, by_option, strip, expect}
+use Rattle.gp_grammar.specs.CommandParsing.{◌then◌, where_next, accept, strip_word, expect_word, push, query, statement}
 use Rattle.gp_grammar.specs.QuestionParsing as q
 use Rattle.gp_grammar.specs.QuestionParsing.{number_if, number, pattern_of}
 use Rattle.gp_grammar.proofs.Agreement.{Agree, agree-refl, agree-bind, agree-weaken, strip-less}
@@ -237,20 +237,19 @@ unfolding q.without NoDot
 without-complete a xs i rest = ap (λ o. o >>= (λ rules. expect_word (codes "of") (accept (syntax.without rules.0)) rules.1))
     (separated-exact IsLeftOut q.left_out shrinks-left_out NoDot (λ ts. refl) left_out-complete a xs i (Word (codes "of") ∷ rest) refl refl)
 
--- what begins a state
+-- what begins a state is no word that something else begins with
 record BeginsState (ts : Lexemes) : Type 0 where
-  no_explain : strip_word (codes "explain") ts ≡ None
   no_provenance : strip_word (codes "provenance") ts ≡ None
-  no_value : strip_word (codes "value") ts ≡ None
-  no_without : strip_word (codes "without") ts ≡ None
-  no_log : strip_word (codes "log") ts ≡ None
-  no_versions : strip_word (codes "versions") ts ≡ None
-  no_what_if : strip_word (codes "whatif") ts ≡ None
+  rows : q.how ts ≡ Ok (syntax.rows, ts)
+  all : q.kept_how ts ≡ Ok (syntax.rows, ts)
+  sides : q.side ts ≡ q.as_is_side ts
+  asks : q.open_question ts ≡ q.ask syntax.ask ts
 
 begins-state : (b : Lexemes) (x : State) → IsState b x → (rest : Lexemes) → BeginsState (b ++ rest)
-begins-state _ _ (g.as_of v) rest = record { no_explain = refl; no_provenance = refl; no_value = refl; no_without = refl; no_log = refl; no_versions = refl; no_what_if = refl }
-begins-state _ _ (g.after t k) rest = record { no_explain = refl; no_provenance = refl; no_value = refl; no_without = refl; no_log = refl; no_versions = refl; no_what_if = refl }
-begins-state _ _ (g.commit t) rest = record { no_explain = refl; no_provenance = refl; no_value = refl; no_without = refl; no_log = refl; no_versions = refl; no_what_if = refl }
+unfolding q.how q.kept_how q.side q.open_question
+begins-state _ _ (g.as_of v) rest = record { no_provenance = refl; rows = refl; all = refl; sides = refl; asks = refl }
+begins-state _ _ (g.after t k) rest = record { no_provenance = refl; rows = refl; all = refl; sides = refl; asks = refl }
+begins-state _ _ (g.commit t) rest = record { no_provenance = refl; rows = refl; all = refl; sides = refl; asks = refl }
 
 value-of : (ts us rest : Lexemes) (k : SemiringName) (r : Rules) → q.semiring_name ts ≡ Ok (k, us) → q.rules us ≡ Ok (r, Word (codes "of") ∷ rest)
     → q.value (Word (codes "in") ∷ ts) ≡ Ok (syntax.value k r.rules r.other, rest)
@@ -264,12 +263,7 @@ value-split a b rest = simp append_assoc
 
 how-complete : (a : Lexemes) (x : How) → IsHow a x → (rest : Lexemes) → BeginsState rest → q.how (a ++ rest) ≡ Ok (x, rest)
 unfolding q.how
-how-complete _ _ g.rows rest h =
-    ap (λ o. by_option o (where_word (codes "provenance") (expect_word (codes "of") (accept syntax.provenance)) (where_word (codes "value") q.value (where_word (codes "without") q.without (accept syntax.rows))) rest)
-    (where_word (codes "provenance") (expect_word (codes "of") (accept (syntax.explain true))) (accept (syntax.explain false)))) h.no_explain
-    ∙ ap (λ o. by_option o (where_word (codes "value") q.value (where_word (codes "without") q.without (accept syntax.rows)) rest) (expect_word (codes "of") (accept syntax.provenance))) h.no_provenance
-    ∙ ap (λ o. by_option o (where_word (codes "without") q.without (accept syntax.rows) rest) q.value) h.no_value
-    ∙ ap (λ o. by_option o (Ok (syntax.rows, rest)) q.without) h.no_without
+how-complete _ _ g.rows rest h = h.rows
 how-complete _ _ g.provenance rest h = refl
 how-complete _ _ g.explain rest h = ap (λ o. by_option o (Ok (syntax.explain false, rest)) (expect_word (codes "of") (accept (syntax.explain true)))) h.no_provenance
 how-complete _ _ g.explain_provenance rest h = refl
@@ -280,25 +274,21 @@ how-complete _ _ (g.value a b k r i j) rest h =
 how-complete _ _ (g.without a xs i) rest h = ap q.without (append_assoc a (Word (codes "of") ∷ []) rest) ∙ without-complete a xs i rest
 
 -- a question that asks is none of the others
-record BeginsAsk (ts : Lexemes) : Type 0 where
-  no_log : strip_word (codes "log") ts ≡ None
-  no_versions : strip_word (codes "versions") ts ≡ None
-  no_what_if : strip_word (codes "whatif") ts ≡ None
-
-begins-how : (a : Lexemes) (x : How) → IsHow a x → (rest : Lexemes) → BeginsState rest → BeginsAsk (a ++ rest)
-begins-how _ _ g.rows rest h = record { no_log = h.no_log; no_versions = h.no_versions; no_what_if = h.no_what_if }
-begins-how _ _ g.provenance rest h = record { no_log = refl; no_versions = refl; no_what_if = refl }
-begins-how _ _ g.explain rest h = record { no_log = refl; no_versions = refl; no_what_if = refl }
-begins-how _ _ g.explain_provenance rest h = record { no_log = refl; no_versions = refl; no_what_if = refl }
-begins-how _ _ (g.value a b k r i j) rest h = record { no_log = refl; no_versions = refl; no_what_if = refl }
-begins-how _ _ (g.without a xs i) rest h = record { no_log = refl; no_versions = refl; no_what_if = refl }
+begins-how : (a : Lexemes) (x : How) → IsHow a x → (rest : Lexemes) → BeginsState rest → q.open_question (a ++ rest) ≡ q.ask syntax.ask (a ++ rest)
+unfolding q.open_question
+begins-how _ _ g.rows rest h = h.asks
+begins-how _ _ g.provenance rest h = refl
+begins-how _ _ g.explain rest h = refl
+begins-how _ _ g.explain_provenance rest h = refl
+begins-how _ _ (g.value a b k r i j) rest h = refl
+begins-how _ _ (g.without a xs i) rest h = refl
 
 ask-split : (a b c rest : Lexemes) → (a ++ (b ++ c)) ++ rest ≡ a ++ (b ++ (c ++ rest))
 ask-split a b c rest = simp append_assoc
 
-begins-ask : (a : Lexemes) (how : How) (state : State) (xs : Query) → IsAsk a how state xs → (rest : Lexemes) → BeginsAsk (a ++ rest)
+begins-ask : (a : Lexemes) (how : How) (state : State) (xs : Query) → IsAsk a how state xs → (rest : Lexemes) → q.open_question (a ++ rest) ≡ q.ask syntax.ask (a ++ rest)
 begins-ask _ _ _ _ (g.asked a b c how state xs i j k) rest =
-    let P : Lexemes → Type 0 = λ z. BeginsAsk z in
+    let P : Lexemes → Type 0 = λ z. q.open_question z ≡ q.ask syntax.ask z in
     subst P (sym (ask-split a b c rest)) (begins-how a how i (b ++ (c ++ rest)) (begins-state b state j (c ++ rest)))
 
 module _ {A : Type 0} (question : How → State → Query → A) where
@@ -342,30 +332,101 @@ what_if-of : (ts us rest : Lexemes) (change : LogChange) (x : Question) → q.ch
 unfolding q.what_if
 what_if-of ts us rest change x e f = ap (λ o. o >>= (λ change. expect_word (codes "of") (q.ask (syntax.what_if change.0)) change.1)) e ∙ f
 
+-- ---- states of which some rows are left, and sides
+
+kept_how-complete : (a : Lexemes) (x : How) → IsKeptHow a x → (rest : Lexemes) → BeginsState rest → q.kept_how (a ++ rest) ≡ Ok (x, rest)
+unfolding q.kept_how
+kept_how-complete _ _ g.all rest h = h.all
+kept_how-complete _ _ (g.remaining a xs i) rest h = ap q.without (append_assoc a (Word (codes "of") ∷ []) rest) ∙ without-complete a xs i rest
+
+kept-of : (ts us rest : Lexemes) (how : How) (state : State) → q.kept_how ts ≡ Ok (how, us) → q.state us ≡ Ok (state, rest) → q.kept ts ≡ Ok (q.kept_of how state, rest)
+unfolding q.kept
+kept-of ts us rest how state e f =
+    ap (λ o. o >>= (λ how. q.state how.1 >>= (λ state. Ok (q.kept_of how.0 state.0, state.1)))) e
+    ∙ ap (λ o. o >>= (λ state. Ok (q.kept_of how state.0, state.1))) f
+
+kept-complete : (a : Lexemes) (x : Kept) → IsKept a x → (rest : Lexemes) → q.kept (a ++ rest) ≡ Ok (x, rest)
+kept-complete _ _ (g.kept a b how state i j) rest =
+    ap q.kept (append_assoc a b rest)
+    ∙ kept-of (a ++ (b ++ rest)) (b ++ rest) rest how state (kept_how-complete a how i (b ++ rest) (begins-state b state j rest)) (state-complete b state j rest)
+
+-- a side that begins with no WHATIF
+begins-kept_how : (a : Lexemes) (x : How) → IsKeptHow a x → (rest : Lexemes) → BeginsState rest → q.side (a ++ rest) ≡ q.as_is_side (a ++ rest)
+unfolding q.side
+begins-kept_how _ _ g.all rest h = h.sides
+begins-kept_how _ _ (g.remaining a xs i) rest h = refl
+
+begins-kept : (a : Lexemes) (x : Kept) → IsKept a x → (rest : Lexemes) → q.side (a ++ rest) ≡ q.as_is_side (a ++ rest)
+begins-kept _ _ (g.kept a b how state i j) rest =
+    let P : Lexemes → Type 0 = λ z. q.side z ≡ q.as_is_side z in
+    subst P (sym (append_assoc a b rest)) (begins-kept_how a how i (b ++ rest) (begins-state b state j rest))
+
+as_is-of : (ts rest : Lexemes) (x : Kept) → q.kept ts ≡ Ok (x, rest) → q.as_is_side ts ≡ Ok (syntax.as_is x, rest)
+unfolding q.as_is_side
+as_is-of ts rest x e = ap (λ o. o >>= (λ kept. Ok (syntax.as_is kept.0, kept.1))) e
+
+changed-of : (ts us rest : Lexemes) (change : LogChange) (x : Kept) → q.change ts ≡ Ok (change, Word (codes "of") ∷ us) → q.kept us ≡ Ok (x, rest)
+    → q.changed_side ts ≡ Ok (syntax.changed change x, rest)
+unfolding q.changed_side
+changed-of ts us rest change x e f =
+    ap (λ o. o >>= (λ change. expect_word (codes "of") (λ rest. q.kept rest >>= (λ kept. Ok (syntax.changed change.0 kept.0, kept.1))) change.1)) e
+    ∙ ap (λ o. o >>= (λ kept. Ok (syntax.changed change kept.0, kept.1))) f
+
+behind_of-split : (a b rest : Lexemes) → (a ++ (Word (codes "of") ∷ b)) ++ rest ≡ a ++ (Word (codes "of") ∷ (b ++ rest))
+behind_of-split a b rest = append_assoc a (Word (codes "of") ∷ b) rest
+
+side-complete : (a : Lexemes) (x : Side) → IsSide a x → (rest : Lexemes) → q.side (a ++ rest) ≡ Ok (capped_side x, rest)
+unfolding q.side
+side-complete _ _ (g.as_is a kept i) rest = begins-kept a kept i rest ∙ as_is-of (a ++ rest) rest kept (kept-complete a kept i rest)
+side-complete _ _ (g.changed a b change kept i j) rest =
+    ap q.changed_side (behind_of-split a b rest)
+    ∙ changed-of (a ++ (Word (codes "of") ∷ (b ++ rest))) (b ++ rest) rest (capped_change change) kept (change-complete a change i (Word (codes "of") ∷ (b ++ rest))) (kept-complete b kept j rest)
+
+second_side-of : (x z : Side) (ts us rest : Lexemes) (xs : Query) → q.side ts ≡ Ok (z, us) → query us ≡ Ok (xs, rest) → q.second_side x ts ≡ Ok (syntax.diff x z xs, rest)
+unfolding q.second_side
+second_side-of x z ts us rest xs e f =
+    ap (λ o. o >>= (λ second. query second.1 >>= (λ query. Ok (syntax.diff x second.0 query.0, query.1)))) e
+    ∙ ap (λ o. o >>= (λ query. Ok (syntax.diff x z query.0, query.1))) f
+
+diff-of : (x : Side) (ts us rest : Lexemes) (made : Question) → q.side ts ≡ Ok (x, Word (codes "to") ∷ us) → q.second_side x us ≡ Ok (made, rest) → q.diff ts ≡ Ok (made, rest)
+unfolding q.diff
+diff-of x ts us rest made e f = ap (λ o. o >>= (λ first. expect_word (codes "to") (q.second_side first.0) first.1)) e ∙ f
+
+caused-of : (ts us rest : Lexemes) (x : Kept) (xs : Query) → q.kept ts ≡ Ok (x, us) → query us ≡ Ok (xs, rest) → q.caused ts ≡ Ok (syntax.causes x xs, rest)
+unfolding q.caused
+caused-of ts us rest x xs e f =
+    ap (λ o. o >>= (λ kept. query kept.1 >>= (λ query. Ok (syntax.causes kept.0 query.0, query.1)))) e
+    ∙ ap (λ o. o >>= (λ query. Ok (syntax.causes x query.0, query.1))) f
+
+diff-split : (a b c rest : Lexemes) → (a ++ (Word (codes "to") ∷ (b ++ c))) ++ rest ≡ a ++ (Word (codes "to") ∷ (b ++ (c ++ rest)))
+diff-split a b c rest = simp append_assoc
+
 -- ---- questions
 
-abbrev versions_of : Parser Question
-versions_of = expect_word (codes "of") (λ ts. identifier ts >>= (λ table. Ok (syntax.versions table.0, table.1)))
-
-open-of : (ts rest : Lexemes) (x : Question) → BeginsAsk ts → q.ask syntax.ask ts ≡ Ok (x, rest) → q.open_question ts ≡ Ok (x, rest)
-unfolding q.open_question
-open-of ts rest x h e =
-    ap (λ o. by_option o (where_word (codes "versions") versions_of (where_word (codes "whatif") q.what_if (q.ask syntax.ask)) ts) (λ ts. number ts >>= (λ t. Ok (syntax.log t.0, t.1)))) h.no_log
-    ∙ ap (λ o. by_option o (where_word (codes "whatif") q.what_if (q.ask syntax.ask) ts) versions_of) h.no_versions
-    ∙ ap (λ o. by_option o (q.ask syntax.ask ts) q.what_if) h.no_what_if
-    ∙ e
-
-what_if-split : (a b rest : Lexemes) → (a ++ (Word (codes "of") ∷ b)) ++ rest ≡ a ++ (Word (codes "of") ∷ (b ++ rest))
-what_if-split a b rest = append_assoc a (Word (codes "of") ∷ b) rest
+saw-of : (t k : ℕ) (ts rest : Lexemes) (xs : Query) → query ts ≡ Ok (xs, rest) → q.saw (Number t ∷ Word (codes "after") ∷ Number k ∷ ts) ≡ Ok (syntax.saw t k xs, rest)
+unfolding q.saw
+saw-of t k ts rest xs e = ap (λ o. o >>= (λ xs. Ok (syntax.saw t k xs.0, xs.1))) e
 
 open_question-complete : (a : Lexemes) (x : Question) → IsOpenQuestion a x → (rest : Lexemes) → EndsQuery rest → q.open_question (a ++ rest) ≡ Ok (capped_question x, rest)
-unfolding q.open_question
+unfolding q.open_question q.changes
+open_question-complete _ _ g.transactions rest h = refl
 open_question-complete _ _ (g.log t) rest h = refl
 open_question-complete _ _ (g.versions table) rest h = refl
-open_question-complete _ _ (g.ask a how state xs i) rest h =
-    open-of (a ++ rest) rest (syntax.ask how state (map capped_block xs)) (begins-ask a how state xs i rest) (ask-complete syntax.ask a how state xs i rest h)
+open_question-complete _ _ (g.saw t k a xs i) rest h = saw-of t k (a ++ rest) rest (map capped_block xs) (query-complete a xs i rest h)
+open_question-complete _ _ (g.changes t k) rest h = refl
+open_question-complete _ _ (g.commit_changes t) rest h = refl
+open_question-complete _ _ g.check rest h = refl
+open_question-complete _ _ (g.diff a b c first second xs i j k) rest h =
+    ap q.diff (diff-split a b c rest)
+    ∙ diff-of (capped_side first) (a ++ (Word (codes "to") ∷ (b ++ (c ++ rest)))) (b ++ (c ++ rest)) rest (syntax.diff (capped_side first) (capped_side second) (map capped_block xs))
+    (side-complete a first i (Word (codes "to") ∷ (b ++ (c ++ rest))))
+    (second_side-of (capped_side first) (capped_side second) (b ++ (c ++ rest)) (c ++ rest) rest (map capped_block xs) (side-complete b second j (c ++ rest)) (query-complete c xs k rest h))
+open_question-complete _ _ (g.causes a b kept xs i j) rest h =
+    ap q.caused (append_assoc a b rest)
+    ∙ caused-of (a ++ (b ++ rest)) (b ++ rest) rest kept (map capped_block xs) (kept-complete a kept i (b ++ rest)) (query-complete b xs j rest h)
+open_question-complete _ _ (g.ask a how state xs i) rest h = begins-ask a how state xs i rest ∙ ask-complete syntax.ask a how state xs i rest h
 open_question-complete _ _ (g.what_if a b change how state xs i j) rest h =
-    ap q.what_if (what_if-split a b rest)
+    ap q.what_if (behind_of-split a b rest)
     ∙ what_if-of (a ++ (Word (codes "of") ∷ (b ++ rest))) (b ++ rest) rest (capped_change change) (syntax.what_if (capped_change change) how state (map capped_block xs))
     (change-complete a change i (Word (codes "of") ∷ (b ++ rest))) (ask-complete (syntax.what_if (capped_change change)) b how state xs j rest h)
 

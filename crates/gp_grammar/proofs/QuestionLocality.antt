@@ -9,7 +9,7 @@ use Rattle.gp_grammar.specs.declared.token_kind.TokenKind.{TokenKind}
 use Rattle.gp_grammar.specs.declared.token_kind.TokenKind.TheVariants as token
 use Rattle.gp_grammar.specs.declared.limits.TheConstants.{MAX_PATTERN_NUMBER}
 use Rattle.gp_grammar.specs.Syntax as syntax
-use Rattle.gp_grammar.specs.Syntax.{Lexemes, Bytes, Command, State, Pattern, Rule, rule_of, Rules, How, Query, LogChange, Question}
+use Rattle.gp_grammar.specs.Syntax.{Lexemes, Bytes, Command, State, Pattern, Rule, rule_of, Rules, How, Query, LogChange, Kept, Side, Question}
 use Rattle.gp_grammar.specs.QuestionGrammar.{pattern_name}
 use Rattle.gp_grammar.specs.Parsing.{Outcome, Parser, ◌>>=◌, by_option, identifier}
 use Rattle.gp_grammar.specs.CommandParsing.{◌then◌, where_next, fail, accept, where_word, expect_word, push, separated, in_brackets, query, statement}
@@ -184,18 +184,65 @@ module _ (t : Lexeme) (m m' : Lexemes) where
   is_local-what_if = is_local-bind q.change _ is_local-change
       (λ change. is_local-expect (codes "of") (q.ask (syntax.what_if change)) (is_local-ask (syntax.what_if change)))
 
-  is_local-versions : IsLocal (expect_word (codes "of") (λ ts. identifier ts >>= (λ table. Ok (syntax.versions table.0, table.1))))
+  is_local-kept_how : IsLocal q.kept_how
+  unfolding q.kept_how
+  is_local-kept_how = local-word-all t m m' (codes "without") q.without (accept syntax.rows) is_local-without (is_local-ok syntax.rows)
+
+  is_local-kept : IsLocal q.kept
+  unfolding q.kept
+  is_local-kept = is_local-bind q.kept_how _ is_local-kept_how (λ how. is_local-bind q.state _ is_local-state (λ state. is_local-ok (q.kept_of how state)))
+
+  is_local-as_is_side : IsLocal q.as_is_side
+  unfolding q.as_is_side
+  is_local-as_is_side = is_local-bind q.kept _ is_local-kept (λ kept. is_local-ok (syntax.as_is kept))
+
+  is_local-changed_side : IsLocal q.changed_side
+  unfolding q.changed_side
+  is_local-changed_side = is_local-bind q.change _ is_local-change
+      (λ change. is_local-expect (codes "of") _ (is_local-bind q.kept _ is_local-kept (λ kept. is_local-ok (syntax.changed change kept))))
+
+  is_local-side : IsLocal q.side
+  unfolding q.side
+  is_local-side = local-word-all t m m' (codes "whatif") q.changed_side q.as_is_side is_local-changed_side is_local-as_is_side
+
+  is_local-second_side : (first : Side) → IsLocal (q.second_side first)
+  unfolding q.second_side
+  is_local-second_side first = is_local-bind q.side _ is_local-side (λ second. is_local-bind query _ (λ n. local-query t m m' n) (λ xs. is_local-ok (syntax.diff first second xs)))
+
+  is_local-diff : IsLocal q.diff
+  unfolding q.diff
+  is_local-diff = is_local-bind q.side _ is_local-side (λ first. is_local-expect (codes "to") (q.second_side first) (is_local-second_side first))
+
+  is_local-caused : IsLocal q.caused
+  unfolding q.caused
+  is_local-caused = is_local-bind q.kept _ is_local-kept (λ kept. is_local-bind query _ (λ n. local-query t m m' n) (λ xs. is_local-ok (syntax.causes kept xs)))
+
+  is_local-versions : IsLocal q.versions_of
   is_local-versions = is_local-expect (codes "of") _ (is_local-bind identifier _ (λ n. local-identifier t m m' n) (λ table. is_local-ok (syntax.versions table)))
+
+  is_local-saw : IsLocal q.saw
+  unfolding q.saw
+  is_local-saw = is_local-bind number _ is_local-number (λ x. is_local-expect (codes "after") _ (is_local-bind number _ is_local-number (λ k.
+      is_local-bind query _ (λ n. local-query t m m' n) (λ xs. is_local-ok (syntax.saw x k xs)))))
+
+  is_local-changes : IsLocal q.changes
+  unfolding q.changes
+  is_local-changes = is_local-bind number _ is_local-number (λ x. local-next-all t m m' s.Commit (accept (syntax.commit_changes x))
+      (λ rest. number rest >>= (λ k. Ok (syntax.changes x k.0, k.1))) (is_local-ok (syntax.commit_changes x))
+      (is_local-bind number _ is_local-number (λ k. is_local-ok (syntax.changes x k))))
 
   is_local-open_question : IsLocal q.open_question
   unfolding q.open_question
-  is_local-open_question = local-word-all t m m' (codes "log") (λ ts. number ts >>= (λ t. Ok (syntax.log t.0, t.1)))
-      (where_word (codes "versions") (expect_word (codes "of") (λ ts. identifier ts >>= (λ table. Ok (syntax.versions table.0, table.1))))
-      (where_word (codes "whatif") q.what_if (q.ask syntax.ask)))
+  is_local-open_question = local-word-all t m m' (codes "log") (λ ts. number ts >>= (λ t. Ok (syntax.log t.0, t.1))) q.from_versions
       (is_local-bind number _ is_local-number (λ x. is_local-ok (syntax.log x)))
-      (local-word-all t m m' (codes "versions") (expect_word (codes "of") (λ ts. identifier ts >>= (λ table. Ok (syntax.versions table.0, table.1))))
-      (where_word (codes "whatif") q.what_if (q.ask syntax.ask)) is_local-versions
-      (local-word-all t m m' (codes "whatif") q.what_if (q.ask syntax.ask) is_local-what_if (is_local-ask syntax.ask)))
+      (local-word-all t m m' (codes "versions") q.versions_of q.from_transactions is_local-versions
+      (local-word-all t m m' (codes "transactions") (accept syntax.transactions) q.from_saw (is_local-ok syntax.transactions)
+      (local-word-all t m m' (codes "saw") q.saw q.from_changes is_local-saw
+      (local-word-all t m m' (codes "changes") q.changes q.from_check is_local-changes
+      (local-word-all t m m' (codes "check") (accept syntax.check) q.from_diff (is_local-ok syntax.check)
+      (local-word-all t m m' (codes "diff") q.diff q.from_causes is_local-diff
+      (local-word-all t m m' (codes "causes") (expect_word (codes "of") q.caused) q.from_what_if (is_local-expect (codes "of") q.caused is_local-caused)
+      (local-word-all t m m' (codes "whatif") q.what_if (q.ask syntax.ask) is_local-what_if (is_local-ask syntax.ask)))))))))
 
   pub local-question : IsLocal q.question
   local-question n = local-closed t m m' q.open_question n (is_local-open_question n)

@@ -10,13 +10,13 @@ use Rattle.gp_grammar.specs.declared.token_kind.TokenKind.{TokenKind}
 use Rattle.gp_grammar.specs.declared.token_kind.TokenKind.TheVariants as token
 use Rattle.gp_grammar.specs.declared.limits.TheConstants.{MAX_PATTERN_NUMBER}
 use Rattle.gp_grammar.specs.Syntax as syntax
-use Rattle.gp_grammar.specs.Syntax.{Lexemes, Bytes, Command, State, Pattern, Rule, rule_of, Rules, How, Query, LogChange, Question}
-use Rattle.gp_grammar.specs.Capping.{capped_change, capped_question}
+use Rattle.gp_grammar.specs.Syntax.{Lexemes, Bytes, Command, State, Pattern, Rule, rule_of, Rules, How, Query, LogChange, Kept, Side, Question}
+use Rattle.gp_grammar.specs.Capping.{capped_change, capped_side, capped_question}
 use Rattle.gp_grammar.specs.CommandGrammar as l
 use Rattle.gp_grammar.specs.CommandGrammar.{IsList, comma, Closed}
 use Rattle.gp_grammar.specs.QuestionGrammar as g
-use Rattle.gp_grammar.specs.QuestionGrammar.{IsState, IsSemiring, IsPattern, IsRule, IsRules, IsLeftOut, IsHow, IsAsk, IsChange, IsOpenQuestion, pattern_name}
-use Rattle.gp_grammar.specs.Parsing.{Outcome, Parser, ◌>>=◌, by_option, identifier}
+use Rattle.gp_grammar.specs.QuestionGrammar.{IsState, IsSemiring, IsPattern, IsRule, IsRules, IsLeftOut, IsHow, IsAsk, IsChange, IsKept, IsKeptHow, IsSide, IsOpenQuestion, pattern_name}
+use Rattle.gp_grammar.specs.Parsing.{Outcome, ◌>>=◌, by_option}
 use Rattle.gp_grammar.specs.CommandParsing.{◌then◌, where_next, fail, accept, where_word, expect_word, push, separated, in_brackets, query, statement}
 use Rattle.gp_grammar.specs.QuestionParsing as q
 use Rattle.gp_grammar.specs.QuestionParsing.{number_if, number, pattern_of}
@@ -217,6 +217,14 @@ without-sound ts = sound-bind (IsList comma IsLeftOut) (λ b y. IsHow (Word (cod
     expect_word-sound (codes "of") (λ b y. IsHow (Word (codes "without") ∷ (a ++ b)) y) (accept (syntax.without xs)) ts1
     (λ ts2. sound-ok _ ts2 (syntax.without xs) (g.without a xs i)))
 
+-- the same, where it stands before a state of which some rows are left
+kept_without-sound : (ts : Lexemes) → Sound (λ b y. IsKeptHow (Word (codes "without") ∷ b) y) ts (q.without ts)
+unfolding q.without
+kept_without-sound ts = sound-bind (IsList comma IsLeftOut) (λ b y. IsKeptHow (Word (codes "without") ∷ b) y) ts (separated q.left_out ts) _
+    (separated-sound IsLeftOut q.left_out left_out-sound ts) (λ a ts1 xs i.
+    expect_word-sound (codes "of") (λ b y. IsKeptHow (Word (codes "without") ∷ (a ++ b)) y) (accept (syntax.without xs)) ts1
+    (λ ts2. sound-ok _ ts2 (syntax.without xs) (g.remaining a xs i)))
+
 -- ---- questions
 
 value-sound : (ts : Lexemes) → Sound (λ b y. IsHow (Word (codes "value") ∷ b) y) ts (q.value ts)
@@ -322,22 +330,127 @@ what_if-sound ts = sound-bind BuildsChange (λ b y. BuildsQuestion (Word (codes 
     expect_word-sound (codes "of") (λ b y. BuildsQuestion (Word (codes "whatif") ∷ (a ++ b)) y) (q.ask (syntax.what_if change)) ts1 (λ ts2.
     ask-sound (syntax.what_if change) (λ b y. BuildsQuestion (Word (codes "whatif") ∷ (a ++ (Word (codes "of") ∷ b))) y) (changes a change i) ts2))
 
+-- ---- states of which some rows are left, and sides
+
+kept_how-sound : (ts : Lexemes) → Sound IsKeptHow ts (q.kept_how ts)
+unfolding q.kept_how
+kept_how-sound ts = word-sound (codes "without") IsKeptHow q.without (accept syntax.rows) ts kept_without-sound (sound-ok IsKeptHow ts syntax.rows g.all)
+
+kept-sound : (ts : Lexemes) → Sound IsKept ts (q.kept ts)
+unfolding q.kept
+kept-sound ts = sound-bind IsKeptHow IsKept ts (q.kept_how ts) _ (kept_how-sound ts) (λ a ts1 how i.
+    sound-bind IsState (λ b y. IsKept (a ++ b) y) ts1 (q.state ts1) _ (state-sound ts1)
+    (λ b ts2 state j. sound-ok _ ts2 (q.kept_of how state) (let z : b ++ [] ≡ b = append-nil b in rw z (g.kept a b how state i j))))
+
+abbrev BuildsSide : Lexemes → Side → Type 0
+BuildsSide = Built IsSide capped_side
+
+as_is-sound : (ts : Lexemes) → Sound BuildsSide ts (q.as_is_side ts)
+unfolding q.as_is_side
+as_is-sound ts = sound-bind IsKept BuildsSide ts (q.kept ts) _ (kept-sound ts)
+    (λ a ts1 kept i. sound-ok _ ts1 (syntax.as_is kept) (let z : a ++ [] ≡ a = append-nil a in rw z (as_is a kept i)))
+  where
+    as_is : (a : Lexemes) (kept : Kept) → IsKept a kept → BuildsSide a (syntax.as_is kept)
+    as_is a kept i = record { tree = syntax.as_is kept; is = g.as_is a kept i; same = refl }
+
+changed : (a b : Lexemes) (change : LogChange) (kept : Kept) → BuildsChange a change → IsKept b kept
+    → BuildsSide (Word (codes "whatif") ∷ (a ++ (Word (codes "of") ∷ b))) (syntax.changed change kept)
+changed a b change kept i j = record {
+  tree = syntax.changed i.tree kept;
+  is = g.changed a b i.tree kept i.is j;
+  same = ap (λ z. syntax.changed z kept) i.same;
+}
+
+changed-sound : (ts : Lexemes) → Sound (λ b y. BuildsSide (Word (codes "whatif") ∷ b) y) ts (q.changed_side ts)
+unfolding q.changed_side
+changed-sound ts = sound-bind BuildsChange (λ b y. BuildsSide (Word (codes "whatif") ∷ b) y) ts (q.change ts) _ (change-sound ts) (λ a ts1 change i.
+    expect_word-sound (codes "of") (λ b y. BuildsSide (Word (codes "whatif") ∷ (a ++ b)) y) _ ts1 (λ ts2.
+    sound-bind IsKept (λ b y. BuildsSide (Word (codes "whatif") ∷ (a ++ (Word (codes "of") ∷ b))) y) ts2 (q.kept ts2) _ (kept-sound ts2)
+    (λ b ts3 kept j. sound-ok _ ts3 (syntax.changed change kept) (let z : b ++ [] ≡ b = append-nil b in rw z (changed a b change kept i j)))))
+
+side-sound : (ts : Lexemes) → Sound BuildsSide ts (q.side ts)
+unfolding q.side
+side-sound ts = word-sound (codes "whatif") BuildsSide q.changed_side q.as_is_side ts changed-sound (as_is-sound ts)
+
+diffs : (a b c : Lexemes) (first second : Side) (xs : Query) → BuildsSide a first → BuildsSide b second → BuildsQuery c xs
+    → BuildsQuestion (Word (codes "diff") ∷ (a ++ (Word (codes "to") ∷ (b ++ c)))) (syntax.diff first second xs)
+diffs a b c first second xs i j k = record {
+  tree = syntax.diff i.tree j.tree k.tree;
+  is = g.diff a b c i.tree j.tree k.tree i.is j.is k.is;
+  same =
+      ap (λ z. syntax.diff z second xs) i.same
+      ∙ ap (λ z. syntax.diff (capped_side i.tree) z xs) j.same
+      ∙ ap (λ z. syntax.diff (capped_side i.tree) (capped_side j.tree) z) k.same;
+}
+
+second_side-sound : (a : Lexemes) (first : Side) → BuildsSide a first → (ts : Lexemes)
+    → Sound (λ b y. BuildsQuestion (Word (codes "diff") ∷ (a ++ (Word (codes "to") ∷ b))) y) ts (q.second_side first ts)
+unfolding q.second_side
+second_side-sound a first i ts = sound-bind BuildsSide (λ b y. BuildsQuestion (Word (codes "diff") ∷ (a ++ (Word (codes "to") ∷ b))) y) ts (q.side ts) _ (side-sound ts) (λ b ts1 second j.
+    sound-bind BuildsQuery (λ c y. BuildsQuestion (Word (codes "diff") ∷ (a ++ (Word (codes "to") ∷ (b ++ c)))) y) ts1 (query ts1) _ (query-sound ts1)
+    (λ c ts2 xs k. sound-ok _ ts2 (syntax.diff first second xs) (let z : c ++ [] ≡ c = append-nil c in rw z (diffs a b c first second xs i j k))))
+
+diff-sound : (ts : Lexemes) → Sound (λ b y. BuildsQuestion (Word (codes "diff") ∷ b) y) ts (q.diff ts)
+unfolding q.diff
+diff-sound ts = sound-bind BuildsSide (λ b y. BuildsQuestion (Word (codes "diff") ∷ b) y) ts (q.side ts) _ (side-sound ts) (λ a ts1 first i.
+    expect_word-sound (codes "to") (λ b y. BuildsQuestion (Word (codes "diff") ∷ (a ++ b)) y) (q.second_side first) ts1 (second_side-sound a first i))
+
+caused : (a b : Lexemes) (kept : Kept) (xs : Query) → IsKept a kept → BuildsQuery b xs
+    → BuildsQuestion (Word (codes "causes") ∷ Word (codes "of") ∷ (a ++ b)) (syntax.causes kept xs)
+caused a b kept xs i j = record {
+  tree = syntax.causes kept j.tree;
+  is = g.causes a b kept j.tree i j.is;
+  same = ap (λ z. syntax.causes kept z) j.same;
+}
+
+caused-sound : (ts : Lexemes) → Sound (λ b y. BuildsQuestion (Word (codes "causes") ∷ Word (codes "of") ∷ b) y) ts (q.caused ts)
+unfolding q.caused
+caused-sound ts = sound-bind IsKept (λ b y. BuildsQuestion (Word (codes "causes") ∷ Word (codes "of") ∷ b) y) ts (q.kept ts) _ (kept-sound ts) (λ a ts1 kept i.
+    sound-bind BuildsQuery (λ b y. BuildsQuestion (Word (codes "causes") ∷ Word (codes "of") ∷ (a ++ b)) y) ts1 (query ts1) _ (query-sound ts1)
+    (λ b ts2 xs j. sound-ok _ ts2 (syntax.causes kept xs) (let z : b ++ [] ≡ b = append-nil b in rw z (caused a b kept xs i j))))
+
 -- ---- whole questions
 
-abbrev versions_of : Parser Question
-versions_of = expect_word (codes "of") (λ ts. identifier ts >>= (λ table. Ok (syntax.versions table.0, table.1)))
+saws : (t k : ℕ) (a : Lexemes) (xs : Query) → BuildsQuery a xs
+    → BuildsQuestion (Word (codes "saw") ∷ Number t ∷ Word (codes "after") ∷ Number k ∷ a) (syntax.saw t k xs)
+saws t k a xs i = record { tree = syntax.saw t k i.tree; is = g.saw t k a i.tree i.is; same = ap (λ z. syntax.saw t k z) i.same }
+
+saw-sound : (ts : Lexemes) → Sound (λ b y. BuildsQuestion (Word (codes "saw") ∷ b) y) ts (q.saw ts)
+unfolding q.saw
+saw-sound ts = number-sound (λ b y. BuildsQuestion (Word (codes "saw") ∷ b) y) ts _ (λ t ts1.
+    expect_word-sound (codes "after") (λ b y. BuildsQuestion (Word (codes "saw") ∷ Number t ∷ b) y) _ ts1 (λ ts2.
+    number-sound (λ b y. BuildsQuestion (Word (codes "saw") ∷ Number t ∷ Word (codes "after") ∷ b) y) ts2 _ (λ k ts3.
+    sound-bind BuildsQuery (λ b y. BuildsQuestion (Word (codes "saw") ∷ Number t ∷ Word (codes "after") ∷ Number k ∷ b) y) ts3 (query ts3) _ (query-sound ts3)
+    (λ a ts4 xs i. sound-ok _ ts4 (syntax.saw t k xs) (let z : a ++ [] ≡ a = append-nil a in rw z (saws t k a xs i))))))
+
+changes-sound : (ts : Lexemes) → Sound (λ b y. BuildsQuestion (Word (codes "changes") ∷ b) y) ts (q.changes ts)
+unfolding q.changes
+changes-sound ts = number-sound (λ b y. BuildsQuestion (Word (codes "changes") ∷ b) y) ts _ (λ t ts1.
+    next-sound s.Commit (λ b y. BuildsQuestion (Word (codes "changes") ∷ Number t ∷ b) y) (accept (syntax.commit_changes t))
+    (λ rest. number rest >>= (λ k. Ok (syntax.changes t k.0, k.1))) ts1
+    (λ ts2. sound-ok _ ts2 (syntax.commit_changes t) (record { tree = syntax.commit_changes t; is = g.commit_changes t; same = refl }))
+    (number-sound (λ b y. BuildsQuestion (Word (codes "changes") ∷ Number t ∷ b) y) ts1 _
+    (λ k ts2. sound-ok _ ts2 (syntax.changes t k) (record { tree = syntax.changes t k; is = g.changes t k; same = refl }))))
 
 open_question-sound : (ts : Lexemes) → Sound BuildsQuestion ts (q.open_question ts)
 unfolding q.open_question
 open_question-sound ts =
-    word-sound (codes "log") BuildsQuestion (λ ts. number ts >>= (λ t. Ok (syntax.log t.0, t.1)))
-    (where_word (codes "versions") versions_of (where_word (codes "whatif") q.what_if (q.ask syntax.ask))) ts
+    word-sound (codes "log") BuildsQuestion (λ ts. number ts >>= (λ t. Ok (syntax.log t.0, t.1))) q.from_versions ts
     (λ ts1. number-sound (λ b y. BuildsQuestion (Word (codes "log") ∷ b) y) ts1 _ (λ t ts2. sound-ok _ ts2 (syntax.log t) (record { tree = syntax.log t; is = g.log t; same = refl })))
-    (word-sound (codes "versions") BuildsQuestion versions_of (where_word (codes "whatif") q.what_if (q.ask syntax.ask)) ts
+    (word-sound (codes "versions") BuildsQuestion q.versions_of q.from_transactions ts
     (λ ts1. expect_word-sound (codes "of") (λ b y. BuildsQuestion (Word (codes "versions") ∷ b) y) _ ts1 (λ ts2.
     identifier-sound (λ b y. BuildsQuestion (Word (codes "versions") ∷ Word (codes "of") ∷ b) y) ts2 _
     (λ table ts3. sound-ok _ ts3 (syntax.versions table) (record { tree = syntax.versions table; is = g.versions table; same = refl }))))
-    (word-sound (codes "whatif") BuildsQuestion q.what_if (q.ask syntax.ask) ts what_if-sound (ask-sound syntax.ask BuildsQuestion asks ts)))
+    (word-sound (codes "transactions") BuildsQuestion (accept syntax.transactions) q.from_saw ts
+    (λ ts1. sound-ok _ ts1 syntax.transactions (record { tree = syntax.transactions; is = g.transactions; same = refl }))
+    (word-sound (codes "saw") BuildsQuestion q.saw q.from_changes ts saw-sound
+    (word-sound (codes "changes") BuildsQuestion q.changes q.from_check ts changes-sound
+    (word-sound (codes "check") BuildsQuestion (accept syntax.check) q.from_diff ts
+    (λ ts1. sound-ok _ ts1 syntax.check (record { tree = syntax.check; is = g.check; same = refl }))
+    (word-sound (codes "diff") BuildsQuestion q.diff q.from_causes ts diff-sound
+    (word-sound (codes "causes") BuildsQuestion (expect_word (codes "of") q.caused) q.from_what_if ts
+    (λ ts1. expect_word-sound (codes "of") (λ b y. BuildsQuestion (Word (codes "causes") ∷ b) y) q.caused ts1 caused-sound)
+    (word-sound (codes "whatif") BuildsQuestion q.what_if (q.ask syntax.ask) ts what_if-sound (ask-sound syntax.ask BuildsQuestion asks ts)))))))))
 
 pub question-sound : (ts : Lexemes) → Sound (Closed BuildsQuestion) ts (q.question ts)
 question-sound = closed-sound BuildsQuestion q.open_question open_question-sound

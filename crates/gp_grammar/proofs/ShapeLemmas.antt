@@ -5,10 +5,10 @@ use Rattle.std.proofs.lemmas.List.{map-append, length-map}
 use Rattle.std.proofs.lemmas.Bool.{ltb-false, ltb-true, lt-ltb, or_parts}
 use Rattle.gp_grammar.specs.declared.limits.TheConstants.{MAX_COLUMNS, MAX_FROM, MAX_BRANCHES, MAX_VALUES, MAX_NODES, MAX_LEVELS}
 use Rattle.gp_grammar.specs.Syntax as syntax
-use Rattle.gp_grammar.specs.Syntax.{Term, SetTerm, Item, Items, Block, Query, Command, ScriptLine, LogChange, Question}
+use Rattle.gp_grammar.specs.Syntax.{Term, SetTerm, Item, Items, Block, Query, Command, ScriptLine, LogChange, Side, Question}
 use Rattle.gp_grammar.specs.Limits as l
-use Rattle.gp_grammar.specs.Limits.{Limit, Shape, nodes, levels, some_above, passed_limit, terms_of_condition, listed, terms_of_query, query_shape, shape_of_terms, term_shape, command_shape, line_shape, change_shape, both, question_shape}
-use Rattle.gp_grammar.specs.Capping.{is_large, capped, capped_set, capped_items, capped_block, capped_command, capped_line, capped_change, capped_question}
+use Rattle.gp_grammar.specs.Limits.{Limit, Shape, nodes, levels, some_above, passed_limit, terms_of_condition, listed, terms_of_query, query_shape, shape_of_terms, term_shape, command_shape, line_shape, change_shape, side_shape, both, question_shape}
+use Rattle.gp_grammar.specs.Capping.{is_large, capped, capped_set, capped_items, capped_block, capped_command, capped_line, capped_change, capped_side, capped_question}
 use Rattle.gp_grammar.specs.Grammar.{IsTerm}
 use Rattle.gp_grammar.specs.CommandGrammar.{IsCommand, IsScriptLine}
 use Rattle.gp_grammar.specs.QuestionGrammar.{IsQuestion}
@@ -241,15 +241,52 @@ what_if-shape x q =
     ∙ ap (λ z. both (capped_shape (change_shape x)) z) (query-shape q)
     ∙ both-shape (change_shape x) (query_shape q)
 
+side-shape : (x : Side) → side_shape (capped_side x) ≡ capped_shape (side_shape x)
+side-shape (syntax.as_is kept) = refl
+side-shape (syntax.changed change kept) = change-shape change
+
+exact-side : (x : Side) → AreExact (side_shape x).terms → capped_side x ≡ x
+exact-side (syntax.as_is kept) h = refl
+exact-side (syntax.changed change kept) h = ap (λ z. syntax.changed z kept) (exact-change change h)
+
+diff-shape : (x z : Side) (q : Query) → both (both (side_shape (capped_side x)) (side_shape (capped_side z))) (query_shape (map capped_block q))
+    ≡ capped_shape (both (both (side_shape x) (side_shape z)) (query_shape q))
+diff-shape x z q =
+    ap (λ s. both (both s (side_shape (capped_side z))) (query_shape (map capped_block q))) (side-shape x)
+    ∙ ap (λ s. both (both (capped_shape (side_shape x)) s) (query_shape (map capped_block q))) (side-shape z)
+    ∙ ap (λ s. both (both (capped_shape (side_shape x)) (capped_shape (side_shape z))) s) (query-shape q)
+    ∙ ap (λ s. both s (capped_shape (query_shape q))) (both-shape (side_shape x) (side_shape z))
+    ∙ both-shape (both (side_shape x) (side_shape z)) (query_shape q)
+
 pub question-limit : (x : Question) → passed_limit (question_shape (capped_question x)) ≡ passed_limit (question_shape x)
+question-limit syntax.transactions = refl
 question-limit (syntax.log t) = refl
 question-limit (syntax.versions table) = refl
+question-limit (syntax.saw t k q) = ap passed_limit (query-shape q) ∙ capped-limit (query_shape q)
+question-limit (syntax.changes t k) = refl
+question-limit (syntax.commit_changes t) = refl
+question-limit syntax.check = refl
+question-limit (syntax.diff first second q) = ap passed_limit (diff-shape first second q) ∙ capped-limit (both (both (side_shape first) (side_shape second)) (query_shape q))
+question-limit (syntax.causes kept q) = ap passed_limit (query-shape q) ∙ capped-limit (query_shape q)
 question-limit (syntax.ask how state q) = ap passed_limit (query-shape q) ∙ capped-limit (query_shape q)
 question-limit (syntax.what_if change how state q) = ap passed_limit (what_if-shape change q) ∙ capped-limit (both (change_shape change) (query_shape q))
 
 pub question-exact : (x : Question) → passed_limit (question_shape x) ≡ None → capped_question x ≡ x
+question-exact syntax.transactions h = refl
 question-exact (syntax.log t) h = refl
 question-exact (syntax.versions table) h = refl
+question-exact (syntax.saw t k q) h = ap (λ z. syntax.saw t k z) (exact-query q (within-exact (query_shape q) h))
+question-exact (syntax.changes t k) h = refl
+question-exact (syntax.commit_changes t) h = refl
+question-exact syntax.check h = refl
+question-exact (syntax.diff first second q) h =
+    let sides : List Term = (side_shape first).terms ++ (side_shape second).terms in
+    let w : AreExact sides × AreExact (terms_of_query q) = exact-split sides (terms_of_query q) (within-exact (both (both (side_shape first) (side_shape second)) (query_shape q)) h) in
+    let s : AreExact (side_shape first).terms × AreExact (side_shape second).terms = exact-split (side_shape first).terms (side_shape second).terms w.0 in
+    ap (λ z. syntax.diff z (capped_side second) (map capped_block q)) (exact-side first s.0)
+    ∙ ap (λ z. syntax.diff first z (map capped_block q)) (exact-side second s.1)
+    ∙ ap (λ z. syntax.diff first second z) (exact-query q w.1)
+question-exact (syntax.causes kept q) h = ap (λ z. syntax.causes kept z) (exact-query q (within-exact (query_shape q) h))
 question-exact (syntax.ask how state q) h = ap (λ z. syntax.ask how state z) (exact-query q (within-exact (query_shape q) h))
 question-exact (syntax.what_if change how state q) h =
     let w : AreExact (change_shape change).terms × AreExact (terms_of_query q) =

@@ -5,7 +5,7 @@ use Rattle.std.specs.Prelude.{Bool, map, option_map, nat_lt, if◌then◌else◌
 use Rattle.gp_grammar.specs.declared.limits.TheConstants.{MAX_NODES}
 use Rattle.gp_grammar.specs.declared.op.Op.{Op}
 use Rattle.gp_grammar.specs.Syntax as y
-use Rattle.gp_grammar.specs.Syntax.{Term, SetTerm, Items, Block, Query, Command, ScriptLine, LogChange, Question}
+use Rattle.gp_grammar.specs.Syntax.{Term, SetTerm, Items, Block, Query, Command, ScriptLine, LogChange, Side, Question}
 use Rattle.gp_grammar.specs.Limits.{nodes}
 
 abbrev pub is_large : Term → Bool
@@ -72,8 +72,19 @@ capped_change (y.drop t k) = y.drop t k
 capped_change (y.replace t k command) = y.replace t k (capped_command command)
 capped_change (y.add t command) = y.add t (capped_command command)
 
+abbrev pub capped_side : Side → Side
+capped_side (y.as_is kept) = y.as_is kept
+capped_side (y.changed change kept) = y.changed (capped_change change) kept
+
 abbrev pub capped_question : Question → Question
+capped_question y.transactions = y.transactions
 capped_question (y.log t) = y.log t
 capped_question (y.versions table) = y.versions table
+capped_question (y.saw t k query) = y.saw t k (map capped_block query)
+capped_question (y.changes t k) = y.changes t k
+capped_question (y.commit_changes t) = y.commit_changes t
+capped_question y.check = y.check
+capped_question (y.diff first second query) = y.diff (capped_side first) (capped_side second) (map capped_block query)
+capped_question (y.causes kept query) = y.causes kept (map capped_block query)
 capped_question (y.ask how state query) = y.ask how state (map capped_block query)
 capped_question (y.what_if change how state query) = y.what_if (capped_change change) how state (map capped_block query)

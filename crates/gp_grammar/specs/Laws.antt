@@ -1,11 +1,11 @@
 -- Part of the statement: what the laws say of a parser, a grammar and the definitions of reading.
-use Rattle.std.specs.Prelude.{◌≡◌, ◌↔◌, ℕ, Bool, List, None, Ok, Err, true, false, ◌==◌}
+use Rattle.std.specs.Prelude.{◌≡◌, ◌↔◌, ℕ, Bool, List, None, Ok, Err, true, false, ◌==◌, ◌&&◌}
 use Rattle.std.specs.List.{list_any}
 use Rattle.std.specs.Str.{IsUtf8}
 use Rattle.gp_lexer.specs.ProperLexemes.{AreProper}
 use Rattle.gp_grammar.specs.declared.limits.TheConstants.{MAX_OPEN}
 use Rattle.gp_grammar.specs.Syntax as y
-use Rattle.gp_grammar.specs.Syntax.{Lexemes, Bytes, Command, is_statement, How, State, Query, LogChange}
+use Rattle.gp_grammar.specs.Syntax.{Lexemes, Bytes, Command, is_statement, LogChange, Side, Question}
 use Rattle.gp_grammar.specs.CommandGrammar.{IsCommand}
 use Rattle.gp_grammar.specs.Places.{Stops}
 use Rattle.gp_grammar.specs.Depth.{is_too_deep}
@@ -63,10 +63,19 @@ has_statement (y.drop t k) = true
 has_statement (y.replace t k command) = is_statement command
 has_statement (y.add t command) = is_statement command
 
+abbrev pub side_has_statement : Side → Bool
+side_has_statement (y.as_is kept) = true
+side_has_statement (y.changed change kept) = has_statement change
+
+-- the commands of the changes in a question
+abbrev pub has_statements : Question → Bool
+has_statements (y.what_if change how state query) = has_statement change
+has_statements (y.diff first second query) = side_has_statement first && side_has_statement second
+has_statements _ = true
+
 -- the command of a change that was read is a statement
 abbrev pub ChangesAreStatements : Type 0
-ChangesAreStatements = (bytes : Bytes) (change : LogChange) (how : How) (state : State) (query : Query) → question_of bytes ≡ Ok (y.what_if change how state query)
-    → has_statement change ≡ true
+ChangesAreStatements = (bytes : Bytes) (question : Question) → question_of bytes ≡ Ok question → has_statements question ≡ true
 
 -- ---- canonical lexemes
 

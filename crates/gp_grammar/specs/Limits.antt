@@ -3,7 +3,7 @@ use Rattle.std.specs.Prelude.{ℕ, suc, ◌+◌, max, Bool, List, [], ◌∷◌,
 use Rattle.std.specs.List.{flat_map, list_any}
 use Rattle.gp_grammar.specs.declared.limits.TheConstants.{MAX_COLUMNS, MAX_FROM, MAX_BRANCHES, MAX_VALUES, MAX_NODES, MAX_LEVELS}
 use Rattle.gp_grammar.specs.Syntax as y
-use Rattle.gp_grammar.specs.Syntax.{Term, SetTerm, Item, Items, Block, Query, Command, ScriptLine, LogChange, Question}
+use Rattle.gp_grammar.specs.Syntax.{Term, SetTerm, Item, Items, Block, Query, Command, ScriptLine, LogChange, Side, Question}
 
 -- the literals, columns, operators and CASEs of a term; brackets are none
 abbrev pub nodes : Term → ℕ
@@ -99,9 +99,20 @@ both a b = record {
   terms = a.terms ++ b.terms;
 }
 
+abbrev pub side_shape : Side → Shape
+side_shape (y.as_is kept) = shape_of_terms []
+side_shape (y.changed change kept) = change_shape change
+
 abbrev pub question_shape : Question → Shape
+question_shape y.transactions = shape_of_terms []
 question_shape (y.log t) = shape_of_terms []
 question_shape (y.versions table) = shape_of_terms []
+question_shape (y.saw t k query) = query_shape query
+question_shape (y.changes t k) = shape_of_terms []
+question_shape (y.commit_changes t) = shape_of_terms []
+question_shape y.check = shape_of_terms []
+question_shape (y.diff first second query) = both (both (side_shape first) (side_shape second)) (query_shape query)
+question_shape (y.causes kept query) = query_shape query
 question_shape (y.ask how state query) = query_shape query
 question_shape (y.what_if change how state query) = both (change_shape change) (query_shape query)
 

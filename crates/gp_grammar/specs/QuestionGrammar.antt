@@ -10,7 +10,7 @@ use Rattle.gp_grammar.specs.declared.token_kind.TokenKind.{TokenKind}
 use Rattle.gp_grammar.specs.declared.token_kind.TokenKind.TheVariants as token
 use Rattle.gp_grammar.specs.declared.limits.TheConstants.{MAX_PATTERN_NUMBER}
 use Rattle.gp_grammar.specs.Syntax as y
-use Rattle.gp_grammar.specs.Syntax.{Lexemes, Bytes, Command, State, Pattern, Rule, rule_of, Rules, How, Query, LogChange, Question}
+use Rattle.gp_grammar.specs.Syntax.{Lexemes, Bytes, Command, State, Pattern, Rule, rule_of, Rules, How, Query, LogChange, Kept, Side, Question}
 use Rattle.gp_grammar.specs.CommandGrammar.{IsList, comma, IsQuery, IsStatement, Closed, is_number_without_zero}
 
 pub data IsState : Lexemes → State → Type 0 where
@@ -88,9 +88,33 @@ pub data IsChange : Lexemes → LogChange → Type 0 where
   add : (t : ℕ) (a : Lexemes) (x : Command) → IsStatement a x
       → IsChange (Word (codes "add") ∷ Number t ∷ Word (codes "by") ∷ Sign s.Open ∷ (a ++ (Sign s.Close ∷ []))) (y.add t x)
 
+-- the rows of a state, or those that are left without some tokens
+pub data IsKeptHow : Lexemes → How → Type 0 where
+  all : IsKeptHow [] y.rows
+  remaining : (a : Lexemes) (rules : List Rule) → IsList comma IsLeftOut a rules
+      → IsKeptHow (Word (codes "without") ∷ (a ++ (Word (codes "of") ∷ []))) (y.without rules)
+
+pub data IsKept : Lexemes → Kept → Type 0 where
+  kept : (a b : Lexemes) (how : How) (state : State) → IsKeptHow a how → IsState b state → IsKept (a ++ b) (record { how = how; state = state })
+
+pub data IsSide : Lexemes → Side → Type 0 where
+  as_is : (a : Lexemes) (kept : Kept) → IsKept a kept → IsSide a (y.as_is kept)
+  changed : (a b : Lexemes) (change : LogChange) (kept : Kept) → IsChange a change → IsKept b kept
+      → IsSide (Word (codes "whatif") ∷ (a ++ (Word (codes "of") ∷ b))) (y.changed change kept)
+
 pub data IsOpenQuestion : Lexemes → Question → Type 0 where
+  transactions : IsOpenQuestion (Word (codes "transactions") ∷ []) y.transactions
   log : (t : ℕ) → IsOpenQuestion (Word (codes "log") ∷ Number t ∷ []) (y.log t)
   versions : (table : Bytes) → IsOpenQuestion (Word (codes "versions") ∷ Word (codes "of") ∷ Word table ∷ []) (y.versions table)
+  saw : (t k : ℕ) (a : Lexemes) (query : Query) → IsQuery a query
+      → IsOpenQuestion (Word (codes "saw") ∷ Number t ∷ Word (codes "after") ∷ Number k ∷ a) (y.saw t k query)
+  changes : (t k : ℕ) → IsOpenQuestion (Word (codes "changes") ∷ Number t ∷ Number k ∷ []) (y.changes t k)
+  commit_changes : (t : ℕ) → IsOpenQuestion (Word (codes "changes") ∷ Number t ∷ Sign s.Commit ∷ []) (y.commit_changes t)
+  check : IsOpenQuestion (Word (codes "check") ∷ []) y.check
+  diff : (a b c : Lexemes) (first second : Side) (query : Query) → IsSide a first → IsSide b second → IsQuery c query
+      → IsOpenQuestion (Word (codes "diff") ∷ (a ++ (Word (codes "to") ∷ (b ++ c)))) (y.diff first second query)
+  causes : (a b : Lexemes) (kept : Kept) (query : Query) → IsKept a kept → IsQuery b query
+      → IsOpenQuestion (Word (codes "causes") ∷ Word (codes "of") ∷ (a ++ b)) (y.causes kept query)
   ask : (a : Lexemes) (how : How) (state : State) (query : Query) → IsAsk a how state query → IsOpenQuestion a (y.ask how state query)
   what_if : (a b : Lexemes) (change : LogChange) (how : How) (state : State) (query : Query) → IsChange a change → IsAsk b how state query
       → IsOpenQuestion (Word (codes "whatif") ∷ (a ++ (Word (codes "of") ∷ b))) (y.what_if change how state query)

@@ -8,7 +8,7 @@ use Rattle.gp_grammar.specs.declared.token_kind.TokenKind.{TokenKind}
 use Rattle.gp_grammar.specs.declared.token_kind.TokenKind.TheVariants as token
 use Rattle.gp_grammar.specs.declared.limits.TheConstants.{MAX_PATTERN_NUMBER}
 use Rattle.gp_grammar.specs.Syntax as y
-use Rattle.gp_grammar.specs.Syntax.{Lexemes, Bytes, Command, State, Pattern, Rule, rule_of, Rules, How, Query, LogChange, Question}
+use Rattle.gp_grammar.specs.Syntax.{Lexemes, Bytes, Command, State, Pattern, Rule, rule_of, Rules, How, Query, LogChange, Kept, Side, Question}
 use Rattle.gp_grammar.specs.QuestionGrammar.{pattern_name}
 use Rattle.gp_grammar.specs.Parsing.{Parser, ◌>>=◌, by_option, expect, identifier}
 use Rattle.gp_grammar.specs.CommandParsing.{◌then◌, where_next, fail, accept, where_word, expect_word, push, separated, in_brackets, query, statement, closed}
@@ -143,10 +143,83 @@ change = where_word (codes "drop") dropped (where_word (codes "replace") replace
 unfoldable pub what_if : Parser Question
 what_if ts = change ts >>= (λ change. expect_word (codes "of") (ask (y.what_if change.0)) change.1)
 
+unfoldable pub saw : Parser Question
+saw ts = number ts >>= (λ t. expect_word (codes "after") (λ rest. do
+  k ← number rest
+  query ← query k.1
+  Ok (y.saw t.0 k.0 query.0, query.1)) t.1)
+
+unfoldable pub changes : Parser Question
+changes ts = number ts >>= (λ t. where_next s.Commit (accept (y.commit_changes t.0)) (λ rest. number rest >>= (λ k. Ok (y.changes t.0 k.0, k.1))) t.1)
+
+unfoldable pub kept_how : Parser How
+kept_how = where_word (codes "without") without (accept y.rows)
+
+abbrev pub kept_of : How → State → Kept
+kept_of how state = record { how = how; state = state }
+
+unfoldable pub kept : Parser Kept
+kept ts = do
+  how ← kept_how ts
+  state ← state how.1
+  Ok (kept_of how.0 state.0, state.1)
+
+unfoldable pub as_is_side : Parser Side
+as_is_side ts = kept ts >>= (λ kept. Ok (y.as_is kept.0, kept.1))
+
+unfoldable pub changed_side : Parser Side
+changed_side ts = change ts >>= (λ change. expect_word (codes "of") (λ rest. kept rest >>= (λ kept. Ok (y.changed change.0 kept.0, kept.1))) change.1)
+
+unfoldable pub side : Parser Side
+side = where_word (codes "whatif") changed_side as_is_side
+
+-- behind the first side
+unfoldable pub second_side : Side → Parser Question
+second_side first ts = do
+  second ← side ts
+  query ← query second.1
+  Ok (y.diff first second.0 query.0, query.1)
+
+unfoldable pub diff : Parser Question
+diff ts = side ts >>= (λ first. expect_word (codes "to") (second_side first.0) first.1)
+
+-- behind CAUSES OF
+unfoldable pub caused : Parser Question
+caused ts = do
+  kept ← kept ts
+  query ← query kept.1
+  Ok (y.causes kept.0 query.0, query.1)
+
+abbrev pub versions_of : Parser Question
+versions_of = expect_word (codes "of") (λ ts. identifier ts >>= (λ table. Ok (y.versions table.0, table.1)))
+
+-- a question, by its first word; each of these takes what the words before it do not
+abbrev pub from_what_if : Parser Question
+from_what_if = where_word (codes "whatif") what_if (ask y.ask)
+
+abbrev pub from_causes : Parser Question
+from_causes = where_word (codes "causes") (expect_word (codes "of") caused) from_what_if
+
+abbrev pub from_diff : Parser Question
+from_diff = where_word (codes "diff") diff from_causes
+
+abbrev pub from_check : Parser Question
+from_check = where_word (codes "check") (accept y.check) from_diff
+
+abbrev pub from_changes : Parser Question
+from_changes = where_word (codes "changes") changes from_check
+
+abbrev pub from_saw : Parser Question
+from_saw = where_word (codes "saw") saw from_changes
+
+abbrev pub from_transactions : Parser Question
+from_transactions = where_word (codes "transactions") (accept y.transactions) from_saw
+
+abbrev pub from_versions : Parser Question
+from_versions = where_word (codes "versions") versions_of from_transactions
+
 unfoldable pub open_question : Parser Question
-open_question = where_word (codes "log") (λ ts. number ts >>= (λ t. Ok (y.log t.0, t.1)))
-    (where_word (codes "versions") (expect_word (codes "of") (λ ts. identifier ts >>= (λ table. Ok (y.versions table.0, table.1))))
-    (where_word (codes "whatif") what_if (ask y.ask)))
+open_question = where_word (codes "log") (λ ts. number ts >>= (λ t. Ok (y.log t.0, t.1))) from_versions
 
 abbrev pub question : Parser Question
 question = closed open_question

@@ -116,9 +116,28 @@ pub data LogChange : Type 0 where
   replace : ℕ → ℕ → Command → LogChange
   add : ℕ → Command → LogChange
 
--- the last one asks of the states that there would be with a change
+-- a state as it is, or without the rows of some tokens: what a question asks for of it is its rows, or those that are left without the tokens
+pub record Kept : Type 0 where
+  pub how : How
+  pub state : State
+
+-- one of the two sides of a difference: a state, or the state that there would be with a change
+pub data Side : Type 0 where
+  as_is : Kept → Side
+  changed : LogChange → Kept → Side
+
+-- A question. `saw` asks for the rows that a query gives over what a transaction saw, `changes` and `commit_changes` for the rows that a statement or a commit
+-- changed, `check` whether the dump is that of a history, `diff` for the difference between the rows of two sides, `causes` for the statements without which the rows
+-- would be others. `what_if` asks of the states that there would be with a change.
 pub data Question : Type 0 where
+  transactions : Question
   log : ℕ → Question
   versions : Bytes → Question
+  saw : ℕ → ℕ → Query → Question
+  changes : ℕ → ℕ → Question
+  commit_changes : ℕ → Question
+  check : Question
+  diff : Side → Side → Query → Question
+  causes : Kept → Query → Question
   ask : How → State → Query → Question
   what_if : LogChange → How → State → Query → Question

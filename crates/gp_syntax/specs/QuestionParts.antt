@@ -2,9 +2,9 @@
 use Rattle.std.specs.Prelude.{ℕ, true, false, List, map, Option, None, Ok, codes}
 use Rattle.gp_lexer.specs.declared.lexeme.Symbol.TheVariants as s
 use Rattle.gp_grammar.specs.Syntax as y
-use Rattle.gp_grammar.specs.Parsing.{Parser, ◌>>=◌, identifier}
-use Rattle.gp_grammar.specs.CommandParsing.{◌then◌, where_next, accept, expect_word, where_word}
-use Rattle.gp_grammar.specs.QuestionParsing.{ask, number}
+use Rattle.gp_grammar.specs.Parsing.{Parser, ◌>>=◌}
+use Rattle.gp_grammar.specs.CommandParsing.{◌then◌, where_next, accept, expect_word, query, where_word}
+use Rattle.gp_grammar.specs.QuestionParsing.{ask, kept, number, second_side}
 use Rattle.gp_syntax.specs.declared.question_parser.Rules.{Rules}
 use Rattle.gp_syntax.specs.declared.question_parser.Pattern.{Pattern}
 use Rattle.gp_syntax.specs.declared.question_parser.Asked.{Asked}
@@ -40,6 +40,14 @@ asked_in question asked = question (how_view asked.how) (state_view asked.state)
 abbrev pub of_ask : (y.How → y.State → y.Query → y.Question) → Parser y.Question
 of_ask question = expect_word (codes "of") (ask question)
 
--- behind VERSIONS
-abbrev pub versions : Parser y.Question
-versions = expect_word (codes "of") (λ ts. identifier ts >>= (λ table. Ok (y.versions table.0, table.1)))
+-- behind SAW and its numbers
+abbrev pub saw_query : ℕ → ℕ → Parser y.Question
+saw_query t k ts = query ts >>= (λ query. Ok (y.saw t k query.0, query.1))
+
+-- behind the change of a side
+abbrev pub changed_kept : y.LogChange → Parser y.Side
+changed_kept change = expect_word (codes "of") (λ rest. kept rest >>= (λ kept. Ok (y.changed change kept.0, kept.1)))
+
+-- behind the first side
+abbrev pub to_second : y.Side → Parser y.Question
+to_second first = expect_word (codes "to") (second_side first)

@@ -19,6 +19,9 @@ use Rattle.gp_syntax.specs.declared.question.How.{How}
 use Rattle.gp_syntax.specs.declared.question.How.TheVariants as h
 use Rattle.gp_syntax.specs.declared.question.LogChange.{LogChange}
 use Rattle.gp_syntax.specs.declared.question.LogChange.TheVariants as l
+use Rattle.gp_syntax.specs.declared.question.Kept.{Kept}
+use Rattle.gp_syntax.specs.declared.question.Side.{Side}
+use Rattle.gp_syntax.specs.declared.question.Side.TheVariants as side
 use Rattle.gp_syntax.specs.declared.question.Question.{Question}
 use Rattle.gp_syntax.specs.declared.question.Question.TheVariants as q
 
@@ -87,8 +90,22 @@ change_view (l.Drop t k) = y.drop t k
 change_view (l.Replace t k command) = y.replace t k (command_view command)
 change_view (l.Add t command) = y.add t (command_view command)
 
+abbrev pub kept_view : Kept → y.Kept
+kept_view kept = record { how = how_view kept.how; state = state_view kept.state }
+
+abbrev pub side_view : Side → y.Side
+side_view (side.AsIs kept) = y.as_is (kept_view kept)
+side_view (side.Changed change kept) = y.changed (change_view change) (kept_view kept)
+
 abbrev pub question_view : Question → y.Question
+question_view q.Transactions = y.transactions
 question_view (q.Log t) = y.log t
 question_view (q.Versions table) = y.versions table
+question_view (q.Saw t k query) = y.saw t k (query_view query)
+question_view (q.Changes t k) = y.changes t k
+question_view (q.CommitChanges t) = y.commit_changes t
+question_view q.Check = y.check
+question_view (q.Diff first second query) = y.diff (side_view first) (side_view second) (query_view query)
+question_view (q.Causes kept query) = y.causes (kept_view kept) (query_view query)
 question_view (q.Ask how state query) = y.ask (how_view how) (state_view state) (query_view query)
 question_view (q.WhatIf change how state query) = y.what_if (change_view change) (how_view how) (state_view state) (query_view query)

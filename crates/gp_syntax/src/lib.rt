@@ -27,6 +27,7 @@ mod parsed;
 mod question;
 mod question_parser;
 mod read;
+mod side_parser;
 mod term;
 mod term_parser;
 
@@ -35,6 +36,6 @@ pub use command::{Block, Command, Item, Items, Query, ScriptLine, SetTerm};
 pub use error::ReadStop;
 pub use gp_grammar::{MAX_LINE_LENGTH, Op, SemiringName, TokenKind};
 pub use line::{Line, LineIter, lines};
-pub use question::{How, LogChange, Question, Rule, State};
+pub use question::{How, Kept, LogChange, Question, Rule, Side, State};
 pub use read::{read_command, read_line, read_question};
 pub use term::Term;

@@ -4,13 +4,13 @@ ghost use Rattle.std.specs.Prelude.{◌≡◌, ◌-◌, ◌^◌, ◌++◌, lengt
 ghost use Rattle.std.specs.List.{list_any};
 ghost use Rattle.std.specs.Option.{option_map};
 ghost use Rattle.gp_grammar.specs.Depth as spec;
-ghost use Rattle.gp_grammar.specs.Limits.{nodes, levels, listed, terms_of_condition, terms_of_query, query_shape, command_shape, change_shape, both, question_shape, passed_limit, some_above};
+ghost use Rattle.gp_grammar.specs.Limits.{nodes, levels, listed, terms_of_condition, terms_of_query, query_shape, command_shape, change_shape, side_shape, both, question_shape, passed_limit, some_above};
 ghost use Rattle.gp_syntax.specs.Refusals.{limit_of};
 ghost use Rattle.gp_syntax.specs.Measures.{is_above, are_above, earlier, rank, set_term_of, term_limit, terms_limit, terms_of_block, terms_of_sets};
-ghost use Rattle.gp_syntax.specs.Views.{term_view, set_view, items_view, block_view, query_view, condition_view, command_view, change_view, question_view};
+ghost use Rattle.gp_syntax.specs.Views.{term_view, set_view, items_view, block_view, query_view, condition_view, command_view, change_view, side_view, question_view};
 
 use crate::command::{Block, Command, Items, Query, SetTerm};
-use crate::question::{LogChange, Question};
+use crate::question::{LogChange, Question, Side};
 use crate::term::Term;
 use gp_base::Limit;
 use gp_grammar::{
@@ -377,13 +377,55 @@ fn what_if_limit(change: &LogChange, query: &Query) -> Option<Limit>
     earlier(first, second)
 }
 
+/// The first limit that the change of a side passes.
+fn side_limit(side: &Side) -> Option<Limit>
+    ensures { result ≡ option_map limit_of (passed_limit (side_shape (side_view side.now))) }
+{
+    match side {
+        Side::AsIs { .. } => None,
+        Side::Changed { change, .. } => change_limit(change),
+    }
+}
+
+/// The first limit that the changes of two sides pass.
+fn sides_limit(first: &Side, second: &Side) -> Option<Limit>
+    ensures { result ≡ option_map limit_of (passed_limit
+        (both (side_shape (side_view first.now)) (side_shape (side_view second.now)))) }
+{
+    let first = side_limit(first);
+    let second = side_limit(second);
+    earlier(first, second)
+}
+
+/// The first limit that a difference passes: each limit is tested over both sides and the query.
+fn diff_limit(first: &Side, second: &Side, query: &Query) -> Option<Limit>
+    ensures { result ≡ option_map limit_of (passed_limit
+        (both (both (side_shape (side_view first.now)) (side_shape (side_view second.now)))
+        (query_shape (query_view query.now)))) }
+{
+    let sides = sides_limit(first, second);
+    let query = query_limit(query);
+    earlier(sides, query)
+}
+
 /// The first limit that the question passes.
 pub(crate) fn question_limit(question: &Question) -> Option<Limit>
     ensures { result ≡ option_map limit_of (passed_limit (question_shape (question_view question.now))) }
 {
     match question {
+        Question::Transactions => None,
         Question::Log { .. } => None,
         Question::Versions { .. } => None,
+        Question::Saw { query, .. } => query_limit(query),
+        Question::Changes { .. } => None,
+        Question::CommitChanges { .. } => None,
+        Question::Check => None,
+        Question::Diff {
+            first,
+            second,
+            query,
+        } => diff_limit(first, second, query),
+        Question::Causes { query, .. } => query_limit(query),
         Question::Ask { query, .. } => query_limit(query),
         Question::WhatIf { change, query, .. } => what_if_limit(change, query),
     }

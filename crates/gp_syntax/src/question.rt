@@ -98,9 +98,37 @@ pub enum LogChange {
     },
 }
 
+/// A state as it is, or without the rows of some tokens.
+#[derive(Drop)]
+pub struct Kept {
+    /// What is asked for: [`How::Rows`] or [`How::Without`].
+    pub how: How,
+    /// The state.
+    pub state: State,
+}
+
+/// One of the two sides of a difference.
+#[derive(Drop)]
+pub enum Side {
+    /// A state of the history.
+    AsIs {
+        /// The state.
+        kept: Kept,
+    },
+    /// `WHATIF`: a state that there would be with a change.
+    Changed {
+        /// The change.
+        change: LogChange,
+        /// The state.
+        kept: Kept,
+    },
+}
+
 /// A question.
 #[derive(Drop)]
 pub enum Question {
+    /// `TRANSACTIONS`: the transactions.
+    Transactions,
     /// `LOG`: the log of a transaction.
     Log {
         /// The transaction.
@@ -110,6 +138,45 @@ pub enum Question {
     Versions {
         /// The table.
         table: Name,
+    },
+    /// `SAW`: a query over what a transaction saw after its first statements.
+    Saw {
+        /// The transaction.
+        t: u64,
+        /// How many statements.
+        k: u64,
+        /// The query.
+        query: Query,
+    },
+    /// `CHANGES`: the rows that a statement changed.
+    Changes {
+        /// The transaction.
+        t: u64,
+        /// The statement, from 1.
+        k: u64,
+    },
+    /// `CHANGES` and `COMMIT`: the rows that a commit changed.
+    CommitChanges {
+        /// The transaction.
+        t: u64,
+    },
+    /// `CHECK`: whether the dump is that of a history.
+    Check,
+    /// `DIFF`: how the rows of a query differ from one side to the other.
+    Diff {
+        /// The side without which rows have a minus.
+        first: Side,
+        /// The side without which rows have a plus.
+        second: Side,
+        /// The query.
+        query: Query,
+    },
+    /// `CAUSES OF`: the statements without which the rows of a query would be others.
+    Causes {
+        /// The state.
+        kept: Kept,
+        /// The query.
+        query: Query,
     },
     /// A query over a state.
     Ask {

@@ -9,7 +9,7 @@ ghost use Rattle.gp_grammar.specs.Syntax as y;
 ghost use Rattle.gp_grammar.specs.Syntax.{rule_of};
 ghost use Rattle.gp_grammar.proofs.QuestionCompleteness.{shrinks-left_out};
 ghost use Rattle.gp_syntax.specs.Parses.{Parses, ParsesAll, Extends, pushed};
-ghost use Rattle.gp_syntax.specs.QuestionParts.{asked_in, pattern_view, rules_view, rules_of, ends_rules, explained, of_ask, reenacted, versions};
+ghost use Rattle.gp_syntax.specs.QuestionParts.{asked_in, pattern_view, rules_view, rules_of, ends_rules, explained, of_ask, reenacted, saw_query};
 ghost use Rattle.gp_syntax.specs.Views.{how_view, query_view, question_view, rule_view, state_view};
 
 use crate::change_parser::change;
@@ -21,6 +21,7 @@ use crate::list_parser::{ParsedList, separated};
 use crate::names::pattern_name;
 use crate::parsed::{Parsed, ended};
 use crate::question::{How, Question, Rule, State};
+use crate::side_parser::{caused, diff};
 use gp_base::Sequence;
 use gp_grammar::{MAX_PATTERN_NUMBER, SemiringName, TokenKind};
 use gp_lexer::{Lexeme, Symbol};
@@ -85,7 +86,7 @@ fn reenacted(t: u64, lexemes: &[Lexeme]) -> Result<(State, &[Lexeme]), ParseStop
 
 /// The state that a question asks about.
 #[tactic(auto, unfolding(gp_grammar::specs::QuestionParsing::state))]
-fn state(lexemes: &[Lexeme]) -> Result<(State, &[Lexeme]), ParseStop<'_>>
+pub(crate) fn state(lexemes: &[Lexeme]) -> Result<(State, &[Lexeme]), ParseStop<'_>>
     ensures { Parses state_view result (spec.state lexemes.now) }
 {
     match strip(lexemes, Symbol::As) {
@@ -380,7 +381,7 @@ fn left_out_rules(
 
 /// What is left without some tokens, behind WITHOUT.
 #[tactic(auto, unfolding(gp_grammar::specs::QuestionParsing::without))]
-fn without(alloc: Global, lexemes: &[Lexeme]) -> Result<(How, &[Lexeme]), ParseStop<'_>>
+pub(crate) fn without(alloc: Global, lexemes: &[Lexeme]) -> Result<(How, &[Lexeme]), ParseStop<'_>>
     ensures { Parses how_view result (spec.without lexemes.now) }
 {
     let (rules, rest) = left_out_rules(alloc, lexemes)?;
@@ -423,7 +424,7 @@ fn how(alloc: Global, lexemes: &[Lexeme]) -> Result<(How, &[Lexeme]), ParseStop<
 }
 
 /// The value and a state.
-fn with_state<T: Drop>(
+pub(crate) fn with_state<T: Drop>(
     value: T,
     lexemes: &[Lexeme],
 ) -> Result<((T, State), &[Lexeme]), ParseStop<'_>>
@@ -435,7 +436,7 @@ fn with_state<T: Drop>(
 }
 
 /// The value and a query.
-fn with_query<T: Drop>(
+pub(crate) fn with_query<T: Drop>(
     alloc: Global,
     value: T,
     lexemes: &[Lexeme],
@@ -504,12 +505,87 @@ fn what_if(alloc: Global, lexemes: &[Lexeme]) -> Result<(Question, &[Lexeme]), P
 
 /// A VERSIONS, behind its first word.
 fn versions(lexemes: &[Lexeme]) -> Result<(Question, &[Lexeme]), ParseStop<'_>>
-    ensures { Parses question_view result (versions lexemes.now) }
+    ensures { Parses question_view result (spec.versions_of lexemes.now) }
 {
     let rest = expect_word(lexemes, b"of")?;
     let (table, rest) = identifier(rest)?;
     let table = table.clone()?;
     Ok((Question::Versions { table }, rest))
+}
+
+/// The query of a SAW, behind the number of statements.
+fn saw_query(
+    alloc: Global,
+    t: u64,
+    k: u64,
+    lexemes: &[Lexeme],
+) -> Result<(Question, &[Lexeme]), ParseStop<'_>>
+    ensures { Parses question_view result (saw_query t k lexemes.now) }
+{
+    let (query, rest) = query(alloc, lexemes)?;
+    Ok((Question::Saw { t, k, query }, rest))
+}
+
+/// A SAW, behind its first word.
+#[tactic(auto, unfolding(gp_grammar::specs::QuestionParsing::saw))]
+fn saw(alloc: Global, lexemes: &[Lexeme]) -> Result<(Question, &[Lexeme]), ParseStop<'_>>
+    ensures { Parses question_view result (spec.saw lexemes.now) }
+{
+    let (t, rest) = number(lexemes)?;
+    let rest = expect_word(rest, b"after")?;
+    let (k, rest) = number(rest)?;
+    saw_query(alloc, t, k, rest)
+}
+
+/// A CHANGES, behind its first word.
+#[tactic(auto, unfolding(gp_grammar::specs::QuestionParsing::changes))]
+fn changes(lexemes: &[Lexeme]) -> Result<(Question, &[Lexeme]), ParseStop<'_>>
+    ensures { Parses question_view result (spec.changes lexemes.now) }
+{
+    let (t, rest) = number(lexemes)?;
+    match strip(rest, Symbol::Commit) {
+        Some(rest) => Ok((Question::CommitChanges { t }, rest)),
+        None => {
+            let (k, rest) = number(rest)?;
+            Ok((Question::Changes { t, k }, rest))
+        }
+    }
+}
+
+/// A question that is none of those about transactions.
+fn state_question(alloc: Global, lexemes: &[Lexeme]) -> Result<(Question, &[Lexeme]), ParseStop<'_>>
+    ensures { Parses question_view result (spec.from_check lexemes.now) }
+{
+    if let Some(rest) = strip_word(lexemes, b"check") {
+        return Ok((Question::Check, rest));
+    }
+    if let Some(rest) = strip_word(lexemes, b"diff") {
+        return diff(alloc, rest);
+    }
+    if let Some(rest) = strip_word(lexemes, b"causes") {
+        let rest = expect_word(rest, b"of")?;
+        return caused(alloc, rest);
+    }
+    match strip_word(lexemes, b"whatif") {
+        Some(rest) => what_if(alloc, rest),
+        None => ask(alloc, lexemes),
+    }
+}
+
+/// A question behind none of the words of LOG and VERSIONS.
+fn later_question(alloc: Global, lexemes: &[Lexeme]) -> Result<(Question, &[Lexeme]), ParseStop<'_>>
+    ensures { Parses question_view result (spec.from_transactions lexemes.now) }
+{
+    if let Some(rest) = strip_word(lexemes, b"transactions") {
+        return Ok((Question::Transactions, rest));
+    }
+    if let Some(rest) = strip_word(lexemes, b"saw") {
+        return saw(alloc, rest);
+    }
+    match strip_word(lexemes, b"changes") {
+        Some(rest) => changes(rest),
+        None => state_question(alloc, lexemes),
+    }
 }
 
 /// A question without the semicolon behind it.
@@ -524,10 +600,7 @@ fn open_question(alloc: Global, lexemes: &[Lexeme]) -> Result<(Question, &[Lexem
     if let Some(rest) = strip_word(lexemes, b"versions") {
         return versions(rest);
     }
-    match strip_word(lexemes, b"whatif") {
-        Some(rest) => what_if(alloc, rest),
-        None => ask(alloc, lexemes),
-    }
+    later_question(alloc, lexemes)
 }
 
 impl Parsed for Question {
