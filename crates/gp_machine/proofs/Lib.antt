@@ -40,3 +40,4 @@ mod UnchangedLemmas
 pub mod UnstoppedLemmas
 mod ViewLemmas
 mod Worked
+pub mod AnyLemmas

@@ -25,7 +25,7 @@ ghost use Rattle.gp_machine.specs.Committed.{cleared, is_written, merged, next_v
 ghost use Rattle.gp_machine.specs.Committers.{CommittedBy};
 ghost use Rattle.gp_machine.specs.Conflicts.{Conflict, HaveOneBase, IsLeastConflict, least_conflict};
 ghost use Rattle.gp_machine.specs.EngineLine.{Answers, FindsConflict, Follows, ShowsConflict};
-ghost use Rattle.gp_machine.specs.Entries.{Entry, Log, begin_version, committer_of, log_of, statement_count, version_of, versions_in};
+ghost use Rattle.gp_machine.specs.Entries.{Entry, Log, begin_version, committer_of, log_of, statement_count, statement_version, transactions_in, version_of, versions_in};
 ghost use Rattle.gp_machine.specs.Event.{Line, after, conflict_of, line_event, published};
 ghost use Rattle.gp_machine.specs.HistorySpans.{as_of, next_written, spans_from, state_spans};
 ghost use Rattle.gp_machine.specs.SpanCounts.{span_after, span_count};
@@ -41,7 +41,8 @@ ghost use Rattle.gp_machine.specs.Recorded.{is_recorded};
 ghost use Rattle.gp_machine.specs.Replayed.{replayed_state};
 ghost use Rattle.gp_machine.specs.Replaying.{CommitsInOrder, replay_stop, replayed, replayed_spans, upto_version};
 ghost use Rattle.gp_machine.specs.Represents.{Kept, Overlay, Represents, kept_start};
-ghost use Rattle.gp_machine.specs.Runs.{at_commit};
+ghost use Rattle.gp_machine.specs.Reading.{start_by};
+ghost use Rattle.gp_machine.specs.Runs.{at_commit, run, run_before};
 ghost use Rattle.gp_machine.specs.State.{Active, State, start};
 ghost use Rattle.gp_machine.specs.StateReannotation.{AreEqualButForAnnotations, AreReannotated, IsReannotated, outcome_reannotated, state_reannotated};
 ghost use Rattle.gp_machine.specs.Unstopped.{IsUnstopped};
@@ -427,4 +428,45 @@ pub fn annotations_change_no_replay<M, N>()
     ensures unstopped { (domain : Annotations M) (other : Annotations N) (h : M → N)
         → IsHomomorphism domain other h → (parameters : Parameters) (state : State M)
         → IsUnstopped domain parameters state → IsUnstopped other parameters (state_reannotated h state) }
+{}
+
+/// A transaction that made no version, whatever became of it, in a state that lines lead to, no statement of which read an older version
+/// than the one before. Its statements, run again over the versions, give what it read before and after each of them (`views`,
+/// `starts`), and pass no limit; and so they do over the row versions of the history, in any order (`spans`, `stops`).
+pub fn transactions_read_what_their_runs_give<M>()
+    ensures views { (domain : Annotations M) (parameters : Parameters) (state : State M)
+        → IsReached domain parameters state → (t : ℕ) → 0 < t → t ≤ transactions_in state.entries
+        → version_of t state.entries ≡ None
+        → ((k : ℕ) → k < statement_count t state.entries
+        → statement_version t k state.entries ≤ statement_version t (suc k) state.entries)
+        → (k : ℕ) → k ≤ statement_count t state.entries
+        → run domain (log_of state.entries) t k state.committed ≡ state.views t k }
+    ensures starts { (domain : Annotations M) (parameters : Parameters) (state : State M)
+        → IsReached domain parameters state → (t : ℕ) → 0 < t → t ≤ transactions_in state.entries
+        → version_of t state.entries ≡ None
+        → ((k : ℕ) → k < statement_count t state.entries
+        → statement_version t k state.entries ≤ statement_version t (suc k) state.entries)
+        → (k : ℕ) → k < statement_count t state.entries
+        → run_before domain (log_of state.entries) t k state.committed
+        ≡ start_by domain (log_of state.entries) t k state.committed }
+    ensures spans { (domain : Annotations M) (parameters : Parameters) (state : State M)
+        → IsReached domain parameters state → (t : ℕ) → 0 < t → t ≤ transactions_in state.entries
+        → version_of t state.entries ≡ None
+        → ((k : ℕ) → k < statement_count t state.entries
+        → statement_version t k state.entries ≤ statement_version t (suc k) state.entries)
+        → (spans : ℕ → List Span)
+        → ((table : ℕ) → IsPermutation (spans table) (state_spans state table))
+        → (k table : ℕ) → k ≤ statement_count t state.entries → IsPermutation
+        (run domain (log_of state.entries) t k (annotated_versions domain state.entries spans) table)
+        (state.views t k table) }
+    ensures stops { (domain : Annotations M) (parameters : Parameters) (state : State M)
+        → IsReached domain parameters state → (t : ℕ) → 0 < t → t ≤ transactions_in state.entries
+        → version_of t state.entries ≡ None
+        → ((k : ℕ) → k < statement_count t state.entries
+        → statement_version t k state.entries ≤ statement_version t (suc k) state.entries)
+        → (spans : ℕ → List Span)
+        → ((table : ℕ) → IsPermutation (spans table) (state_spans state table))
+        → (k : ℕ) → k ≤ statement_count t state.entries
+        → run_stop domain parameters (log_of state.entries) t k
+        (annotated_versions domain state.entries spans) ≡ None }
 {}

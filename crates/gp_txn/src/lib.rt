@@ -50,6 +50,7 @@ mod update;
 mod writes;
 
 pub use active::Active;
+pub use assignment::assigned;
 pub use carried::{Carried, CarriedRows};
 pub use error::{CommitStop, StmtStop};
 pub use laws::the_first_committer_wins;
