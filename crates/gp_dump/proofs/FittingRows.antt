@@ -30,6 +30,7 @@ use Rattle.gp_machine.specs.Reading.{Seen, started}
 use Rattle.gp_machine.specs.State.{Active, State, start, with_value}
 use Rattle.gp_log.specs.Parameters.{parameters}
 use Rattle.gp_log.specs.ScriptLines.{AreScriptLines}
+use Rattle.gp_log.proofs.LineCommands.{reads-parsed}
 use Rattle.gp_dump.proofs.AlongLines.{along}
 use Rattle.gp_dump.proofs.ReadCommands.{read_valid, read_within}
 use Rattle.gp_dump.proofs.StepKinds.{AllFit, FitsRow, step_fits}
@@ -185,5 +186,5 @@ module _ {M : Type 0} (domain : Annotations M) (state : State M) (line session :
 pub all_fitting : {M : Type 0} (domain : Annotations M) (lines : List Line) → AreScriptLines lines → Fitting (after domain parameters start lines)
 all_fitting domain lines are =
     (along domain parameters (λ last state. Fitting state)
-    (λ done last line is fitting. event_fits domain (after domain parameters start done) line.number line.session (all_reached domain parameters done) (counts_are_within domain parameters done) fitting line.command is.command) lines are
+    (λ done last line is fitting. event_fits domain (after domain parameters start done) line.number line.session (all_reached domain parameters done) (counts_are_within domain parameters done) fitting line.command (reads-parsed (command_text line.command) line.command is.command)) lines are
     (record { committed = λ version place. tt; views = λ session active e. absurd (none_active active e) })).1

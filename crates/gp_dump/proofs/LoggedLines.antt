@@ -28,6 +28,7 @@ use Rattle.gp_dumpline.specs.Forms.{said_of}
 use Rattle.gp_dumpline.specs.Texts.{said_text}
 use Rattle.gp_dump.specs.Dumps.{AreReadable}
 use Rattle.gp_log.specs.ScriptLines.{AreScriptLines, IsScriptLine}
+use Rattle.gp_log.proofs.LineCommands.{reads-parsed}
 use Rattle.gp_dumpline.proofs.SaidLaws.{said-is}
 use Rattle.gp_dump.proofs.AlongLines.{along}
 use Rattle.gp_dump.proofs.ReadCommands.{read_said}
@@ -199,8 +200,8 @@ module _ {M : Type 0} (domain : Annotations M) (parameters : Parameters) (state 
   line_logged = go (state.active session) refl
     where
       go : (active : Option (Active M)) → state.active session ≡ active → Logged parameters line.number (answered domain parameters state number session active (action_of line.command)).0
-      go None e = outside e line.command is.command
-      go (Some active) e = inside active e line.command is.command
+      go None e = outside e line.command (reads-parsed (command_text line.command) line.command is.command)
+      go (Some active) e = inside active e line.command (reads-parsed (command_text line.command) line.command is.command)
 
 pub all_logged : {M : Type 0} (domain : Annotations M) (parameters : Parameters) (lines : List Line) → AreScriptLines lines → (newest : ℕ) × Logged parameters newest (after domain parameters start lines)
 all_logged domain parameters lines are =

@@ -3,13 +3,14 @@ use Rattle.std.proofs.Common.{◌≡◌, ◌<◌, ◌≤◌, ℕ, suc, ◌+◌, 
 use Rattle.std.specs.Prelude.{◌==◌}
 use Rattle.std.specs.List.{enumerate_from, onto_first, slice_split}
 use Rattle.std.specs.Str.Lines.{lines, lines_of_parts}
+use Rattle.gp_grammar.specs.Canonical.{command_text}
 use Rattle.gp_grammar.specs.LineReading.{Fault}
 use Rattle.gp_grammar.specs.Reading.{script_line_of}
 use Rattle.gp_grammar.specs.Syntax.{ScriptLine}
 use Rattle.gp_syntax.specs.Lines.{is_answered, script_lines}
 use Rattle.gp_log.specs.declared.limit.TheConstants.{MAX_LINE}
 use Rattle.gp_log.specs.ScriptLines.{AreLinesAfter, AreScriptLines}
-use Rattle.gp_log.proofs.LineCommands.{line-command}
+use Rattle.gp_log.proofs.LineCommands.{line-command, parsed-reads}
 use Rattle.gp_script.specs.Scripts.{line_read, lines_read}
 use Rattle.gp_script.proofs.ReadingLemmas.{read-range}
 
@@ -47,7 +48,7 @@ module _ (last number : ℕ) (line : List ℕ) (others : List (ℕ × List ℕ))
   one-read (Err fault) is = same
   one-read (Ok x) is =
       let range = read-range line x is in
-      (record { rises = below; number = within; first = range.0; session = range.1; command = line-command line x is }, after)
+      (record { rises = below; number = within; first = range.0; session = range.1; command = parsed-reads (command_text x.command) x.command (line-command line x is) }, after)
 
   one-line : (answered : Bool) → AreLinesAfter last (lines_read (cond answered ((number, line) ∷ others) others))
   one-line true = one-read (script_line_of line) refl
