@@ -1,5 +1,6 @@
 -- What the code tells of a statement, and of tables without row versions.
-use Rattle.std.proofs.Common.{◌≡◌, ℕ, zero, suc, true, List, [], ◌∷◌, ◌++◌, length, refl}
+use Rattle.std.proofs.Common.{◌≡◌, ◌≤◌, ℕ, zero, suc, true, List, [], ◌∷◌, ◌++◌, length, take, drop, refl, ◌∙◌, arith}
+use Rattle.std.proofs.lemmas.List.{take-append-le, take_all}
 use Rattle.gp_algebra.specs.Fitting.{statement_fits}
 use Rattle.gp_algebra.specs.Statements.{Statement, insert, insert_select, update, delete, read}
 use Rattle.gp_algebra.specs.Views.{statement_view}
@@ -35,3 +36,10 @@ spans_added [] added empty none zero = empty
 spans_added [] added empty none (suc place) = refl
 spans_added (held ∷ versions) added empty none zero = none zero
 spans_added (held ∷ versions) added empty none (suc place) = spans_added versions added empty (λ place. none (suc place)) place
+
+-- what a slice of a vector has, written back
+pub written-back : {A : Type 0} (n : ℕ) (new old : List A) → n ≡ length new → take n (new ++ drop (length new) old) ≡ new
+written-back n new old same =
+    let most : n ≤ length new = omega (arith, same) in
+    let all : length new ≤ n = omega (arith, same) in
+    take-append-le n new (drop (length new) old) most ∙ take_all n new all

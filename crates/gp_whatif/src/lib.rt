@@ -3,7 +3,8 @@
 //! In reading order: [`change`] gives the log with a statement dropped, replaced or added, or refuses the change.
 //! [`replay`] makes the commits of a log again, from nothing: each transaction that made a version runs its
 //! statements over the versions made so far, each on the version that it reads, and commits. It gives the row versions, or a
-//! [`ReplayStop`]: the first commit that would have been lost, or would have passed a limit. [`copy_command`], [`copy_stmt`]
+//! [`ReplayStop`]: the first commit that would have been lost, or would have passed a limit. [`replay_from`] goes on behind the
+//! first versions, where a change is of a later commit. [`copy_command`], [`copy_stmt`]
 //! and [`doubled`] are the parts of a changed log. In `specs/`, `Changed` says what a changed log is, and `Replays` what a replay
 //! answers. The laws say that a log of checked lines keeps its sessions, that a changed one can be replayed and has rising
 //! lines, and that the log of a history is replayed as it was.
@@ -21,6 +22,7 @@ mod doubling;
 mod error;
 mod laws;
 mod replaying;
+mod versions;
 
 pub use changing::change;
 pub use copying::{copy_command, copy_term};
@@ -28,7 +30,9 @@ pub use doubling::{copy_stmt, doubled};
 pub use error::{ChangeStop, ReplayStop};
 pub use laws::{
     changed_lines_rise, changed_logs_are_checked, changed_logs_are_coherent,
-    changed_logs_are_replayable, histories_are_replayed_as_they_were, logs_keep_their_sessions,
+    changed_logs_are_replayable, changes_keep_earlier_versions,
+    histories_are_replayed_as_they_were, logs_keep_their_sessions,
     replays_have_the_tables_of_their_logs,
 };
-pub use replaying::replay;
+pub use replaying::{Made, make_version, none_made, replay, replay_from};
+pub use versions::copy_versions;

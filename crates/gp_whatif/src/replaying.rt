@@ -1,19 +1,23 @@
 //! The commits of a log, made again.
 
 ghost use Rattle.std.specs.Prelude.{◌≡◌, ◌<◌, ◌≤◌, ◌+◌, ◌^◌, [], suc, true, IfErr, IfOk, OnOk, Some, length, ℕ};
+ghost use Rattle.std.specs.Option.{option_map};
 ghost use Rattle.gp_base.specs.declared.catalog.TheConstants.{MAX_TABLES};
 ghost use Rattle.gp_algebra.specs.Statements.{Statement};
 ghost use Rattle.gp_algebra.specs.Views.{statement_view};
 ghost use Rattle.gp_txn.specs.Transactions.{HoldsOthers, table_at};
+ghost use Rattle.gp_machine.specs.Entries as m;
 ghost use Rattle.gp_machine.specs.Entries.{begin_version, committer_of, statement_at, statement_count, statement_version, transactions_in, versions_in};
 ghost use Rattle.gp_whatif.specs.Remade.{HasRun, Ran, StopsAt, can_run};
 ghost use Rattle.gp_whatif.specs.Replays.{IsMade, IsReplayable, Stops, stop_upto};
 ghost use Rattle.gp_log.specs.Contents.{entries};
+ghost use Rattle.gp_log.specs.Logs.{entry_view};
 
+use crate::changing::is_own;
 use crate::error::ReplayStop;
 use gp_algebra::Stmt;
 use gp_base::NoMemory;
-use gp_log::Log;
+use gp_log::{Entry, Log, What};
 use gp_txn::{Active, CommitStop, StmtStop};
 use gp_versions::VersionTable;
 use std::alloc::Global;
@@ -45,6 +49,30 @@ fn run_statement(
             Err(StmtStop::NoMemory) => Err(ReplayStop::NoMemory),
         },
     }
+}
+
+/// The statement of an entry, if it is one.
+fn statement_of(entry: &Entry) -> Option<&Stmt>
+    ensures { option_map (λ s. statement_view s.now) result ≡ m.statement_of (entry_view entry.now) }
+{
+    match &entry.what {
+        What::Statement { stmt, .. } => Some(stmt),
+        _ => None,
+    }
+}
+
+/// Statement k of a transaction. It is looked for from the first one on, since a pass over all the log for each statement of a replay
+/// would be slow.
+fn statement(log: &Log, t: u32, k: u32) -> Option<&Stmt>
+    ensures { option_map (λ s. statement_view s.now) result ≡ statement_at t k (entries log.now) }
+{
+    for place in log.first_statement(t)..log.len() {
+        let entry = log.entry(place);
+        if is_own(entry, t, k) {
+            return statement_of(entry);
+        }
+    }
+    log.statement(t, k)
 }
 
 /// The version that a statement of the transaction read.
@@ -79,7 +107,7 @@ fn run_next(
 {
     let t = active.t();
     let k = ran + 1;
-    match log.statement(t, k) {
+    match statement(log, t, k) {
         Some(stmt) => run_statement(active, k, version_read(log, t, k), stmt, versions),
         None => Ok(()),
     }
@@ -174,8 +202,17 @@ fn commit_again(
     }
 }
 
-/// Makes one more version again.
-fn make_version(
+/// The first versions of a log, made again.
+#[derive(Drop)]
+pub struct Made {
+    /// How many they are.
+    pub count: u32,
+    /// The row versions of each table.
+    pub versions: Vec<VersionTable>,
+}
+
+/// Makes one more version again, of the first ones, this many. Refused as [`replay`] is; then nothing has changed.
+pub fn make_version(
     alloc: Global,
     log: &Log,
     before: u32,
@@ -206,6 +243,39 @@ fn empty_tables(alloc: Global, count: u32) -> Result<Vec<VersionTable>, NoMemory
     Ok(tables)
 }
 
+/// No versions of a log.
+pub fn none_made(alloc: Global, log: &Log) -> Result<Made, NoMemory>
+    ensures count { IfOk result (λ made. made.count ≡ 0) }
+    ensures made { IfOk result (λ made. IsMade (entries log.now) 0 made.versions.items) }
+{
+    Ok(Made {
+        count: 0,
+        versions: empty_tables(alloc, log.catalog().len())?,
+    })
+}
+
+/// Makes the other commits of a log again, behind its first ones, as [`replay`] does.
+pub fn replay_from(alloc: Global, log: &Log, made: Made) -> Result<Vec<VersionTable>, ReplayStop>
+    requires replayable { IsReplayable (entries log.now) }
+    requires within { made.count ≤ versions_in (entries log.now) }
+    requires made { IsMade (entries log.now) made.count made.versions.items }
+    ensures made { IfOk result (λ versions. IsMade (entries log.now)
+        (versions_in (entries log.now)) versions.items) }
+    ensures stop { IfErr result (λ stop. Stops stop
+        (stop_upto (entries log.now) (versions_in (entries log.now)))) }
+{
+    // Its tables are few. That is known of them where it is asked for their number.
+    let _count = log.catalog().len();
+    let Made {
+        count,
+        mut versions,
+    } = made;
+    for before in count..log.commits() {
+        make_version(alloc, log, before, &mut versions)?;
+    }
+    Ok(versions)
+}
+
 /// Makes the commits of a log again, from nothing, in the order of their versions. Each transaction runs its statements over
 /// the versions made by then, each on the version that it reads, and commits. The log keeps its sessions, and its statements
 /// have been checked against its tables.
@@ -220,9 +290,6 @@ pub fn replay(alloc: Global, log: &Log) -> Result<Vec<VersionTable>, ReplayStop>
     ensures stop { IfErr result (λ stop. Stops stop
         (stop_upto (entries log.now) (versions_in (entries log.now)))) }
 {
-    let mut versions = empty_tables(alloc, log.catalog().len())?;
-    for before in 0..log.commits() {
-        make_version(alloc, log, before, &mut versions)?;
-    }
-    Ok(versions)
+    let made = none_made(alloc, log)?;
+    replay_from(alloc, log, made)
 }
