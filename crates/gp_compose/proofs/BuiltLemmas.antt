@@ -1,21 +1,26 @@
 -- Composed programs are well built.
-use Rattle.std.proofs.Common.{◌≡◌, ℕ, zero, suc, ◌+◌, ◌<◌, ◌≤◌, true, false, cond, List, [], ◌∷◌, ◌++◌, refl, sym, ap, subst, arith, Option, Some, None}
+use Rattle.std.proofs.Common.{◌≡◌, ℕ, zero, suc, ◌+◌, ◌<◌, ◌≤◌, true, false, cond, List, [], ◌∷◌, ◌++◌, refl, sym, ap, ◌∙◌, subst, arith, Option, Some, None}
 use Rattle.std.specs.Prelude.{◌-◌, ◌==◌}
 use Rattle.std.specs.List.{list_all}
 use Rattle.gp_base.specs.declared.table.Table.{Table}
+use Rattle.gp_algebra.specs.Statements as s
 use Rattle.gp_algebra.specs.Statements.{Select, Statement, target, width_of}
+use Rattle.gp_expr.specs.Expressions.{Cond}
+use Rattle.gp_expr.specs.ExpressionForms.{cond_is_simple}
 use Rattle.gp_algebra.specs.Fitting.{select_fits, statement_fits}
 use Rattle.gp_algebra.specs.AnnotatedQueries as q
 use Rattle.gp_algebra.specs.AnnotatedQueries.{Query, QueryStep}
 use Rattle.gp_algebra.specs.QueryForms.{AreAfter, AreRising, AreSteps, HasSteps, IsTable, IsTableProgram, IsWellBuilt, is_sound, numbers_with, reads_only, steps_read}
 use Rattle.gp_algebra.specs.AnnotatedQueries.{step_table}
-use Rattle.gp_algebra.specs.WellBuilt.{is_among}
 use Rattle.gp_machine.specs.Entries.{Log}
 use Rattle.gp_rewrite.specs.Rewriting.{query_of, rewritten}
+use Rattle.gp_rewrite.proofs.FitLemmas.{delete_is_simple, update_is_simple}
 use Rattle.gp_rewrite.proofs.FormLemmas.{query_answers, rewritten_step}
 use Rattle.gp_rewrite.proofs.ReadLemmas.{query_reads, rewritten_reads}
 use Rattle.gp_rewrite.proofs.SoundLemmas.{query_sound, rewritten_sound}
 use Rattle.gp_compose.specs.Composed.{after, as_of, commit, composed, current, current_before, is_target, last_write, moved, onto, published, published_table, step_of, steps_of, writes}
+use Rattle.gp_compose.specs.Seen.{looking, looking_program}
+use Rattle.gp_compose.proofs.ComposedLemmas.{writes_is}
 use Rattle.gp_compose.proofs.StepLists.{AreWithin, Stands, here, read_append, rising_append, sound_append, stands_among, stands_behind, stands_front, stands_table, steps_append, within_append}
 use Rattle.std.proofs.lemmas.Option.{none-some, same_Some}
 use Rattle.std.proofs.lemmas.Bool.{and_from, eqb-true}
@@ -262,6 +267,52 @@ module _ (catalogue : List Table) (log : Log) (t : ℕ) (some_transaction : 0 < 
     steps = composed_is_built (log.statement_count t) (published log t before table) (published_reads (width_of catalogue) log t before table) (published_sound (width_of catalogue) log t before table);
     contents = published_table_is (width_of catalogue) log t before table;
   }
+
+  -- the rows by which one looks at a statement that writes a table are contents of the table
+  pub looking_is_built : (k table : ℕ) (statement : Statement) → log.statement t (suc k) ≡ Some statement → target statement ≡ Some table
+      → IsTableProgram (width_of catalogue) table (looking_program (width_of catalogue) log t k statement)
+  looking_is_built k table statement e is = record {
+    steps = composed_is_built (suc k) (looking (suc k) (current_before log t k) statement) (reads statement e) (sound statement (fits k statement e));
+    contents = contents statement e is;
+  }
+    where
+      steps : List QueryStep
+      steps = composed (width_of catalogue) log t (suc k)
+
+      stands : (statement : Statement) (own : ℕ) → log.statement t (suc k) ≡ Some statement → target statement ≡ Some own → Stands (suc k) own steps
+      stands statement own e is = stands_within (width_of catalogue) log t (suc k) k own (omega arith) (writes_is log t k own statement e is)
+
+      before : (own : ℕ) → IsTable (width_of catalogue) (step_table steps) own (current_before log t k own)
+      before own = subst (λ n. IsTable (width_of catalogue) (step_table (composed (width_of catalogue) log t n)) own (current_before log t k own)) (plus_suc k 0 ∙ ap suc (plus_zero k)) (before_table (width_of catalogue) log t k 1 own)
+
+      more_reads : (own : ℕ) → reads_only (numbers_with [] steps) (current_before log t k own) ≡ true
+      more_reads own = before_has (width_of catalogue) log t (λ query. reads_only (numbers_with [] steps) query ≡ true) own k (λ v. refl) (λ old new query is. and_from (reads_only (numbers_with [] steps) query) true is refl)
+          (λ j within e. stands_among (suc j) own [] steps (stands_within (width_of catalogue) log t (suc k) j own (omega arith) e))
+
+      reads : (statement : Statement) → log.statement t (suc k) ≡ Some statement → reads_only (numbers_with [] steps) (looking (suc k) (current_before log t k) statement) ≡ true
+      reads (s.insert own rows) e = stands_among (suc k) own [] steps (stands (s.insert own rows) own e refl)
+      reads (s.insert_select own select) e = stands_among (suc k) own [] steps (stands (s.insert_select own select) own e refl)
+      reads (s.update own sets c) e = more_reads own
+      reads (s.delete own c) e = more_reads own
+      reads (s.read select) e = refl
+
+      simple_chosen : (own : ℕ) (c : Cond) → cond_is_simple c ≡ true → is_sound (q.select (current_before log t k own) c) ≡ true
+      simple_chosen own c simple = and_from (is_sound (current_before log t k own)) (cond_is_simple c) (before_sound (width_of catalogue) log t k own) simple
+
+      sound : (statement : Statement) → statement_fits catalogue statement ≡ true → is_sound (looking (suc k) (current_before log t k) statement) ≡ true
+      sound (s.insert own rows) fit = refl
+      sound (s.insert_select own select) fit = refl
+      sound (s.update own sets c) fit = simple_chosen own c (update_is_simple catalogue own sets c fit)
+      sound (s.delete own c) fit = simple_chosen own c (delete_is_simple catalogue own c fit)
+      sound (s.read select) fit = refl
+
+      contents : (statement : Statement) → log.statement t (suc k) ≡ Some statement → target statement ≡ Some table
+          → IsTable (width_of catalogue) (step_table steps) table (looking (suc k) (current_before log t k) statement)
+      contents (s.insert own rows) e is = stands_table (suc k) table steps (stands (s.insert own rows) table e is)
+      contents (s.insert_select own select) e is = stands_table (suc k) table steps (stands (s.insert_select own select) table e is)
+      contents (s.update own sets c) e is = subst (λ place. IsTable (width_of catalogue) (step_table steps) place (current_before log t k own)) (same_Some own table is) (before own)
+      contents (s.delete own c) e is = subst (λ place. IsTable (width_of catalogue) (step_table steps) place (current_before log t k own)) (same_Some own table is) (before own)
+      contents (s.read select) e is = absurd (none-some table is)
 
 pub as_of_is_built : (catalogue : List Table) (version : ℕ) (select : Select) → select_fits catalogue select ≡ true → IsWellBuilt (width_of catalogue) (as_of version select)
 as_of_is_built catalogue version select fit = record {

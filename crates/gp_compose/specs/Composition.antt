@@ -1,8 +1,8 @@
 -- Machinery: what the parts of composing say. The statement that wrote a table last is kept for each table, in the order of the catalogue.
-use Rattle.std.specs.Prelude.{◌≡◌, ℕ, suc, ◌<◌, ◌==◌, Bool, true, List, [], ◌∷◌, ◌++◌, length, slice_set, get_or, Option, Some, None, if◌then◌else◌}
+use Rattle.std.specs.Prelude.{◌≡◌, ℕ, suc, ◌<◌, ◌==◌, Bool, true, List, length, slice_set, get_or, Option, Some, None, if◌then◌else◌}
 use Rattle.std.specs.Option.{option_map}
 use Rattle.gp_base.specs.declared.table.Table.{Table}
-use Rattle.gp_algebra.specs.Statements.{Statement, target, width_of}
+use Rattle.gp_algebra.specs.Statements.{Statement, delete, target, update, width_of}
 use Rattle.gp_algebra.specs.Fitting.{statement_fits}
 use Rattle.gp_algebra.specs.AnnotatedQueries.{Query, QueryStep}
 use Rattle.gp_machine.specs.Entries.{Entry, Created, Began, Ran, Committed, Ended, Log, log_of}
@@ -42,6 +42,12 @@ with_write (Some table) k writes = slice_set writes table (Some k)
 abbrev pub ran_more : Option Statement → ℕ → ℕ
 ran_more None n = n
 ran_more (Some statement) n = suc n
+
+-- the table of an UPDATE or a DELETE is among the first ones, this many
+abbrev pub HasTable : ℕ → Statement → Type 0
+HasTable count (update table sets c) = table < count
+HasTable count (delete table c) = table < count
+HasTable count _ = Unit {0}
 
 -- a list with the query of each table, in the order of the catalogue
 abbrev pub AreTables : ℕ → (ℕ → Query) → List Query → Type 0

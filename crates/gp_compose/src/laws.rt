@@ -1,7 +1,7 @@
 //! Laws of composed programs. Each function does nothing: its postconditions are the laws. A law with a type parameter holds
 //! for annotations of every type, as monomials, or nothing at all.
 
-ghost use Rattle.std.specs.Prelude.{◌≡◌, ◌<◌, ◌≤◌, ℕ, true, Contains, List, Some, None, map};
+ghost use Rattle.std.specs.Prelude.{◌≡◌, ◌<◌, ◌≤◌, ℕ, suc, true, Contains, List, Some, None, map};
 ghost use Rattle.gp_base.specs.declared.table.Table.{Table};
 ghost use Rattle.gp_base.specs.Annotated.{Annotations, Environment};
 ghost use Rattle.gp_grammar.specs.Syntax as y;
@@ -16,12 +16,13 @@ ghost use Rattle.gp_algebra.specs.Scans.{annotated_program_scans};
 ghost use Rattle.gp_algebra.specs.Statements.{Select, Statement, target};
 ghost use Rattle.gp_machine.specs.Entries.{Entry, log_of, statement_at};
 ghost use Rattle.gp_machine.specs.Points.{at_point};
-ghost use Rattle.gp_machine.specs.Questions.{log_refusal, needed_version};
-ghost use Rattle.gp_machine.specs.Runs.{at_commit, run};
+ghost use Rattle.gp_machine.specs.Questions.{is_known, log_refusal, needed_version};
+ghost use Rattle.gp_machine.specs.Runs.{at_commit, run, run_before};
 ghost use Rattle.gp_log.specs.LogFitting.{statements_fit};
 ghost use Rattle.gp_log.specs.Sessions.{KeepsSessions};
 ghost use Rattle.gp_rewrite.specs.Meaning.{IsMonoid, of_element, unmarked};
 ghost use Rattle.gp_compose.specs.Composed.{composed, program_at, published_table};
+ghost use Rattle.gp_compose.specs.Seen.{looked_at, looking_program};
 ghost use Rattle.gp_compose.specs.Versions.{AreVersions};
 
 /// Reenactment of a transaction, for the annotations of any monoid and over any versions whose rows are unmarked and as wide
@@ -50,6 +51,27 @@ pub fn composed_programs_mean_the_states<M>()
         → statement_at t j entries ≡ Some statement → target statement ≡ Some table
         → steps_meaning domain env (composed (width_of catalogue) (log_of entries) t k) no_steps j
         ≡ map (scanned domain) (run domain (log_of entries) t j env table) }
+{}
+
+/// The program of the rows by which one looks at a statement gives them, over any versions whose rows are unmarked and as wide as their
+/// tables, and for the annotations of any monoid; and it is well built. All statements fit the catalogue, and the statement writes
+/// a table.
+pub fn looking_programs_give_the_rows<M>()
+    ensures rows { (domain : Annotations M) → IsMonoid domain → (catalogue : List Table)
+        (entries : List Entry) → statements_fit catalogue entries ≡ true
+        → (env : Environment M) → AreVersions catalogue env
+        → (t k table : ℕ) (statement : Statement) → statement_at t (suc k) entries ≡ Some statement
+        → target statement ≡ Some table
+        → program_meaning domain env
+        (looking_program (width_of catalogue) (log_of entries) t k statement)
+        ≡ map (scanned domain) (looked_at domain t (suc k) statement
+        (run_before domain (log_of entries) t k env)) }
+    ensures built { (catalogue : List Table) (entries : List Entry)
+        → statements_fit catalogue entries ≡ true → (t k table : ℕ) (statement : Statement)
+        → is_known t entries ≡ true → statement_at t (suc k) entries ≡ Some statement
+        → target statement ≡ Some table
+        → IsTableProgram (width_of catalogue) table
+        (looking_program (width_of catalogue) (log_of entries) t k statement) }
 {}
 
 /// The program of a state is well built, if the transaction that the state names is numbered from 1, as every transaction

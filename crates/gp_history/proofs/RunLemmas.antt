@@ -1,6 +1,7 @@
 -- A program that ends in a table, run over the scans that it has asked for.
 use Rattle.std.proofs.Common.{◌≡◌, ℕ, zero, suc, ◌==◌, ◌&&◌, true, false, cond, List, [], ◌∷◌, refl, sym, ap, ◌∙◌, subst, arith, Result, Ok, Err}
 use Rattle.std.proofs.lemmas.Bool.{and_parts, eq-eqb, eqb-true}
+use Rattle.std.proofs.lemmas.List.Sorted.{IsPermutation-refl}
 use Rattle.std.specs.List.Sorted.{IsPermutation}
 use Rattle.gp_algebra.specs.Plain.{PlainEnvironment, PlainProgram, program_meaning}
 use Rattle.gp_algebra.specs.Stops.{program_stop}
@@ -20,7 +21,7 @@ pub runs_over : {X : Type 0} (view : X → List (List Cell)) (result : Result X 
     → program_meaning (environment_view scanned) program ≡ program_meaning env meant
     → program_stop MAX_TABLE_ROWS MAX_NODES (environment_view scanned) program ≡ program_stop MAX_TABLE_ROWS MAX_NODES env meant
     → RunsTable view result scanned program → RunsTableOver view result env meant
-runs_over view (Ok found) scanned env program meant same_rows same_stop runs = (sym same_stop ∙ runs.0, subst (λ rows. IsPermutation (view found) rows) same_rows runs.1)
+runs_over view (Ok found) scanned env program meant same_rows same_stop runs = (sym same_stop ∙ runs.0, subst (λ rows. IsPermutation (view found) rows) (runs.1 ∙ same_rows) (IsPermutation-refl (view found)))
 runs_over view (Err (Rows j)) scanned env program meant same_rows same_stop runs = sym same_stop ∙ runs
 runs_over view (Err (Ancestry j)) scanned env program meant same_rows same_stop runs = sym same_stop ∙ runs
 runs_over view (Err Answer) scanned env program meant same_rows same_stop runs = runs

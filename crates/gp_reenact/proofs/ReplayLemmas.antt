@@ -1,7 +1,6 @@
 -- The program of a state, run over the row versions of a log, gives the answer that the run of the transaction gives.
 use Rattle.std.proofs.Common.{◌≡◌, inl, ℕ, zero, suc, ◌<◌, ◌≤◌, Bool, true, false, cond, List, [], ◌∷◌, ◌++◌, length, map, refl, sym, ap, ◌∙◌, subst, arith, Option, Some, None, Result, Ok, Err}
 use Rattle.std.specs.Prelude.{nat_lt}
-use Rattle.std.specs.List.{AllByRecursion}
 use Rattle.std.specs.List.Sorted.{IsPermutation}
 use Rattle.std.specs.Option.{option_map, option_or}
 use Rattle.std.proofs.lemmas.Bool.Decides.{nat_tests}
@@ -12,7 +11,6 @@ use Rattle.gp_base.specs.declared.refusal.Refusal.TheVariants.{E25, E26, E27}
 use Rattle.gp_base.specs.declared.row_id.TheConstants.{MAX_NODES}
 use Rattle.gp_base.specs.Annotated.{Annotations, Database, Environment, monomials, plain}
 use Rattle.gp_base.specs.Tokens.{Monomial}
-use Rattle.gp_base.proofs.ProductLaws.{times-associative, times-one}
 use Rattle.gp_grammar.specs.Syntax as y
 use Rattle.gp_algebra.specs.AnnotatedQueries as q
 use Rattle.gp_algebra.specs.AnnotatedMeaning as qm
@@ -21,10 +19,9 @@ use Rattle.gp_algebra.specs.Answers.{Element, answer, cells_of}
 use Rattle.gp_algebra.specs.Effects.{is_over_rows, is_over_nodes}
 use Rattle.gp_algebra.specs.Fitting.{select_fits}
 use Rattle.gp_algebra.specs.Statements.{width_of}
-use Rattle.gp_algebra.specs.QueryForms.{HasSteps, IsWellBuilt}
-use Rattle.gp_algebra.specs.AnnotatedQueries.{step_table}
+use Rattle.gp_algebra.specs.QueryForms.{IsWellBuilt}
 use Rattle.gp_algebra.specs.Plain as p
-use Rattle.gp_algebra.specs.Reannotation.{IsHomomorphism, forgotten, reannotated}
+use Rattle.gp_algebra.specs.Reannotation.{forgotten}
 use Rattle.gp_algebra.specs.Statements.{Select, Statement}
 use Rattle.gp_algebra.specs.Stops.{Stop, rows, ancestry, program_stop}
 use Rattle.gp_algebra.specs.WellBuilt.{is_well_built}
@@ -42,28 +39,25 @@ use Rattle.gp_machine.specs.Runs.{run_before}
 use Rattle.gp_log.specs.Parameters.{parameters}
 use Rattle.gp_log.specs.LogFacts.{tables_in}
 use Rattle.gp_log.specs.LogFitting.{SpansFit, statements_fit}
-use Rattle.gp_versions.specs.declared.span.Span.{Span}
-use Rattle.gp_versions.specs.Spans.{Versions, row_of, spans_at}
-use Rattle.gp_rewrite.specs.Meaning.{AreAsWide, IsMonoid, of_element, unmarked}
-use Rattle.gp_compose.specs.Composed.{composed, program_at}
-use Rattle.gp_compose.proofs.ProgramLemmas.{asked_program_is_built, composed_step_is, program_is}
-use Rattle.gp_prov.specs.Encoding as enc
+use Rattle.gp_versions.specs.Spans.{Versions}
+use Rattle.gp_rewrite.specs.Meaning.{AreAsWide, of_element, unmarked}
+use Rattle.gp_compose.specs.Composed.{program_at}
+use Rattle.gp_compose.proofs.ProgramLemmas.{asked_program_is_built, program_is}
 use Rattle.gp_prov.specs.ToPlain.{plain_program}
 use Rattle.gp_prov.proofs.BuiltLemmas.{program_built}
-use Rattle.gp_prov.proofs.MeaningLemmas.{HaveWidths, answers_are, rows_between, steps_are}
+use Rattle.gp_prov.proofs.MeaningLemmas.{HaveWidths, answers_are}
 use Rattle.gp_reenact.specs.Encoding as travel
 use Rattle.gp_reenact.specs.Travel as travels
 use Rattle.gp_reenact.specs.Travel.{no_table}
-use Rattle.gp_reenact.proofs.EncodingLemmas.{rows-plain}
 use Rattle.gp_merge.proofs.BuiltLemmas.{merged_built}
 use Rattle.gp_merge.proofs.Orders.{program_ordered}
 use Rattle.gp_merge.proofs.RebuildingLemmas.{merged_is}
 use Rattle.gp_merge.proofs.StepLemmas.{merged_stop}
 use Rattle.gp_reenact.specs.Reenacting.{Reenacts, RunsOver, spans_of, stopped, transaction_at}
 use Rattle.gp_reenact.specs.Programs.{merged_at}
-use Rattle.gp_machine.proofs.PointReannotation.{VersionsReannotate, cells_reannotated, run_stop_reannotated}
-use Rattle.gp_reenact.proofs.HeldLemmas.{held_rows, wide_rows}
-use Rattle.gp_reenact.proofs.StopLemmas.{gives_run, program_stops, step_stop}
+use Rattle.gp_machine.proofs.PointReannotation.{cells_reannotated}
+use Rattle.gp_reenact.proofs.StepStops.{env_is, forgets, forgetting, monoid, none_marked, past_wide, steps_stop_is}
+use Rattle.gp_reenact.proofs.StopLemmas.{step_stop}
 use Rattle.gp_base.proofs.SmallLemmas.{map-map}
 
 -- ---- stops
@@ -171,31 +165,7 @@ cells_out {M = M} made chosen same =
     whole [] = refl
     whole (row ∷ each) = λ i. append-nil row.cells i ∷ whole each i
 
--- ---- past versions
-
-module _ (versions : List Versions) where
-  -- the two encodings agree where there is no provenance
-  pub env_is : travel.encoded (travels.as_of plain versions) ≡ enc.encoded false (machine.as_of monomials (spans_of versions))
-  env_is = λ i. λ version table. sym (rows-plain monomials (spans_at version (spans_of versions table))) i
-
-  pub forgets : VersionsReannotate forgotten (machine.as_of monomials (spans_of versions)) (machine.as_of plain (spans_of versions))
-  forgets version table = sym (map-map (reannotated forgotten) (row_of monomials) (spans_at version (spans_of versions table)))
-
-  -- no transaction has written a past version
-  pub none_marked : (version table : ℕ) → AllByRecursion (λ row. row.mark ≡ false) (machine.as_of monomials (spans_of versions) version table)
-  none_marked version table = go (spans_at version (spans_of versions table))
-    where
-      go : (spans : List Span) → AllByRecursion (λ row. row.mark ≡ false) (map (row_of monomials) spans)
-      go [] = tt
-      go (span ∷ spans) = (refl, go spans)
-
 -- ---- the program of a state
-
-monoid : IsMonoid monomials
-monoid = record { right_one = times-one; associative = times-associative }
-
-forgetting : IsHomomorphism monomials plain forgotten
-forgetting = record { one = refl; times = λ a b. refl; token = λ token. refl }
 
 -- the plain program of a state is well built, and so is the merged one
 module _ (entries : List Entry) (select : Select) (fit : statements_fit (tables_in entries) entries ≡ true) (fits : select_fits (tables_in entries) select ≡ true) (point : y.State)
@@ -224,7 +194,7 @@ module _ (entries : List Entry) (versions : List Versions) (select : Select) (fi
   program point = program_at columns entries point select
 
   wide : (version : ℕ) → AreAsWide columns (past version)
-  wide version = wide_rows monomials (tables_in entries) (spans_of versions) spans_fit version
+  wide version = past_wide entries versions fit spans_fit version
 
   widths : HaveWidths columns past
   widths version table = wide version table
@@ -232,28 +202,14 @@ module _ (entries : List Entry) (versions : List Versions) (select : Select) (fi
   built : (point : y.State) → log_refusal entries point ≡ None → IsWellBuilt columns (program point)
   built point known = asked_program_is_built (tables_in entries) entries fit point known select fits
 
-  gives : (point : y.State) → log_refusal entries point ≡ None
+  pub gives : (point : y.State) → IsWellBuilt columns (program point)
       → p.program_meaning (travel.encoded (travels.as_of plain versions)) (plain_program columns false (program point)) ≡ cells_of (answer plain select (at_point plain entries point plain_past))
-  gives point known =
+  gives point is_built =
       ap (λ env. p.program_meaning env (plain_program columns false (program point))) (env_is versions)
-      ∙ answers_are columns false past widths (program point) (built point known)
+      ∙ answers_are columns false past widths (program point) is_built
       ∙ cells_out (qm.program_meaning monomials past (program point)) (answer monomials select (at_point monomials entries point past))
       (program_is monomials monoid (tables_in entries) entries fit past wide (none_marked versions) point select fits)
       ∙ sym (cells_reannotated monomials plain forgotten forgetting past plain_past (forgets versions) entries point select)
-
-  -- the steps of a transaction stop where its run does
-  steps_stop_is : (t k : ℕ) (last : q.Query) → HasSteps columns (record { steps = composed columns (log_of entries) t k; last = last })
-      → program_stop MAX_TABLE_ROWS MAX_NODES (travel.encoded (travels.as_of plain versions)) (plain_program columns false (record { steps = composed columns (log_of entries) t k; last = last }))
-      ≡ option_map step_stop (run_stop plain parameters (log_of entries) t k plain_past)
-  steps_stop_is t k last has =
-      let steps : List q.QueryStep = composed columns (log_of entries) t k in
-      ap (λ env. program_stop MAX_TABLE_ROWS MAX_NODES env (plain_program columns false (record { steps = steps; last = last }))) (env_is versions)
-      ∙ program_stops false parameters (tables_in entries) entries t k past last fit
-      (held_rows monomials (tables_in entries) (spans_of versions) spans_fit)
-      (gives_run false columns (step_table steps) (log_of entries) t past k
-      (λ j table statement within is writes_it. composed_step_is monomials monoid (tables_in entries) entries fit past wide (none_marked versions) t k j table statement within is writes_it)
-      (λ j. rows_between false (columns (step_table steps j)) (steps_are columns false past widths (record { steps = steps; last = last }) has j)))
-      ∙ ap (option_map step_stop) (sym (run_stop_reannotated monomials plain forgotten forgetting past plain_past (forgets versions) parameters (log_of entries) t k))
 
   stops : (point : y.State) → log_refusal entries point ≡ None
       → own_stop plain parameters entries point plain_past
@@ -261,10 +217,10 @@ module _ (entries : List Entry) (versions : List Versions) (select : Select) (fi
   stops (y.as_of version) known = refl
   stops (y.after t k) known =
       run_refused plain parameters (log_of entries) t plain_past k
-      ∙ ap (option_map (refusal_at t)) (sym (steps_stop_is t k (program (y.after t k)).last (built (y.after t k) known).steps))
+      ∙ ap (option_map (refusal_at t)) (sym (steps_stop_is entries versions fit spans_fit t k (program (y.after t k)).last (built (y.after t k) known).steps))
   stops (y.State.commit t) known =
       run_refused plain parameters (log_of entries) t plain_past (statement_count t entries)
-      ∙ ap (option_map (refusal_at t)) (sym (steps_stop_is t (statement_count t entries) (program (y.State.commit t)).last (built (y.State.commit t) known).steps))
+      ∙ ap (option_map (refusal_at t)) (sym (steps_stop_is entries versions fit spans_fit t (statement_count t entries) (program (y.State.commit t)).last (built (y.State.commit t) known).steps))
 
   -- the merged program replays the state
   pub planned_replays : (point : y.State) (planned : p.PlainProgram) → planned ≡ merged_at false entries point select → log_refusal entries point ≡ None
@@ -276,6 +232,6 @@ module _ (entries : List Entry) (versions : List Versions) (select : Select) (fi
       subst (λ (planned : p.PlainProgram). Replays entries versions point select planned) (sym is)
       (record {
         known = known;
-        gives = merged_is past whole (program_ordered whole is_built) ∙ gives point known;
+        gives = merged_is past whole (program_ordered whole is_built) ∙ gives point (built point known);
         stops = stops point known ∙ ap (option_map (refusal_at (transaction_at point))) (sym (merged_stop MAX_TABLE_ROWS MAX_NODES past whole (program_ordered whole is_built)));
       })

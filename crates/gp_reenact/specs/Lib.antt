@@ -4,3 +4,4 @@ pub mod Uncomposed
 pub mod Programs
 pub mod Encoding
 pub mod Travel
+pub mod Looking

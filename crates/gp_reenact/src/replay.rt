@@ -48,7 +48,7 @@ pub fn log_refusal(log: &Log, state: State) -> Option<Refusal>
 }
 
 /// The rows of a program over past versions, as the backend gives them.
-fn rows_over<B: Backend>(
+pub(crate) fn rows_over<B: Backend>(
     alloc: Global,
     versions: &[VersionTable],
     program: &PProgram,
@@ -77,7 +77,7 @@ fn transaction_at(log: &Log, state: State) -> u32
 }
 
 /// The refusal of a state of this transaction whose program stops.
-fn stopped(t: u32, stop: ExecStop) -> ReenactStop
+pub(crate) fn stopped(t: u32, stop: ExecStop) -> ReenactStop
     ensures { result ≡ r.stopped t stop }
 {
     match stop {
@@ -89,7 +89,7 @@ fn stopped(t: u32, stop: ExecStop) -> ReenactStop
 }
 
 /// An annotated program as a plain one, merged.
-fn merged_program(
+pub(crate) fn merged_program(
     alloc: Global,
     log: &Log,
     program: &AProgram,

@@ -1,0 +1,195 @@
+//! What any transaction saw, and the rows by which one looks at a statement of it, whatever became of the transaction.
+
+ghost use Rattle.std.specs.Prelude.{◌≡◌, ◌<◌, ◌≤◌, ◌+◌, ◌^◌, Some, None, suc, true};
+ghost use Rattle.gp_algebra.specs.PlainViews.{program_view};
+ghost use Rattle.gp_algebra.specs.Views.{select_view, statement_view};
+ghost use Rattle.gp_algebra.specs.WellBuilt.{is_well_built};
+ghost use Rattle.gp_compose.specs.Composing.{QueryFits};
+ghost use Rattle.gp_compose.specs.Seen as s;
+ghost use Rattle.gp_log.specs.Contents.{entries, tables};
+ghost use Rattle.gp_log.specs.LogFitting.{SpansFit, statements_fit};
+ghost use Rattle.gp_log.specs.Parameters.{parameters};
+ghost use Rattle.gp_machine.specs.Entries as m;
+ghost use Rattle.gp_machine.specs.Questions.{is_known};
+ghost use Rattle.gp_base.specs.Annotated.{plain};
+ghost use Rattle.gp_reenact.specs.Encoding.{encoded};
+ghost use Rattle.gp_reenact.specs.Travel.{as_of};
+ghost use Rattle.gp_reenact.specs.Backends.{ReenactsBy};
+ghost use Rattle.gp_reenact.specs.Looking.{EndsInTable, Looks, looked_answer, looked_program, saw_answer, saw_program};
+ghost use Rattle.gp_reenact.specs.Reenacting.{Plans, Reenacts, spans_of};
+
+use crate::env::env_at;
+use crate::error::ReenactStop;
+use crate::replay::{merged_program, rows_over, stopped};
+use crate::scan_laws::asked_scans_suffice;
+use gp_algebra::{PProgram, Select, Stmt, scans};
+use gp_base::{Refusal, Row};
+use gp_compose::{check_seen, check_statement, seen};
+use gp_exec::{Backend, ExecStop, Plain, run_table};
+use gp_log::Log;
+use gp_versions::VersionTable;
+use std::alloc::Global;
+
+/// The refusal of a SAW by the log: E20 if no transaction has the number, E22 if it has not so many statements. A transaction that did
+/// not commit is not refused.
+pub fn saw_refusal(log: &Log, t: u64, k: u64) -> Option<Refusal>
+    ensures { result ≡ s.saw_refusal t k (entries log.now) }
+{
+    match check_seen(log, t, k) {
+        Ok(()) => None,
+        Err(stop) => stop.refusal(),
+    }
+}
+
+/// The refusal of a CHANGES of a statement by the log: E20 if no transaction has the number, E22 if it has no such statement.
+pub fn changes_refusal(log: &Log, t: u64, k: u64) -> Option<Refusal>
+    ensures { result ≡ s.changes_refusal t k (entries log.now) }
+{
+    match check_statement(log, t, k) {
+        Ok(()) => None,
+        Err(stop) => stop.refusal(),
+    }
+}
+
+/// The merged program of a query over what a transaction saw after its first statements. Refused as [`saw_refusal`] refuses it.
+fn planned_saw(
+    alloc: Global,
+    log: &Log,
+    t: u64,
+    k: u64,
+    select: &Select,
+) -> Result<PProgram, ReenactStop>
+    requires { QueryFits log.now (select_view select.now) }
+    ensures { Plans program_view result (s.saw_refusal t k (entries log.now))
+        (saw_program (entries log.now) t k (select_view select.now)) }
+{
+    // What may fail borrows the program, which has many parts: each way out that owns it lets them all go.
+    match seen(alloc, log, t, k, select) {
+        Ok(program) => merged_program(alloc, log, &program, false),
+        Err(stop) => Err(ReenactStop::from(stop)),
+    }
+}
+
+/// The number of a transaction that the log has.
+fn number_of(log: &Log, t: u64) -> u32
+    requires { is_known t (entries log.now) ≡ true }
+    ensures { result ≡ t }
+{
+    // A log numbers its transactions by 32 bits. That is known of it where it is asked for their number.
+    let _count = log.transactions();
+    t as u32
+}
+
+/// What a backend gives for a query over what a transaction saw after its first statements, this many.
+fn saw_by<B: Backend>(
+    alloc: Global,
+    log: &Log,
+    versions: &[VersionTable],
+    t: u64,
+    k: u64,
+    select: &Select,
+    backend: &B,
+) -> Result<Vec<Row>, ReenactStop>
+    requires { QueryFits log.now (select_view select.now) }
+    ensures { ReenactsBy (λ rows. rows.items) (B.gives backend.now) result
+        (s.saw_refusal t k (entries log.now)) t
+        (saw_program (entries log.now) t k (select_view select.now))
+        (encoded (as_of plain versions.now)) }
+{
+    let planned = planned_saw(alloc, log, t, k, select)?;
+    match rows_over(alloc, versions, &planned, backend) {
+        Ok(rows) => Ok(rows),
+        Err(stop) => Err(stopped(number_of(log, t), stop)),
+    }
+}
+
+/// The rows of a query over what a transaction saw after its first statements, this many, in no particular order, whatever became of
+/// the transaction. The log and the row versions have been checked against the tables of the log, and so has the query.
+///
+/// Refused as [`saw_refusal`] refuses it; else as [`reenact`](crate::reenact) refuses a statement of a transaction that committed: E25,
+/// E26 and E27.
+pub fn saw(
+    alloc: Global,
+    log: &Log,
+    versions: &[VersionTable],
+    t: u64,
+    k: u64,
+    select: &Select,
+) -> Result<Vec<Row>, ReenactStop>
+    requires query { QueryFits log.now (select_view select.now) }
+    requires spans { SpansFit (tables log.now) (spans_of versions.now) }
+    ensures { Reenacts (λ rows. rows.items) result (saw_answer parameters (entries log.now)
+        (spans_of versions.now) t k (select_view select.now)) }
+{
+    saw_by(alloc, log, versions, t, k, select, &Plain)
+}
+
+/// The merged program of the rows by which one looks at a statement that writes a table.
+fn planned_look(
+    alloc: Global,
+    log: &Log,
+    t: u32,
+    before: u32,
+    stmt: &Stmt,
+) -> Result<PProgram, ReenactStop>
+    requires known { is_known t (entries log.now) ≡ true }
+    requires more { before + 1 < 2 ^ 32 }
+    requires most { suc before ≤ m.statement_count t (entries log.now) }
+    requires here { m.statement_at t (suc before) (entries log.now)
+        ≡ Some (statement_view stmt.now) }
+    requires writes { s.writes (statement_view stmt.now) ≡ true }
+    requires statements { statements_fit (tables log.now) (entries log.now) ≡ true }
+    ensures { Plans program_view result None
+        (looked_program (entries log.now) t before (statement_view stmt.now)) }
+{
+    let program = gp_compose::looked(alloc, log, t, before, stmt)?;
+    merged_program(alloc, log, &program, false)
+}
+
+/// The rows of a program that ends in a table over past versions, in order. Their number is not limited.
+fn table_over(
+    alloc: Global,
+    versions: &[VersionTable],
+    program: &PProgram,
+) -> Result<Vec<Row>, ExecStop>
+    requires { is_well_built (program_view program.now) ≡ true }
+    ensures { EndsInTable (λ found. found.items) result (program_view program.now)
+        (encoded (as_of plain versions.now)) }
+{
+    // The scans that are asked for suffice. The call does nothing.
+    asked_scans_suffice();
+    let asked = scans(alloc, program)?;
+    let env = env_at(alloc, versions, &asked)?;
+    run_table(alloc, program, &env)
+}
+
+/// The rows by which one looks at the statement of a transaction behind so many others, in the order of their table, whatever became of
+/// the transaction: those that an UPDATE or a DELETE is about, as they were before it, or the table that an INSERT leaves. Behind the cells
+/// of each are its identity and its mark. The log has the statement, which writes a table; the log and the row versions have been
+/// checked against the tables of the log. Refused by E25 and E26, as [`reenact`](crate::reenact) refuses; the number of rows is not
+/// limited.
+pub fn looked(
+    alloc: Global,
+    log: &Log,
+    versions: &[VersionTable],
+    t: u32,
+    before: u32,
+    stmt: &Stmt,
+) -> Result<Vec<Row>, ReenactStop>
+    requires known { is_known t (entries log.now) ≡ true }
+    requires more { before + 1 < 2 ^ 32 }
+    requires most { suc before ≤ m.statement_count t (entries log.now) }
+    requires here { m.statement_at t (suc before) (entries log.now)
+        ≡ Some (statement_view stmt.now) }
+    requires writes { s.writes (statement_view stmt.now) ≡ true }
+    requires statements { statements_fit (tables log.now) (entries log.now) ≡ true }
+    requires spans { SpansFit (tables log.now) (spans_of versions.now) }
+    ensures { Looks (λ rows. rows.items) result (looked_answer parameters (entries log.now)
+        (spans_of versions.now) t before (statement_view stmt.now)) }
+{
+    let planned = planned_look(alloc, log, t, before, stmt)?;
+    match table_over(alloc, versions, &planned) {
+        Ok(rows) => Ok(rows),
+        Err(stop) => Err(stopped(t, stop)),
+    }
+}
