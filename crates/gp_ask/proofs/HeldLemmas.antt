@@ -35,14 +35,16 @@ use Rattle.gp_dump.specs.Dumps.{Dump, dump_of, dump_with, spans_in_order}
 use Rattle.gp_history.specs.Agreement.{agree}
 use Rattle.gp_history.specs.Agreement.{occurrence}
 use Rattle.gp_ask.specs.declared.answered.Answered.{Answered}
-use Rattle.gp_ask.specs.declared.answered.Answered.TheVariants.{Listed, Refused, Rows}
+use Rattle.gp_ask.specs.declared.answered.Answered.TheVariants.{Checked, Listed, Refused, Rows}
+use Rattle.gp_replay.specs.Differences.{difference}
 use Rattle.gp_ask.specs.Answers.{answer_to, held_to}
-use Rattle.gp_ask.specs.Asking.{dump_minimal, dump_provenance, dump_query, dump_remaining, dump_rows, dump_valued, dump_values, held_minimal, held_provenance, held_remaining, held_rows, held_valued, held_values, of_elements, query_answer, spans_at, with_monomials}
+use Rattle.gp_ask.specs.Asking.{ask_to, dump_minimal, dump_provenance, dump_query, dump_remaining, dump_rows, dump_valued, dump_values, held_ask, held_minimal, held_provenance, held_remaining, held_rows, held_valued, held_values, of_elements, query_answer, spans_at, with_monomials}
 use Rattle.gp_ask.specs.Hypothetical.{what_if_answer, what_if_held}
 use Rattle.gp_ask.specs.Remaining.{has_left_out, is_left_out, pattern_of, remaining_answer}
 use Rattle.gp_ask.specs.Values.{evaluated, rules_of, semiring_of, with_values}
 use Rattle.gp_ask.specs.Witnesses.{minimal_of}
 use Rattle.gp_ask.proofs.CountedLemmas.{answers_count}
+use Rattle.gp_ask.proofs.DifferenceLemmas.{causes-same, diff-same}
 use Rattle.gp_ask.proofs.MovedLemmas.{remaining_moved}
 use Rattle.gp_ask.proofs.ProvenanceLemmas.{same-list}
 use Rattle.gp_ask.proofs.QueryLemmas.{query-same}
@@ -88,7 +90,7 @@ module _ (refusal : Option Refusal) (elements : List (Element Monomial)) where
   same-given None = ap (λ (rows : List (List Cell)). Rows (sorted_by row_cmp rows)) (map-map (λ (element : Element (Unit {0})). element.cells) (element_reannotated forgotten) elements)
   same-given (Some own) = refl
 
-  same-rows : answered (map (element_reannotated forgotten) elements) (length (map (element_reannotated forgotten) elements))
+  pub same-rows : answered (map (element_reannotated forgotten) elements) (length (map (element_reannotated forgotten) elements))
       ≡ of_elements (given (option_or refusal (if nat_lt parameters.answer (length elements) then Some E27 else None)) elements)
   same-rows =
       ap (answered (map (element_reannotated forgotten) elements)) (length-map elements (element_reannotated forgotten))
@@ -205,10 +207,23 @@ module _ (state : State Monomial) (spans-kept : (table : ℕ) → state_spans (f
   dump-same = ap (dump_with state.entries) (spans-same (length state.catalogue))
 
   -- LOG and VERSIONS print the dump, and what would be with a change is told by the log
-  pub held : ((how : y.How) (point : y.State) (query : y.Query) → answer_to (dump_of (forgetting state)) (y.ask how point query) ≡ held_to state (y.ask how point query))
+  -- SAW and CHANGES of a statement tell what the machine held, of transactions whatever became of them
+  pub held : ((t k : ℕ) (query : y.Query) → answer_to (dump_of (forgetting state)) (y.saw t k query) ≡ held_to state (y.saw t k query))
+      → ((t k : ℕ) → answer_to (dump_of (forgetting state)) (y.changes t k) ≡ held_to state (y.changes t k))
+      → ((how : y.How) (point : y.State) (query : y.Query) → answer_to (dump_of (forgetting state)) (y.ask how point query) ≡ held_to state (y.ask how point query))
       → ((change : y.LogChange) (how : y.How) (point : y.State) (query : y.Query) → what_if_answer state.entries change how point query ≡ what_if_held state.entries change how point query)
+      → difference (dump_of (forgetting state)) ≡ None
       → (question : y.Question) → answer_to (dump_of (forgetting state)) question ≡ held_to state question
-  held asks changes (y.log t) = refl
-  held asks changes (y.versions name) = ap (λ (dump : Dump). answer_to dump (y.versions name)) dump-same
-  held asks changes (y.ask how point query) = asks how point query
-  held asks changes (y.what_if change how point query) = changes change how point query
+  held sees alters asks changes same y.transactions = refl
+  held sees alters asks changes same (y.log t) = refl
+  held sees alters asks changes same (y.versions name) = ap (λ (dump : Dump). answer_to dump (y.versions name)) dump-same
+  held sees alters asks changes same (y.saw t k query) = sees t k query
+  held sees alters asks changes same (y.changes t k) = alters t k
+  held sees alters asks changes same (y.commit_changes t) = ap (λ (dump : Dump). answer_to dump (y.commit_changes t)) dump-same
+  held sees alters asks changes same y.check = ap Checked same
+  held sees alters asks changes same (y.diff first second query) =
+      diff-same (ask_to (dump_of (forgetting state))) (held_ask state) (what_if_answer state.entries) (what_if_held state.entries) asks changes first second query
+  held sees alters asks changes same (y.causes kept query) =
+      causes-same (ask_to (dump_of (forgetting state))) (held_ask state) (what_if_answer state.entries) (what_if_held state.entries) asks changes state.entries kept query
+  held sees alters asks changes same (y.ask how point query) = asks how point query
+  held sees alters asks changes same (y.what_if change how point query) = changes change how point query

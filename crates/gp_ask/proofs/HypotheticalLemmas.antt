@@ -17,6 +17,7 @@ use Rattle.gp_ask.specs.Answers.{answer_to, remade_to}
 use Rattle.gp_ask.specs.Asking.{ask_to, held_ask, spans_at}
 use Rattle.gp_ask.specs.Hypothetical.{asking_refusal, changed_answer, remade_answer, remaking_refusal, replay_refusal, replayed_dump, unless_refused, what_if_answer, what_if_held}
 use Rattle.gp_ask.specs.Replays.{dump_in}
+use Rattle.gp_ask.proofs.DifferenceLemmas.{causes-same, diff-same}
 use Rattle.gp_ask.proofs.SpanLemmas.{dumped}
 
 -- what the history answers, from any dump of the log and of its row versions
@@ -81,7 +82,16 @@ changed-same (Ok entries) how point query same = same entries refl
 pub remade-same : (dump : Dump)
     → ((change : y.LogChange) (how : y.How) (point : y.State) (query : y.Query) → what_if_answer dump.entries change how point query ≡ what_if_held dump.entries change how point query)
     → (question : y.Question) → answer_to dump question ≡ remade_to dump question
+remade-same dump changes y.transactions = refl
 remade-same dump changes (y.log t) = refl
 remade-same dump changes (y.versions name) = refl
+remade-same dump changes (y.saw t k query) = refl
+remade-same dump changes (y.changes t k) = refl
+remade-same dump changes (y.commit_changes t) = refl
+remade-same dump changes y.check = refl
+remade-same dump changes (y.diff first second query) =
+    diff-same (ask_to dump) (ask_to dump) (what_if_answer dump.entries) (what_if_held dump.entries) (λ how point query. refl) changes first second query
+remade-same dump changes (y.causes kept query) =
+    causes-same (ask_to dump) (ask_to dump) (what_if_answer dump.entries) (what_if_held dump.entries) (λ how point query. refl) changes dump.entries kept query
 remade-same dump changes (y.ask how point query) = refl
 remade-same dump changes (y.what_if change how point query) = changes change how point query

@@ -1,6 +1,12 @@
 mod BackendLemmas
+mod CausesLemmas
+mod ChangedLines
+mod ChangesLemmas
 mod CountedLemmas
 mod DeletionLemmas
+mod DeltaLemmas
+mod DifferenceLemmas
+mod EntryLines
 mod FewLemmas
 mod FittingReplays
 mod FormatLemmas
@@ -14,10 +20,12 @@ pub mod ReadAnswers
 mod ReadLemmas
 mod ReenactedLemmas
 mod RemainingLemmas
+mod SeenLemmas
 mod SpanLemmas
 mod StopLemmas
 mod TableLemmas
 mod TargetLemmas
+mod TransactionRuns
 mod ValueLemmas
 mod WhatIfLemmas
 mod WitnessLemmas

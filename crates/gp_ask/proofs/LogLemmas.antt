@@ -19,7 +19,7 @@ map-reversed f (x ∷ xs) =
     ∙ sym (reverse-append (f x ∷ []) (map f xs))
 
 -- the entries in the order of the lines
-oldest-first : (entries : List Entry) → reverse (log_view entries) ≡ map entry_view entries
+pub oldest-first : (entries : List Entry) → reverse (log_view entries) ≡ map entry_view entries
 oldest-first entries = ap reverse (map-reversed entry_view entries) ∙ reverse-reverse (map entry_view entries)
 
 module _ (t : ℕ) where

@@ -3,26 +3,27 @@ use Rattle.std.proofs.Common.{◌≡◌, ℕ, Bool, true, false, not, ◌&&◌, 
 use Rattle.gp_base.specs.declared.refusal.Refusal.{Refusal}
 use Rattle.gp_grammar.specs.Capping.{capped_question}
 use Rattle.gp_grammar.specs.declared.limits.TheConstants.{MAX_FROM}
-use Rattle.gp_grammar.specs.Laws.{has_statement}
-use Rattle.gp_grammar.specs.Limits.{Shape, change_shape, passed_limit, query_shape, question_shape, some_above}
+use Rattle.gp_grammar.specs.Laws.{has_statement, has_statements, side_has_statement}
+use Rattle.gp_grammar.specs.Limits.{Shape, both, change_shape, passed_limit, query_shape, question_shape, side_shape, some_above}
 use Rattle.gp_grammar.specs.LineReading.{Fault}
 use Rattle.gp_grammar.specs.Reading.{question_of}
 use Rattle.gp_grammar.specs.QuestionGrammar.{IsQuestion}
 use Rattle.gp_grammar.specs.QuestionParsing.{question}
 use Rattle.gp_grammar.specs.Syntax as y
 use Rattle.gp_grammar.proofs.BothLemmas.{both-within}
-use Rattle.gp_grammar.proofs.ChangeLaws as read
+use Rattle.gp_grammar.proofs.ChangeLaws.{statements-read}
 use Rattle.gp_grammar.proofs.LineLaws.{lines-read}
 use Rattle.gp_grammar.proofs.ParserLaws.{lawful-question}
 use Rattle.gp_grammar.proofs.ShapeLemmas.{first_limit, of_shape, questions-fair}
 use Rattle.gp_syntax.specs.Refusals.{refusal_of}
 use Rattle.gp_syntax.specs.ReadResults.{refusal_in}
-use Rattle.gp_check.specs.Valid.{change_is_valid, query_is_valid}
-use Rattle.gp_check.proofs.ValidLemmas.{change-read, question-read}
+use Rattle.gp_check.specs.Valid as check
+use Rattle.gp_check.specs.Valid.{change_is_valid, query_is_valid, side_is_valid}
+use Rattle.gp_check.proofs.ValidLemmas.{question-read}
 use Rattle.gp_ask.specs.declared.answered.Answered.{Answered}
 use Rattle.gp_ask.specs.declared.answered.Answered.TheVariants.{Refused}
 use Rattle.gp_machine.specs.Entries.{Entry}
-use Rattle.gp_ask.specs.Answerable.{has_few_items, question_is_valid}
+use Rattle.gp_ask.specs.Answerable.{has_few_items, keeps_from, question_is_valid}
 use Rattle.gp_ask.specs.Explained.{ExplainsRead}
 use Rattle.gp_ask.specs.Questions.{answered}
 use Rattle.std.proofs.lemmas.Bool.{and_from, and_parts}
@@ -36,23 +37,24 @@ from-within false false b v n d is = refl
 within-from : (shape : Shape) → passed_limit shape ≡ None → some_above MAX_FROM shape.from ≡ false
 within-from shape none = from-within _ _ _ _ _ _ (sym (of_shape shape) ∙ none)
 
-few-read : (text : List ℕ) (how : y.How) (state : y.State) (query : y.Query) → question_of text ≡ Ok (y.ask how state query) → has_few_items query ≡ true
-few-read text how state query is =
-    let reads = (lines-read question IsQuestion capped_question question_shape lawful-question questions-fair text (y.ask how state query)).0 is in
-    ap not (within-from (query_shape query) reads.text.within)
-
-few-changed : (text : List ℕ) (change : y.LogChange) (how : y.How) (state : y.State) (query : y.Query) → question_of text ≡ Ok (y.what_if change how state query) → has_few_items query ≡ true
-few-changed text change how state query is =
-    let reads = (lines-read question IsQuestion capped_question question_shape lawful-question questions-fair text (y.what_if change how state query)).0 is in
-    ap not (within-from (query_shape query) (both-within (change_shape change) (query_shape query) reads.text.within).1)
+few-within : (question : y.Question) → passed_limit (question_shape question) ≡ None → keeps_from question ≡ true
+few-within y.transactions within = refl
+few-within (y.log t) within = refl
+few-within (y.versions name) within = refl
+few-within (y.saw t k query) within = ap not (within-from (query_shape query) within)
+few-within (y.changes t k) within = refl
+few-within (y.commit_changes t) within = refl
+few-within y.check within = refl
+few-within (y.diff first second query) within = ap not (within-from (query_shape query) (both-within (both (side_shape first) (side_shape second)) (query_shape query) within).1)
+few-within (y.causes kept query) within = ap not (within-from (query_shape query) within)
+few-within (y.ask how state query) within = ap not (within-from (query_shape query) within)
+few-within (y.what_if change how state query) within = ap not (within-from (query_shape query) (both-within (change_shape change) (query_shape query) within).1)
 
 pub read-valid : (text : List ℕ) (question : y.Question) → question_of text ≡ Ok question → question_is_valid question ≡ true
-read-valid text (y.log t) is = refl
-read-valid text (y.versions name) is = refl
-read-valid text (y.ask how state query) is = and_from _ _ (question-read text how state query is) (few-read text how state query is)
-read-valid text (y.what_if change how state query) is =
-    let valid = and_parts (change_is_valid change) (query_is_valid query) (change-read text change how state query is) in
-    and_from _ _ (read.change-read text change how state query is) (and_from _ _ valid.0 (and_from _ _ valid.1 (few-changed text change how state query is)))
+read-valid text own is =
+    let reads = (lines-read question IsQuestion capped_question question_shape lawful-question questions-fair text own).0 is in
+    and_from (has_statements own) (check.question_is_valid own && keeps_from own) (statements-read text own is)
+    (and_from (check.question_is_valid own) (keeps_from own) (question-read text own is) (few-within own reads.text.within))
 
 -- ---- the parts of a valid question
 
@@ -62,9 +64,24 @@ valid-parts how state query valid = and_parts (query_is_valid query) (has_few_it
 pub valid-change : (change : y.LogChange) (how : y.How) (state : y.State) (query : y.Query) → question_is_valid (y.what_if change how state query) ≡ true
     → (has_statement change ≡ true) × ((change_is_valid change ≡ true) × ((query_is_valid query ≡ true) × (has_few_items query ≡ true)))
 valid-change change how state query valid =
-    let outer = and_parts (has_statement change) (change_is_valid change && (query_is_valid query && has_few_items query)) valid in
-    let inner = and_parts (change_is_valid change) (query_is_valid query && has_few_items query) outer.1 in
-    (outer.0, (inner.0, and_parts (query_is_valid query) (has_few_items query) inner.1))
+    let outer = and_parts (has_statement change) ((change_is_valid change && query_is_valid query) && has_few_items query) valid in
+    let inner = and_parts (change_is_valid change && query_is_valid query) (has_few_items query) outer.1 in
+    let parts = and_parts (change_is_valid change) (query_is_valid query) inner.0 in
+    (outer.0, (parts.0, (parts.1, inner.1)))
+
+-- what the code asks of a side
+abbrev pub SideIsValid : y.Side → Type 0
+SideIsValid side = (side_has_statement side ≡ true) × (side_is_valid side ≡ true)
+
+pub valid-diff : (first second : y.Side) (query : y.Query) → question_is_valid (y.diff first second query) ≡ true
+    → (SideIsValid first × SideIsValid second) × ((query_is_valid query ≡ true) × (has_few_items query ≡ true))
+valid-diff first second query valid =
+    let outer = and_parts (side_has_statement first && side_has_statement second) (((side_is_valid first && side_is_valid second) && query_is_valid query) && has_few_items query) valid in
+    let inner = and_parts ((side_is_valid first && side_is_valid second) && query_is_valid query) (has_few_items query) outer.1 in
+    let parts = and_parts (side_is_valid first && side_is_valid second) (query_is_valid query) inner.0 in
+    let statements = and_parts (side_has_statement first) (side_has_statement second) outer.0 in
+    let sides = and_parts (side_is_valid first) (side_is_valid second) parts.0 in
+    (((statements.0, sides.0), (statements.1, sides.1)), (parts.1, inner.1))
 
 pub refused-text : (answers : y.Question → Answered) (reading : Result y.Question Fault) (refusal : Refusal) → refusal_in reading ≡ Some refusal
     → Refused refusal ≡ answered answers reading

@@ -29,7 +29,7 @@ inserted cmp item (other ∷ others) =
           (IsPermutation-cons other (item ∷ others) (insert_sorted cmp item others) (inserted cmp item others))
     ]
 
-permuted : {T : Type 0} (cmp : T → T → Ordering) (items : List T) → IsPermutation items (sorted_by cmp items)
+pub permuted : {T : Type 0} (cmp : T → T → Ordering) (items : List T) → IsPermutation items (sorted_by cmp items)
 permuted cmp [] = IsPermutation-refl []
 permuted cmp (item ∷ items) =
     IsPermutation-trans (item ∷ items) (item ∷ sorted_by cmp items) (sorted_by cmp (item ∷ items))

@@ -2,10 +2,10 @@
 -- `read_questions_are_valid`.
 use Rattle.std.specs.Prelude.{◌≡◌, Bool, true, not, ◌&&◌, length}
 use Rattle.gp_grammar.specs.declared.limits.TheConstants.{MAX_FROM}
-use Rattle.gp_grammar.specs.Laws.{has_statement}
+use Rattle.gp_grammar.specs.Laws.{has_statements}
 use Rattle.gp_grammar.specs.Limits.{query_shape, some_above}
 use Rattle.gp_grammar.specs.Syntax as y
-use Rattle.gp_check.specs.Valid.{change_is_valid, query_is_valid}
+use Rattle.gp_check.specs.Valid as check
 use Rattle.gp_log.specs.LogFacts.{tables_in}
 use Rattle.gp_log.specs.LogFitting.{SpansFit, statements_fit}
 use Rattle.gp_log.specs.Sessions.{KeepsSessions}
@@ -16,12 +16,18 @@ use Rattle.gp_ask.specs.Asking.{spans_at}
 abbrev pub has_few_items : y.Query → Bool
 has_few_items query = not (some_above MAX_FROM (query_shape query).from)
 
--- its query is valid, if it has one, and keeps the limit of FROM; and the command of its change is a valid statement
+-- the query of a question, if it has one, keeps the limit of FROM
+abbrev pub keeps_from : y.Question → Bool
+keeps_from (y.saw t k query) = has_few_items query
+keeps_from (y.diff first second query) = has_few_items query
+keeps_from (y.causes kept query) = has_few_items query
+keeps_from (y.ask how state query) = has_few_items query
+keeps_from (y.what_if change how state query) = has_few_items query
+keeps_from question = true
+
+-- its query and the commands of its changes are valid, if it has them; the query keeps the limit of FROM, and the commands are statements
 abbrev pub question_is_valid : y.Question → Bool
-question_is_valid (y.log t) = true
-question_is_valid (y.versions name) = true
-question_is_valid (y.ask how state query) = query_is_valid query && has_few_items query
-question_is_valid (y.what_if change how state query) = has_statement change && (change_is_valid change && (query_is_valid query && has_few_items query))
+question_is_valid question = has_statements question && (check.question_is_valid question && keeps_from question)
 
 -- A dump from which questions about states are answered: its log keeps its sessions, and what it holds fits its tables. Every well-formed dump is such, and
 -- so is the one of commits made again.

@@ -2,11 +2,16 @@ pub mod Answerable
 pub mod Answers
 pub mod Asking
 pub mod Backends
+pub mod Begins
+pub mod Changes
 pub mod Counted
+pub mod Deltas
+pub mod Differences
 pub mod Explained
 pub mod Formats
 pub mod Hypothetical
 pub mod Keeping
+pub mod Keyed
 pub mod Lines
 pub mod Operations
 pub mod Programs
@@ -14,6 +19,9 @@ pub mod QuestionFiles
 pub mod Questions
 pub mod Remaining
 pub mod Replays
+pub mod Seeing
 pub mod Texts
+pub mod Transactions
 pub mod Values
 pub mod Witnesses
+pub mod Writes

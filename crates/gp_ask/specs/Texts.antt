@@ -1,5 +1,5 @@
 -- Part of the statement: the texts of answers. Each begins with the number of its question; the lines that it counts follow, after two spaces each.
-use Rattle.std.specs.Prelude.{ℕ, List, [], ◌∷◌, length, map, codes}
+use Rattle.std.specs.Prelude.{ℕ, List, [], ◌∷◌, ◌++◌, length, map, Option, Some, None, codes}
 use Rattle.std.specs.Fmt.{decimal}
 use Rattle.std.specs.List.{concat, flat_map}
 use Rattle.gp_base.specs.Numbered.{newline, numbered, refused_text, rows_text}
@@ -9,7 +9,7 @@ use Rattle.gp_base.specs.Writing.{joined}
 use Rattle.gp_semiring.specs.declared.listed.Listed as l
 use Rattle.gp_ask.specs.declared.answered.Answered.{Answered}
 use Rattle.gp_ask.specs.declared.answered.Valued.{Valued}
-use Rattle.gp_ask.specs.declared.answered.Answered.TheVariants.{Rows, Listed, Values, Log, Versions, Program, Refused}
+use Rattle.gp_ask.specs.declared.answered.Answered.TheVariants.{Rows, Listed, Values, Log, Versions, Program, Transactions, Changes, Diff, Causes, Refused, Checked}
 
 -- a line of an answer
 abbrev pub listed_line : List ℕ → List ℕ
@@ -28,6 +28,11 @@ provenance_text listed = concat (row_text listed.row ∷ codes " : " ∷ joined 
 abbrev pub value_text : Valued → List ℕ
 value_text valued = concat (row_text valued.row ∷ codes " : " ∷ valued.text ∷ [])
 
+-- whether the dump is that of a history, or its first line that differs
+abbrev pub checked_text : Option ℕ → List ℕ
+checked_text None = codes "history" ++ newline
+checked_text (Some line) = concat (codes "differs at line " ∷ decimal line ∷ newline ∷ [])
+
 -- rows and refusals are written as those of a script are: rows in row order, each as often as it occurs
 abbrev pub answer_text : ℕ → Answered → List ℕ
 answer_text number (Rows rows) = numbered number (rows_text rows)
@@ -36,4 +41,9 @@ answer_text number (Values rows) = listed_text number (codes "rows") (map value_
 answer_text number (Log texts) = listed_text number (codes "log") texts
 answer_text number (Versions texts) = listed_text number (codes "versions") texts
 answer_text number (Program texts) = listed_text number (codes "program") texts
+answer_text number (Transactions texts) = listed_text number (codes "transactions") texts
+answer_text number (Changes texts) = listed_text number (codes "changes") texts
+answer_text number (Diff texts) = listed_text number (codes "diff") texts
+answer_text number (Causes texts) = listed_text number (codes "causes") texts
+answer_text number (Checked line) = numbered number (checked_text line)
 answer_text number (Refused refusal) = numbered number (refused_text refusal)

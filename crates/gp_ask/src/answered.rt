@@ -29,6 +29,16 @@ pub enum Answered {
     Versions(Sequence<Text>),
     /// The lines of the program that a query over a past state is.
     Program(Sequence<Text>),
+    /// The lines of the transactions, in the order of their numbers.
+    Transactions(Sequence<Text>),
+    /// The lines of the rows that were changed, by table and then by identity.
+    Changes(Sequence<Text>),
+    /// The rows that are more often in one of two answers, each behind a sign, in row order.
+    Diff(Sequence<Text>),
+    /// The lines of the statements that an answer depends on, in the order of their lines.
+    Causes(Sequence<Text>),
+    /// The number of the first line of the dump that differs, or None if it is the dump of a history.
+    Checked(Option<u64>),
     /// The question was refused.
     Refused(Refusal),
 }

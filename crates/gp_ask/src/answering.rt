@@ -16,11 +16,17 @@ ghost use Rattle.gp_ask.specs.Keeping.{AreKept};
 
 use crate::answered::Answered;
 use crate::asking::ask_answer;
+use crate::causes::causes_answer;
+use crate::changes::{changes_answer, commit_changes_answer};
+use crate::checked::check_answer;
+use crate::differences::diff_answer;
 use crate::hypothetical::what_if_answer;
 use crate::keeping::KeptAnnotations;
 use crate::logs::log_answer;
 use crate::queries::query_answer_by;
 use crate::row_versions::versions_answer;
+use crate::seeing::saw_answer;
+use crate::transactions::transactions_answer;
 use gp_base::NoMemory;
 use gp_dump::Dump;
 use gp_exec::Backend;
@@ -30,8 +36,11 @@ use std::alloc::Global;
 /// Answers a question that was read ([`read_questions_are_valid`](crate::read_questions_are_valid)) from a dump that was read: it
 /// keeps the rules of dumps, and its tables have columns.
 ///
-/// LOG is refused if no transaction has the number (E20), VERSIONS if no table has the name (E04). AS OF is refused if there is no
-/// such version (E23), REENACT if there is no such transaction (E20), it did not commit (E21) or has no such statement (E22).
+/// LOG is refused if no transaction has the number (E20), VERSIONS if no table has the name (E04). TRANSACTIONS and CHECK are never
+/// refused. AS OF is refused if there is no such version (E23), REENACT if there is no such transaction (E20), it did not commit (E21) or
+/// has no such statement (E22).
+/// SAW is refused as REENACT is, but a transaction may have any end, and 0 statements too; so is CHANGES of a statement, and CHANGES of a
+/// COMMIT is refused as REENACT of one (E20, E21).
 /// Both are then refused by the check of their query (E04 to E07, E15), and VALUE IN by the first number of its rules that stands for
 /// no element of the semiring (E28). PROVENANCE OF, VALUE IN and WITHOUT are then refused by the versions that they need, one after
 /// another: if the transaction that made a version does not run (E25, E26), or does not make the rows that the dump has in a table
@@ -45,7 +54,10 @@ use std::alloc::Global;
 /// there is no such transaction (E20), it did not commit (E21) or has no such statement (E22), if it cannot have one more (E14), or by the
 /// check of the new statement. Then the question is refused on the changed log as above, up to E28, then, unless it is EXPLAIN, by the
 /// first commit that cannot be made again (E25, E26, E31 if it would be lost, E14 if there would be too many row versions), and then for
-/// E27. Running out of memory is the only error.
+/// E27.
+///
+/// DIFF is refused as the question of its first side is, then as that of the second, and then for more lines than an answer has rows
+/// (E27). CAUSES is refused as the question itself is. Running out of memory is the only error.
 pub fn answer(alloc: Global, dump: &Dump, question: &Question) -> Result<Answered, NoMemory>
     requires rules { IsDump (dump_view dump.now) }
     requires valid { tables_are_valid (tables_in (dump_view dump.now).entries) ≡ true }
@@ -79,6 +91,17 @@ pub fn answer_from(
     match question {
         Question::Log { t } => log_answer(alloc, &dump.log, *t),
         Question::Versions { table } => versions_answer(alloc, dump, table),
+        Question::Transactions => transactions_answer(alloc, dump),
+        Question::Saw { t, k, query } => saw_answer(alloc, dump, *t, *k, query),
+        Question::Changes { t, k } => changes_answer(alloc, dump, *t, *k),
+        Question::CommitChanges { t } => commit_changes_answer(alloc, dump, *t),
+        Question::Check => check_answer(alloc, dump),
+        Question::Diff {
+            first,
+            second,
+            query,
+        } => diff_answer(alloc, dump, first, second, query, kept),
+        Question::Causes { kept: own, query } => causes_answer(alloc, dump, own, query, kept),
         Question::Ask { how, state, query } => { ask_answer(alloc, dump, how, *state, query, kept) }
         Question::WhatIf {
             change,

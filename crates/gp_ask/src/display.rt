@@ -11,7 +11,7 @@ ghost use Rattle.gp_ask.specs.Texts as t;
 use crate::answered::{Answered, Valued};
 use gp_base::{
     Monomial, NoMemory, Refusal, Row, Sequence, Text, TextFormat, append_all, refused_text,
-    rows_text, text_of_pieces, write_joined, write_monomial, write_row,
+    rows_text, short_text, text_of_pieces, write_joined, write_monomial, write_row,
 };
 use gp_semiring::Listed;
 use std::alloc::Global;
@@ -181,6 +181,33 @@ fn write_refused(
     Ok(())
 }
 
+/// Whether the dump is that of a history, or its first line that differs.
+fn checked_text(alloc: Global, number: u32, line: Option<u64>) -> Result<Vec<u8>, NoMemory>
+    ensures { IfOk result (λ text. text.items ≡ numbered number (t.checked_text line)) }
+{
+    let text = match line {
+        None => short_text(alloc, format_args!("{number} history\n"))?,
+        Some(line) => short_text(alloc, format_args!("{number} differs at line {line}\n"))?,
+    };
+    Ok(text.into_bytes())
+}
+
+/// Appends the answer to CHECK. If memory runs out, `out` is unchanged.
+fn write_checked(
+    alloc: Global,
+    number: u32,
+    line: Option<u64>,
+    out: &mut Vec<u8>,
+) -> Result<(), NoMemory>
+    ensures ok { OnOk result
+        (out.new.items ≡ out.old.items ++ numbered number (t.checked_text line)) }
+    ensures err { OnErr result (out.new.items ≡ out.old.items) }
+{
+    let text = checked_text(alloc, number, line)?;
+    out.extend_from_slice(&text)?;
+    Ok(())
+}
+
 /// Appends the answer to a question: the number of its line, a space and the answer's text. Rows are in row order, each as often as
 /// it occurs. If memory runs out, `out` is unchanged.
 pub fn write_answer(
@@ -207,6 +234,19 @@ pub fn write_answer(
         Answered::Program(texts) => {
             write_listed(alloc, number, b"program", texts.as_slice(), out)
         }
+        Answered::Transactions(texts) => write_listed(
+            alloc,
+            number,
+            b"transactions",
+            texts.as_slice(),
+            out,
+        ),
+        Answered::Changes(texts) => {
+            write_listed(alloc, number, b"changes", texts.as_slice(), out)
+        }
+        Answered::Diff(texts) => write_listed(alloc, number, b"diff", texts.as_slice(), out),
+        Answered::Causes(texts) => write_listed(alloc, number, b"causes", texts.as_slice(), out),
+        Answered::Checked(line) => write_checked(alloc, number, line, out),
         Answered::Refused(refusal) => write_refused(alloc, number, &refusal, out),
     }
 }

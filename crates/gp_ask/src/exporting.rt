@@ -46,8 +46,15 @@ fn asks_rows(question: &Question) -> bool
     ensures { result ≡ asks_rows (question_view question.now) }
 {
     match question {
+        Question::Transactions => false,
         Question::Log { .. } => false,
         Question::Versions { .. } => false,
+        Question::Saw { .. } => false,
+        Question::Changes { .. } => false,
+        Question::CommitChanges { .. } => false,
+        Question::Check => false,
+        Question::Diff { .. } => false,
+        Question::Causes { .. } => false,
         Question::Ask { how, .. } => are_rows(how),
         Question::WhatIf { .. } => false,
     }
@@ -116,7 +123,11 @@ pub fn answer_line_in(
         ExplainsIn format (ExplainsRead (dump_view dump.now).entries (question_of line.now))) }
 {
     match read_question(alloc, line) {
-        Ok(question) => answer_in(alloc, format, dump, &question, kept),
+        Ok(question) => {
+            let found = answer_in(alloc, format, dump, &question, kept);
+            drop(question);
+            found
+        }
         Err(ReadStop::Refused(refusal)) => Ok(Answered::Refused(refusal)),
         Err(ReadStop::NoMemory) => Err(NoMemory),
     }
@@ -133,7 +144,9 @@ pub fn answer_line(alloc: Global, dump: &Dump, line: &[u8]) -> Result<Answered, 
         ExplainsRead (dump_view dump.now).entries (question_of line.now)) }
 {
     let mut kept = KeptAnnotations::new();
-    answer_line_in(alloc, Format::Text, dump, line, &mut kept)
+    let found = answer_line_in(alloc, Format::Text, dump, line, &mut kept);
+    drop(kept);
+    found
 }
 
 /// The CSV text of an answer. Only rows and refusals are exported.
@@ -147,7 +160,12 @@ fn exported_text(alloc: Global, number: u32, answered: &Answered) -> Result<Vec<
         | Answered::Values(_)
         | Answered::Log(_)
         | Answered::Versions(_)
-        | Answered::Program(_) => write_refusal_csv(alloc, number, &Refusal::E30),
+        | Answered::Program(_)
+        | Answered::Transactions(_)
+        | Answered::Changes(_)
+        | Answered::Diff(_)
+        | Answered::Causes(_)
+        | Answered::Checked(_) => write_refusal_csv(alloc, number, &Refusal::E30),
     }
 }
 
@@ -181,6 +199,10 @@ pub fn write_answer_in(
 {
     match format {
         Format::Text => write_answer(alloc, number, answered, out),
-        Format::Csv => write_exported(alloc, number, &answered, out),
+        Format::Csv => {
+            let written = write_exported(alloc, number, &answered, out);
+            drop(answered);
+            written
+        }
     }
 }

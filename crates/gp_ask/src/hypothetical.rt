@@ -1,6 +1,6 @@
 //! Questions about the history that there would be with a change of the log.
 
-ghost use Rattle.std.specs.Prelude.{◌≡◌, ◌<◌, ◌≤◌, Some, true, IfOk, length};
+ghost use Rattle.std.specs.Prelude.{◌≡◌, ◌<◌, ◌≤◌, Ok, Some, true, IfOk, List, length};
 ghost use Rattle.gp_base.specs.declared.refusal.Refusal.TheVariants.{E31};
 ghost use Rattle.gp_check.specs.Valid.{change_is_valid, query_is_valid, tables_are_valid};
 ghost use Rattle.gp_dump.specs.Dumps.{IsDump};
@@ -9,10 +9,12 @@ ghost use Rattle.gp_grammar.specs.Laws.{has_statement};
 ghost use Rattle.gp_grammar.specs.Syntax as y;
 ghost use Rattle.gp_log.specs.Contents.{entries, tables};
 ghost use Rattle.gp_log.specs.LogFacts.{tables_in};
-ghost use Rattle.gp_machine.specs.Entries.{committer_of, versions_in};
+ghost use Rattle.gp_log.specs.Parameters.{parameters};
+ghost use Rattle.gp_machine.specs.Entries.{Entry, committer_of, versions_in};
 ghost use Rattle.gp_machine.specs.Event.{name_at};
 ghost use Rattle.gp_syntax.specs.Views.{change_view, how_view, query_view, state_view};
-ghost use Rattle.gp_whatif.specs.Replays.{IsReplayable, Stops, stop_upto};
+ghost use Rattle.gp_whatif.specs.Changed.{changed};
+ghost use Rattle.gp_whatif.specs.Replays.{IsMade, IsReplayable, Stops, stop_upto};
 ghost use Rattle.gp_ask.specs.Answerable.{has_few_items};
 ghost use Rattle.gp_ask.specs.Answers.{answer_to};
 ghost use Rattle.gp_ask.specs.Asking.{ask_to};
@@ -33,7 +35,10 @@ use gp_dump::Dump;
 use gp_log::Log;
 use gp_machine::conflicts_are_least;
 use gp_syntax::{How, LogChange, Query, State};
-use gp_whatif::{ChangeStop, ReplayStop, changed_lines_rise, changed_logs_are_replayable, replay};
+use gp_whatif::{
+    ChangeStop, Made, ReplayStop, changed_lines_rise, changed_logs_are_replayable, none_made,
+    replay_from,
+};
 use std::alloc::Global;
 
 // ---- refusals
@@ -113,15 +118,18 @@ fn remaking_refusal(log: &Log, stop: ReplayStop) -> Result<Refusal, NoMemory>
 
 // ---- answers
 
-/// The answer from the commits of a log, made again, unless one of them stops.
+/// The answer from the commits of a log, made again, unless one of them stops; some are made.
 fn replayed_answer(
     alloc: Global,
     log: Log,
+    made: Made,
     how: &How,
     state: State,
     query: &Query,
 ) -> Result<Answered, NoMemory>
     requires replayable { IsReplayable (entries log) }
+    requires within { made.count ≤ versions_in (entries log) }
+    requires made { IsMade (entries log) made.count made.versions.items }
     requires valid { tables_are_valid (tables log) ≡ true }
     requires query { query_is_valid (query_view query.now) ≡ true }
     requires few { has_few_items (query_view query.now) ≡ true }
@@ -131,7 +139,7 @@ fn replayed_answer(
 {
     // The order of the row versions changes no answer. The call does nothing.
     changed_histories_answer_their_questions();
-    match replay(alloc, &log) {
+    match replay_from(alloc, &log, made) {
         Ok(versions) => {
             let versions = Sequence::from_vec(versions);
             let dump = Dump { log, versions };
@@ -146,11 +154,14 @@ fn replayed_answer(
 fn remade_rows(
     alloc: Global,
     log: Log,
+    made: Made,
     how: &How,
     state: State,
     query: &Query,
 ) -> Result<Answered, NoMemory>
     requires replayable { IsReplayable (entries log) }
+    requires within { made.count ≤ versions_in (entries log) }
+    requires made { IsMade (entries log) made.count made.versions.items }
     requires valid { tables_are_valid (tables log) ≡ true }
     requires query { query_is_valid (query_view query.now) ≡ true }
     requires few { has_few_items (query_view query.now) ≡ true }
@@ -161,7 +172,7 @@ fn remade_rows(
 {
     match asking_refusal(alloc, &log, how, state, query)? {
         Some(refusal) => Ok(Answered::Refused(refusal)),
-        None => replayed_answer(alloc, log, how, state, query),
+        None => replayed_answer(alloc, log, made, how, state, query),
     }
 }
 
@@ -169,11 +180,14 @@ fn remade_rows(
 fn remade_answer(
     alloc: Global,
     log: Log,
+    made: Made,
     how: &How,
     state: State,
     query: &Query,
 ) -> Result<Answered, NoMemory>
     requires replayable { IsReplayable (entries log) }
+    requires within { made.count ≤ versions_in (entries log) }
+    requires made { IsMade (entries log) made.count made.versions.items }
     requires valid { tables_are_valid (tables log) ≡ true }
     requires query { query_is_valid (query_view query.now) ≡ true }
     requires few { has_few_items (query_view query.now) ≡ true }
@@ -185,7 +199,43 @@ fn remade_answer(
 {
     match how {
         How::Explain { prov } => program_answer(alloc, &log, *prov, state, query),
-        _ => remade_rows(alloc, log, how, state, query),
+        _ => remade_rows(alloc, log, made, how, state, query),
+    }
+}
+
+/// The answer to a query over a state of the history that there would be with a change of the log, of which the first commits are made
+/// again. They are those of the changed log, if there is one.
+pub fn what_if_from(
+    alloc: Global,
+    dump: &Dump,
+    change: &LogChange,
+    made: Made,
+    how: &How,
+    state: State,
+    query: &Query,
+) -> Result<Answered, NoMemory>
+    requires rules { IsDump (dump_view dump.now) }
+    requires valid { tables_are_valid (tables_in (dump_view dump.now).entries) ≡ true }
+    requires statement { has_statement (change_view change.now) ≡ true }
+    requires change { change_is_valid (change_view change.now) ≡ true }
+    requires query { query_is_valid (query_view query.now) ≡ true }
+    requires few { has_few_items (query_view query.now) ≡ true }
+    requires made { (new : List Entry)
+        → changed parameters (dump_view dump.now).entries (change_view change.now) ≡ Ok new
+        → (made.count ≤ versions_in new) × IsMade new made.count made.versions.items }
+    ensures answered { IfOk result (λ answered. answered ≡ answer_to (dump_view dump.now) (y.what_if
+        (change_view change.now) (how_view how.now) (state_view state) (query_view query.now))) }
+    ensures explained { IfOk result (λ answered. ExplainsQuestion (dump_view dump.now).entries
+        (y.what_if (change_view change.now) (how_view how.now) (state_view state)
+        (query_view query.now))) }
+{
+    // The lines of a log can be doubled, and a changed log has its tables. The calls do nothing.
+    changed_lines_rise();
+    changed_logs_are_replayable();
+    match gp_whatif::change(alloc, &dump.log, change) {
+        Ok(log) => remade_answer(alloc, log, made, how, state, query),
+        Err(ChangeStop::Refused(refusal)) => Ok(Answered::Refused(refusal)),
+        Err(ChangeStop::NoMemory) => Err(NoMemory),
     }
 }
 
@@ -215,12 +265,8 @@ pub fn what_if_answer(
         (y.what_if (change_view change.now) (how_view how.now) (state_view state)
         (query_view query.now))) }
 {
-    // The lines of a log can be doubled, and a changed log has its tables. The calls do nothing.
-    changed_lines_rise();
+    // A changed log has the tables of the log. The call does nothing.
     changed_logs_are_replayable();
-    match gp_whatif::change(alloc, &dump.log, change) {
-        Ok(log) => remade_answer(alloc, log, how, state, query),
-        Err(ChangeStop::Refused(refusal)) => Ok(Answered::Refused(refusal)),
-        Err(ChangeStop::NoMemory) => Err(NoMemory),
-    }
+    let made = none_made(alloc, &dump.log)?;
+    what_if_from(alloc, dump, change, made, how, state, query)
 }

@@ -1,8 +1,10 @@
 //! Laws of answers. Each function does nothing: its postcondition is the law, and some cite laws of the crates below.
 
-ghost use Rattle.std.specs.Prelude.{◌≡◌, ℕ, true, List, length, None, Ok, Option};
-ghost use Rattle.std.specs.List.Sorted.{IsPermutation};
+ghost use Rattle.std.specs.Prelude.{◌≡◌, ◌↔◌, ◌++◌, [], ℕ, true, Contains, List, length, map, None, Ok, Option};
+ghost use Rattle.std.specs.List.Sorted.{IsPermutation, IsSorted};
+ghost use Rattle.gp_base.specs.declared.cell.Cell.{Cell};
 ghost use Rattle.gp_base.specs.Annotated.{monomials, plain};
+ghost use Rattle.gp_base.specs.Order.{row_cmp};
 ghost use Rattle.gp_base.specs.Tokens.{Monomial};
 ghost use Rattle.gp_algebra.specs.Statements.{Select};
 ghost use Rattle.gp_grammar.specs.Reading.{question_of};
@@ -26,6 +28,7 @@ ghost use Rattle.gp_whatif.specs.Replays.{IsCoherent, IsReplayable, stop_upto};
 ghost use Rattle.gp_ask.specs.Answerable.{question_is_valid};
 ghost use Rattle.gp_ask.specs.Answers.{answer_to, held_to, remade_to};
 ghost use Rattle.gp_ask.specs.Asking.{spans_at};
+ghost use Rattle.gp_ask.specs.Deltas.{added_rows, delta, removed_rows, row_of};
 ghost use Rattle.gp_ask.specs.Hypothetical.{replayed_dump, what_if_answer, what_if_held};
 ghost use Rattle.gp_ask.specs.Replays.{dump_in};
 
@@ -34,7 +37,8 @@ use gp_base::Monomial as BaseMonomial;
 use gp_history::{agreement_is_having_the_same_rows, values_are_those_of_the_history};
 use gp_machine::{
     annotations_change_no_replay, annotations_change_no_reply, commits_publish_the_spans,
-    histories_do_not_stop, unstopped_histories_answer_their_questions,
+    histories_do_not_stop, identities_begin_with_their_committers,
+    unstopped_histories_answer_their_questions,
 };
 use gp_semiring::{Bool, Cost, Count, Level, Poly, PosBool, Semiring};
 use gp_whatif::{
@@ -105,8 +109,24 @@ pub fn histories_answer_as_their_dumps()
     changed_logs_are_coherent();
     histories_do_not_stop::<BaseMonomial>();
     commits_publish_the_spans::<BaseMonomial>();
+    identities_begin_with_their_committers::<BaseMonomial>();
     annotations_change_no_reply::<BaseMonomial, ()>()
 }
+
+/// The difference of two bags of rows, each in row order: the first without the rows that have a minus, and with those that have a plus, is
+/// the second (`bags`); no row has both signs (`signs`); and the rows are in row order (`order`). There is no line exactly where the bags
+/// are the same (`none`).
+pub fn deltas_are_differences()
+    ensures bags { (rows others : List (List Cell)) → IsPermutation
+        (rows ++ added_rows (delta rows others)) (others ++ removed_rows (delta rows others)) }
+    ensures signs { (rows others : List (List Cell)) → IsSorted row_cmp rows
+        → IsSorted row_cmp others → (row : List Cell)
+        → Contains (removed_rows (delta rows others)) row
+        → Contains (added_rows (delta rows others)) row → ⊥ }
+    ensures order { (rows others : List (List Cell)) → IsSorted row_cmp rows
+        → IsSorted row_cmp others → IsSorted row_cmp (map row_of (delta rows others)) }
+    ensures none { (rows others : List (List Cell)) → (delta rows others ≡ []) ↔ (rows ≡ others) }
+{}
 
 /// The commits of a log that keeps its sessions, made again without a stop, are a history of their own. A dump of the log and of the
 /// row versions that are made, in any order, answers every question about its states as that history held it. So no version of it

@@ -29,7 +29,12 @@
 mod answered;
 mod answering;
 mod asking;
+mod causes;
+mod changes;
+mod checked;
 mod deletion;
+mod deltas;
+mod differences;
 mod display;
 mod exporting;
 mod format;
@@ -42,6 +47,8 @@ mod provenance;
 mod queries;
 mod row_versions;
 mod rules;
+mod seeing;
+mod transactions;
 mod values;
 
 pub use answered::{Answered, Valued};
@@ -52,7 +59,7 @@ pub use format::Format;
 pub use gp_exec::{Backend, Plain};
 pub use keeping::KeptAnnotations;
 pub use laws::{
-    changed_histories_answer_their_questions, dumps_answer_as_changed_histories,
-    histories_answer_as_their_dumps, read_questions_are_valid, replays_answer_as_their_histories,
-    unstopped_histories_answer_as_their_dumps,
+    changed_histories_answer_their_questions, deltas_are_differences,
+    dumps_answer_as_changed_histories, histories_answer_as_their_dumps, read_questions_are_valid,
+    replays_answer_as_their_histories, unstopped_histories_answer_as_their_dumps,
 };

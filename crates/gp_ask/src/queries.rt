@@ -51,7 +51,7 @@ pub fn asked(alloc: Global, log: &Log, state: State, query: &Query) -> Result<Se
 }
 
 /// The rows in row order.
-fn sorted_answer(rows: Vec<Row>) -> Result<Answered, NoMemory>
+pub(crate) fn sorted_answer(rows: Vec<Row>) -> Result<Answered, NoMemory>
     ensures { IfOk result (λ answered. answered ≡ Rows (sorted_by row_cmp rows.items)) }
 {
     let mut rows = rows;

@@ -1,8 +1,59 @@
-use Rattle.gp_syntax.specs.Views.{how_view, query_view, state_view}
+use Rattle.std.proofs.lemmas.Bool.{and_parts}
+use Rattle.gp_check.specs.Valid.{query_is_valid}
+use Rattle.gp_syntax.specs.Views.{how_view, query_view, side_view, state_view}
 use Rattle.gp_dump.specs.Views.{dump_view}
+use Rattle.gp_ask.specs.Answerable.{has_few_items}
 use Rattle.gp_ask.proofs.ProvenanceLemmas.{answerable}
-use Rattle.gp_ask.proofs.ReadLemmas.{valid-parts}
+use Rattle.gp_ask.proofs.ReadLemmas.{valid-diff, valid-parts}
 use Rattle.gp_ask.proofs.answering.answer_from.Goals as goal
+
+pub transactions_answer-requires : goal.transactions_answer-requires
+transactions_answer-requires c = record { rules = answerable (dump_view c.args.dump.now) c.requires.rules }
+
+pub saw_answer-requires-clause-rules : goal.saw_answer-requires-clause-rules
+saw_answer-requires-clause-rules c = answerable (dump_view c.args.dump.now) c.requires.rules
+
+pub saw_answer-requires-clause-query : goal.saw_answer-requires-clause-query
+saw_answer-requires-clause-query c =
+    (and_parts (query_is_valid (query_view c.in-Saw.query)) (has_few_items (query_view c.in-Saw.query)) (rw c.in-Saw.is at c.requires.question)).0
+
+pub changes_answer-requires : goal.changes_answer-requires
+changes_answer-requires c = record { rules = answerable (dump_view c.args.dump.now) c.requires.rules }
+
+pub commit_changes_answer-requires : goal.commit_changes_answer-requires
+commit_changes_answer-requires c = record { rules = answerable (dump_view c.args.dump.now) c.requires.rules }
+
+pub diff_answer-requires-clause-first_statement : goal.diff_answer-requires-clause-first_statement
+diff_answer-requires-clause-first_statement c =
+    (valid-diff (side_view c.in-Diff.first) (side_view c.in-Diff.second) (query_view c.in-Diff.query) (rw c.in-Diff.is at c.requires.question)).0.0.0
+
+pub diff_answer-requires-clause-first_change : goal.diff_answer-requires-clause-first_change
+diff_answer-requires-clause-first_change c =
+    (valid-diff (side_view c.in-Diff.first) (side_view c.in-Diff.second) (query_view c.in-Diff.query) (rw c.in-Diff.is at c.requires.question)).0.0.1
+
+pub diff_answer-requires-clause-second_statement : goal.diff_answer-requires-clause-second_statement
+diff_answer-requires-clause-second_statement c =
+    (valid-diff (side_view c.in-Diff.first) (side_view c.in-Diff.second) (query_view c.in-Diff.query) (rw c.in-Diff.is at c.requires.question)).0.1.0
+
+pub diff_answer-requires-clause-second_change : goal.diff_answer-requires-clause-second_change
+diff_answer-requires-clause-second_change c =
+    (valid-diff (side_view c.in-Diff.first) (side_view c.in-Diff.second) (query_view c.in-Diff.query) (rw c.in-Diff.is at c.requires.question)).0.1.1
+
+pub diff_answer-requires-clause-query : goal.diff_answer-requires-clause-query
+diff_answer-requires-clause-query c =
+    (valid-diff (side_view c.in-Diff.first) (side_view c.in-Diff.second) (query_view c.in-Diff.query) (rw c.in-Diff.is at c.requires.question)).1.0
+
+pub diff_answer-requires-clause-few : goal.diff_answer-requires-clause-few
+diff_answer-requires-clause-few c =
+    (valid-diff (side_view c.in-Diff.first) (side_view c.in-Diff.second) (query_view c.in-Diff.query) (rw c.in-Diff.is at c.requires.question)).1.1
+
+pub causes_answer-requires-clause-query : goal.causes_answer-requires-clause-query
+causes_answer-requires-clause-query c =
+    (and_parts (query_is_valid (query_view c.in-Causes.query)) (has_few_items (query_view c.in-Causes.query)) (rw c.in-Causes.is at c.requires.question)).0
+
+pub causes_answer-requires-clause-few : goal.causes_answer-requires-clause-few
+causes_answer-requires-clause-few c =
+    (and_parts (query_is_valid (query_view c.in-Causes.query)) (has_few_items (query_view c.in-Causes.query)) (rw c.in-Causes.is at c.requires.question)).1
 
 pub ask_answer-requires-clause-rules : goal.ask_answer-requires-clause-rules
 ask_answer-requires-clause-rules c = answerable (dump_view c.args.dump.now) c.requires.rules

@@ -10,8 +10,8 @@ use Rattle.gp_ask.proofs.FormatLemmas.{explains-in}
 use Rattle.gp_ask.proofs.ReadLemmas.{read-valid, refused-text, unread-explains}
 use Rattle.gp_ask.proofs.exporting.answer_line_in.Goals as goal
 
-pub answer_in-requires-clause-question : goal.answer_in-requires-clause-question
-answer_in-requires-clause-question c = read-valid c.args.line.now (question_view c.in-Ok.question) c.in-Ok.ensures.exact
+pub answer_in-found-requires-clause-question : goal.answer_in-found-requires-clause-question
+answer_in-found-requires-clause-question c = read-valid c.args.line.now (question_view c.in-Ok.question) c.in-Ok.ensures.exact
 
 pub returns-in-Err-Refused-clause-answered : goal.returns-in-Err-Refused-clause-answered
 returns-in-Err-Refused-clause-answered c =

@@ -1,52 +1,15 @@
-use Rattle.std.proofs.Common.{List, Ok, Err, true, ap, sym, subst, ◌∙◌, ◌≡◌}
-use Rattle.std.proofs.lemmas.Result.{IfOk-weaker}
-use Rattle.gp_base.specs.declared.table.Table.{Table}
-use Rattle.gp_check.specs.Valid.{tables_are_valid}
-use Rattle.gp_grammar.specs.Syntax as y
-use Rattle.gp_log.specs.Parameters.{parameters}
-use Rattle.gp_log.specs.Logs.{log_view}
-use Rattle.gp_syntax.specs.Views.{change_view, how_view, query_view, state_view}
+use Rattle.std.proofs.Common.{ap, refl, sym, ◌∙◌, length, arith}
 use Rattle.gp_dump.specs.Views.{dump_view}
-use Rattle.gp_ask.specs.declared.answered.Answered.{Answered}
-use Rattle.gp_ask.specs.Answers.{answer_to}
-use Rattle.gp_ask.specs.Asking.{ask_to}
-use Rattle.gp_ask.specs.Explained.{ExplainsQuestion}
-use Rattle.gp_ask.specs.Hypothetical.{remade_answer, replayed_dump}
-use Rattle.gp_ask.proofs.ProvenanceLemmas.{replayable}
-use Rattle.gp_ask.proofs.WhatIfLemmas.{changed_is, explains_changed, explains_refused}
+use Rattle.gp_log.specs.Parameters.{parameters}
+use Rattle.gp_syntax.specs.Views.{change_view}
+use Rattle.gp_whatif.specs.Replays.{IsMade}
 use Rattle.gp_ask.proofs.hypothetical.what_if_answer.Goals as goal
 
-pub change-requires-clause-lines : goal.change-requires-clause-lines
-change-requires-clause-lines c = c.changed_lines_rise.ensures.double parameters (dump_view c.args.dump.now).entries c.requires.rules.log
-
-pub remade_answer-requires-clause-replayable : goal.remade_answer-requires-clause-replayable
-remade_answer-requires-clause-replayable c = c.in-Ok.ensures.replayable (replayable (dump_view c.args.dump.now) c.requires.rules) c.requires.valid c.requires.change
-
-pub remade_answer-requires-clause-valid : goal.remade_answer-requires-clause-valid
-remade_answer-requires-clause-valid c =
-    subst (λ (tables : List Table). tables_are_valid tables ≡ true)
-    (sym (c.changed_logs_are_replayable.ensures.tables parameters (dump_view c.args.dump.now).entries (log_view c.in-Ok.log.entries) (change_view c.args.change.now) c.in-Ok.ensures.changed))
-    c.requires.valid
-
-pub returns-in-Ok-clause-answered : goal.returns-in-Ok-clause-answered
-returns-in-Ok-clause-answered c =
-    let entries = (dump_view c.args.dump.now).entries in
-    let new = log_view c.in-Ok.log.entries in
-    let change = change_view c.args.change.now in
-    let how = how_view c.args.how.now in
-    let point = state_view c.args.state in
-    let query = query_view c.args.query.now in
-    IfOk-weaker c.remade_answer.result (λ (a : Answered). a ≡ remade_answer (ask_to (replayed_dump new)) new how point query)
-    (λ (a : Answered). a ≡ answer_to (dump_view c.args.dump.now) (y.what_if change how point query))
-    (λ a is. is ∙ sym (changed_is entries change how point query (Ok new) c.in-Ok.ensures.changed)) c.remade_answer.ensures.answered
-
-pub returns-in-Ok-clause-explained : goal.returns-in-Ok-clause-explained
-returns-in-Ok-clause-explained c =
-    let entries = (dump_view c.args.dump.now).entries in
-    let new = log_view c.in-Ok.log.entries in
-    let change = change_view c.args.change.now in
-    let how = how_view c.args.how.now in
-    let point = state_view c.args.state in
-    let query = query_view c.args.query.now in
-    IfOk-weaker c.remade_answer.result (λ (a : Answered). ExplainsQuestion new (y.ask how point query)) (λ (a : Answered). ExplainsQuestion entries (y.what_if change how point query))
-    (λ a says. explains_changed entries change how point query new c.in-Ok.ensures.changed says) c.remade_answer.ensures.explained
+-- no version of the log is none of the changed log, which has the same tables
+pub what_if_from-requires-clause-made : goal.what_if_from-requires-clause-made
+what_if_from-requires-clause-made c = λ new is.
+    let none = c.in_ok-made.ensures.made in
+    let tables = c.changed_logs_are_replayable.ensures.tables parameters (dump_view c.args.dump.now).entries new (change_view c.args.change.now) is in (
+      rw c.in_ok-made.ensures.count (omega arith),
+      rw c.in_ok-made.ensures.count (record { count = none.count ∙ ap length (sym tables); unstopped = refl; spans = λ place. none.spans place }),
+    )

@@ -1,11 +1,17 @@
-use Rattle.std.proofs.Common.{◌≡◌, ◌≤◌, ℕ, List, [], length, refl, sym, ◌∙◌, subst}
+use Rattle.std.proofs.Common.{◌≡◌, ◌≤◌, ℕ, List, [], length, None, refl, sym, ◌∙◌, subst}
 use Rattle.std.specs.List.Sorted.{IsPermutation}
 use Rattle.gp_base.specs.Annotated.{monomials, plain}
 use Rattle.gp_base.specs.Tokens.{Monomial}
 use Rattle.gp_algebra.specs.Reannotation.{forgotten}
+use Rattle.gp_base.proofs.Bags.{SameBag}
+use Rattle.gp_base.proofs.Permutations.{unpermuted}
+use Rattle.gp_log.specs.LogFacts.{tables_in}
 use Rattle.gp_log.specs.Parameters.{parameters}
+use Rattle.gp_log.specs.Sessions.{KeepsSessions}
+use Rattle.gp_machine.proofs.ReachedLemmas.{all_reached}
 use Rattle.gp_machine.specs.Event.{after}
 use Rattle.gp_machine.specs.HistorySpans.{state_spans}
+use Rattle.gp_machine.specs.Reached.{IsReached}
 use Rattle.gp_machine.specs.State.{State, start}
 use Rattle.gp_versions.specs.declared.span.Span.{Span}
 use Rattle.gp_whatif.specs.Replays.{IsCoherent}
@@ -13,9 +19,13 @@ use Rattle.gp_dump.specs.Dumps.{dump_of}
 use Rattle.gp_ask.specs.Answers.{answer_to, held_to}
 use Rattle.gp_ask.specs.Asking.{spans_at}
 use Rattle.gp_ask.proofs.HeldLemmas.{forgetting, held}
+use Rattle.gp_ask.proofs.SeenLemmas.{alters, sees}
 use Rattle.gp_ask.proofs.SpanLemmas.{dumped}
 use Rattle.gp_ask.proofs.TableLemmas.{tables-kept}
 use Rattle.gp_ask.proofs.TargetLemmas.{targets-checked}
+use Rattle.gp_ask.proofs.TransactionRuns.{MakesOnce}
+use Rattle.gp_replay.specs.Differences.{difference}
+use Rattle.gp_replay.proofs.HistoryLemmas.{complete}
 use Rattle.gp_ask.proofs.laws.histories_answer_as_their_dumps.Goals as goal
 
 pub returns : goal.returns
@@ -29,8 +39,18 @@ returns c = λ lines question.
     let spans : ℕ → List Span = spans_at (dump_of (forgetting state)).tables in
     let moved : (table : ℕ) → IsPermutation (spans table) (state_spans state table) =
     λ table. subst (λ (own : List Span). IsPermutation (spans table) own) (kept table) (dumped (forgetting state) beyond table) in
+    let sessions : KeepsSessions state.entries = coherent.sessions in
+    let reached : IsReached monomials parameters state = all_reached monomials parameters lines in
+    let plainly : IsReached plain parameters (forgetting state) = subst (IsReached plain parameters) same (all_reached plain parameters lines) in
+    let once : MakesOnce state.entries = c.identities_begin_with_their_committers.ensures.once monomials parameters lines in
+    let tables : List (List Span) = (dump_of (forgetting state)).tables in
+    let bags : (table : ℕ) → SameBag (spans table) (state_spans (forgetting state) table) = λ table. unpermuted _ _ (dumped (forgetting state) beyond table) in
+    let whole : tables_in state.entries ≡ state.catalogue = tables-kept monomials parameters start lines refl in
     subst (λ (s : State (Unit {0})). answer_to (dump_of s) question ≡ held_to state question) (sym same)
     (held state kept
+    (sees state reached plainly sessions once whole tables bags)
+    (alters state reached plainly sessions once whole tables bags)
     (λ how point query. c.unstopped_histories_answer_as_their_dumps.ensures state (c.histories_do_not_stop.ensures.reached monomials parameters lines) (tables-kept monomials parameters start lines refl)
     (dump_of (forgetting state)).tables moved how point query)
-    (λ change how point query. c.changed_histories_answer_their_questions.ensures.held state.entries change coherent how point query) question)
+    (λ change how point query. c.changed_histories_answer_their_questions.ensures.held state.entries change coherent how point query)
+    (subst (λ (s : State (Unit {0})). difference (dump_of s) ≡ None) same (complete lines)) question)

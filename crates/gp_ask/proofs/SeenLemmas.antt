@@ -1,0 +1,198 @@
+-- What any transaction of a history saw and changed, whatever became of it, as the dump of the history answers it.
+use Rattle.std.proofs.Common.{◌≡◌, ℕ, zero, suc, ◌-◌, ◌<◌, ◌≤◌, nat_le, nat_lt, Bool, true, false, cond, List, length, map, Option, Some, None, Ok, refl, ap, ◌∙◌, subst, arith}
+use Rattle.std.specs.Prelude.{◌&&◌}
+use Rattle.std.specs.Option.{option_map, option_or}
+use Rattle.std.proofs.lemmas.Bool.{and_parts, leb-true, ltb-true}
+use Rattle.gp_base.proofs.Bags.{SameBag, as_long, mapped, same_from, through}
+use Rattle.gp_base.proofs.Permutations.{permuted}
+use Rattle.gp_base.proofs.SmallLemmas.{none_parts, some_none}
+use Rattle.gp_base.specs.declared.refusal.Refusal.{Refusal}
+use Rattle.gp_base.specs.declared.refusal.Refusal.TheVariants.{E20, E22, E27}
+use Rattle.gp_base.specs.declared.table.Table.{Table}
+use Rattle.gp_base.specs.Annotated.{Annotated, Database, monomials, plain}
+use Rattle.gp_base.specs.Tokens.{Monomial}
+use Rattle.gp_grammar.specs.Syntax as y
+use Rattle.gp_algebra.proofs.Erasure.{answer_reannotated}
+use Rattle.gp_algebra.proofs.StepBags.{answer_same}
+use Rattle.gp_algebra.specs.Answers.{Element, answer, cells_of}
+use Rattle.gp_algebra.specs.Reannotation.{element_reannotated, forgotten, reannotated}
+use Rattle.gp_algebra.specs.Statements.{Select, Statement, target}
+use Rattle.gp_check.specs.Checking.{checked_query}
+use Rattle.gp_compose.specs.Seen.{changed_rows, changes_refusal, count_refusal, saw_refusal, unknown_refusal}
+use Rattle.gp_dump.specs.Dumps.{Dump}
+use Rattle.gp_log.proofs.KeptSessions.{rising}
+use Rattle.gp_log.specs.LogFacts.{tables_in}
+use Rattle.gp_log.specs.Parameters.{parameters}
+use Rattle.gp_log.specs.Sessions.{KeepsSessions}
+use Rattle.gp_machine.proofs.PointReannotation.{before_reannotated, forgotten_keeps}
+use Rattle.gp_machine.specs.Entries.{Entry, log_of, statement_at, statement_count, transactions_in, version_of}
+use Rattle.gp_machine.specs.Event.{name_at}
+use Rattle.gp_machine.specs.HistorySpans.{as_of, state_spans}
+use Rattle.gp_machine.specs.Points.{RunStop, run_stop}
+use Rattle.gp_machine.specs.Questions.{given, is_known, statement_refusal, stop_refusal}
+use Rattle.gp_machine.specs.Reached.{IsReached}
+use Rattle.gp_machine.specs.Reading.{start_by}
+use Rattle.gp_machine.specs.Runs.{run, run_before, stepped}
+use Rattle.gp_machine.specs.SeenRows.{HaveDifferentIdentities}
+use Rattle.gp_machine.specs.State.{State}
+use Rattle.gp_reenact.specs.Looking.{looked_refusal}
+use Rattle.gp_versions.specs.declared.span.Span.{Span}
+use Rattle.gp_ask.specs.declared.answered.Answered.{Answered}
+use Rattle.gp_ask.specs.declared.answered.Answered.TheVariants.{Changes, Rows}
+use Rattle.gp_ask.specs.Answers.{answer_to, held_to}
+use Rattle.gp_ask.specs.Asking.{of_elements, query_answer, spans_at}
+use Rattle.gp_ask.specs.Changes.{changes_of, dump_changes, held_changes, if_any, unless}
+use Rattle.gp_ask.specs.Seeing.{dump_saw, held_saw}
+use Rattle.gp_ask.proofs.ChangedLines.{changed-different, changed-reannotated, changed-same, texts-same}
+use Rattle.gp_ask.proofs.HeldLemmas.{forgetting, same-rows}
+use Rattle.gp_ask.proofs.QueryLemmas.{query-same}
+use Rattle.gp_ask.proofs.ReenactedLemmas.{same-order}
+use Rattle.gp_ask.proofs.TransactionRuns.{IsRising, MakesOnce, different-after, different-before, own-starts, passes-none, reads-within, saw, started}
+
+-- ---- what is not refused
+
+record IsTransaction (t : ℕ) (entries : List Entry) : Type 0 where
+  pub some : zero < t
+  pub known : t ≤ transactions_in entries
+
+is-known : (t : ℕ) (entries : List Entry) → is_known t entries ≡ true → IsTransaction t entries
+is-known t entries is =
+    let parts = and_parts (nat_lt 0 t) (nat_le t (transactions_in entries)) is in
+    record { some = ltb-true 0 t parts.0; known = leb-true t (transactions_in entries) parts.1 }
+
+not-unknown : (t : ℕ) (entries : List Entry) (b : Bool) → is_known t entries ≡ b → cond b None (Some (E20 t)) ≡ None → IsTransaction t entries
+not-unknown t entries true is none = is-known t entries is
+not-unknown t entries false is none = absurd (some_none (E20 t) none)
+
+not-above : (t k : ℕ) (entries : List Entry) (b : Bool) → nat_le k (statement_count t entries) ≡ b → cond b None (Some (E22 t (statement_count t entries))) ≡ None → k ≤ statement_count t entries
+not-above t k entries true is none = leb-true k (statement_count t entries) is
+not-above t k entries false is none = absurd (some_none (E22 t (statement_count t entries)) none)
+
+is-statement : (t k : ℕ) (entries : List Entry) (b : Bool) → (nat_lt 0 k && nat_le k (statement_count t entries)) ≡ b → cond b None (Some (E22 t (statement_count t entries))) ≡ None
+    → (0 < k) × (k ≤ statement_count t entries)
+is-statement t k entries true is none =
+    let parts = and_parts (nat_lt 0 k) (nat_le k (statement_count t entries)) is in
+    (ltb-true 0 k parts.0, leb-true k (statement_count t entries) parts.1)
+is-statement t k entries false is none = absurd (some_none (E22 t (statement_count t entries)) none)
+
+-- ---- the same elements in any order
+
+module _ {M : Type 0} (elements others : List (Element M)) (moved : SameBag elements others) where
+  abbrev limited-to : ℕ → List (Element M) → Answered
+  limited-to count own = of_elements (given (cond (nat_lt parameters.answer count) (Some E27) None) own)
+
+  within-limit : (b : Bool) → of_elements (given (cond b (Some E27) None) elements) ≡ of_elements (given (cond b (Some E27) None) others)
+  within-limit true = refl
+  within-limit false = ap Rows (same-order (cells_of elements) (cells_of others) (permuted _ _ (mapped (λ element. element.cells) moved)))
+
+  -- as the code's answer is refused: by the log, by a stop, by its length
+  pub answered-alike : (refusal : Option Refusal) (stop : Option RunStop) → refusal ≡ None → stop ≡ None
+      → of_elements (given (option_or refusal (option_or (option_map stop_refusal stop) (cond (nat_lt parameters.answer (length elements)) (Some E27) None))) elements)
+      ≡ limited-to (length others) others
+  answered-alike refusal stop none unstopped =
+      ap (λ (own : Option Refusal). of_elements (given (option_or own (option_or (option_map stop_refusal stop) (cond (nat_lt parameters.answer (length elements)) (Some E27) None))) elements)) none
+      ∙ ap (λ (own : Option RunStop). of_elements (given (option_or (option_map stop_refusal own) (cond (nat_lt parameters.answer (length elements)) (Some E27) None)) elements)) unstopped
+      ∙ ap (λ count. limited-to count elements) (as_long moved)
+      ∙ within-limit (nat_lt parameters.answer (length others))
+
+-- ---- the dump of a history
+
+module _ (state : State Monomial) (reached : IsReached monomials parameters state) (plainly : IsReached plain parameters (forgetting state)) (sessions : KeepsSessions state.entries)
+    (once : MakesOnce state.entries) (kept : tables_in state.entries ≡ state.catalogue) (tables : List (List Span))
+    (are : (table : ℕ) → SameBag (spans_at tables table) (state_spans (forgetting state) table)) where
+  abbrev dump : Dump
+  dump = record { entries = state.entries; tables = tables }
+
+  abbrev spans : ℕ → List Span
+  spans = spans_at tables
+
+  rises : (t : ℕ) → IsRising state.entries t
+  rises t k within = rising state.entries sessions t k (suc k) (omega arith) (omega arith)
+
+  -- ---- SAW
+
+  saw-is : (t k : ℕ) → saw_refusal t k state.entries ≡ None → (select : Select) → dump_saw dump t k select ≡ held_saw state t k select
+  saw-is t k none select =
+      let parts = none_parts (unknown_refusal t state.entries) (count_refusal t k state.entries) none in
+      let is = not-unknown t state.entries (is_known t state.entries) refl parts.0 in
+      let within = not-above t k state.entries (nat_le k (statement_count t state.entries)) refl parts.1 in
+      let elements : List (Element Monomial) = answer monomials select (state.views t k) in
+      let found : List (Element (Unit {0})) = answer plain select (run plain (log_of state.entries) t k (as_of plain spans)) in
+      let others : List (Element (Unit {0})) = map (element_reannotated forgotten) elements in
+      let moved : SameBag found others =
+      through (answer_same plain select _ _ (saw parameters (forgetting state) plainly spans are t is.some is.known (rises t) k within)) (same_from _ _ (answer_reannotated monomials plain forgotten (forgotten_keeps monomials) select (state.views t k) ((forgetting state).views t k) (λ table. refl))) in
+      answered-alike found others moved (saw_refusal t k state.entries) (run_stop plain parameters (log_of state.entries) t k (as_of plain spans)) none
+      (passes-none parameters (forgetting state) plainly spans are t is.some is.known (rises t) k within)
+      ∙ same-rows None elements
+
+  pub sees : (t k : ℕ) (query : y.Query) → answer_to dump (y.saw t k query) ≡ held_to state (y.saw t k query)
+  sees t k query =
+      ap (λ (catalogue : List Table). query_answer (dump_saw dump t k) (saw_refusal t k state.entries) (checked_query catalogue query)) kept
+      ∙ by (saw_refusal t k state.entries) refl
+    where
+      by : (refusal : Option Refusal) → saw_refusal t k state.entries ≡ refusal
+          → query_answer (dump_saw dump t k) refusal (checked_query state.catalogue query) ≡ query_answer (held_saw state t k) refusal (checked_query state.catalogue query)
+      by None none = query-same (dump_saw dump t k) (held_saw state t k) (saw-is t k none) None (checked_query state.catalogue query)
+      by (Some refusal) is = refl
+
+  -- ---- CHANGES of a statement
+
+  module _ (t k : ℕ) (is : IsTransaction t state.entries) (within : k < statement_count t state.entries) (statement : Statement) (here : statement_at t (suc k) state.entries ≡ Some statement) where
+    abbrev before : Database Monomial
+    before = start_by monomials (log_of state.entries) t k state.committed
+
+    abbrev changed : List (Annotated Monomial)
+    changed = changed_rows monomials t (suc k) statement before
+
+    abbrev found-rows : List (Annotated (Unit {0}))
+    found-rows = changed_rows plain t (suc k) statement (run_before plain (log_of state.entries) t k (as_of plain spans))
+
+    -- the rows are those that the statement changed, in another order
+    moved-rows : SameBag found-rows (map (reannotated forgotten) changed)
+    moved-rows =
+        let bound = reads-within monomials state reached.history once t (version_of t state.entries) refl in
+        let run-rows : Database (Unit {0}) = run_before plain (log_of state.entries) t k (forgetting state).committed in
+        let same = before_reannotated monomials plain forgotten (forgotten_keeps monomials) state.committed (forgetting state).committed (λ version table. refl) (log_of state.entries) t k in
+        through
+        (changed-same plain t (suc k) statement (run_before plain (log_of state.entries) t k (as_of plain spans)) run-rows (started parameters (forgetting state) plainly spans are t is.some is.known (rises t) once k within))
+        (same_from _ _
+        (changed-reannotated monomials plain forgotten (forgotten_keeps monomials) t (suc k) (run_before monomials (log_of state.entries) t k state.committed) run-rows same statement
+        ∙ ap (λ (db : Database Monomial). map (reannotated forgotten) (changed_rows monomials t (suc k) statement db)) (own-starts monomials parameters state reached t bound.0 (rises t) bound.1 k within)))
+
+    different-rows : HaveDifferentIdentities changed
+    different-rows =
+        let bound = reads-within monomials state reached.history once t (version_of t state.entries) refl in
+        changed-different monomials t (suc k) statement before (different-before monomials parameters state reached t bound.0 (rises t) bound.1 k within)
+        (λ table.
+        subst (λ (own : Option Statement). HaveDifferentIdentities (stepped monomials t (suc k) own before table)) here (different-after monomials parameters state reached t bound.0 (rises t) bound.1 (suc k) (omega arith) table))
+
+    changes-are : (catalogue : List Table) (place : Option ℕ) → changes_of catalogue place statement (Ok found-rows) ≡ changes_of catalogue place statement (Ok changed)
+    changes-are catalogue None = refl
+    changes-are catalogue (Some place) = ap Changes (texts-same (name_at place catalogue) statement found-rows changed moved-rows different-rows)
+
+    changes-same : dump_changes dump t k statement ≡ held_changes state t k statement
+    changes-same =
+        ap (λ (catalogue : List Table). changes_of catalogue (target statement) statement (given (looked_refusal parameters state.entries spans t k statement) found-rows)) kept
+        ∙ ap (λ (stop : Option RunStop). changes_of state.catalogue (target statement) statement (given (option_map stop_refusal stop) found-rows))
+        (passes-none parameters (forgetting state) plainly spans are t is.some is.known (rises t) (suc k) (omega arith))
+        ∙ changes-are state.catalogue (target statement)
+
+  pub alters : (t k : ℕ) → answer_to dump (y.changes t k) ≡ held_to state (y.changes t k)
+  alters t k = by (changes_refusal t k state.entries) refl
+    where
+      any : changes_refusal t k state.entries ≡ None → (found : Option Statement) → statement_at t k state.entries ≡ found
+          → if_any (dump_changes dump t (k - 1)) found ≡ if_any (held_changes state t (k - 1)) found
+      any none None is = refl
+      any none (Some statement) here =
+          let parts = none_parts (unknown_refusal t state.entries) (statement_refusal t k state.entries) none in
+          let is = not-unknown t state.entries (is_known t state.entries) refl parts.0 in
+          let within = is-statement t k state.entries (nat_lt 0 k && nat_le k (statement_count t state.entries)) refl parts.1 in
+          let positive = within.0 in
+          let most = within.1 in
+          let next : k ≡ suc (k - 1) = omega arith in
+          changes-same t (k - 1) is (omega arith) statement (subst (λ n. statement_at t n state.entries ≡ Some statement) next here)
+
+      by : (refusal : Option Refusal) → changes_refusal t k state.entries ≡ refusal
+          → unless refusal (if_any (dump_changes dump t (k - 1)) (statement_at t k state.entries)) ≡ unless refusal (if_any (held_changes state t (k - 1)) (statement_at t k state.entries))
+      by None none = any none (statement_at t k state.entries) refl
+      by (Some refusal) is = refl

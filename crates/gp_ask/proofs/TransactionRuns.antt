@@ -1,0 +1,222 @@
+-- The run of any transaction of a history, whatever became of it, over the row versions of the history in any order. It gives what the transaction read before
+-- and after each of its statements, and passes no limit; and no table that the transaction reads has an identity twice.
+use Rattle.std.proofs.Common.{◌≡◌, ◌≢◌, ℕ, zero, suc, ◌<◌, ◌≤◌, Bool, true, false, true≢false, cond, List, ◌++◌, Option, Some, None, refl, sym, ap, ◌∙◌, subst, arith}
+use Rattle.std.specs.Prelude.{◌==◌, ◌&&◌, not}
+use Rattle.std.specs.List.{filter, list_any}
+use Rattle.std.proofs.lemmas.List.Elements.{filter_agree}
+use Rattle.std.proofs.lemmas.Option.{none-some, same_Some}
+use Rattle.gp_base.proofs.Bags.{SameBag, any_same, filtered, joined, same_from, through}
+use Rattle.gp_base.specs.Annotated.{Annotated, Annotations, Database, Environment, plain}
+use Rattle.gp_base.specs.Identities.{Identity, same_identity}
+use Rattle.gp_algebra.proofs.StepBags.{SameTables}
+use Rattle.gp_algebra.specs.Effects.{Written}
+use Rattle.gp_machine.proofs.ActiveLemmas.{IsOver, active_clean, active_kept}
+use Rattle.gp_machine.proofs.AnyLemmas.{saw_held, saw_stops}
+use Rattle.gp_machine.proofs.Distinct.{differ_append, differ_filter, each_all, each_filter, none_any}
+use Rattle.gp_machine.proofs.HeldPoints.{after_held, committed_stops, version_is}
+use Rattle.gp_machine.proofs.LogLemmas.{versions_le}
+use Rattle.gp_machine.proofs.Made.{same_equal}
+use Rattle.gp_machine.proofs.RunLemmas.{before_is, run_is}
+use Rattle.gp_machine.proofs.Simulation.{versions_held}
+use Rattle.gp_machine.proofs.UnstoppedLemmas.{reached_unstopped}
+use Rattle.gp_machine.specs.Bases.{pairs}
+use Rattle.gp_machine.specs.Committed.{is_written, merged}
+use Rattle.gp_machine.specs.Entries.{Entry, Log, committer_of, log_of, statement_count, statement_version, transactions_in, version_of, versions_in}
+use Rattle.gp_machine.specs.Histories.{IsHistory}
+use Rattle.gp_machine.specs.HistorySpans.{as_of, state_spans}
+use Rattle.gp_machine.specs.Parameters.{Parameters}
+use Rattle.gp_machine.specs.Points.{run_stop}
+use Rattle.gp_machine.specs.Publishing.{holds, publish, was_written}
+use Rattle.gp_machine.specs.Reached.{IsReached}
+use Rattle.gp_machine.specs.Reading.{seen_by, start_by}
+use Rattle.gp_machine.specs.Replaying.{upto_version}
+use Rattle.gp_machine.specs.Runs.{refreshed, run, run_before}
+use Rattle.gp_machine.specs.SeenRows.{HaveDifferentIdentities, same_row}
+use Rattle.gp_machine.specs.State.{Active, State}
+use Rattle.gp_versions.specs.declared.span.Span.{Span}
+
+-- ---- reading a later version takes equal bags to equal bags
+
+module _ {M : Type 0} where
+  was-same : (xs ys us vs : List (Annotated M)) (id : Identity) → SameBag xs ys → SameBag us vs → was_written xs us id ≡ was_written ys vs id
+  was-same xs ys us vs id s t =
+      let e : list_any (λ row. row.mark && same_identity row.identity id) us ≡ list_any (λ row. row.mark && same_identity row.identity id) vs = any_same (λ row. row.mark && same_identity row.identity id) t in
+      let f : holds id xs ≡ holds id ys = any_same (λ row. same_identity row.identity id) s in
+      let g : holds id us ≡ holds id vs = any_same (λ row. same_identity row.identity id) t in
+      rw (e, f, g)
+
+  publish-same : (a b c d e f : Database M) → SameTables a b → SameTables c d → SameTables e f → SameTables (publish a c e) (publish b d f)
+  publish-same a b c d e f s t u table =
+      let agree : filter (λ row. not (was_written (a table) (c table) row.identity)) (e table) ≡ filter (λ row. not (was_written (b table) (d table) row.identity)) (e table) =
+      filter_agree (λ row. not (was_written (a table) (c table) row.identity)) (λ row. not (was_written (b table) (d table) row.identity))
+      (λ row. ap not (was-same (a table) (b table) (c table) (d table) row.identity (s table) (t table))) (e table) in
+      joined (through (same_from _ _ agree) (filtered (λ row. not (was_written (b table) (d table) row.identity)) (u table))) (filtered (λ row. row.mark) (t table))
+
+  refreshed-same : (old new : ℕ) (a b : Environment M) (c d : Database M) → SameTables (a old) (b old) → SameTables (a new) (b new) → SameTables c d
+      → SameTables (refreshed old new a c) (refreshed old new b d)
+  refreshed-same old new a b c d s t u =
+      elim (new == old) as (λ e. SameTables (cond e c (publish (a old) c (a new))) (cond e d (publish (b old) d (b new)))) [ true ↦ u | false ↦ publish-same _ _ _ _ _ _ s u t ]
+
+-- ---- rows that were written, behind rows that were not
+
+module _ {M : Type 0} (was : Identity → Bool) where
+  unlike-by : (row other : Annotated M) → not (was row.identity) ≡ true → was other.identity ≡ true → (b : Bool) → same_row other row ≡ b → b ≡ false
+  unlike-by row other unwritten written false is = refl
+  unlike-by row other unwritten written true is = absurd (true≢false (sym unwritten ∙ ap not (ap was (sym (same_equal other.identity row.identity is)) ∙ written)))
+
+  apart : (rows others : List (Annotated M)) → HaveDifferentIdentities rows → HaveDifferentIdentities others
+      → HaveDifferentIdentities (filter (λ row. not (was row.identity)) rows ++ filter (λ row. was row.identity) others)
+  apart rows others different own =
+      differ_append same_row (filter (λ row. not (was row.identity)) rows) (filter (λ row. was row.identity) others)
+      (differ_filter same_row (λ row. not (was row.identity)) rows different) (differ_filter same_row (λ row. was row.identity) others own)
+      (each_filter _ (λ row. Unit {0}) (λ row. not (was row.identity))
+      (λ row unwritten any. none_any (λ other. same_row other row) (filter (λ other. was other.identity) others)
+      (each_filter _ (λ other. Unit {0}) (λ other. was other.identity) (λ other written some. unlike-by row other unwritten written (same_row other row) refl) others (each_all _ (λ other. tt) others)))
+      rows (each_all _ (λ row. tt) rows))
+
+-- ---- a transaction over a history whose versions it did not make
+
+module _ {M : Type 0} (domain : Annotations M) (log : Log) (committed : Environment M) (written : ℕ → List Written) (history : IsHistory domain log committed written) (t count : ℕ)
+    (reads : (k : ℕ) → k ≤ count → log.version t k ≤ log.versions) (rises : (k : ℕ) → k < count → log.version t k ≤ log.version t (suc k))
+    (unfinished : (u : ℕ) → u < log.versions → log.committer (suc u) ≢ t) where
+  -- as if it were running
+  abbrev reading : ℕ → Active M
+  reading k = record { transaction = t; read_committed = false; version = log.version t k; statements = k; seen = seen_by domain log t k committed }
+
+  over : (k : ℕ) → k ≤ count → IsOver domain log committed (reading k)
+  over k within = record {
+    seen = refl;
+    version = refl;
+    read = λ (j : ℕ) (below : j ≤ k). reads j (omega arith);
+    rising = λ (j : ℕ) (below : j < k). rises j (omega arith);
+    unfinished = unfinished;
+  }
+
+  pub runs : (k : ℕ) → k ≤ count → run domain log t k committed ≡ (seen_by domain log t k committed).view
+  runs k within = run_is domain log committed written history t count (active_clean domain log committed written history (reading count) (over count (omega arith))) reads rises k within
+
+  pub starts : (k : ℕ) → k < count → run_before domain log t k committed ≡ start_by domain log t k committed
+  starts k within = before_is domain log committed written history t count (active_clean domain log committed written history (reading count) (over count (omega arith))) reads rises k (omega arith)
+
+  -- no table that it reads has an identity twice, after a statement or before one
+  pub after-different : (k : ℕ) → k ≤ count → (table : ℕ) → HaveDifferentIdentities ((seen_by domain log t k committed).view table)
+  after-different k within table = (active_kept domain log committed written history (reading k) (over k within) table).different
+
+  pub before-different : (k : ℕ) → k < count → (table : ℕ) → HaveDifferentIdentities (start_by domain log t k committed table)
+  before-different k within table =
+      let seen = seen_by domain log t k committed in
+      let new = committed (log.version t (suc k)) in
+      elim (log.version t (suc k) == log.version t k) as (λ b. HaveDifferentIdentities ((cond b seen.view (merged new seen.view (pairs seen.written))) table)) [
+        | true ↦ after-different k (omega arith) table
+        | false ↦ apart (λ id. is_written table id (pairs seen.written)) (new table) (seen.view table)
+            ((active_clean domain log committed written history (reading count) (over count (omega arith))).different (suc k) (omega arith) table) (after-different k (omega arith) table)
+      ]
+
+-- ---- the transactions of a history
+
+-- a transaction made none of the first versions, this many, and read no later one
+pub record ReadsWithin (entries : List Entry) (t versions : ℕ) : Type 0 where
+  pub within : versions ≤ versions_in entries
+  pub reads : (k : ℕ) → k ≤ statement_count t entries → statement_version t k entries ≤ versions
+  pub unfinished : (u : ℕ) → u < versions → committer_of (suc u) entries ≢ t
+
+-- each version was made by the transaction that made it
+abbrev pub MakesOnce : List Entry → Type 0
+MakesOnce entries = (u : ℕ) → u < versions_in entries → version_of (committer_of (suc u) entries) entries ≡ Some (suc u)
+
+module _ {M : Type 0} (domain : Annotations M) (state : State M) (history : IsHistory domain (log_of state.entries) state.committed state.written) where
+  -- those before its own version, or all
+  pub reads-within : MakesOnce state.entries → (t : ℕ) (version : Option ℕ) → version_of t state.entries ≡ version → (versions : ℕ) × ReadsWithin state.entries t versions
+  reads-within once t None none = (
+    versions_in state.entries,
+    record {
+      within = omega arith;
+      reads = λ k below. versions_le t k state.entries;
+      unfinished = λ u below own. none-some (suc u) (sym none ∙ ap (λ n. version_of n state.entries) (sym own) ∙ once u below);
+    },
+  )
+  reads-within once t (Some version) made =
+      let i = version_is t version state.entries made in (
+        i.earlier,
+        record {
+          within = let w = i.within in omega arith;
+          reads = λ k below.
+              subst (λ n. k ≤ statement_count n state.entries → statement_version n k state.entries ≤ i.earlier) i.made (λ has. history.order i.earlier k i.within has) below;
+          unfinished = λ (u : ℕ) (below : u < i.earlier) own.
+              let w = i.within in
+              let is = i.is in
+              let same : suc u ≡ version = same_Some (suc u) version (sym (once u (omega arith)) ∙ ap (λ n. version_of n state.entries) own ∙ made) in
+              omega arith;
+        },
+      )
+
+  pub first-versions : (versions : ℕ) → versions ≤ versions_in state.entries → IsHistory domain (upto_version versions (log_of state.entries)) state.committed state.written
+  first-versions versions within = record {
+    start = history.start;
+    order = λ (u k : ℕ) (below : u < versions) has. history.order u k (omega arith) has;
+    later = λ (u k : ℕ) (below : u < versions) has. history.later u k (omega arith) has;
+    once = λ (u v : ℕ) (below : u < versions) (other : v < versions) same. history.once u v (omega arith) (omega arith) same;
+    wrote = λ (u : ℕ) (below : u < versions). history.wrote u (omega arith);
+    published = λ (u table : ℕ) (below : u < versions). history.published u table (omega arith);
+    first = λ (u : ℕ) (below : u < versions). history.first u (omega arith);
+  }
+
+-- no statement of a transaction reads an older version than the one before it
+abbrev pub IsRising : List Entry → ℕ → Type 0
+IsRising entries t = (k : ℕ) → k < statement_count t entries → statement_version t k entries ≤ statement_version t (suc k) entries
+
+-- over the versions of a history with any annotations
+module _ {M : Type 0} (domain : Annotations M) (parameters : Parameters) (state : State M) (reached : IsReached domain parameters state) (t versions : ℕ) (rises : IsRising state.entries t)
+    (is : ReadsWithin state.entries t versions) where
+  abbrev early : IsHistory domain (upto_version versions (log_of state.entries)) state.committed state.written
+  early = first-versions domain state reached.history versions is.within
+
+  own-runs : (k : ℕ) → k ≤ statement_count t state.entries → run domain (log_of state.entries) t k state.committed ≡ (seen_by domain (log_of state.entries) t k state.committed).view
+  own-runs =
+      runs domain (upto_version versions (log_of state.entries)) state.committed state.written early t (statement_count t state.entries) is.reads rises is.unfinished
+
+  pub own-starts : (k : ℕ) → k < statement_count t state.entries → run_before domain (log_of state.entries) t k state.committed ≡ start_by domain (log_of state.entries) t k state.committed
+  own-starts =
+      starts domain (upto_version versions (log_of state.entries)) state.committed state.written early t (statement_count t state.entries) is.reads rises is.unfinished
+
+  pub different-before : (k : ℕ) → k < statement_count t state.entries → (table : ℕ) → HaveDifferentIdentities (start_by domain (log_of state.entries) t k state.committed table)
+  different-before =
+      before-different domain (upto_version versions (log_of state.entries)) state.committed state.written early t (statement_count t state.entries) is.reads rises
+      is.unfinished
+
+  pub different-after : (k : ℕ) → k ≤ statement_count t state.entries → (table : ℕ) → HaveDifferentIdentities ((seen_by domain (log_of state.entries) t k state.committed).view table)
+  different-after =
+      after-different domain (upto_version versions (log_of state.entries)) state.committed state.written early t (statement_count t state.entries) is.reads rises
+      is.unfinished
+
+-- over the row versions of a history, in any order
+module _ (parameters : Parameters) (state : State (Unit {0})) (reached : IsReached plain parameters state) (spans : ℕ → List Span)
+    (are : (table : ℕ) → SameBag (spans table) (state_spans state table)) (t : ℕ) (some : zero < t) (known : t ≤ transactions_in state.entries) (rises : IsRising state.entries t) where
+  pub saw : (k : ℕ) → k ≤ statement_count t state.entries → SameTables (run plain (log_of state.entries) t k (as_of plain spans)) (state.views t k)
+  saw k within = by (version_of t state.entries) refl
+    where
+      by : (version : Option ℕ) → version_of t state.entries ≡ version → SameTables (run plain (log_of state.entries) t k (as_of plain spans)) (state.views t k)
+      by None none = saw_held plain parameters state reached t some known none rises spans are k within
+      by (Some version) made = after_held plain parameters state (reached_unstopped plain parameters state reached) spans are t k version made within
+
+  pub passes-none : (k : ℕ) → k ≤ statement_count t state.entries → run_stop plain parameters (log_of state.entries) t k (as_of plain spans) ≡ None
+  passes-none k within = by (version_of t state.entries) refl
+    where
+      by : (version : Option ℕ) → version_of t state.entries ≡ version → run_stop plain parameters (log_of state.entries) t k (as_of plain spans) ≡ None
+      by None none = saw_stops plain parameters state reached t some known none rises spans are k within
+      by (Some version) made = committed_stops plain parameters state (reached_unstopped plain parameters state reached) spans are t k version made within
+
+  version-same : (version : ℕ) → version ≤ versions_in state.entries → SameTables (as_of plain spans version) (state.committed version)
+  version-same version within = versions_held plain (log_of state.entries) state.committed state.written reached.history spans are version within
+
+  -- before a statement it read what its run over the versions of the history gives
+  pub started : (once : MakesOnce state.entries) (k : ℕ) → k < statement_count t state.entries
+      → SameTables (run_before plain (log_of state.entries) t k (as_of plain spans)) (run_before plain (log_of state.entries) t k state.committed)
+  started once k within =
+      let bound = reads-within plain state reached.history once t (version_of t state.entries) refl in
+      let after : run plain (log_of state.entries) t k state.committed ≡ state.views t k =
+      own-runs plain parameters state reached t bound.0 rises bound.1 k (omega arith) ∙ sym (reached.views t k some known (omega arith)) in
+      refreshed-same (statement_version t k state.entries) (statement_version t (suc k) state.entries) (as_of plain spans) state.committed
+      (run plain (log_of state.entries) t k (as_of plain spans)) (run plain (log_of state.entries) t k state.committed)
+      (version-same (statement_version t k state.entries) (versions_le t k state.entries)) (version-same (statement_version t (suc k) state.entries) (versions_le t (suc k) state.entries))
+      (λ table. through (saw k (omega arith) table) (same_from _ _ (ap (λ (db : Database (Unit {0})). db table) (sym after))))

@@ -1,0 +1,146 @@
+-- Part of the statement: what a statement changed, over what its transaction read, whatever became of the transaction; and what a commit changed. Each row that
+-- was inserted, updated or deleted is a line with its table, its identity, and its cells before and after.
+use Rattle.std.specs.Prelude.{ℕ, suc, ◌-◌, ◌==◌, ◌&&◌, not, Bool, false, List, [], ◌∷◌, ◌++◌, map, codes, Option, Some, None, Result, Ok, Err, if◌then◌else◌}
+use Rattle.std.specs.List.{concat}
+use Rattle.std.specs.declared.cmp.Ordering.{Ordering}
+use Rattle.std.specs.Option.{option_map_or}
+use Rattle.gp_base.specs.declared.cell.Cell.{Cell}
+use Rattle.gp_base.specs.declared.refusal.Refusal.{Refusal}
+use Rattle.gp_base.specs.declared.table.Table.{Table}
+use Rattle.gp_base.specs.Annotated.{Annotated, monomials, plain}
+use Rattle.gp_base.specs.Identities.{Identity, identity_cmp, identity_text, same_identity}
+use Rattle.gp_base.specs.Order.{sorted_by}
+use Rattle.gp_base.specs.Texts.{row_text}
+use Rattle.gp_base.specs.Tokens.{Monomial}
+use Rattle.gp_algebra.specs.Effects.{assigned}
+use Rattle.gp_algebra.specs.Statements.{Statement, update, delete, target}
+use Rattle.gp_compose.specs.Seen.{changed_rows, changes_refusal}
+use Rattle.gp_dump.specs.Dumps.{Dump}
+use Rattle.gp_log.specs.LogFacts.{tables_in}
+use Rattle.gp_log.specs.Parameters.{parameters}
+use Rattle.gp_machine.specs.Entries.{log_of, statement_at, version_of}
+use Rattle.gp_machine.specs.Event.{name_at}
+use Rattle.gp_machine.specs.HistorySpans.{as_of}
+use Rattle.gp_machine.specs.Questions.{given, transaction_refusal}
+use Rattle.gp_machine.specs.Reading.{start_by}
+use Rattle.gp_machine.specs.Runs.{run_before}
+use Rattle.gp_machine.specs.State.{State}
+use Rattle.gp_reenact.specs.Looking.{looked_refusal}
+use Rattle.gp_versions.specs.declared.span.Span.{Span}
+use Rattle.gp_ask.specs.declared.answered.Answered.{Answered}
+use Rattle.gp_ask.specs.declared.answered.Answered.TheVariants.{Changes, Refused}
+use Rattle.gp_ask.specs.Asking.{spans_at}
+
+-- ---- texts
+
+-- a row behind a space, or nothing where there is none
+abbrev pub side_text : Option (List Cell) → List ℕ
+side_text None = []
+side_text (Some cells) = codes " " ++ row_text cells
+
+abbrev pub change_text : List ℕ → Identity → Option (List Cell) → Option (List Cell) → List ℕ
+change_text name id before after =
+    concat (name ∷ codes " " ∷ identity_text id ∷ codes " :" ∷ side_text before ∷ codes " ->" ∷ side_text after ∷ [])
+
+-- ---- a statement
+
+-- a row that it changed, before it and after it; an inserted one is given as it is after it, any other as it was before it
+abbrev pub before_of : Statement → List Cell → Option (List Cell)
+before_of (update table sets c) cells = Some cells
+before_of (delete table c) cells = Some cells
+before_of _ cells = None
+
+abbrev pub after_of : Statement → List Cell → Option (List Cell)
+after_of (update table sets c) cells = Some (assigned sets cells)
+after_of (delete table c) cells = None
+after_of _ cells = Some cells
+
+-- in the order of their identities; rows of one identity, which no history has, are in the order of the table
+abbrev pub by_identity : {M : Type 0} → Annotated M → Annotated M → Ordering
+by_identity row other = identity_cmp row.identity other.identity
+
+abbrev pub changed_text : {M : Type 0} → List ℕ → Statement → Annotated M → List ℕ
+changed_text name statement row = change_text name row.identity (before_of statement row.cells) (after_of statement row.cells)
+
+abbrev pub changed_texts : {M : Type 0} → List ℕ → Statement → List (Annotated M) → List (List ℕ)
+changed_texts name statement rows = map (changed_text name statement) (sorted_by by_identity rows)
+
+abbrev pub of_changes : {M : Type 0} → List ℕ → Statement → Result (List (Annotated M)) Refusal → Answered
+of_changes name statement (Ok rows) = Changes (changed_texts name statement rows)
+of_changes name statement (Err refusal) = Refused refusal
+
+-- a SELECT changes nothing, whatever its transaction read; given the tables, and what a statement changed of a table
+abbrev pub changes_of : {M : Type 0} → List Table → Option ℕ → Statement → Result (List (Annotated M)) Refusal → Answered
+changes_of tables None statement rows = Changes []
+changes_of tables (Some place) statement rows = of_changes (name_at place tables) statement rows
+
+-- a number without a statement changes nothing
+abbrev pub if_any : (Statement → Answered) → Option Statement → Answered
+if_any answer None = Changes []
+if_any answer (Some statement) = answer statement
+
+abbrev pub unless : Option Refusal → Answered → Answered
+unless None answered = answered
+unless (Some refusal) answered = Refused refusal
+
+-- From a dump: what the logged statement k + 1 gives over the stored versions, where the statements before it ran.
+abbrev pub dump_changes : Dump → ℕ → ℕ → Statement → Answered
+dump_changes dump t k statement =
+    changes_of (tables_in dump.entries) (target statement) statement
+    (given (looked_refusal parameters dump.entries (spans_at dump.tables) t k statement)
+    (changed_rows plain t (suc k) statement (run_before plain (log_of dump.entries) t k (as_of plain (spans_at dump.tables)))))
+
+abbrev pub changes_to : Dump → ℕ → ℕ → Answered
+changes_to dump t k = unless (changes_refusal t k dump.entries) (if_any (dump_changes dump t (k - 1)) (statement_at t k dump.entries))
+
+-- As the history held it: what the statement did to what its transaction read then. No statement of a history stops.
+abbrev pub held_changes : State Monomial → ℕ → ℕ → Statement → Answered
+held_changes state t k statement =
+    changes_of state.catalogue (target statement) statement
+    (Ok (changed_rows monomials t (suc k) statement (start_by monomials (log_of state.entries) t k state.committed)))
+
+abbrev pub changes_held : State Monomial → ℕ → ℕ → Answered
+changes_held state t k = unless (changes_refusal t k state.entries) (if_any (held_changes state t (k - 1)) (statement_at t k state.entries))
+
+-- ---- a commit
+
+abbrev pub ends_at : ℕ → Span → Bool
+ends_at version span = option_map_or (λ to. to == version) span.to false
+
+-- whether a span goes on in the next one at a version: the version wrote its row, and kept it
+abbrev pub goes_on : ℕ → Span → Option Span → Bool
+goes_on version span None = false
+goes_on version span (Some next) = (next.from == version) && same_identity next.id span.id
+
+-- the row before a span that begins at a version, if the span before it ends there
+abbrev pub row_before : ℕ → Option Span → Span → Option (List Cell)
+row_before version None span = None
+row_before version (Some last) span = if ends_at version last && same_identity last.id span.id then Some last.row else None
+
+abbrev pub next_of : List Span → Option Span
+next_of [] = None
+next_of (next ∷ others) = Some next
+
+-- the lines of a span, behind the last one and before the others: the row that begins with it, and the row that ends with it and has no other
+abbrev pub span_texts : List ℕ → ℕ → Option Span → Span → Option Span → List (List ℕ)
+span_texts name version last span next =
+    (if span.from == version then change_text name span.id (row_before version last span) (Some span.row) ∷ [] else [])
+    ++ (if ends_at version span && not (goes_on version span next) then change_text name span.id (Some span.row) None ∷ [] else [])
+
+-- those of a table, whose spans are in the order of a dump: by identity, then by the version that they begin with
+abbrev pub spans_texts : List ℕ → ℕ → Option Span → List Span → List (List ℕ)
+spans_texts name version last [] = []
+spans_texts name version last (span ∷ spans) = span_texts name version last span (next_of spans) ++ spans_texts name version (Some span) spans
+
+abbrev pub tables_texts : ℕ → List Table → List (List Span) → List (List ℕ)
+tables_texts version [] tables = []
+tables_texts version (table ∷ others) [] = []
+tables_texts version (table ∷ others) (spans ∷ tables) = spans_texts table.name version None spans ++ tables_texts version others tables
+
+abbrev pub version_changes : Dump → Option ℕ → Answered
+version_changes dump None = Changes []
+version_changes dump (Some version) = Changes (tables_texts version (tables_in dump.entries) dump.tables)
+
+-- by table, in the order of creation, and then by identity; the versions are those of the dump, and so are those of a history
+abbrev pub commit_changes_to : Dump → ℕ → Answered
+commit_changes_to dump t = unless (transaction_refusal t dump.entries) (version_changes dump (version_of t dump.entries))

@@ -1,0 +1,54 @@
+-- Part of the statement: the difference of two bags of rows, each a list in row order: a row as often as it is more often in the one than in the other, with a
+-- sign. The law `deltas_are_differences` says what that gives.
+use Rattle.std.specs.Prelude.{ℕ, Bool, true, false, List, [], ◌∷◌, ◌++◌, length, filter, map, codes}
+use Rattle.std.specs.FinMap.Entries.{by_order}
+use Rattle.gp_base.specs.declared.cell.Cell.{Cell}
+use Rattle.gp_base.specs.Order.{row_cmp}
+use Rattle.gp_base.specs.Texts.{row_text}
+
+-- a row that is more often in the first bag, and one that is more often in the second
+pub data Signed : Type 0 where
+  removed added : List Cell → Signed
+
+-- a row of the first list beside the second list, where `rest` gives the difference of what follows the row
+abbrev pub delta_from : List Cell → (List (List Cell) → List Signed) → List (List Cell) → List Signed
+delta_from row rest [] = removed row ∷ rest []
+delta_from row rest (other ∷ others) =
+    by_order (row_cmp row other) (removed row ∷ rest (other ∷ others)) (rest others) (added other ∷ delta_from row rest others)
+
+-- in row order: a row of either list that the other one does not have at its place
+abbrev pub delta : List (List Cell) → List (List Cell) → List Signed
+delta [] others = map added others
+delta (row ∷ rows) others = delta_from row (delta rows) others
+
+-- ---- the lines of a difference
+
+abbrev pub is_removed : Signed → Bool
+is_removed (removed row) = true
+is_removed (added row) = false
+
+abbrev pub is_added : Signed → Bool
+is_added (removed row) = false
+is_added (added row) = true
+
+abbrev pub row_of : Signed → List Cell
+row_of (removed row) = row
+row_of (added row) = row
+
+-- the rows with a minus, and those with a plus
+abbrev pub removed_rows : List Signed → List (List Cell)
+removed_rows lines = map row_of (filter is_removed lines)
+
+abbrev pub added_rows : List Signed → List (List Cell)
+added_rows lines = map row_of (filter is_added lines)
+
+abbrev pub signed_text : Signed → List ℕ
+signed_text (removed row) = codes "- " ++ row_text row
+signed_text (added row) = codes "+ " ++ row_text row
+
+-- how many lines have a minus, and how many a plus
+abbrev pub removed_in : List Signed → ℕ
+removed_in lines = length (filter is_removed lines)
+
+abbrev pub added_in : List Signed → ℕ
+added_in lines = length (filter is_added lines)

@@ -1,0 +1,433 @@
+//! The statements that an answer depends on: without each of them, the commits of the log are made again, from the version that its
+//! transaction made. Versions before it are made once for all.
+
+ghost use Rattle.std.specs.Prelude.{◌≡◌, ◌<◌, ◌+◌, ◌^◌, ◌++◌, ℕ, None, Some, replicate, suc, true, map, IfOk, OnOk};
+ghost use Rattle.std.specs.List.{flat_map};
+ghost use Rattle.std.specs.Option.{option_to_list};
+ghost use Rattle.gp_algebra.specs.Views.{statement_view};
+ghost use Rattle.gp_check.specs.Valid.{query_is_valid, tables_are_valid};
+ghost use Rattle.gp_dump.specs.Dumps.{IsDump};
+ghost use Rattle.gp_dump.specs.Views.{dump_view};
+ghost use Rattle.gp_grammar.specs.Syntax as y;
+ghost use Rattle.gp_log.specs.Contents.{entries};
+ghost use Rattle.gp_log.specs.LogFacts.{tables_in};
+ghost use Rattle.gp_machine.specs.Entries.{version_of, versions_in};
+ghost use Rattle.gp_syntax.specs.Views.{change_view, kept_view, query_view};
+ghost use Rattle.gp_whatif.specs.Replays.{IsMade};
+ghost use Rattle.gp_ask.specs.Answerable.{has_few_items};
+ghost use Rattle.gp_ask.specs.Asking.{ask_to};
+ghost use Rattle.gp_ask.specs.Differences as d;
+ghost use Rattle.gp_ask.specs.Hypothetical as h;
+ghost use Rattle.gp_ask.specs.Keeping.{AreKept};
+ghost use Rattle.gp_ask.specs.Writes.{ArePut, AreWrites, IsAsked, IsLine, committed_write, listed_line, write_of, write_view};
+
+use crate::answered::Answered;
+use crate::asking::ask_answer;
+use crate::deltas::{Sizes, delta_sizes};
+use crate::differences::rows_in;
+use crate::hypothetical::{what_if_answer, what_if_from};
+use crate::keeping::KeptAnnotations;
+use gp_algebra::Stmt;
+use gp_base::{NoMemory, Refusal, Row, Sequence, Text, append_all, text_of_pieces, write_refusal};
+use gp_dump::Dump;
+use gp_log::{Entry, Log, What};
+use gp_syntax::{Kept, LogChange, Query};
+use gp_versions::VersionTable;
+use gp_whatif::{
+    Made, ReplayStop, changes_keep_earlier_versions, copy_versions, make_version, none_made,
+};
+use std::alloc::Global;
+
+/// A statement that writes, of a transaction that committed.
+#[derive(Clone, Copy)]
+pub(crate) struct Write {
+    /// The transaction.
+    pub t: u32,
+    /// The number of the statement in it, from 1.
+    pub k: u32,
+    /// The version that the transaction made.
+    pub version: u32,
+}
+
+/// A question whose answer depends on statements, and the answer.
+#[derive(Clone, Copy)]
+pub(crate) struct Asked<'a> {
+    /// The dump.
+    pub dump: &'a Dump,
+    /// The state.
+    pub kept: &'a Kept,
+    /// The query.
+    pub query: &'a Query,
+    /// The rows of the answer, in row order.
+    pub rows: &'a [Row],
+}
+
+// ---- the statements
+
+/// A statement, if it writes and its transaction committed.
+fn write_of(log: &Log, t: u32, k: u32, stmt: &Stmt) -> Option<Write>
+    ensures { result ≡ write_of (entries log.now) t k (statement_view stmt.now) }
+{
+    match stmt.target() {
+        Some(_) => match log.version_of(t) {
+            Some(version) => Some(Write { t, k, version }),
+            None => None,
+        },
+        None => None,
+    }
+}
+
+/// A statement that writes, if this entry is one and its transaction committed.
+fn committed_write(log: &Log, entry: &Entry) -> Option<Write>
+    ensures { result ≡ committed_write (entries log.now) entry.now }
+{
+    match &entry.what {
+        What::Statement { k, stmt, .. } => write_of(log, entry.t, *k, stmt),
+        _ => None,
+    }
+}
+
+/// Adds a statement, if there is one.
+fn push_write(writes: &mut Vec<Write>, own: Option<Write>) -> Result<(), NoMemory>
+    ensures { OnOk result (writes.new.items ≡ writes.old.items ++ option_to_list own) }
+{
+    if let Some(own) = own {
+        writes.push(own)?;
+    }
+    Ok(())
+}
+
+/// The statements that write, of transactions that committed, in the order of their lines.
+fn committed_writes(alloc: Global, log: &Log) -> Result<Vec<Write>, NoMemory>
+    ensures own { IfOk result (λ writes. map write_view writes.items
+        ≡ d.committed_writes (entries log.now)) }
+    ensures versions { IfOk result (λ writes. AreWrites (entries log.now) writes.items) }
+{
+    let mut writes = Vec::new(alloc);
+    for place in 0..log.len() {
+        push_write(&mut writes, committed_write(log, log.entry(place)))?;
+    }
+    Ok(writes)
+}
+
+// ---- texts
+
+/// A statement by its transaction and its number.
+fn statement_text(alloc: Global, own: Write) -> Result<Vec<u8>, NoMemory>
+    ensures { IfOk result (λ text. text.items ≡ d.statement_text (write_view own)) }
+{
+    let t = own.t.to_string(alloc)?;
+    let k = own.k.to_string(alloc)?;
+    text_of_pieces(alloc, &[t.as_bytes(), b".", k.as_bytes()])
+}
+
+/// The line of a statement without which the answer would lose and gain so many rows.
+fn cause_text(alloc: Global, own: Write, found: Sizes) -> Result<Text, NoMemory>
+    ensures { IfOk result (λ text. text
+        ≡ d.sizes_text (write_view own) found.removed found.added) }
+{
+    let statement = statement_text(alloc, own)?;
+    let removed = found.removed.to_string(alloc)?;
+    let added = found.added.to_string(alloc)?;
+    let text = text_of_pieces(
+        alloc,
+        &[
+            &statement,
+            b" -",
+            removed.as_bytes(),
+            b" +",
+            added.as_bytes(),
+        ],
+    )?;
+    Text::from_bytes(alloc, &text)
+}
+
+/// The line of a statement without which the question would be refused.
+fn refused_text(alloc: Global, own: Write, refusal: &Refusal) -> Result<Text, NoMemory>
+    ensures { IfOk result (λ text. text ≡ d.refused_text (write_view own) refusal.now) }
+{
+    let mut text = statement_text(alloc, own)?;
+    append_all(&mut text, &[b" : "])?;
+    write_refusal(alloc, refusal, &mut text)?;
+    Text::from_bytes(alloc, &text)
+}
+
+// ---- answers
+
+/// The line of a statement, given the answer and the one without the statement, both with rows in row order; none if they are the same.
+fn cause_line(
+    alloc: Global,
+    rows: &[Row],
+    own: Write,
+    without: Result<Sequence<Row>, Refusal>,
+) -> Result<Option<Text>, NoMemory>
+    ensures { IfOk result (λ line. listed_line line
+        ≡ d.cause_of rows.now (write_view own) without) }
+{
+    match without {
+        Err(refusal) => Ok(Some(refused_text(alloc, own, &refusal)?)),
+        Ok(others) => {
+            let found = delta_sizes(rows, others.as_slice());
+            if found.removed > 0 || found.added > 0 {
+                Ok(Some(cause_text(alloc, own, found)?))
+            } else {
+                Ok(None)
+            }
+        }
+    }
+}
+
+/// The change that drops a statement.
+fn dropping(own: Write) -> LogChange
+    ensures { change_view result ≡ y.drop own.t own.k }
+{
+    LogChange::Drop {
+        t: u64::from(own.t),
+        k: u64::from(own.k),
+    }
+}
+
+/// The answer without a statement of the transaction that made the version after these. They are made again as they were, so the replay
+/// goes on behind them.
+fn answer_without(
+    alloc: Global,
+    asked: &Asked<'_>,
+    own: Write,
+    before: u32,
+    versions: &[VersionTable],
+) -> Result<Answered, NoMemory>
+    requires asked { IsAsked asked.now }
+    requires version { version_of own.t (dump_view asked.now.dump.now).entries ≡ Some (suc before) }
+    requires made { IsMade (dump_view asked.now.dump.now).entries before versions.now }
+    ensures { IfOk result (λ answered. answered ≡ d.without_in
+        (h.what_if_answer (dump_view asked.now.dump.now).entries) (kept_view asked.now.kept.now)
+        (query_view asked.now.query.now) (write_view own)) }
+{
+    // Earlier versions are kept. The call does nothing.
+    changes_keep_earlier_versions();
+    let copies = copy_versions(alloc, versions)?;
+    let made = Made {
+        count: before,
+        versions: copies,
+    };
+    let change = dropping(own);
+    let kept = asked.kept;
+    what_if_from(
+        alloc,
+        asked.dump,
+        &change,
+        made,
+        &kept.how,
+        kept.state,
+        asked.query,
+    )
+}
+
+/// The line of a statement of the transaction that made the version after these.
+fn line_without(
+    alloc: Global,
+    asked: &Asked<'_>,
+    own: Write,
+    before: u32,
+    versions: &[VersionTable],
+) -> Result<Option<Text>, NoMemory>
+    requires asked { IsAsked asked.now }
+    requires version { version_of own.t (dump_view asked.now.dump.now).entries ≡ Some (suc before) }
+    requires made { IsMade (dump_view asked.now.dump.now).entries before versions.now }
+    ensures { IfOk result (IsLine asked.now own) }
+{
+    let without = answer_without(alloc, asked, own, before, versions)?;
+    cause_line(alloc, asked.rows, own, rows_in(alloc, without))
+}
+
+/// The line of a statement, with all versions made again from nothing.
+fn line_alone(alloc: Global, asked: &Asked<'_>, own: Write) -> Result<Option<Text>, NoMemory>
+    requires { IsAsked asked.now }
+    ensures { IfOk result (IsLine asked.now own) }
+{
+    let change = dropping(own);
+    let kept = asked.kept;
+    let without = what_if_answer(
+        alloc,
+        asked.dump,
+        &change,
+        &kept.how,
+        kept.state,
+        asked.query,
+    )?;
+    cause_line(alloc, asked.rows, own, rows_in(alloc, without))
+}
+
+/// Puts the lines of the statements of the transaction that made the version after these, in their places.
+fn put_version(
+    alloc: Global,
+    asked: &Asked<'_>,
+    writes: &[Write],
+    before: u32,
+    versions: &[VersionTable],
+    lines: &mut [Option<Text>],
+) -> Result<(), NoMemory>
+    requires asked { IsAsked asked.now }
+    requires writes { AreWrites (dump_view asked.now.dump.now).entries writes.now }
+    requires few { before + 1 < 2 ^ 32 }
+    requires made { IsMade (dump_view asked.now.dump.now).entries before versions.now }
+    requires lines { ArePut asked.now writes.now before lines.old }
+    ensures { OnOk result (ArePut asked.now writes.now (suc before) lines.new) }
+{
+    for (place, own) in writes.iter().enumerate() {
+        if own.version != before + 1 {
+            continue;
+        }
+        let line = line_without(alloc, asked, *own, before, versions)?;
+        lines[place] = line;
+    }
+    Ok(())
+}
+
+/// Puts the lines of the statements of transactions that made versions after these, this many, each on its own.
+fn put_later(
+    alloc: Global,
+    asked: &Asked<'_>,
+    writes: &[Write],
+    before: u32,
+    lines: &mut [Option<Text>],
+) -> Result<(), NoMemory>
+    requires asked { IsAsked asked.now }
+    requires lines { ArePut asked.now writes.now before lines.old }
+    ensures { OnOk result ((versions : ℕ) → ArePut asked.now writes.now versions lines.new) }
+{
+    for (place, own) in writes.iter().enumerate() {
+        if own.version <= before {
+            continue;
+        }
+        let line = line_alone(alloc, asked, *own)?;
+        lines[place] = line;
+    }
+    Ok(())
+}
+
+/// The lines of the statements in their places: versions are made again one after another, and the statements of each one are left out in
+/// turn. Where a version stops, each later statement is left out on its own: that stops early too.
+fn put_all(
+    alloc: Global,
+    asked: &Asked<'_>,
+    writes: &[Write],
+    lines: &mut [Option<Text>],
+) -> Result<(), NoMemory>
+    requires asked { IsAsked asked.now }
+    requires writes { AreWrites (dump_view asked.now.dump.now).entries writes.now }
+    requires lines { ArePut asked.now writes.now 0 lines.old }
+    ensures { OnOk result (ArePut asked.now writes.now
+        (versions_in (dump_view asked.now.dump.now).entries) lines.new) }
+{
+    let log = &asked.dump.log;
+    // Its tables are few. That is known of them where it is asked for their number.
+    let _count = log.catalog().len();
+    let Made { mut versions, .. } = none_made(alloc, log)?;
+    for before in 0..log.commits() {
+        put_version(alloc, asked, writes, before, &versions, lines)?;
+        match make_version(alloc, log, before, &mut versions) {
+            Ok(()) => {}
+            Err(ReplayStop::NoMemory) => return Err(NoMemory),
+            Err(_) => return put_later(alloc, asked, writes, before + 1, lines),
+        }
+    }
+    Ok(())
+}
+
+/// As many places for lines as there are statements.
+fn places(alloc: Global, count: usize) -> Result<Vec<Option<Text>>, NoMemory>
+    ensures { IfOk result (λ places. places.items ≡ replicate count None) }
+{
+    let mut places = Vec::with_capacity(alloc, count)?;
+    for _ in 0..count {
+        places.push(None)?;
+    }
+    Ok(places)
+}
+
+/// The lines of the statements, each in its place.
+fn lines_in_places(
+    alloc: Global,
+    asked: &Asked<'_>,
+    writes: &[Write],
+) -> Result<Vec<Option<Text>>, NoMemory>
+    requires asked { IsAsked asked.now }
+    requires writes { AreWrites (dump_view asked.now.dump.now).entries writes.now }
+    ensures { IfOk result (λ lines. ArePut asked.now writes.now
+        (versions_in (dump_view asked.now.dump.now).entries) lines.items) }
+{
+    let mut lines = places(alloc, writes.len())?;
+    put_all(alloc, asked, writes, &mut lines)?;
+    Ok(lines)
+}
+
+/// Adds a line, if there is one.
+fn push_line(lines: &mut Sequence<Text>, line: Option<Text>) -> Result<(), NoMemory>
+    ensures { OnOk result (lines.new ≡ lines.old ++ listed_line line) }
+{
+    if let Some(line) = line {
+        lines.push(line)?;
+    }
+    Ok(())
+}
+
+/// The lines that are there, in order.
+fn all_lines(alloc: Global, found: Vec<Option<Text>>) -> Result<Sequence<Text>, NoMemory>
+    ensures { IfOk result (λ lines. lines ≡ flat_map listed_line found.items) }
+{
+    let mut lines = Sequence::new(alloc);
+    for line in found {
+        push_line(&mut lines, line)?;
+    }
+    Ok(lines)
+}
+
+/// The lines of the statements that the rows depend on.
+fn cause_lines(alloc: Global, asked: &Asked<'_>) -> Result<Sequence<Text>, NoMemory>
+    requires asked { IsAsked asked.now }
+    ensures { IfOk result (λ lines. lines ≡ d.lines_of (d.without_in
+        (h.what_if_answer (dump_view asked.now.dump.now).entries) (kept_view asked.now.kept.now)
+        (query_view asked.now.query.now))
+        (d.committed_writes (dump_view asked.now.dump.now).entries) asked.now.rows.now) }
+{
+    let writes = committed_writes(alloc, &asked.dump.log)?;
+    let found = lines_in_places(alloc, asked, &writes)?;
+    all_lines(alloc, found)
+}
+
+/// The statements that the rows of a query over a state depend on: for each that writes, of a transaction that committed, how many rows the
+/// answer would lose and how many it would gain without it, or what would refuse the question. A statement without which the answer would be
+/// the same has no line. Refused as the question itself is. Running out of memory is the only error.
+pub fn causes_answer(
+    alloc: Global,
+    dump: &Dump,
+    own: &Kept,
+    query: &Query,
+    kept: &mut KeptAnnotations,
+) -> Result<Answered, NoMemory>
+    requires rules { IsDump (dump_view dump.now) }
+    requires valid { tables_are_valid (tables_in (dump_view dump.now).entries) ≡ true }
+    requires query { query_is_valid (query_view query.now) ≡ true }
+    requires few { has_few_items (query_view query.now) ≡ true }
+    requires kept { AreKept dump.now kept.old }
+    ensures kept { AreKept dump.now kept.new }
+    ensures answered { IfOk result (λ answered. answered ≡ d.causes_answer
+        (ask_to (dump_view dump.now)) (h.what_if_answer (dump_view dump.now).entries)
+        (dump_view dump.now).entries (kept_view own.now) (query_view query.now)) }
+{
+    let answered = ask_answer(alloc, dump, &own.how, own.state, query, kept)?;
+    match rows_in(alloc, answered) {
+        Err(refusal) => Ok(Answered::Refused(refusal)),
+        Ok(rows) => {
+            let asked = Asked {
+                dump,
+                kept: own,
+                query,
+                rows: rows.as_slice(),
+            };
+            let lines = cause_lines(alloc, &asked)?;
+            Ok(Answered::Causes(lines))
+        }
+    }
+}

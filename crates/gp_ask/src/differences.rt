@@ -1,0 +1,129 @@
+//! Differences between the answers of two questions.
+
+ghost use Rattle.std.specs.Prelude.{◌≡◌, ◌+◌, nat_lt, true, IfOk};
+ghost use Rattle.gp_base.specs.declared.limit.TheConstants.{MAX_ANSWER_ROWS};
+ghost use Rattle.gp_check.specs.Valid.{query_is_valid, side_is_valid, tables_are_valid};
+ghost use Rattle.gp_dump.specs.Dumps.{IsDump};
+ghost use Rattle.gp_dump.specs.Views.{dump_view};
+ghost use Rattle.gp_grammar.specs.Laws.{side_has_statement};
+ghost use Rattle.gp_log.specs.LogFacts.{tables_in};
+ghost use Rattle.gp_syntax.specs.Views.{query_view, side_view};
+ghost use Rattle.gp_ask.specs.Answerable.{has_few_items};
+ghost use Rattle.gp_ask.specs.Asking.{ask_to};
+ghost use Rattle.gp_ask.specs.Deltas.{delta};
+ghost use Rattle.gp_ask.specs.Differences as d;
+ghost use Rattle.gp_ask.specs.Hypothetical as h;
+ghost use Rattle.gp_ask.specs.Keeping.{AreKept};
+
+use crate::answered::Answered;
+use crate::asking::ask_answer;
+use crate::deltas::{Sizes, delta_lines, delta_sizes};
+use crate::hypothetical::what_if_answer;
+use crate::keeping::KeptAnnotations;
+use gp_base::{MAX_ANSWER_ROWS, NoMemory, Refusal, Row, Sequence};
+use gp_dump::Dump;
+use gp_syntax::{Query, Side};
+use std::alloc::Global;
+
+/// The rows of an answer, or its refusal. What asks for rows has no other answer.
+pub(crate) fn rows_in(alloc: Global, answered: Answered) -> Result<Sequence<Row>, Refusal>
+    ensures { result ≡ d.rows_in answered }
+{
+    match answered {
+        Answered::Rows(rows) => Ok(rows),
+        Answered::Refused(refusal) => Err(refusal),
+        _ => Ok(Sequence::new(alloc)),
+    }
+}
+
+/// The answer to the question of a side.
+fn side_answer(
+    alloc: Global,
+    dump: &Dump,
+    side: &Side,
+    query: &Query,
+    kept: &mut KeptAnnotations,
+) -> Result<Answered, NoMemory>
+    requires rules { IsDump (dump_view dump.now) }
+    requires valid { tables_are_valid (tables_in (dump_view dump.now).entries) ≡ true }
+    requires statement { side_has_statement (side_view side.now) ≡ true }
+    requires change { side_is_valid (side_view side.now) ≡ true }
+    requires query { query_is_valid (query_view query.now) ≡ true }
+    requires few { has_few_items (query_view query.now) ≡ true }
+    requires kept { AreKept dump.now kept.old }
+    ensures kept { AreKept dump.now kept.new }
+    ensures answered { IfOk result (λ answered. answered ≡ d.side_answer
+        (ask_to (dump_view dump.now)) (h.what_if_answer (dump_view dump.now).entries)
+        (side_view side.now) (query_view query.now)) }
+{
+    match side {
+        Side::AsIs { kept: own } => ask_answer(alloc, dump, &own.how, own.state, query, kept),
+        Side::Changed { change, kept: own } => {
+            what_if_answer(alloc, dump, change, &own.how, own.state, query)
+        }
+    }
+}
+
+/// Whether a difference has more lines than an answer has rows.
+fn are_too_many(found: Sizes) -> bool
+    ensures { result ≡ nat_lt MAX_ANSWER_ROWS (found.removed + found.added) }
+{
+    found.removed > MAX_ANSWER_ROWS || found.added > MAX_ANSWER_ROWS - found.removed
+}
+
+/// The difference of two answers, whose rows are in row order, unless there are too many lines.
+fn diff_rows(alloc: Global, rows: &[Row], others: &[Row]) -> Result<Answered, NoMemory>
+    ensures { IfOk result (λ answered. answered ≡ d.diff_lines (delta rows.now others.now)) }
+{
+    if are_too_many(delta_sizes(rows, others)) {
+        return Ok(Answered::Refused(Refusal::E27));
+    }
+    Ok(Answered::Diff(delta_lines(alloc, rows, others)?))
+}
+
+/// The difference of two answers; the first is refused first.
+fn diff_of(
+    alloc: Global,
+    first: Result<Sequence<Row>, Refusal>,
+    second: Result<Sequence<Row>, Refusal>,
+) -> Result<Answered, NoMemory>
+    ensures { IfOk result (λ answered. answered ≡ d.diff_of first second) }
+{
+    match first {
+        Err(refusal) => Ok(Answered::Refused(refusal)),
+        Ok(rows) => match second {
+            Err(refusal) => Ok(Answered::Refused(refusal)),
+            Ok(others) => diff_rows(alloc, rows.as_slice(), others.as_slice()),
+        },
+    }
+}
+
+/// The difference between the rows of a query over two sides: each row as often as it is more often in one of them. Refused as the question
+/// of the first side is, then as that of the second; then for more than [`MAX_ANSWER_ROWS`](gp_base::MAX_ANSWER_ROWS) lines (E27). Running
+/// out of memory is the only error.
+pub fn diff_answer(
+    alloc: Global,
+    dump: &Dump,
+    first: &Side,
+    second: &Side,
+    query: &Query,
+    kept: &mut KeptAnnotations,
+) -> Result<Answered, NoMemory>
+    requires rules { IsDump (dump_view dump.now) }
+    requires valid { tables_are_valid (tables_in (dump_view dump.now).entries) ≡ true }
+    requires first_statement { side_has_statement (side_view first.now) ≡ true }
+    requires first_change { side_is_valid (side_view first.now) ≡ true }
+    requires second_statement { side_has_statement (side_view second.now) ≡ true }
+    requires second_change { side_is_valid (side_view second.now) ≡ true }
+    requires query { query_is_valid (query_view query.now) ≡ true }
+    requires few { has_few_items (query_view query.now) ≡ true }
+    requires kept { AreKept dump.now kept.old }
+    ensures kept { AreKept dump.now kept.new }
+    ensures answered { IfOk result (λ answered. answered ≡ d.diff_answer
+        (ask_to (dump_view dump.now)) (h.what_if_answer (dump_view dump.now).entries)
+        (side_view first.now) (side_view second.now) (query_view query.now)) }
+{
+    let first = rows_in(alloc, side_answer(alloc, dump, first, query, kept)?);
+    let second = rows_in(alloc, side_answer(alloc, dump, second, query, kept)?);
+    diff_of(alloc, first, second)
+}
