@@ -1,5 +1,5 @@
 -- The texts of answers are whole lines.
-use Rattle.std.proofs.Common.{◌≡◌, ℕ, inl, inr, List, [], ◌∷◌, ◌++◌, length, map, refl, sym, ap, ◌∙◌, subst, append_assoc, append-nil, codes}
+use Rattle.std.proofs.Common.{◌≡◌, ℕ, inl, inr, Option, Some, None, List, [], ◌∷◌, ◌++◌, length, map, refl, sym, ap, ◌∙◌, subst, append_assoc, append-nil, codes}
 use Rattle.std.specs.Fmt.{decimal}
 use Rattle.std.specs.List.{flat_map}
 use Rattle.gp_base.specs.Numbered.{numbered, refused_text, row_line, rows_text}
@@ -11,12 +11,12 @@ use Rattle.gp_base.specs.declared.refusal.Refusal.{Refusal}
 use Rattle.gp_csv.specs.Answers.{csv_text}
 use Rattle.gp_grammar.specs.Syntax as y
 use Rattle.gp_ask.specs.declared.answered.Answered.{Answered}
-use Rattle.gp_ask.specs.declared.answered.Answered.TheVariants.{Rows, Listed, Values, Log, Versions, Program, Refused}
+use Rattle.gp_ask.specs.declared.answered.Answered.TheVariants.{Rows, Listed, Values, Log, Versions, Program, Transactions, Changes, Diff, Causes, Checked, Refused}
 use Rattle.gp_ask.specs.declared.format.Format.{Format}
 use Rattle.gp_ask.specs.declared.format.Format.TheVariants.{Text, Csv}
 use Rattle.gp_ask.specs.Formats.{exported_records, text_in}
 use Rattle.gp_ask.specs.QuestionFiles.{line_answer_in, line_answer_text}
-use Rattle.gp_ask.specs.Texts.{answer_text, listed_line, listed_text, provenance_text, value_text}
+use Rattle.gp_ask.specs.Texts.{answer_text, checked_text, listed_line, listed_text, provenance_text, value_text}
 use Rattle.gprom_cli.specs.Call.{AreLines, newline}
 
 -- the text ends with the end of a line
@@ -79,6 +79,10 @@ listed-ends number word texts =
     (behind word (codes " " ++ (count ++ (newline ++ (lines ++ []))))
     (behind (codes " ") (count ++ (newline ++ (lines ++ []))) (behind count (newline ++ (lines ++ [])) after))))
 
+checked-ends : (line : Option ℕ) → EndsLine (checked_text line)
+checked-ends None = behind (codes "history") newline newline-ends
+checked-ends (Some line) = behind (codes "differs at line ") (decimal line ++ (newline ++ [])) (behind (decimal line) (newline ++ []) newline-ends)
+
 text-ends : (number : ℕ) (answer : Answered) → EndsLine (answer_text number answer)
 text-ends number (Rows rows) = numbered-ends number (rows_text rows) (rows-ends rows)
 text-ends number (Listed rows) = listed-ends number (codes "rows") (map provenance_text rows)
@@ -86,6 +90,11 @@ text-ends number (Values rows) = listed-ends number (codes "rows") (map value_te
 text-ends number (Log texts) = listed-ends number (codes "log") texts
 text-ends number (Versions texts) = listed-ends number (codes "versions") texts
 text-ends number (Program texts) = listed-ends number (codes "program") texts
+text-ends number (Transactions texts) = listed-ends number (codes "transactions") texts
+text-ends number (Changes texts) = listed-ends number (codes "changes") texts
+text-ends number (Diff texts) = listed-ends number (codes "diff") texts
+text-ends number (Causes texts) = listed-ends number (codes "causes") texts
+text-ends number (Checked line) = numbered-ends number (checked_text line) (checked-ends line)
 text-ends number (Refused refusal) = numbered-ends number (refused_text refusal) (refused-ends refusal)
 
 -- ---- as CSV

@@ -6,7 +6,11 @@ use Rattle.gp_grammar.specs.Syntax as y
 use Rattle.gp_grammar.proofs.ReadOnce.{questions-once, scripts-once}
 use Rattle.gp_io.specs.Events.{Event, Replaced, NotReplaced}
 use Rattle.gp_io.specs.Sink.{SinkState}
-use Rattle.gp_machine.specs.State.{State}
+use Rattle.gp_log.specs.Parameters.{parameters}
+use Rattle.gp_machine.specs.Event.{Line, after}
+use Rattle.gp_machine.specs.State.{State, start}
+use Rattle.gp_replay.specs.Differences.{IsOfHistory, difference}
+use Rattle.gp_replay.specs.FirstDifferences.{DiffersFirst}
 use Rattle.gp_syntax.specs.Lines.{script_lines}
 use Rattle.gp_script.specs.History.{IsScript, ReadLine, has_refusal, last_state, replies_text, replies_to}
 use Rattle.gp_script.specs.Scripts.{final_state, lines_as_read, replies_of}
@@ -65,6 +69,12 @@ pub record DumpLaws : Type 0 where
   pub refusals : (format : Format) (script questions : List ℕ) → has_refused format (answer_to (dump_of (final_state plain script))) questions ≡ has_refused format (held_to (final_state monomials script)) questions
   pub remade_texts : (format : Format) (dump : Dump) (questions : List ℕ) → IsDump dump → answers_text format (answer_to dump) questions ≡ answers_text format (remade_to dump) questions
   pub remade_refusals : (format : Format) (dump : Dump) (questions : List ℕ) → IsDump dump → has_refused format (answer_to dump) questions ≡ has_refused format (remade_to dump) questions
+  pub checked : (dump : Dump) → IsDump dump → difference dump ≡ None → IsOfHistory dump
+  pub first : (dump : Dump) (line : ℕ) → IsDump dump → difference dump ≡ Some line → DiffersFirst dump line
+  pub line_texts : (format : Format) (lines : List Line) (questions : List ℕ)
+      → answers_text format (answer_to (dump_of (after plain parameters start lines))) questions ≡ answers_text format (held_to (after monomials parameters start lines)) questions
+  pub line_refusals : (format : Format) (lines : List Line) (questions : List ℕ)
+      → has_refused format (answer_to (dump_of (after plain parameters start lines))) questions ≡ has_refused format (held_to (after monomials parameters start lines)) questions
   pub unchanged : (script : List ℕ) → length script ≤ MAX_SCRIPT_LENGTH
       → (remaking_refusal (final_state plain script).entries ≡ None) × (replayed_dump (final_state plain script).entries ≡ dump_of (final_state plain script))
 
@@ -309,6 +319,17 @@ module _ (laws : DumpLaws) (call : Call) where
         answers-by format dump name bytes asked contents questions ask is few short formed are (remade_to contents)
         (laws.remade_texts format contents asked formed.rules) (laws.remade_refusals format contents asked formed.rules)
 
+    recorded : (format : Format) (dump name bytes asked : List ℕ) (contents : Dump) (lines : List Line) (questions : List ReadQuestion) → call.command ≡ Some (Ask format dump name)
+        → call.events ≡ read_of dump MAX_DUMP_LENGTH bytes ∷ read_of name MAX_SCRIPT_LENGTH asked ∷ [] → length bytes ≤ MAX_DUMP_LENGTH → length asked ≤ MAX_SCRIPT_LENGTH
+        → WellFormed bytes contents → contents ≡ dump_of (after plain parameters start lines) → AreQuestions asked questions
+        → WritesOutput (answer_texts format (held_to (after monomials parameters start lines)) questions)
+        (answered_status (refuses_some format (held_to (after monomials parameters start lines)) questions)) call.sink call.sink_after call.status
+    recorded format dump name bytes asked contents lines questions ask is few short formed made are =
+        let state : State Monomial = after monomials parameters start lines in
+        answers-by format dump name bytes asked contents questions ask is few short formed are (held_to state)
+        (subst (λ (own : Dump). answers_text format (answer_to own) asked ≡ answers_text format (held_to state) asked) (sym made) (laws.line_texts format lines asked))
+        (subst (λ (own : Dump). has_refused format (answer_to own) asked ≡ has_refused format (held_to state) asked) (sym made) (laws.line_refusals format lines asked))
+
     held : (format : Format) (dump name script asked : List ℕ) (lines : List ReadLine) (questions : List ReadQuestion) → call.command ≡ Some (Ask format dump name)
         → call.events ≡ read_of dump MAX_DUMP_LENGTH (history_dump lines) ∷ read_of name MAX_SCRIPT_LENGTH asked ∷ [] → RunsScript script lines
         → length (history_dump lines) ≤ MAX_DUMP_LENGTH → length asked ≤ MAX_SCRIPT_LENGTH → AreQuestions asked questions
@@ -343,6 +364,8 @@ module _ (laws : DumpLaws) (call : Call) where
       held = held;
       explained = explained-by has;
       hypothetical = hypothetical;
+      checked = λ bytes contents formed. (laws.checked contents formed.rules, λ line is. laws.first contents line formed.rules is);
+      recorded = recorded;
       unchanged = λ script lines short are. unchanged-lines laws script lines are short;
       generated = generated;
       loaded = λ name table script bytes made load is all short. loaded-by name table script bytes made load is short has all;

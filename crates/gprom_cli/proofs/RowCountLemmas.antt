@@ -1,8 +1,8 @@
 -- No answer has more rows than an answer may have.
 use Rattle.std.proofs.Common.{◌≡◌, ℕ, suc, ◌≤◌, Bool, true, false, cond, nat_lt, List, [], ◌∷◌, ◌++◌, length, map, Option, Some, None, Result, Ok, Err, refl, arith}
-use Rattle.std.specs.Prelude.{IfOk, ◌||◌}
+use Rattle.std.specs.Prelude.{IfOk, ◌||◌, ◌-◌}
 use Rattle.std.specs.List.{sum_by}
-use Rattle.std.specs.Option.{option_or}
+use Rattle.std.specs.Option.{option_map, option_or}
 use Rattle.std.proofs.lemmas.Bool.Decides.{nat_tests}
 use Rattle.std.proofs.lemmas.List.{length-map}
 use Rattle.std.proofs.lemmas.List.Sums.{sum_by-cons}
@@ -11,7 +11,7 @@ use Rattle.gp_base.specs.declared.refusal.Refusal.{Refusal}
 use Rattle.gp_base.specs.declared.refusal.Refusal.TheVariants.{E27}
 use Rattle.gp_base.specs.Order.{row_cmp, sorted_by}
 use Rattle.gp_base.specs.Tokens.{Monomial}
-use Rattle.gp_base.specs.Annotated.{monomials, plain}
+use Rattle.gp_base.specs.Annotated.{Annotated, monomials, plain}
 use Rattle.gp_base.specs.declared.table.Table.{Table}
 use Rattle.gp_base.specs.declared.token.Token.{Token}
 use Rattle.gp_grammar.specs.declared.semiring_name.SemiringName.{SemiringName}
@@ -20,17 +20,18 @@ use Rattle.gp_grammar.specs.LineReading.{Fault}
 use Rattle.gp_grammar.specs.Reading.{question_of}
 use Rattle.gp_grammar.specs.Syntax as y
 use Rattle.gp_algebra.specs.Answers.{Element, answer, cells_of}
-use Rattle.gp_algebra.specs.Statements.{Select}
+use Rattle.gp_algebra.specs.Statements.{Select, Statement, target}
 use Rattle.gp_check.specs.Checking.{checked_query}
 use Rattle.gp_base.specs.declared.limit.TheConstants.{MAX_ANSWER_ROWS}
 use Rattle.gp_base.specs.Catalogs.{place_of}
 use Rattle.gp_versions.specs.declared.span.Span.{Span}
 use Rattle.gp_syntax.specs.Lines.{script_lines}
 use Rattle.gp_machine.specs.Annotating.{annotated_versions}
-use Rattle.gp_machine.specs.Entries.{Entry, log_of}
+use Rattle.gp_machine.specs.Entries.{Entry, log_of, statement_at, version_of}
 use Rattle.gp_machine.specs.HistorySpans.{as_of}
-use Rattle.gp_machine.specs.Points.{at_point}
-use Rattle.gp_machine.specs.Questions.{annotated_answer, annotation_stop, answer_refusal, given, is_known, log_refusal, needed_version, own_stop, rows_answer}
+use Rattle.gp_machine.specs.Points.{at_point, run_stop}
+use Rattle.gp_machine.specs.Runs.{run}
+use Rattle.gp_machine.specs.Questions.{annotated_answer, annotation_stop, answer_refusal, given, is_known, log_refusal, needed_version, own_stop, rows_answer, stop_refusal, transaction_refusal}
 use Rattle.gp_log.specs.Parameters.{parameters}
 use Rattle.gp_log.specs.LogFacts.{tables_in}
 use Rattle.gp_whatif.specs.Changed.{changed}
@@ -46,9 +47,17 @@ use Rattle.gp_history.specs.DistinctRows.{distinct_rows}
 use Rattle.gp_history.specs.ValueAnswers.{all_elements, history_refusal, limited, value_answer, values_of}
 use Rattle.gp_history.specs.Agreement.{agree}
 use Rattle.gp_ask.specs.declared.answered.Answered.{Answered}
+use Rattle.gp_ask.specs.declared.answered.Answered.TheVariants.{Diff, Refused}
+use Rattle.gp_ask.specs.Changes.{changes_of, dump_changes, if_any, unless, version_changes}
+use Rattle.gp_ask.specs.Seeing.{dump_saw}
+use Rattle.gp_compose.specs.Seen.{changes_refusal, saw_refusal}
+use Rattle.gp_reenact.specs.Looking.{saw_answer}
 use Rattle.gp_ask.specs.Answers.{answer_to, versions_answer}
 use Rattle.gp_ask.specs.Asking.{ask_to, dump_minimal, dump_program, dump_provenance, dump_remaining, dump_rows, dump_valued, dump_values, of_elements, query_answer, spans_at, with_monomials}
-use Rattle.gp_ask.specs.Hypothetical.{asking_refusal, changed_answer, remaking_refusal, replayed_dump, unless_refused}
+use Rattle.gp_ask.specs.Deltas.{Signed, delta, signed_text}
+use Rattle.gp_ask.specs.Differences as answers
+use Rattle.gp_ask.specs.Differences.{causes_of, committed_writes, diff_of, side_answer, without_in}
+use Rattle.gp_ask.specs.Hypothetical.{asking_refusal, changed_answer, remaking_refusal, replayed_dump, unless_refused, what_if_answer}
 use Rattle.gp_ask.specs.Questions.{answered}
 use Rattle.gp_ask.specs.Remaining.{are_too_many, has_left_out, pattern_of, remaining, remaining_answer}
 use Rattle.gp_ask.specs.Replays.{dump_in}
@@ -232,9 +241,60 @@ few-changed (Ok entries) y.provenance point query = few-remade entries y.provena
 few-changed (Ok entries) (y.value name rules other) point query = few-remade entries (y.value name rules other) point query
 few-changed (Ok entries) (y.without patterns) point query = few-remade entries (y.without patterns) point query
 
+few-saw : (entries : List Entry) (spans : ℕ → List Span) (t k : ℕ) (query : Select) → AreFew (saw_answer parameters entries spans t k query)
+few-saw entries spans t k query =
+    let elements = answer plain query (run plain (log_of entries) t k (as_of plain spans)) in
+    let stop = option_map stop_refusal (run_stop plain parameters (log_of entries) t k (as_of plain spans)) in
+    let over = answer_refusal plain parameters elements in
+    behind elements (saw_refusal t k entries) (option_or stop over) (behind elements stop over (limit elements))
+
+-- ---- changes have no rows
+
+few-unless-changed : (refusal : Option Refusal) (answered : Answered) → HasFew answered → HasFew (unless refusal answered)
+few-unless-changed (Some refusal) answered few = omega arith
+few-unless-changed None answered few = few
+
+few-changes : {M : Type 0} (tables : List Table) (own : Option ℕ) (statement : Statement) (rows : Result (List (Annotated M)) Refusal) → HasFew (changes_of tables own statement rows)
+few-changes tables None statement rows = omega arith
+few-changes tables (Some place) statement (Ok rows) = omega arith
+few-changes tables (Some place) statement (Err refusal) = omega arith
+
+few-any : (dump : Dump) (t k : ℕ) (statement : Option Statement) → HasFew (if_any (dump_changes dump t k) statement)
+few-any dump t k None = omega arith
+few-any dump t k (Some statement) = few-changes (tables_in dump.entries) (target statement) statement _
+
+few-version : (dump : Dump) (version : Option ℕ) → HasFew (version_changes dump version)
+few-version dump None = omega arith
+few-version dump (Some version) = omega arith
+
+-- ---- differences have no rows
+
+few-lines : (lines : List Signed) (over : Bool) → HasFew (cond over (Refused E27) (Diff (map signed_text lines)))
+few-lines lines true = omega arith
+few-lines lines false = omega arith
+
+few-diff : (first second : Result (List (List Cell)) Refusal) → HasFew (diff_of first second)
+few-diff (Err refusal) second = omega arith
+few-diff (Ok rows) (Err refusal) = omega arith
+few-diff (Ok rows) (Ok others) = few-lines (delta rows others) (nat_lt parameters.answer (length (delta rows others)))
+
+few-causes : (without : ℕ × ℕ → Answered) (statements : List (ℕ × ℕ)) (own : Result (List (List Cell)) Refusal) → HasFew (causes_of without statements own)
+few-causes without statements (Err refusal) = omega arith
+few-causes without statements (Ok rows) = omega arith
+
 few-answer : (dump : Dump) (question : y.Question) → HasFew (answer_to dump question)
 few-answer dump (y.log t) = few-log (is_known t dump.entries) _ _ refl refl
 few-answer dump (y.versions name) = few-versions name dump.tables (place_of name (tables_in dump.entries))
+few-answer dump y.transactions = omega arith
+few-answer dump (y.saw t k query) =
+    few-checked (dump_saw dump t k) (saw_refusal t k dump.entries) (checked_query (tables_in dump.entries) query)
+    (λ select. few-elements (saw_answer parameters dump.entries (spans_at dump.tables) t k select) (few-saw dump.entries (spans_at dump.tables) t k select))
+few-answer dump (y.changes t k) = few-unless-changed (changes_refusal t k dump.entries) _ (few-any dump t (k - 1) (statement_at t k dump.entries))
+few-answer dump (y.commit_changes t) = few-unless-changed (transaction_refusal t dump.entries) _ (few-version dump (version_of t dump.entries))
+few-answer dump y.check = omega arith
+few-answer dump (y.diff first second query) =
+    few-diff (answers.rows_in (side_answer (ask_to dump) (what_if_answer dump.entries) first query)) (answers.rows_in (side_answer (ask_to dump) (what_if_answer dump.entries) second query))
+few-answer dump (y.causes kept query) = few-causes (without_in (what_if_answer dump.entries) kept query) (committed_writes dump.entries) (answers.rows_in (ask_to dump kept.how kept.state query))
 few-answer dump (y.ask how point query) = few-ask dump how point query
 few-answer dump (y.what_if change how point query) = few-changed (changed parameters dump.entries change) how point query
 

@@ -13,6 +13,11 @@ use Rattle.gp_script.specs.declared.script.TheConstants.{MAX_SCRIPT_LENGTH}
 use Rattle.gp_syntax.specs.Lines.{script_lines}
 use Rattle.gp_dump.specs.declared.dump.TheConstants.{MAX_DUMP_LENGTH}
 use Rattle.gp_dump.specs.Dumps.{Dump, WellFormed, dump_of}
+use Rattle.gp_log.specs.Parameters.{parameters}
+use Rattle.gp_machine.specs.Event.{Line, after}
+use Rattle.gp_machine.specs.State.{start}
+use Rattle.gp_replay.specs.Differences.{IsOfHistory, difference}
+use Rattle.gp_replay.specs.FirstDifferences.{DiffersFirst}
 use Rattle.gp_csv.specs.Faults.{Fault}
 use Rattle.gp_load.specs.Loading.{LoadsText, loaded_of}
 use Rattle.gp_ask.specs.declared.format.Format.{Format}
@@ -107,7 +112,8 @@ pub record Promises (call : Call) : Type 0 where
       × IsReplacedAfter (read_of name MAX_SCRIPT_LENGTH script) dump (history_dump lines) call
   -- `ask` answers from the dump of a script that it read, whichever script made it, as the history of the script held it, with the provenance of each row there,
   -- though the dump has none: so with its value in every semiring, without rules in witnesses exactly with its minimal token sets, and without the rows
-  -- of some tokens with exactly the rows that the query gives over the annotated history without these rows. `export` writes the same answers as CSV, but refuses questions that are not exported.
+  -- of some tokens with exactly the rows that the query gives over the annotated history without these rows. What a transaction saw is the query over what the history
+  -- machine held for it, and what a statement changed are the rows that it wrote there, whatever became of the transaction. `export` writes the same answers as CSV, but refuses questions that are not exported.
   pub held : (format : Format) (dump name script asked : List ℕ) (lines : List ReadLine) (questions : List ReadQuestion) → call.command ≡ Some (Ask format dump name)
       → call.events ≡ read_of dump MAX_DUMP_LENGTH (history_dump lines) ∷ read_of name MAX_SCRIPT_LENGTH asked ∷ [] → RunsScript script lines
       → length (history_dump lines) ≤ MAX_DUMP_LENGTH → length asked ≤ MAX_SCRIPT_LENGTH → AreQuestions asked questions
@@ -118,14 +124,25 @@ pub record Promises (call : Call) : Type 0 where
   pub explained : (dump name bytes asked : List ℕ) (contents : Dump) (questions : List ReadQuestion) → call.command ≡ Some (Ask Text dump name)
       → call.events ≡ read_of dump MAX_DUMP_LENGTH bytes ∷ read_of name MAX_SCRIPT_LENGTH asked ∷ [] → length asked ≤ MAX_SCRIPT_LENGTH
       → WellFormed bytes contents → AreQuestions asked questions → IsAnswered call.status → ExplainsLines contents.entries questions
-  -- `ask` and `export` answer a question about what would be with a change as the history held it that the commits of the changed log, made again, lead to: so
+  -- From any well-formed dump `ask` and `export` answer what a transaction was, saw and changed, and what a commit changed, by the log and the stored versions, as
+  -- `remade_to` says. They answer a question about what would be with a change as the history held it that the commits of the changed log, made again, lead to: so
   -- every row, with its provenance and its values, is one of that history, and no difference and no limit of a run stops the question once the commits were
   -- made again. It is refused before by the change, by the question on the changed log, or, unless it is explained, by the first commit that cannot be made
-  -- again. The dump is any that is well formed.
+  -- again. So do differences, and the statements that an answer depends on, which are given by these answers.
   pub hypothetical : (format : Format) (dump name bytes asked : List ℕ) (contents : Dump) (questions : List ReadQuestion) → call.command ≡ Some (Ask format dump name)
       → call.events ≡ read_of dump MAX_DUMP_LENGTH bytes ∷ read_of name MAX_SCRIPT_LENGTH asked ∷ [] → length bytes ≤ MAX_DUMP_LENGTH → length asked ≤ MAX_SCRIPT_LENGTH
       → WellFormed bytes contents → AreQuestions asked questions
       → WritesOutput (answer_texts format (remade_to contents) questions) (answered_status (refuses_some format (remade_to contents) questions)) call.sink call.sink_after call.status
+  -- CHECK answers whether the dump is that of a history, as the history machine takes lines: where it names no line, the dump is that of some lines of a script;
+  -- and the line that it names is the first that is not as the log makes it. The dump is any that is well formed, and what is printed for it is told above.
+  pub checked : (bytes : List ℕ) (contents : Dump) → WellFormed bytes contents
+      → (difference contents ≡ None → IsOfHistory contents) × ((line : ℕ) → difference contents ≡ Some line → DiffersFirst contents line)
+  -- Where the dump is that of a history, `ask` and `export` answer every question as that history held it, whichever lines it was of.
+  pub recorded : (format : Format) (dump name bytes asked : List ℕ) (contents : Dump) (lines : List Line) (questions : List ReadQuestion) → call.command ≡ Some (Ask format dump name)
+      → call.events ≡ read_of dump MAX_DUMP_LENGTH bytes ∷ read_of name MAX_SCRIPT_LENGTH asked ∷ [] → length bytes ≤ MAX_DUMP_LENGTH → length asked ≤ MAX_SCRIPT_LENGTH
+      → WellFormed bytes contents → contents ≡ dump_of (after plain parameters start lines) → AreQuestions asked questions
+      → WritesOutput (answer_texts format (held_to (after monomials parameters start lines)) questions)
+      (answered_status (refuses_some format (held_to (after monomials parameters start lines)) questions)) call.sink call.sink_after call.status
   -- With nothing changed, the commits of the log of a script, made again, do not stop, and lead to the dump of the script.
   pub unchanged : (script : List ℕ) (lines : List ReadLine) → length script ≤ MAX_SCRIPT_LENGTH → IsScript script lines
       → (remaking_refusal (last_state plain lines).entries ≡ None) × (replayed_dump (last_state plain lines).entries ≡ dump_of (last_state plain lines))

@@ -7,7 +7,10 @@ ghost use Rattle.gprom_cli.specs.Promises.{Promises};
 ghost use Rattle.gprom_cli.specs.Status.{number_of, status_of};
 
 use crate::execute::execute;
-use crate::laws::{dumps_answer_for_changed_histories, scripts_have_well_formed_dumps};
+use crate::laws::{
+    dumps_answer_for_changed_histories, dumps_of_histories_are_known,
+    scripts_have_well_formed_dumps,
+};
 use gp_io::{Shelf, Sink};
 use std::alloc::Global;
 
@@ -41,5 +44,6 @@ pub fn gprom<H: Shelf, K: Sink>(alloc: Global, args: &[String], shelf: &mut H, o
     // What `ask` promises of dumps, and of the dumps of scripts, rests on these laws. The calls do nothing.
     scripts_have_well_formed_dumps();
     dumps_answer_for_changed_histories();
+    dumps_of_histories_are_known();
     execute(alloc, args, shelf, out).number()
 }

@@ -1,11 +1,16 @@
 //! Laws of dumps, of the dumps of scripts, and of calls over files in memory. Each function does nothing: its postconditions are the laws, and it cites laws of the crates below.
 
-ghost use Rattle.std.specs.Prelude.{◌≡◌, ◌≤◌, ℕ, List, ◌++◌, None, length};
+ghost use Rattle.std.specs.Prelude.{◌≡◌, ◌≤◌, ℕ, List, ◌++◌, None, Some, length};
 ghost use Rattle.gp_base.specs.Annotated.{monomials, plain};
 ghost use Rattle.gp_io.specs.Contents.{contents_of};
 ghost use Rattle.gp_io.specs.MemoryFiles.{calm_files, mem_files};
 ghost use Rattle.gp_io.specs.declared.calm.CalmShelf.{CalmShelf};
 ghost use Rattle.gp_io.specs.declared.mem.MemShelf.{MemShelf};
+ghost use Rattle.gp_log.specs.Parameters.{parameters};
+ghost use Rattle.gp_machine.specs.Event.{Line, after};
+ghost use Rattle.gp_machine.specs.State.{start};
+ghost use Rattle.gp_replay.specs.Differences.{IsOfHistory, difference};
+ghost use Rattle.gp_replay.specs.FirstDifferences.{DiffersFirst};
 ghost use Rattle.gp_script.specs.Scripts.{final_state};
 ghost use Rattle.gp_dump.specs.Dumps.{Dump, IsDump, dump_of};
 ghost use Rattle.gp_ask.specs.declared.format.Format.{Format};
@@ -21,6 +26,7 @@ use gp_ask::{dumps_answer_as_changed_histories, histories_answer_as_their_dumps}
 use gp_base::Monomial;
 use gp_dump::dumps_of_histories_are_well_formed;
 use gp_io::{CalmShelf, MemShelf, Shelf, events_lead_to_files};
+use gp_replay::{differences_are_first, dumps_of_histories_do_not_differ};
 use gp_script::{MAX_SCRIPT_LENGTH, lines_of_scripts_are_script_lines, scripts_lead_to_histories};
 use gp_whatif::histories_are_replayed_as_they_were;
 
@@ -49,6 +55,25 @@ pub fn scripts_have_well_formed_dumps()
     lines_of_scripts_are_script_lines();
     dumps_of_histories_are_well_formed();
     histories_are_replayed_as_they_were();
+    histories_answer_as_their_dumps()
+}
+
+/// The dump of every history, of whatever lines of a script, answers every file of questions as the history held it. A dump that keeps the
+/// rules is that of a history where CHECK finds no difference (`checked`), and the line of a difference is the first that is not as the log
+/// makes it (`first`).
+pub fn dumps_of_histories_are_known()
+    ensures checked { (dump : Dump) → IsDump dump → difference dump ≡ None → IsOfHistory dump }
+    ensures first { (dump : Dump) (line : ℕ) → IsDump dump
+        → difference dump ≡ Some line → DiffersFirst dump line }
+    ensures answers { (format : Format) (lines : List Line) (questions : List ℕ)
+        → answers_text format (answer_to (dump_of (after plain parameters start lines))) questions
+        ≡ answers_text format (held_to (after monomials parameters start lines)) questions }
+    ensures refusals { (format : Format) (lines : List Line) (questions : List ℕ)
+        → has_refused format (answer_to (dump_of (after plain parameters start lines))) questions
+        ≡ has_refused format (held_to (after monomials parameters start lines)) questions }
+{
+    dumps_of_histories_do_not_differ();
+    differences_are_first();
     histories_answer_as_their_dumps()
 }
 

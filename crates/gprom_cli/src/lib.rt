@@ -31,7 +31,7 @@ pub use call::gprom;
 pub use generated::{MAX_ROUNDS, generate_questions, generate_script};
 pub use laws::{
     calls_keep_promises_over_files, dumps_answer_for_changed_histories,
-    scripts_have_well_formed_dumps,
+    dumps_of_histories_are_known, scripts_have_well_formed_dumps,
 };
 pub use load::MAX_SHEET_LENGTH;
 pub use status::Status;

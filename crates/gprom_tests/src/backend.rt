@@ -64,8 +64,15 @@ fn is_plain(question: &Question) -> bool
     ensures { result ≡ asks_rows (question_view question.now) }
 {
     match question {
+        Question::Transactions => false,
         Question::Log { .. } => false,
         Question::Versions { .. } => false,
+        Question::Saw { .. } => false,
+        Question::Changes { .. } => false,
+        Question::CommitChanges { .. } => false,
+        Question::Check => false,
+        Question::Diff { .. } => false,
+        Question::Causes { .. } => false,
         Question::Ask { how, .. } => are_asked(how),
         Question::WhatIf { .. } => false,
     }
@@ -91,7 +98,11 @@ pub(crate) fn fixed_answer(alloc: Global, dump: &Dump, line: &[u8]) -> Result<An
 {
     read_questions_are_valid();
     match read_question(alloc, line) {
-        Ok(question) => plain_answer(alloc, dump, &question),
+        Ok(question) => {
+            let found = plain_answer(alloc, dump, &question);
+            drop(question);
+            found
+        }
         Err(ReadStop::Refused(refusal)) => Ok(Answered::Refused(refusal)),
         Err(ReadStop::NoMemory) => Err(NoMemory),
     }
