@@ -3,7 +3,8 @@ use Rattle.std.proofs.Common.{◌≡◌, List, [], ◌∷◌, Some, refl}
 use Rattle.gp_check.specs.declared.place.Place.{Place}
 use Rattle.gp_check.specs.declared.place.Resolution.{Resolution}
 use Rattle.gp_check.specs.declared.place.Resolution.TheVariants.{Absent, Ambiguous}
-use Rattle.gp_check.specs.Scopes.{only_place, with_place}
+use Rattle.gp_check.specs.Scopes.{only_place}
+use Rattle.gp_check.specs.Views.{with_place}
 
 -- what is known with more places
 abbrev pub with_places : Resolution → List Place → Resolution

@@ -5,3 +5,4 @@ pub mod Meaning
 pub mod Checking
 pub mod Valid
 pub mod Views
+pub mod TypingRules

@@ -69,10 +69,3 @@ only_place (place ∷ other ∷ others) = Ambiguous
 -- the column that a name stands for: the only one, of all sources
 abbrev pub resolution : Scope → ColumnName → Resolution
 resolution scope name = only_place (filter_map (place_in name) scope)
-
--- what is known with one more place, if there is one
-abbrev pub with_place : Resolution → Option Place → Resolution
-with_place found None = found
-with_place Absent (Some place) = Found place
-with_place (Found other) (Some place) = Ambiguous
-with_place Ambiguous (Some place) = Ambiguous

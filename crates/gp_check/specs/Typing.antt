@@ -1,6 +1,6 @@
--- Part of the statement: the types of terms, as a relation with one constructor for each rule, and as a function. SQL (ISO/IEC 9075-2)
--- has the same types; that NULL has a type of its own, which agrees with both others, is this dialect's way to type it.
-use Rattle.std.specs.Prelude.{◌≡◌, ℤ, Bool, true, false, ◌&&◌, Option, Some, None, if◌then◌else◌}
+-- Part of the statement: the types of terms. SQL (ISO/IEC 9075-2) has the same types; that NULL has a type of its own, which agrees with both others, is
+-- this dialect's way to type it. `TypingRules` has the rules as a relation.
+use Rattle.std.specs.Prelude.{Bool, true, false, ◌&&◌, Option, Some, None, if◌then◌else◌}
 use Rattle.gp_base.specs.declared.cell.Cell.{Cell}
 use Rattle.gp_base.specs.declared.cell.Cell.TheVariants as cell
 use Rattle.gp_base.specs.declared.table.Kind.{Kind}
@@ -8,10 +8,9 @@ use Rattle.gp_base.specs.declared.table.Kind.TheVariants as kind
 use Rattle.gp_grammar.specs.declared.op.Op.{Op}
 use Rattle.gp_grammar.specs.declared.op.Op.TheVariants as op
 use Rattle.gp_grammar.specs.Syntax as y
-use Rattle.gp_grammar.specs.Syntax.{Bytes, Term}
+use Rattle.gp_grammar.specs.Syntax.{Term}
 use Rattle.gp_check.specs.declared.types.TermType.{TermType}
 use Rattle.gp_check.specs.declared.types.TermType.TheVariants.{Null, Int, Text, Condition}
-use Rattle.gp_check.specs.declared.place.Place.{Place}
 use Rattle.gp_check.specs.declared.place.Resolution.{Resolution}
 use Rattle.gp_check.specs.declared.place.Resolution.TheVariants.{Absent, Found, Ambiguous}
 use Rattle.gp_check.specs.Scopes.{Scope, resolution}
@@ -61,28 +60,6 @@ operation op.And = connective
 operation op.Or = connective
 operation other = comparison
 
--- the term is well typed, with this type
-pub data HasType (scope : Scope) : Term → TermType → Type 0 where
-  null : HasType scope y.null Null
-  int : (n : ℤ) → HasType scope (y.int n) Int
-  text : (bytes : Bytes) → HasType scope (y.text bytes) Text
-  column : (item : Option Bytes) (name : Bytes) (place : Place) → resolution scope (record { item = item; col = name }) ≡ Found place
-      → HasType scope (y.col item name) (kind_type place.kind)
-  number : (o : Op) (x z : Term) (a b : TermType) → operation o ≡ arithmetic → HasType scope x a → HasType scope z b
-      → is_number a ≡ true → is_number b ≡ true → HasType scope (y.binary o x z) Int
-  compared : (o : Op) (x z : Term) (a b : TermType) → operation o ≡ comparison → HasType scope x a → HasType scope z b
-      → agrees a b ≡ true → HasType scope (y.binary o x z) Condition
-  connected : (o : Op) (x z : Term) → operation o ≡ connective → HasType scope x Condition → HasType scope z Condition
-      → HasType scope (y.binary o x z) Condition
-  signed : (x : Term) (a : TermType) → HasType scope x a → is_number a ≡ true → HasType scope (y.neg x) Int
-  negated : (x : Term) → HasType scope x Condition → HasType scope (y.not x) Condition
-  null_test : (x : Term) (holds : Bool) (a : TermType) → HasType scope x a → is_value a ≡ true → HasType scope (y.is_null x holds) Condition
-  true_test : (x : Term) (holds : Bool) → HasType scope x Condition → HasType scope (y.is_true x holds) Condition
-  choice : (x z u : Term) (a b : TermType) → HasType scope x Condition → HasType scope z a → HasType scope u b
-      → agrees a b ≡ true → HasType scope (y.case x z u) (common_type a b)
-
--- ---- typing as a function
-
 -- a type where the operands are right
 abbrev pub typed_if : Bool → TermType → Option TermType
 typed_if right type = if right then Some type else None
@@ -127,8 +104,3 @@ type_of scope (y.not x) = typed_if (is_condition (type_of scope x)) Condition
 type_of scope (y.is_null x holds) = typed_if (operand_passes is_value (type_of scope x)) Condition
 type_of scope (y.is_true x holds) = typed_if (is_condition (type_of scope x)) Condition
 type_of scope (y.case x z u) = if is_condition (type_of scope x) then choice_type (type_of scope z) (type_of scope u) else None
-
--- the function is the relation
-pub record TypesAre : Type 0 where
-  pub sound : (scope : Scope) (x : Term) (a : TermType) → type_of scope x ≡ Some a → HasType scope x a
-  pub complete : (scope : Scope) (x : Term) (a : TermType) → HasType scope x a → type_of scope x ≡ Some a

@@ -5,6 +5,9 @@ use Rattle.gp_check.specs.declared.error.CheckStop.{CheckStop}
 use Rattle.gp_check.specs.declared.error.CheckStop.TheVariants.{Refused, NoMemory}
 use Rattle.gp_check.specs.declared.source.Source as code
 use Rattle.gp_check.specs.Scopes.{Source}
+use Rattle.gp_check.specs.declared.place.Place.{Place}
+use Rattle.gp_check.specs.declared.place.Resolution.{Resolution}
+use Rattle.gp_check.specs.declared.place.Resolution.TheVariants.{Absent, Found, Ambiguous}
 
 -- the source of the code without its references
 abbrev pub source_view : code.Source → Source
@@ -21,3 +24,10 @@ abbrev pub Finds : {X : Type 0} → Result X CheckStop → Option Refusal → Ty
 Finds (Ok x) fault = fault ≡ None
 Finds (Err (Refused refusal)) fault = fault ≡ Some refusal
 Finds (Err NoMemory) fault = Unit {0}
+
+-- what is known with one more place, if there is one
+abbrev pub with_place : Resolution → Option Place → Resolution
+with_place found None = found
+with_place Absent (Some place) = Found place
+with_place (Found other) (Some place) = Ambiguous
+with_place Ambiguous (Some place) = Ambiguous

@@ -9,7 +9,7 @@ ghost use Rattle.gp_grammar.specs.Reading.{command_of, question_of, script_line_
 ghost use Rattle.gp_grammar.specs.QuestionGrammar.{IsQuestion};
 ghost use Rattle.gp_grammar.specs.Syntax as y;
 ghost use Rattle.gp_grammar.specs.Syntax.{Command, Question, ScriptLine};
-ghost use Rattle.gp_check.specs.Typing.{TypesAre};
+ghost use Rattle.gp_check.specs.TypingRules.{TypesAre};
 ghost use Rattle.gp_check.specs.Valid.{is_valid, question_is_valid, tables_are_valid};
 
 /// A term is well typed by the rules exactly where the function gives it a type, so it has at most one.

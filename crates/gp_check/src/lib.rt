@@ -1,7 +1,7 @@
 //! The check of names and types: from a command to a statement over numbered tables and columns, or its first refusal.
 //!
 //! In reading order: [`check`] checks a statement of a session, [`check_query`] the query of a question, [`check_table`] a
-//! new table. In `specs/`, `Scopes` says what names stand for, `Typing` which terms are well typed, `Faults` which refusal
+//! new table. In `specs/`, `Scopes` says what names stand for, `Typing` which type a term has, `Faults` which refusal
 //! comes first, `Meaning` which statement a command means, and `Checking` puts these together. The statements of `Valid`
 //! commands fit their catalogue, and by the laws every command that was read is valid.
 //!

@@ -2,8 +2,8 @@
 
 ghost use Rattle.std.specs.Prelude.{◌≡◌, ◌+◌, ◌++◌, ◌∷◌, [], ◌<◌, ◌^◌, length, map, IfOk, OnOk};
 ghost use Rattle.gp_syntax.specs.Views.{item_view};
-ghost use Rattle.gp_check.specs.Scopes.{columns_of, resolution, may_be_of, place_behind, place_in, scope_of, target_scope, with_place};
-ghost use Rattle.gp_check.specs.Views.{source_view};
+ghost use Rattle.gp_check.specs.Scopes.{columns_of, resolution, may_be_of, place_behind, place_in, scope_of, target_scope};
+ghost use Rattle.gp_check.specs.Views.{source_view, with_place};
 
 use crate::place::{Place, Resolution};
 use crate::source::Source;

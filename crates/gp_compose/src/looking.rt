@@ -10,11 +10,11 @@ ghost use Rattle.gp_log.specs.Contents.{entries, tables};
 ghost use Rattle.gp_log.specs.LogFitting.{statements_fit};
 ghost use Rattle.gp_machine.specs.Questions.{is_known};
 ghost use Rattle.gp_rewrite.specs.Rewriting.{query_at};
+ghost use Rattle.gp_compose.specs.Composing as c;
 ghost use Rattle.gp_compose.specs.Composing.{looking_in};
 ghost use Rattle.gp_compose.specs.Composition.{HasTable};
-ghost use Rattle.gp_compose.specs.Seen as s;
 
-use crate::asking::{begin_version, statement_version};
+use crate::state_check::{begin_version, statement_version};
 use crate::steps::{Parts, composed};
 use gp_algebra::{AProgram, AQuery, Stmt, copy_query};
 use gp_base::NoMemory;
@@ -40,7 +40,7 @@ fn chosen(alloc: Global, tables: &[AQuery], table: u32, cond: &Cond) -> Result<A
 fn looking(alloc: Global, k: u32, stmt: &Stmt, tables: &[AQuery]) -> Result<AQuery, NoMemory>
     requires { HasTable (length tables.now) (statement_view stmt.now) }
     ensures { IfOk result (λ found. annotated_view found
-        ≡ s.looking k (query_at (map annotated_view tables.now)) (statement_view stmt.now)) }
+        ≡ c.looking k (query_at (map annotated_view tables.now)) (statement_view stmt.now)) }
 {
     match stmt {
         Stmt::Insert { .. } | Stmt::InsertSelect { .. } => Ok(AQuery::Step { j: k }),

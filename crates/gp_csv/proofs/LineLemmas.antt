@@ -11,13 +11,13 @@ use Rattle.gp_csv.specs.declared.error.TheConstants.{LONG_ROW, TOO_MANY}
 use Rattle.gp_csv.specs.declared.script.TheConstants.{MAX_ROWS, MAX_INSERTS}
 use Rattle.gp_csv.proofs.ValidLemmas.{from_map, refused}
 
-abbrev Lines : Type 0
+abbrev pub Lines : Type 0
 Lines = List (List Row)
 
-same_lines : (a b : Lines) → ◌≡◌ {A = Result Lines Fault} (Ok a) (Ok b) → a ≡ b
+pub same_lines : (a b : Lines) → ◌≡◌ {A = Result Lines Fault} (Ok a) (Ok b) → a ≡ b
 same_lines a b e = cc
 
-abbrev is_long : List ℕ → Row → Bool
+abbrev pub is_long : List ℕ → Row → Bool
 is_long name row = ltb MAX_LINE_LENGTH (length (line_of (insert name (row ∷ []))))
 
 one-fits : (name : List ℕ) (row : Row) → is_long name row ≡ false → fits_line name (row ∷ []) ≡ true

@@ -16,11 +16,11 @@ use Rattle.gp_base.specs.declared.cell.Cell.TheVariants as cell
 use Rattle.gp_base.specs.declared.table.Column.{Column}
 use Rattle.gp_base.specs.declared.table.Kind.{Kind}
 use Rattle.gp_base.specs.declared.table.Kind.TheVariants as kind
-use Rattle.gp_csv.specs.Faults.{Fault, refuse, result_map, result_then, Returns}
+use Rattle.gp_csv.specs.Faults.{Fault, refuse, result_map, result_then}
 use Rattle.gp_csv.specs.Fields.{positive_of, negative_of, magnitude_of, number_of, null_field, unescaped, text_cell, int_cell_of, value_cell_of, cell_of, cells_from}
 use Rattle.gp_csv.specs.Headings.{header_of, heading_named, heading_of, headings_from, is_taken, kind_of_suffix, name_len, or_bad_header, with_heading}
-use Rattle.gp_csv.specs.SheetForms.{ArePlainRows}
-use Rattle.gp_csv.specs.Sheets.{IsSheet, is_cell_of, is_row_of, column_names, columns_from, or_bad_cell, row_of, rows_from, sheet_under, sheet_of_records, records_of}
+use Rattle.gp_csv.specs.SheetForms.{ArePlainRows, IsSheet, is_cell_of, is_row_of, column_names, Returns}
+use Rattle.gp_csv.specs.Sheets.{columns_from, or_bad_cell, row_of, rows_from, sheet_under, sheet_of_records, records_of}
 use Rattle.gp_csv.specs.declared.error.CsvStop.{CsvStop}
 use Rattle.gp_csv.specs.declared.error.CsvStop.TheVariants.{Refused, NoMemory}
 use Rattle.gp_csv.specs.declared.heading.Heading.{Heading}

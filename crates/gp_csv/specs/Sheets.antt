@@ -1,18 +1,14 @@
 -- Part of the statement: the sheet of a CSV text. The text is read after RFC 4180, without a header row, and its records may differ in length. The
 -- first record names the columns, and each other one is a row.
-use Rattle.std.specs.Prelude.{◌≡◌, ◌<◌, ◌≤◌, ℕ, suc, Bool, true, false, not, ◌&&◌, List, [], ◌∷◌, length, map, Option, Some, None, Result, Ok, if◌then◌else◌, ◌==◌}
-use Rattle.std.specs.List.{IsDistinct, list_all}
-use Rattle.std.specs.Str.{bytes_eq, is_utf8}
+use Rattle.std.specs.Prelude.{ℕ, suc, not, List, [], ◌∷◌, length, Option, Some, None, Result, Ok, if◌then◌else◌, ◌==◌}
+use Rattle.std.specs.List.{list_all}
+use Rattle.std.specs.Str.{is_utf8}
 use Rattle.csv.specs.Reading.{default_config, records, strip_bom}
 use Rattle.csv.specs.Records.{field_at}
-use Rattle.gp_base.specs.Cells.{fits_number, is_user_text}
-use Rattle.gp_base.specs.Names.{is_name}
 use Rattle.gp_base.specs.declared.cell.Cell.{Cell}
-use Rattle.gp_base.specs.declared.cell.Cell.TheVariants as cell
 use Rattle.gp_base.specs.declared.table.Column.{Column}
 use Rattle.gp_base.specs.declared.table.Kind.{Kind}
 use Rattle.gp_base.specs.declared.table.Kind.TheVariants as kind
-use Rattle.gp_grammar.specs.declared.limits.TheConstants.{MAX_COLUMNS}
 use Rattle.gp_csv.specs.Faults.{Fault, refuse, result_map, result_then}
 use Rattle.gp_csv.specs.Fields.{cells_from, is_int_field}
 use Rattle.gp_csv.specs.Headings.{header_of}
@@ -71,29 +67,3 @@ sheet_of_records (first ∷ others) = result_then (sheet_under others) (header_o
 -- the sheet of a text, or the first fault of its first record with a fault
 abbrev pub sheet_of : List ℕ → Result Sheet Fault
 sheet_of bytes = sheet_of_records (records_of bytes)
-
--- ---- valid sheets
-
--- a cell that a user can write and that a column of this type can hold
-abbrev pub is_cell_of : Kind → Cell → Bool
-is_cell_of column cell.Null = true
-is_cell_of kind.Int (cell.Int number) = fits_number number
-is_cell_of kind.Text (cell.Text text) = is_user_text text
-is_cell_of column other = false
-
--- a cell for each column
-abbrev pub is_row_of : List Column → List Cell → Bool
-is_row_of [] [] = true
-is_row_of (column ∷ columns) (cell ∷ cells) = is_cell_of column.kind cell && is_row_of columns cells
-is_row_of columns cells = false
-
-abbrev pub column_names : List Column → List (List ℕ)
-column_names columns = map (λ (column : Column). column.name) columns
-
--- a sheet that can be a table: 1 to MAX_COLUMNS columns, whose names are names and differ, and rows of these columns
-pub record IsSheet (sheet : Sheet) : Type 0 where
-  pub some : 0 < length sheet.cols
-  pub few : length sheet.cols ≤ MAX_COLUMNS
-  pub names : list_all is_name (column_names sheet.cols) ≡ true
-  pub different : IsDistinct bytes_eq (column_names sheet.cols)
-  pub rows : list_all (is_row_of sheet.cols) sheet.rows ≡ true

@@ -3,7 +3,7 @@
 ghost use Rattle.std.specs.Prelude.{◌≡◌, ◌==◌, ◌≤◌, IfOk, None, Some, length, if◌then◌else◌};
 ghost use Rattle.std.specs.List.{position_or_len};
 ghost use Rattle.csv.specs.Records.{fields_of};
-ghost use Rattle.gp_csv.specs.Faults.{Returns};
+ghost use Rattle.gp_csv.specs.SheetForms.{Returns};
 ghost use Rattle.gp_csv.specs.Headings.{with_heading, heading_of, header_of, headings_from, is_taken, kind_of_suffix, name_len, heading_named};
 
 use crate::error::{BAD_HEADER, CsvStop, NOT_UTF8};

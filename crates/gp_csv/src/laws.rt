@@ -1,6 +1,6 @@
 //! The laws of scripts, and of answers as CSV, each as a public function that does nothing.
 
-ghost use Rattle.std.specs.Prelude.{◌≡◌, ◌≤◌, ℕ, ℤ, List, Ok, Some, length, true};
+ghost use Rattle.std.specs.Prelude.{◌≡◌, ◌≤◌, ◌++◌, ◌∷◌, [], ℕ, ℤ, List, Ok, Some, length, true};
 ghost use Rattle.std.specs.List.{list_all};
 ghost use Rattle.gp_base.specs.Cells.{fits_number, is_user_text};
 ghost use Rattle.gp_base.specs.declared.cell.Cell.{Cell};
@@ -11,7 +11,7 @@ ghost use Rattle.gp_base.specs.declared.refusal.Refusal.{Refusal};
 ghost use Rattle.gp_csv.specs.Answers.{answer_records, csv_text, field_of, refusal_records};
 ghost use Rattle.gp_csv.specs.Fields.{cell_of};
 ghost use Rattle.gp_csv.specs.Scripts.{Row, fits_line, batches_of};
-ghost use Rattle.gp_csv.specs.SheetForms.{rows_in};
+ghost use Rattle.gp_csv.specs.SheetForms.{PassesLimit, rows_in};
 ghost use Rattle.gp_csv.specs.Sheets.{records_of};
 
 use crate::script::{MAX_INSERTS, MAX_ROWS};
@@ -34,7 +34,7 @@ pub fn cells_are_read_back()
 {}
 
 /// The INSERT lines of a script hold the rows of the sheet, in order and each as often as it occurs there. Each line is within the
-/// limits of a line, and there are no more rows and lines than a table and a script can have.
+/// limits of a line, and with the next row it would not be. There are no more rows and lines than a table and a script can have.
 pub fn batches_hold_the_rows()
     ensures kept { (name : List ℕ) (rows : List Row) (batches : List (List Row))
         → batches_of name rows ≡ Ok batches → rows_in batches ≡ rows }
@@ -44,4 +44,8 @@ pub fn batches_hold_the_rows()
         → batches_of name rows ≡ Ok batches → length rows ≤ MAX_ROWS }
     ensures fit { (name : List ℕ) (rows : List Row) (batches : List (List Row))
         → batches_of name rows ≡ Ok batches → list_all (fits_line name) batches ≡ true }
+    ensures full { (name : List ℕ) (rows : List Row) (before after : List (List Row))
+        (batch next : List Row) (row : Row)
+        → batches_of name rows ≡ Ok (before ++ batch ∷ (row ∷ next) ∷ after)
+        → PassesLimit name (batch ++ row ∷ []) }
 {}

@@ -4,10 +4,9 @@
 ghost use Rattle.std.specs.Prelude.{◌≡◌, ◌+◌, ◌<◌, ◌≤◌, IfOk, OnOk, length, true};
 ghost use Rattle.gp_grammar.specs.Canonical.{command_text};
 ghost use Rattle.gp_syntax.specs.Views.{command_view};
-ghost use Rattle.gp_csv.specs.Faults.{Returns};
 ghost use Rattle.gp_csv.specs.Packing.{begun, create_of, has_room, insert_text, joined, line_end, no_line, packed_script, placed, put_row, put_rows, script_end, script_head, tuple_text};
 ghost use Rattle.gp_csv.specs.Scripts.{script_of};
-ghost use Rattle.gp_csv.specs.SheetForms.{ArePlainRows};
+ghost use Rattle.gp_csv.specs.SheetForms.{ArePlainRows, Returns};
 
 use crate::error::{CsvStop, LONG_ROW, TOO_MANY};
 use crate::sheet::Sheet;

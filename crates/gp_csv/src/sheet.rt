@@ -3,11 +3,10 @@
 ghost use Rattle.std.specs.Prelude.{◌≡◌, ◌+◌, ◌-◌, ◌<◌, ◌^◌, [], IfOk, None, Some, length, map, if◌then◌else◌};
 ghost use Rattle.std.specs.List.{list_all};
 ghost use Rattle.csv.specs.Records.{field_at, fields_of};
-ghost use Rattle.gp_csv.specs.Faults.{Returns};
 ghost use Rattle.gp_csv.specs.Fields.{cells_from};
 ghost use Rattle.gp_csv.specs.Fields.{is_int_field};
-ghost use Rattle.gp_csv.specs.SheetForms.{ArePlainRows};
-ghost use Rattle.gp_csv.specs.Sheets.{IsSheet, columns_from, inferred, kind_or, or_bad_cell, row_of, rows_from, sheet_of, sheet_of_records, sheet_under};
+ghost use Rattle.gp_csv.specs.SheetForms.{ArePlainRows, IsSheet, Returns};
+ghost use Rattle.gp_csv.specs.Sheets.{columns_from, inferred, kind_or, or_bad_cell, row_of, rows_from, sheet_of, sheet_of_records, sheet_under};
 
 use crate::error::{BAD_CELL, BAD_HEADER, BAD_LENGTH, CsvStop, NOT_UTF8};
 use crate::field::{is_int_field, parse_cell};

@@ -28,7 +28,7 @@ use Rattle.gp_machine.specs.Bases.{Based, is_new, pairs}
 use Rattle.gp_machine.specs.Committed.{is_written, unmarked}
 use Rattle.gp_machine.specs.Event.{refusal_of}
 use Rattle.gp_log.specs.Parameters.{parameters}
-use Rattle.gp_csv.specs.Sheets.{is_cell_of, is_row_of}
+use Rattle.gp_csv.specs.SheetForms.{is_cell_of, is_row_of}
 use Rattle.gp_base.proofs.SmallLemmas.{all_weaker}
 
 abbrev pub Row : Type 0

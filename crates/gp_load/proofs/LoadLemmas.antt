@@ -27,8 +27,7 @@ use Rattle.gp_script.specs.History.{has_refusal}
 use Rattle.gp_script.specs.Scripts.{lines_as_read, replies_from, state_after}
 use Rattle.gp_script.proofs.ReadHistory.{is-script, replies-read, state-read}
 use Rattle.gp_csv.specs.Scripts.{batches_of, commands_of, ended_line, fits_line, inserts_from, inserts_of, line_of, script_of, script_text, transaction_break}
-use Rattle.gp_csv.specs.SheetForms.{rows_in}
-use Rattle.gp_csv.specs.Sheets.{IsSheet, column_names, is_cell_of, is_row_of}
+use Rattle.gp_csv.specs.SheetForms.{rows_in, IsSheet, column_names, is_cell_of, is_row_of}
 use Rattle.gp_csv.specs.declared.script.TheConstants.{MAX_INSERTS, MAX_ROWS, MAX_STEPS}
 use Rattle.gp_csv.specs.declared.sheet.Sheet.{Sheet}
 use Rattle.gp_csv.proofs.LineLemmas.{HoldsAll, lines-hold-all}

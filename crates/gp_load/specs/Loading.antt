@@ -1,15 +1,14 @@
 -- Part of the statement: the script of a sheet is run without a refusal, and leaves the rows of the sheet in its one table.
-use Rattle.std.specs.Prelude.{◌≡◌, ℕ, ◌≤◌, true, false, List, [], ◌∷◌, length, map, Result, Ok}
+use Rattle.std.specs.Prelude.{◌≡◌, ℕ, ◌≤◌, false, List, [], ◌∷◌, length, map, Result, Ok}
 use Rattle.gp_base.specs.declared.cell.Cell.{Cell}
 use Rattle.gp_base.specs.declared.table.Table.{Table}
 use Rattle.gp_base.specs.Annotated.{Annotated, plain}
-use Rattle.gp_base.specs.Names.{is_name}
 use Rattle.gp_machine.specs.Entries.{versions_in}
 use Rattle.gp_machine.specs.State.{State}
 use Rattle.gp_script.specs.History.{IsScript, ReadLine, has_refusal, last_state, replies_to}
 use Rattle.gp_script.specs.declared.script.TheConstants.{MAX_SCRIPT_LENGTH}
 use Rattle.gp_csv.specs.Faults.{Fault, result_map, result_then}
-use Rattle.gp_csv.specs.Sheets.{IsSheet, sheet_of}
+use Rattle.gp_csv.specs.Sheets.{sheet_of}
 use Rattle.gp_csv.specs.Scripts.{script_of}
 use Rattle.gp_csv.specs.declared.sheet.Sheet.{Sheet}
 
@@ -30,10 +29,6 @@ pub record Loads (name : List ℕ) (sheet : Sheet) (script : List ℕ) : Type 0 
   pub accepted : has_refusal (replies_to lines) ≡ false
   pub table : (last_state plain lines).catalogue ≡ table_of name sheet ∷ []
   pub rows : last_rows (last_state plain lines) 0 ≡ sheet.rows
-
--- so does the script of every sheet that can be a table, under every name
-abbrev pub LoadsSheets : Type 0
-LoadsSheets = (name : List ℕ) (sheet : Sheet) (script : List ℕ) → is_name name ≡ true → IsSheet sheet → script_of name sheet ≡ Ok script → Loads name sheet script
 
 -- the script of the sheet of a text and the number of its rows, or the first fault
 abbrev pub loaded_of : List ℕ → List ℕ → Result (List ℕ × ℕ) Fault

@@ -1,7 +1,7 @@
 //! Sheets loaded: the script of a CSV text.
 
 ghost use Rattle.std.specs.Prelude.{◌<◌, ◌-◌, ◌^◌, IfOk, length};
-ghost use Rattle.gp_csv.specs.Faults.{Returns};
+ghost use Rattle.gp_csv.specs.SheetForms.{Returns};
 ghost use Rattle.gp_load.specs.Loading.{LoadsText, loaded_of};
 
 use gp_base::Name;

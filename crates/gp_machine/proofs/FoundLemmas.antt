@@ -27,7 +27,8 @@ use Rattle.gp_machine.proofs.ViewLemmas.{holds_others}
 use Rattle.gp_machine.specs.Actions.{action_of}
 use Rattle.gp_machine.specs.Bases.{Based, is_new, pairs, with_base}
 use Rattle.gp_machine.specs.Committed.{is_written}
-use Rattle.gp_machine.specs.Conflicts.{Conflict, HaveOneBase, IsBased, IsLeastConflict, least_conflict}
+use Rattle.gp_machine.specs.Conflicts.{Conflict, least_conflict}
+use Rattle.gp_machine.specs.ConflictForms.{HaveOneBase, IsBased, IsLeastConflict}
 use Rattle.gp_machine.specs.EngineLine.{Answers, FindsConflict, Follows, ShowsConflict, next_write}
 use Rattle.gp_machine.specs.Entries.{Log, begin_version, log_of}
 use Rattle.gp_machine.specs.Event.{Line, after}

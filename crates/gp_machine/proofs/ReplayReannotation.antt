@@ -19,7 +19,8 @@ use Rattle.gp_machine.specs.Histories.{IsFirst, IsHistory}
 use Rattle.gp_machine.specs.HistorySpans.{spans_of}
 use Rattle.gp_machine.specs.Parameters.{Parameters}
 use Rattle.gp_machine.specs.Reading.{Seen, next_seen, seen_by, started, wrote_by}
-use Rattle.gp_machine.specs.Replaying.{Replay, commit_stop, first_stop, remade, replay_stop, replayed, replayed_spans, rerun, run_written, version_stop}
+use Rattle.gp_machine.specs.Replaying.{Replay, commit_stop, first_stop, remade, replay_stop, replayed, rerun, run_written, version_stop}
+use Rattle.gp_machine.specs.ReplayForms.{replayed_spans}
 use Rattle.gp_machine.specs.Runs.{run, run_before, stepped}
 use Rattle.gp_machine.specs.State.{State, with_value}
 use Rattle.gp_machine.specs.StateReannotation.{seen_reannotated, state_reannotated}

@@ -9,7 +9,8 @@ use Rattle.gp_machine.specs.Entries.{Entry, Log, log_of, versions_in}
 use Rattle.gp_machine.specs.Parameters.{Parameters}
 use Rattle.gp_machine.specs.Points.{run_stop}
 use Rattle.gp_machine.specs.Replayed.{replayed_state}
-use Rattle.gp_machine.specs.Replaying.{CommitsInOrder, Replay, replay_stop, replayed, version_stop}
+use Rattle.gp_machine.specs.Replaying.{Replay, replay_stop, replayed, version_stop}
+use Rattle.gp_machine.specs.ReplayForms.{CommitsInOrder}
 use Rattle.gp_machine.specs.Unstopped.{IsUnstopped}
 use Rattle.gp_base.proofs.SmallLemmas.{none_parts}
 

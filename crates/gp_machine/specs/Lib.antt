@@ -28,3 +28,5 @@ pub mod Unstopped
 pub mod SeenRows
 pub mod SpanCounts
 pub mod CheckedTargets
+pub mod ConflictForms
+pub mod ReplayForms

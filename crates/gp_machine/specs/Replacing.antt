@@ -1,4 +1,4 @@
--- What the law on publishing cites: a published table has the rows of a view in place of those that its transaction wrote.
+-- Part of the statement: what the law on publishing says: a published table has the rows of a view in place of those that its transaction wrote.
 use Rattle.std.specs.Prelude.{◌≡◌, ◌++◌, Bool, true, false, List, filter}
 use Rattle.gp_base.specs.Identities.{Identity, same_identity}
 use Rattle.gp_base.specs.Annotated.{Annotated}

@@ -1,16 +1,14 @@
 -- Part of the statement: the commits of a log made again, whatever a history held. Each transaction that made a version runs its statements again, each
 -- on the version that it reads, over the versions made so far, and its commit makes the next one, unless it stops.
-use Rattle.std.specs.Prelude.{◌≡◌, ℕ, zero, suc, ◌+◌, ◌<◌, ◌≤◌, nat_lt, Bool, true, false, List, [], Option, Some, None}
+use Rattle.std.specs.Prelude.{ℕ, zero, suc, ◌+◌, nat_lt, Bool, true, false, List, [], Option, Some, None}
 use Rattle.std.specs.Option.{option_or}
 use Rattle.gp_base.specs.Annotated.{Annotations, Environment}
 use Rattle.gp_algebra.specs.Effects.{Written}
-use Rattle.gp_versions.specs.declared.span.Span.{Span}
 use Rattle.gp_machine.specs.Bases.{Based, pairs, with_bases}
 use Rattle.gp_machine.specs.Committed.{next_version}
 use Rattle.gp_machine.specs.Conflicts.{Conflict, least_conflict}
 use Rattle.gp_machine.specs.Entries.{Log}
 use Rattle.gp_machine.specs.Event.{published_rows}
-use Rattle.gp_machine.specs.HistorySpans.{spans_of}
 use Rattle.gp_machine.specs.Parameters.{Parameters}
 use Rattle.gp_machine.specs.Points.{RunStop, run_stop}
 use Rattle.gp_machine.specs.Reading.{Seen, wrote_by}
@@ -76,19 +74,3 @@ module _ {M : Type 0} (domain : Annotations M) (log : Log) where
     abbrev pub replay_stop : ℕ → Option ReplayStop
     replay_stop zero = None
     replay_stop (suc u) = option_or (replay_stop u) (version_stop u)
-
-  -- the row versions of the first versions, this many, in a table
-  abbrev pub replayed_spans : ℕ → ℕ → ℕ → List Span
-  replayed_spans tables versions place = spans_of versions (replayed tables versions).committed (replayed tables versions).written place
-
--- a log with its first versions alone, this many
-abbrev pub upto_version : ℕ → Log → Log
-upto_version versions log = record log { versions = versions }
-
--- In a log that keeps its sessions, a transaction reads versions before the one that it makes, no statement an older one than the statement before it,
--- and commits once.
-pub record CommitsInOrder (log : Log) : Type 0 where
-  pub order : (u k : ℕ) → u < log.versions → k ≤ log.statement_count (log.committer (suc u)) → log.version (log.committer (suc u)) k ≤ u
-  pub later : (u k : ℕ) → u < log.versions → k < log.statement_count (log.committer (suc u))
-      → log.version (log.committer (suc u)) k ≤ log.version (log.committer (suc u)) (suc k)
-  pub once : (u v : ℕ) → u < log.versions → v < log.versions → log.committer (suc u) ≡ log.committer (suc v) → u ≡ v

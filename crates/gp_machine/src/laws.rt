@@ -23,7 +23,8 @@ ghost use Rattle.gp_machine.specs.Annotating.{annotated, annotated_versions, com
 ghost use Rattle.gp_machine.specs.Bases.{Based, pairs};
 ghost use Rattle.gp_machine.specs.Committed.{cleared, is_written, merged, next_version, unmarked};
 ghost use Rattle.gp_machine.specs.Committers.{CommittedBy};
-ghost use Rattle.gp_machine.specs.Conflicts.{Conflict, HaveOneBase, IsLeastConflict, least_conflict};
+ghost use Rattle.gp_machine.specs.Conflicts.{Conflict, least_conflict};
+ghost use Rattle.gp_machine.specs.ConflictForms.{HaveOneBase, IsLeastConflict};
 ghost use Rattle.gp_machine.specs.EngineLine.{Answers, FindsConflict, Follows, ShowsConflict};
 ghost use Rattle.gp_machine.specs.Entries.{Entry, Log, begin_version, committer_of, log_of, statement_count, statement_version, transactions_in, version_of, versions_in};
 ghost use Rattle.gp_machine.specs.Event.{Line, after, conflict_of, line_event, published};
@@ -39,7 +40,8 @@ ghost use Rattle.gp_machine.specs.Questions.{AreAlike, annotated_answer, held_an
 ghost use Rattle.gp_machine.specs.Reached.{CountsAreWithin, IsReached};
 ghost use Rattle.gp_machine.specs.Recorded.{is_recorded};
 ghost use Rattle.gp_machine.specs.Replayed.{replayed_state};
-ghost use Rattle.gp_machine.specs.Replaying.{CommitsInOrder, replay_stop, replayed, replayed_spans, upto_version};
+ghost use Rattle.gp_machine.specs.Replaying.{replay_stop, replayed};
+ghost use Rattle.gp_machine.specs.ReplayForms.{CommitsInOrder, upto_version, replayed_spans};
 ghost use Rattle.gp_machine.specs.Represents.{Kept, Overlay, Represents, kept_start};
 ghost use Rattle.gp_machine.specs.Reading.{start_by};
 ghost use Rattle.gp_machine.specs.Runs.{at_commit, run, run_before};

@@ -9,7 +9,8 @@ use Rattle.gp_syntax.specs.Lines.{numbers_of, script_lines}
 use Rattle.gp_algebra.specs.Reannotation.{IsHomomorphism, forgotten}
 use Rattle.gp_machine.specs.Actions.{Action, Begin, Commit, Create, Rollback, Run, action_of}
 use Rattle.gp_machine.specs.Event.{Line, after, event, line_event}
-use Rattle.gp_machine.specs.Recorded.{is_lost, is_recorded}
+use Rattle.gp_machine.specs.Recorded.{is_recorded}
+use Rattle.gp_machine.specs.Replies.{is_lost}
 use Rattle.gp_machine.specs.State.{State, start}
 use Rattle.gp_machine.specs.StateReannotation.{outcome_reannotated, state_reannotated}
 use Rattle.gp_machine.specs.declared.reply.Reply.{Reply}

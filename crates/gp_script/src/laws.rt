@@ -6,7 +6,7 @@ ghost use Rattle.gp_base.specs.declared.refusal.Refusal.{Refusal};
 ghost use Rattle.gp_syntax.specs.Lines.{numbers_of, script_lines};
 ghost use Rattle.gp_algebra.specs.Reannotation.{forgotten};
 ghost use Rattle.gp_machine.specs.Event.{after};
-ghost use Rattle.gp_machine.specs.Recorded.{is_lost};
+ghost use Rattle.gp_machine.specs.Replies.{is_lost};
 ghost use Rattle.gp_machine.specs.State.{State, start};
 ghost use Rattle.gp_machine.specs.StateReannotation.{state_reannotated};
 ghost use Rattle.gp_machine.specs.declared.reply.Reply.TheVariants as reply;

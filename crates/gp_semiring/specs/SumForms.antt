@@ -12,3 +12,8 @@ Each P (x ∷ xs) = P x × Each P xs
 pub record IsSum {K : Type 0} (R : K → K → Ordering) (is_key : K → Type 0) (most : ℕ) (terms : List (K × ℕ)) : Type 0 where
   pub sorted : IsTrue (is_sorted R terms)
   pub each : Each (λ t. is_key t.0 × ((1 ≤ t.1) × (t.1 ≤ most))) terms
+
+-- the sum, from zero
+abbrev pub total : {K : Type 0} → K → (K → K → K) → List K → K
+total zero_of plus [] = zero_of
+total zero_of plus (a ∷ elements) = plus a (total zero_of plus elements)

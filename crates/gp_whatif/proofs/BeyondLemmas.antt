@@ -14,7 +14,8 @@ use Rattle.gp_machine.specs.HistorySpans.{span_from, spans_upto}
 use Rattle.gp_machine.specs.CheckedTargets.{HasTarget}
 use Rattle.gp_machine.specs.Publishing.{publish, was_written}
 use Rattle.gp_machine.specs.Reading.{Seen, seen_by, start_by, started}
-use Rattle.gp_machine.specs.Replaying.{replayed, replayed_spans, rerun, upto_version}
+use Rattle.gp_machine.specs.Replaying.{replayed, rerun}
+use Rattle.gp_machine.specs.ReplayForms.{upto_version, replayed_spans}
 use Rattle.gp_machine.specs.Runs.{refreshed, run, run_before, stepped}
 use Rattle.gp_log.specs.LogFitting.{statements_fit}
 use Rattle.gp_whatif.specs.Replays.{WritesTables}

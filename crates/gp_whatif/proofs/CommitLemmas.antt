@@ -35,7 +35,8 @@ use Rattle.gp_machine.specs.HistorySpans as machine
 use Rattle.gp_machine.specs.Points.{OverNodes, OverRows, RunStop, run_stop}
 use Rattle.gp_machine.specs.Reading.{Seen}
 use Rattle.gp_machine.specs.Replaying as m
-use Rattle.gp_machine.specs.Replaying.{CommitsInOrder, Replay, first_stop, rerun, upto_version, version_stop}
+use Rattle.gp_machine.specs.Replaying.{Replay, first_stop, rerun, version_stop}
+use Rattle.gp_machine.specs.ReplayForms.{CommitsInOrder, upto_version}
 use Rattle.gp_machine.specs.Represents.{Kept, Overlay, RepresentsActive, kept_start}
 use Rattle.gp_machine.specs.State.{Active, with_value}
 use Rattle.gp_log.specs.Parameters.{parameters}

@@ -19,7 +19,8 @@ use Rattle.gp_machine.specs.HistorySpans.{spans_of}
 use Rattle.gp_machine.specs.Points.{run_stop, statement_stop}
 use Rattle.gp_machine.specs.Questions.{statement_refusal, transaction_refusal}
 use Rattle.gp_machine.specs.Reading.{Seen, wrote_by}
-use Rattle.gp_machine.specs.Replaying.{Replay, first_stop, remade, replay_stop, replayed, replayed_spans, rerun, run_written, version_stop}
+use Rattle.gp_machine.specs.Replaying.{Replay, first_stop, remade, replay_stop, replayed, rerun, run_written, version_stop}
+use Rattle.gp_machine.specs.ReplayForms.{replayed_spans}
 use Rattle.gp_machine.specs.Runs.{refreshed, run, run_before, stepped}
 use Rattle.gp_log.proofs.KeptSessions.{maker_version}
 use Rattle.gp_log.specs.Parameters.{parameters}

@@ -29,7 +29,8 @@ use Rattle.gp_machine.specs.Entries.{Entry, Log, committer_of, log_of, statement
 use Rattle.gp_machine.specs.Histories.{IsHistory}
 use Rattle.gp_machine.specs.Points.{OverNodes, OverRows, RunStop, run_stop, statement_stop}
 use Rattle.gp_machine.specs.Reading.{start_by, wrote_by}
-use Rattle.gp_machine.specs.Replaying.{CommitsInOrder, Replay, upto_version}
+use Rattle.gp_machine.specs.Replaying.{Replay}
+use Rattle.gp_machine.specs.ReplayForms.{CommitsInOrder, upto_version}
 use Rattle.gp_machine.specs.Represents as machine
 use Rattle.gp_machine.specs.Represents.{Overlay, RepresentsActive, base_among}
 use Rattle.gp_machine.specs.Runs.{run_before, stepped}

@@ -12,7 +12,8 @@ use Rattle.gp_txn.specs.Transactions.{HoldsThere, Writes, base_at, has_written, 
 use Rattle.gp_machine.specs.Entries.{Entry, committer_of, log_of, statement_version}
 use Rattle.gp_machine.specs.Points.{run_stop}
 use Rattle.gp_machine.specs.Reading.{Seen, seen_by}
-use Rattle.gp_machine.specs.Replaying.{Replay, replayed, upto_version}
+use Rattle.gp_machine.specs.Replaying.{Replay, replayed}
+use Rattle.gp_machine.specs.ReplayForms.{upto_version}
 use Rattle.gp_machine.specs.Represents.{base_among}
 use Rattle.gp_log.specs.Parameters.{parameters}
 use Rattle.gp_log.specs.LogFacts.{tables_in}

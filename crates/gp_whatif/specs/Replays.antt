@@ -7,7 +7,8 @@ use Rattle.gp_machine.specs.Entries.{Entry, Ran, log_of}
 use Rattle.gp_machine.specs.CheckedTargets.{HasTarget}
 use Rattle.gp_machine.specs.Points.{OverRows, OverNodes}
 use Rattle.gp_machine.specs.Replaying as m
-use Rattle.gp_machine.specs.Replaying.{replay_stop, replayed_spans}
+use Rattle.gp_machine.specs.Replaying.{replay_stop}
+use Rattle.gp_machine.specs.ReplayForms.{replayed_spans}
 use Rattle.gp_log.specs.Parameters.{parameters}
 use Rattle.gp_log.specs.LogFacts.{tables_in}
 use Rattle.gp_log.specs.LogFitting.{statements_fit}
