@@ -13,7 +13,6 @@ use Rattle.gp_algebra.specs.Plain.{no_steps, with_step}
 use Rattle.gp_algebra.specs.QueryViews.{annotated_step_view, annotated_view}
 use Rattle.gp_algebra.specs.declared.annotated.AStep.{AStep}
 use Rattle.gp_algebra.specs.Stops.{Stop, first_stop}
-use Rattle.gp_base.specs.declared.limit.TheConstants.{MAX_TABLE_ROWS}
 use Rattle.gp_kexec.specs.declared.held.Held.{Held}
 use Rattle.gp_kexec.specs.declared.table.Done.{Done}
 use Rattle.gp_kexec.specs.AnnotatedStops.{steps_stop, stop_at}
@@ -67,20 +66,20 @@ module _ {M : Type 0} (domain : Annotations M) (env : Environment M) where
 
   -- ---- the rest of a program
 
-  abbrev stop_of : List QueryStep → (ℕ → Rows) → Option Stop
-  stop_of steps before = steps_stop domain MAX_TABLE_ROWS MAX_NODES env steps before
+  abbrev stop_of : ℕ → List QueryStep → (ℕ → Rows) → Option Stop
+  stop_of most steps before = steps_stop domain most MAX_NODES env steps before
 
   abbrev last_rows : List QueryStep → Query → (ℕ → Rows) → Rows
   last_rows steps last before = meaning domain (steps_meaning domain env steps before) env last
 
   -- the rest of a program over the same rows of the live steps
-  record SameRest (steps : List QueryStep) (last : Query) (old new : ℕ → Rows) : Type 0 where
-    pub stop : stop_of steps new ≡ stop_of steps old
+  record SameRest (most : ℕ) (steps : List QueryStep) (last : Query) (old new : ℕ → Rows) : Type 0 where
+    pub stop : stop_of most steps new ≡ stop_of most steps old
     pub same : last_rows steps last new ≡ last_rows steps last old
 
-  rest_agrees : (steps : List QueryStep) (last : Query) (old new : ℕ → Rows) → KeepsLive steps last old new → SameRest steps last old new
-  rest_agrees [] last old new keeps = record { stop = refl; same = meaning_agrees last new old keeps }
-  rest_agrees (first ∷ steps) last old new keeps =
+  rest_agrees : (most : ℕ) (steps : List QueryStep) (last : Query) (old new : ℕ → Rows) → KeepsLive steps last old new → SameRest most steps last old new
+  rest_agrees most [] last old new keeps = record { stop = refl; same = meaning_agrees last new old keeps }
+  rest_agrees most (first ∷ steps) last old new keeps =
       let any = λ (j : ℕ). list_any (λ s. reads j s.query) steps in
       let was = meaning domain old env first.query in
       let is = meaning domain new env first.query in
@@ -89,23 +88,23 @@ module _ {M : Type 0} (domain : Annotations M) (env : Environment M) where
       let later : KeepsLive steps last (with_step first.j was old) (with_step first.j is new) =
       λ j live. ap (λ (rows : Rows). if j == first.j then rows else new j) here
       ∙ ap (λ (rows : Rows). if j == first.j then was else rows) (keeps j (live_later (reads j first.query) (any j) (reads j last) live)) in
-      let rest = rest_agrees steps last (with_step first.j was old) (with_step first.j is new) later in
+      let rest = rest_agrees most steps last (with_step first.j was old) (with_step first.j is new) later in
       record {
         stop =
-            ap (λ (rows : Rows). first_stop (stop_at domain MAX_TABLE_ROWS MAX_NODES first rows) (stop_of steps (with_step first.j is new))) here
-            ∙ ap (λ (stop : Option Stop). first_stop (stop_at domain MAX_TABLE_ROWS MAX_NODES first was) stop) rest.stop;
+            ap (λ (rows : Rows). first_stop (stop_at domain most MAX_NODES first rows) (stop_of most steps (with_step first.j is new))) here
+            ∙ ap (λ (stop : Option Stop). first_stop (stop_at domain most MAX_NODES first was) stop) rest.stop;
         same = rest.same;
       }
 
   -- a step that does not stop, and the steps after it
-  pub rest_after : (step : QueryStep) (steps : List QueryStep) (last : Query) (old new : ℕ → Rows) → stop_at domain MAX_TABLE_ROWS MAX_NODES step (meaning domain old env step.query) ≡ None →
+  pub rest_after : (most : ℕ) (step : QueryStep) (steps : List QueryStep) (last : Query) (old new : ℕ → Rows) → stop_at domain most MAX_NODES step (meaning domain old env step.query) ≡ None →
       KeepsLive steps last (with_step step.j (meaning domain old env step.query) old) new →
-      (steps_stop domain MAX_TABLE_ROWS MAX_NODES env steps new ≡ steps_stop domain MAX_TABLE_ROWS MAX_NODES env (step ∷ steps) old)
+      (steps_stop domain most MAX_NODES env steps new ≡ steps_stop domain most MAX_NODES env (step ∷ steps) old)
       × (meaning domain (steps_meaning domain env steps new) env last ≡ meaning domain (steps_meaning domain env (step ∷ steps) old) env last)
-  rest_after step steps last old new goes_on keeps =
+  rest_after most step steps last old new goes_on keeps =
       let after = with_step step.j (meaning domain old env step.query) old in
-      let rest = rest_agrees steps last after new keeps in
-      (rest.stop ∙ sym (ap (λ (stop : Option Stop). first_stop stop (stop_of steps after)) goes_on), rest.same)
+      let rest = rest_agrees most steps last after new keeps in
+      (rest.stop ∙ sym (ap (λ (stop : Option Stop). first_stop stop (stop_of most steps after)) goes_on), rest.same)
 
 apart : (j other number : ℕ) → (other ≡ j → ⊥) → (j == number) ≡ true → (other == number) ≡ false
 apart j other number not is =

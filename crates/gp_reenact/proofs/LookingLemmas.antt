@@ -31,7 +31,8 @@ use Rattle.gp_algebra.specs.WellBuilt.{is_well_built}
 use Rattle.gp_algebra.proofs.Erasure.{Reannotates, step_reannotated}
 use Rattle.gp_base.specs.declared.limit.TheConstants.{MAX_ANSWER_ROWS, MAX_TABLE_ROWS}
 use Rattle.gp_compose.specs.Composed.{program_at}
-use Rattle.gp_compose.specs.Seen.{count_refusal, looked_at, looking_program, saw_refusal, writes}
+use Rattle.gp_compose.specs.Seen.{count_refusal, looked_at, saw_refusal, writes}
+use Rattle.gp_compose.specs.Composing.{looking_program}
 use Rattle.gp_compose.proofs.ProgramLemmas.{looking_program_is, looking_program_is_built, seen_program_is_built}
 use Rattle.gp_exec.specs.Backends.{Executes}
 use Rattle.gp_exec.specs.Running.{RunsTable, environment_view}
@@ -61,7 +62,8 @@ use Rattle.gp_reenact.specs.Encoding as travel
 use Rattle.gp_reenact.specs.Travel as travels
 use Rattle.gp_versions.specs.Spans.{Versions}
 use Rattle.gp_reenact.specs.Backends.{ReenactsBy, RefusedBy}
-use Rattle.gp_reenact.specs.Looking.{EndsInTable, Looks, looked_answer, looked_program, looked_refusal, looked_rows, saw_answer, saw_program, system_row}
+use Rattle.gp_reenact.specs.Looking.{looked_refusal, saw_answer}
+use Rattle.gp_reenact.specs.LookingForms.{EndsInTable, Looks, looked_answer, looked_program, looked_rows, saw_program, system_row}
 use Rattle.gp_reenact.specs.Reenacting.{Reenacts, RunsOver, spans_of, stopped}
 use Rattle.gp_reenact.specs.declared.error.ReenactStop.{ReenactStop}
 use Rattle.gp_reenact.specs.declared.error.ReenactStop.TheVariants.{Refused, NoMemory}
@@ -332,7 +334,7 @@ module _ (entries : List Entry) (versions : List Versions) (fit : statements_fit
 pub ends_in_table : {X : Type 0} (view : X → List (List Cell)) (result : Result X ExecStop) (held : Env) (program : p.PlainProgram) (past : p.PlainEnvironment)
     → p.program_meaning (environment_view held) program ≡ p.program_meaning past program
     → program_stop MAX_TABLE_ROWS MAX_NODES (environment_view held) program ≡ program_stop MAX_TABLE_ROWS MAX_NODES past program
-    → RunsTable view result held program → EndsInTable view result program past
+    → RunsTable MAX_TABLE_ROWS view result held program → EndsInTable view result program past
 ends_in_table view (Ok found) held program past same_rows same_stop runs = (sym same_stop ∙ runs.0, runs.1 ∙ same_rows)
 ends_in_table view (Err (exec.Rows j)) held program past same_rows same_stop runs = sym same_stop ∙ runs
 ends_in_table view (Err (exec.Ancestry j)) held program past same_rows same_stop runs = sym same_stop ∙ runs

@@ -5,3 +5,4 @@ pub mod Programs
 pub mod Encoding
 pub mod Travel
 pub mod Looking
+pub mod LookingForms

@@ -1,35 +1,19 @@
--- Part of the statement: the answer to a question about what any transaction saw, whatever became of it, and the rows by which one looks at a statement of one,
--- over the log and the row versions.
-use Rattle.std.specs.Prelude.{◌≡◌, ℕ, suc, List, [], ◌∷◌, ◌++◌, map, false, Option, Some, None, Result, Ok, Err}
+-- Part of the statement: the answer to a question about what any transaction saw, whatever became of it, over the log and the row versions; and what one
+-- that looks at a statement is refused.
+use Rattle.std.specs.Prelude.{ℕ, suc, List, Option, Result}
 use Rattle.std.specs.Option.{option_map, option_or}
-use Rattle.gp_base.specs.declared.cell.Cell.{Cell}
-use Rattle.gp_base.specs.declared.cell.Cell.TheVariants as cell
 use Rattle.gp_base.specs.declared.refusal.Refusal.{Refusal}
-use Rattle.gp_base.specs.declared.limit.TheConstants.{MAX_TABLE_ROWS}
-use Rattle.gp_base.specs.declared.row_id.TheConstants.{MAX_NODES}
-use Rattle.gp_base.specs.Annotated.{Annotated, plain}
+use Rattle.gp_base.specs.Annotated.{plain}
 use Rattle.gp_algebra.specs.Answers.{Element, answer}
-use Rattle.gp_algebra.specs.Plain.{PlainEnvironment, PlainProgram, program_meaning}
-use Rattle.gp_algebra.specs.Statements.{Select, Statement, width_of}
-use Rattle.gp_algebra.specs.Stops.{ancestry, program_stop, rows}
-use Rattle.gp_compose.specs.Composed.{after}
-use Rattle.gp_compose.specs.Seen.{looked_at, looking_program, saw_refusal}
-use Rattle.gp_exec.specs.declared.error.ExecStop.{ExecStop}
-use Rattle.gp_exec.specs.declared.error.ExecStop.TheVariants as exec
-use Rattle.gp_log.specs.LogFacts.{tables_in}
+use Rattle.gp_algebra.specs.Statements.{Select, Statement}
+use Rattle.gp_compose.specs.Seen.{saw_refusal}
 use Rattle.gp_machine.specs.Entries.{Entry, log_of}
 use Rattle.gp_machine.specs.HistorySpans.{as_of}
 use Rattle.gp_machine.specs.Parameters.{Parameters}
 use Rattle.gp_machine.specs.Points.{run_stop}
 use Rattle.gp_machine.specs.Questions.{answer_refusal, given, stop_refusal}
-use Rattle.gp_machine.specs.Runs.{run, run_before}
-use Rattle.gp_merge.specs.Merging.{merged}
-use Rattle.gp_prov.specs.ToPlain.{plain_program}
+use Rattle.gp_machine.specs.Runs.{run}
 use Rattle.gp_versions.specs.declared.span.Span.{Span}
-use Rattle.gp_reenact.specs.declared.error.ReenactStop.{ReenactStop}
-use Rattle.gp_reenact.specs.declared.error.ReenactStop.TheVariants.{Refused, NoMemory}
-
--- ---- SAW
 
 -- a query over what the transaction saw after its first statements
 abbrev pub saw_answer : Parameters → List Entry → (ℕ → List Span) → ℕ → ℕ → Select → Result (List (Element (Unit {0}))) Refusal
@@ -40,44 +24,6 @@ saw_answer parameters entries spans t k query =
     (option_or (option_map stop_refusal (run_stop plain parameters (log_of entries) t k (as_of plain spans))) (answer_refusal plain parameters elements)))
     elements
 
--- its program
-abbrev pub saw_program : List Entry → ℕ → ℕ → Select → PlainProgram
-saw_program entries t k select = merged (plain_program (width_of (tables_in entries)) false (after (width_of (tables_in entries)) (log_of entries) t k select))
-
--- ---- the rows by which one looks at a statement
-
--- a row with its identity and its mark behind its cells
-abbrev pub system_row : Annotated (Unit {0}) → List Cell
-system_row row = row.cells ++ cell.Id row.identity ∷ cell.Mark row.mark ∷ []
-
-module _ (parameters : Parameters) (entries : List Entry) (spans : ℕ → List Span) (t k : ℕ) (statement : Statement) where
-  -- those of statement k + 1 of a transaction
-  abbrev pub looked_rows : List (Annotated (Unit {0}))
-  looked_rows = looked_at plain t (suc k) statement (run_before plain (log_of entries) t k (as_of plain spans))
-
-  -- a statement up to this one passes a limit
-  abbrev pub looked_refusal : Option Refusal
-  looked_refusal = option_map stop_refusal (run_stop plain parameters (log_of entries) t (suc k) (as_of plain spans))
-
-  abbrev pub looked_answer : Result (List (List Cell)) Refusal
-  looked_answer = given looked_refusal (map system_row looked_rows)
-
--- its program
-abbrev pub looked_program : List Entry → ℕ → ℕ → Statement → PlainProgram
-looked_program entries t k statement = merged (plain_program (width_of (tables_in entries)) false (looking_program (width_of (tables_in entries)) (log_of entries) t k statement))
-
--- what looking answers: the rows, in the order of their table, or the refusal that is due
-abbrev pub Looks : {X : Type 0} → (X → List (List Cell)) → Result X ReenactStop → Result (List (List Cell)) Refusal → Type 0
-Looks view (Ok found) (Ok list) = view found ≡ list
-Looks view (Ok found) (Err expected) = ⊥
-Looks view (Err (Refused refusal)) (Ok list) = ⊥
-Looks view (Err (Refused refusal)) (Err expected) = refusal ≡ expected
-Looks view (Err NoMemory) expected = Unit {0}
-
--- what running a program that ends in a table gives over past versions: its rows in order, unless one of its steps stops
-abbrev pub EndsInTable : {X : Type 0} → (X → List (List Cell)) → Result X ExecStop → PlainProgram → PlainEnvironment → Type 0
-EndsInTable view (Ok found) program past = (program_stop MAX_TABLE_ROWS MAX_NODES past program ≡ None) × (view found ≡ program_meaning past program)
-EndsInTable view (Err (exec.Rows j)) program past = program_stop MAX_TABLE_ROWS MAX_NODES past program ≡ Some (rows j)
-EndsInTable view (Err (exec.Ancestry j)) program past = program_stop MAX_TABLE_ROWS MAX_NODES past program ≡ Some (ancestry j)
-EndsInTable view (Err exec.Answer) program past = ⊥
-EndsInTable view (Err exec.NoMemory) program past = Unit {0}
+-- statement k + 1 of a transaction, or one before it, passes a limit
+abbrev pub looked_refusal : Parameters → List Entry → (ℕ → List Span) → ℕ → ℕ → Statement → Option Refusal
+looked_refusal parameters entries spans t k statement = option_map stop_refusal (run_stop plain parameters (log_of entries) t (suc k) (as_of plain spans))

@@ -15,7 +15,8 @@ ghost use Rattle.gp_base.specs.Annotated.{plain};
 ghost use Rattle.gp_reenact.specs.Encoding.{encoded};
 ghost use Rattle.gp_reenact.specs.Travel.{as_of};
 ghost use Rattle.gp_reenact.specs.Backends.{ReenactsBy};
-ghost use Rattle.gp_reenact.specs.Looking.{EndsInTable, Looks, looked_answer, looked_program, saw_answer, saw_program};
+ghost use Rattle.gp_reenact.specs.Looking.{saw_answer};
+ghost use Rattle.gp_reenact.specs.LookingForms.{EndsInTable, Looks, looked_answer, looked_program, saw_program};
 ghost use Rattle.gp_reenact.specs.Reenacting.{Plans, Reenacts, spans_of};
 
 use crate::env::env_at;
@@ -23,7 +24,7 @@ use crate::error::ReenactStop;
 use crate::replay::{merged_program, rows_over, stopped};
 use crate::scan_laws::asked_scans_suffice;
 use gp_algebra::{PProgram, Select, Stmt, scans};
-use gp_base::{Refusal, Row};
+use gp_base::{MAX_TABLE_ROWS, Refusal, Row};
 use gp_compose::{check_seen, check_statement, seen};
 use gp_exec::{Backend, ExecStop, Plain, run_table};
 use gp_log::Log;
@@ -160,7 +161,7 @@ fn table_over(
     asked_scans_suffice();
     let asked = scans(alloc, program)?;
     let env = env_at(alloc, versions, &asked)?;
-    run_table(alloc, program, &env)
+    run_table(alloc, program, &env, MAX_TABLE_ROWS)
 }
 
 /// The rows by which one looks at the statement of a transaction behind so many others, in the order of their table, whatever became of

@@ -4,7 +4,7 @@ use crate::cases::inspect;
 use crate::spelling::catalog;
 use crate::values::have_texts;
 use gp_algebra::{PProgram, ScanAt, is_well_built, scans};
-use gp_base::{Catalog, NoMemory, Row, Sequence, sort_rows, text_of_pieces};
+use gp_base::{Catalog, MAX_TABLE_ROWS, NoMemory, Row, Sequence, sort_rows, text_of_pieces};
 use gp_exec::{Env, ExecStop, Scanned, run, run_table};
 use gp_plantext::{PlanStop, read};
 use std::alloc::Global;
@@ -418,7 +418,7 @@ fn is_outcome(alloc: Global, env: &Env, program: &PProgram, expected: Outcome) -
         Outcome::Ends(answer, table) => {
             is_well_built(program)
                 && end_of(run(alloc, program, env)) == answer
-                && end_of(run_table(alloc, program, env)) == table
+                && end_of(run_table(alloc, program, env, MAX_TABLE_ROWS)) == table
         }
         Outcome::Built(built) => is_well_built(program) == built,
         Outcome::Scans(expected) => scans_are(alloc, program, expected),

@@ -7,7 +7,7 @@ use Rattle.gp_base.specs.declared.row.Row.{Row}
 use Rattle.gp_log.specs.Logs.{log_view}
 use Rattle.gp_log.specs.Parameters.{parameters}
 use Rattle.gp_reenact.specs.Encoding.{encoded}
-use Rattle.gp_reenact.specs.Looking.{EndsInTable, Looks, looked_answer}
+use Rattle.gp_reenact.specs.LookingForms.{EndsInTable, Looks, looked_answer}
 use Rattle.gp_reenact.specs.Reenacting.{spans_of}
 use Rattle.gp_reenact.specs.Travel.{as_of}
 use Rattle.gp_reenact.specs.declared.error.ReenactStop.{ReenactStop}

@@ -9,7 +9,7 @@ use Rattle.gp_log.specs.Logs.{log_view}
 use Rattle.gp_reenact.specs.Encoding.{encoded}
 use Rattle.gp_reenact.specs.Travel.{as_of}
 use Rattle.gp_reenact.specs.Backends.{GivesOver, IsGivenOver, ReenactsBy}
-use Rattle.gp_reenact.specs.Looking.{saw_program}
+use Rattle.gp_reenact.specs.LookingForms.{saw_program}
 use Rattle.gp_reenact.specs.Reenacting.{stopped}
 use Rattle.gp_reenact.specs.declared.error.ReenactStop.{ReenactStop}
 use Rattle.gp_reenact.proofs.BackendLemmas.{stop_refused}
