@@ -1,5 +1,5 @@
 -- The writes of a commit: of different identities, and with the rows that the transaction wrote and sees.
-use Rattle.std.proofs.Common.{◌≡◌, ◌≢◌, ℕ, ◌+◌, ◌<◌, true, false, cond, not, ◌||◌, List, [], ◌∷◌, ◌++◌, map, drop, length, get_or, Option, Some, None, refl, ap, sym, ◌∙◌, subst}
+use Rattle.std.proofs.Common.{◌≡◌, ◌≢◌, ℕ, ◌+◌, ◌<◌, true, false, cond, not, ◌||◌, List, [], ◌∷◌, ◌++◌, map, drop, length, get_or, Option, Some, None, refl, ap, sym, ◌∙◌, subst, arith}
 use Rattle.std.specs.List.{cons_option, filter, AllByRecursion}
 use Rattle.std.specs.Option.{option_to_list}
 use Rattle.std.proofs.lemmas.Bool.{or_from, or_parts, false_from_ne_true}
@@ -19,12 +19,12 @@ use Rattle.gp_txn.specs.declared.carried.Carried.{Carried}
 use Rattle.gp_txn.specs.declared.overlay.Slot.{Slot}
 use Rattle.gp_txn.specs.declared.overlay.Slot.TheVariants.{Same, Put, Dropped}
 use Rattle.gp_txn.specs.declared.overlay.TableWrites.{TableWrites}
-use Rattle.gp_txn.specs.Overlay.{base_writes, carried_write, has_slot, head_slot, is_carried, own_write, rows_below, slot_write, slot_writes, slotted_spans, table_writes}
+use Rattle.gp_txn.specs.Overlay.{PlainRow, base_writes, carried_write, head_slot, is_carried, own_write, rows_below, slot_write, slot_writes, slotted_spans, table_writes}
 use Rattle.gp_txn.specs.Prepared.{AreInserted, AreWritesOf}
 use Rattle.gp_txn.specs.Rebasing.{carried_of, carried_over}
 use Rattle.gp_txn.specs.Transactions.{AreCarried, AreOthers, AreOwn, IsOwn, KeepsOwn}
 use Rattle.gp_txn.proofs.PairLemmas.{all-filter, all-map}
-use Rattle.gp_txn.proofs.SlottedLemmas.{rows-held, rows-passed, rows-spans, slotted_at}
+use Rattle.gp_txn.proofs.SlottedLemmas.{rows-held, rows-passed, rows-spans, slotted_of}
 use Rattle.gp_base.proofs.SmallLemmas.{each_append}
 
 -- ---- the loop over the spans of a table
@@ -33,17 +33,23 @@ cons_option-is : {X : Type 0} (x : Option X) (xs : List X) → cons_option x xs 
 cons_option-is None xs = refl
 cons_option-is (Some x) xs = refl
 
-pub write-held : (done : List Write) (slots : List Slot) (carried : List Carried) (place v : ℕ) (spans : List Span) (i : ℕ) (span : Span) → i < length spans → span ≡ get_or spans i span → has_slot carried v span ≡ true
-    → done ++ base_writes (drop place slots) (slotted_at carried v (drop i spans)) ≡ (done ++ option_to_list (slot_write (head_slot (drop place slots)) (row_of plain span))) ++ base_writes (drop (place + 1) slots) (slotted_at carried v (drop (i + 1) spans))
-write-held done slots carried place v spans i span within at held =
-    ap (λ rows. done ++ base_writes (drop place slots) rows) (rows-held carried v spans i span within at held)
-    ∙ ap (λ others. done ++ cons_option (slot_write (head_slot (drop place slots)) (row_of plain span)) (base_writes others (slotted_at carried v (drop (i + 1) spans)))) (drop-drop 1 place slots)
-    ∙ ap (λ others. done ++ others) (cons_option-is (slot_write (head_slot (drop place slots)) (row_of plain span)) (base_writes (drop (place + 1) slots) (slotted_at carried v (drop (i + 1) spans))))
-    ∙ sym (append_assoc done (option_to_list (slot_write (head_slot (drop place slots)) (row_of plain span))) (base_writes (drop (place + 1) slots) (slotted_at carried v (drop (i + 1) spans))))
+pub write-held : (done : List Write) (slots : List Slot) (carried : List Carried) (place : ℕ) (span : Span) (spans list : List Span) → list ≡ span ∷ spans → is_carried carried span.id ≡ false
+    → done ++ base_writes (drop place slots) (slotted_of carried list) ≡ (done ++ option_to_list (slot_write (head_slot (drop place slots)) (row_of plain span))) ++ base_writes (drop (place + 1) slots) (slotted_of carried spans)
+write-held done slots carried place span spans list is free =
+    ap (λ rows. done ++ base_writes (drop place slots) rows) (rows-held carried span spans list is free)
+    ∙ ap (λ others. done ++ cons_option (slot_write (head_slot (drop place slots)) (row_of plain span)) (base_writes others (slotted_of carried spans))) (drop-drop 1 place slots)
+    ∙ ap (λ others. done ++ others) (cons_option-is (slot_write (head_slot (drop place slots)) (row_of plain span)) (base_writes (drop (place + 1) slots) (slotted_of carried spans)))
+    ∙ sym (append_assoc done (option_to_list (slot_write (head_slot (drop place slots)) (row_of plain span))) (base_writes (drop (place + 1) slots) (slotted_of carried spans)))
 
-pub write-passed : (done : List Write) (slots : List Slot) (carried : List Carried) (v : ℕ) (spans : List Span) (i : ℕ) (span : Span) → i < length spans → span ≡ get_or spans i span → has_slot carried v span ≡ false
-    → done ++ base_writes slots (slotted_at carried v (drop i spans)) ≡ done ++ base_writes slots (slotted_at carried v (drop (i + 1) spans))
-write-passed done slots carried v spans i span within at passed = ap (λ rows. done ++ base_writes slots rows) (rows-passed carried v spans i span within at passed)
+pub write-passed : (done : List Write) (slots : List Slot) (carried : List Carried) (span : Span) (spans list : List Span) → list ≡ span ∷ spans → is_carried carried span.id ≡ true
+    → done ++ base_writes slots (slotted_of carried list) ≡ done ++ base_writes slots (slotted_of carried spans)
+write-passed done slots carried span spans list is passed = ap (λ rows. done ++ base_writes slots rows) (rows-passed carried span spans list is passed)
+
+-- without slots there are none
+pub writes-none : (slots : List Slot) (rows : List PlainRow) → length slots ≡ 0 → base_writes slots rows ≡ []
+writes-none [] [] is = refl
+writes-none [] (row ∷ rows) is = writes-none [] rows is
+writes-none (slot ∷ slots) rows is = absurd (omega (arith, is))
 
 -- ---- the writes of a table are of different identities
 

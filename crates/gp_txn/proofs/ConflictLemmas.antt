@@ -1,5 +1,5 @@
 -- The least row that a transaction and a later commit wrote.
-use Rattle.std.proofs.Common.{◌≡◌, ℕ, ◌+◌, ◌<◌, true, false, cond, List, [], ◌∷◌, ◌++◌, drop, length, get_or, Option, Some, None, refl, ap, sym, ◌∙◌, subst, inl, inr}
+use Rattle.std.proofs.Common.{◌≡◌, ℕ, ◌+◌, ◌<◌, true, false, cond, List, [], ◌∷◌, ◌++◌, drop, length, get_or, Option, Some, None, refl, ap, sym, ◌∙◌, subst, arith, inl, inr}
 use Rattle.std.specs.List.{cons_option, filter_map}
 use Rattle.std.specs.Option.{option_to_list}
 use Rattle.std.specs.declared.cmp.Ordering.{Ordering}
@@ -14,10 +14,10 @@ use Rattle.gp_versions.specs.declared.span.Span.{Span}
 use Rattle.gp_txn.specs.declared.carried.Carried.{Carried}
 use Rattle.gp_txn.specs.declared.overlay.Slot.{Slot}
 use Rattle.gp_txn.specs.declared.conflict.Late.{Late}
-use Rattle.gp_txn.specs.Overlay.{has_slot, head_slot, slotted_spans}
+use Rattle.gp_txn.specs.Overlay.{head_slot, is_carried, slotted_spans}
 use Rattle.gp_txn.specs.Conflicts.{IsLeast, carried_late, late_of, slot_lates}
 use Rattle.gp_txn.specs.LeastSoFar.{least_of, lesser}
-use Rattle.gp_txn.proofs.SlottedLemmas.{spans-held, spans-passed}
+use Rattle.gp_txn.proofs.SlottedLemmas.{free_spans, spans-held, spans-passed}
 
 -- ---- the loops
 
@@ -30,20 +30,26 @@ pub least-append : (found : Option Late) (xs ys : List Late) → least_of found 
 least-append found [] ys = refl
 least-append found (x ∷ xs) ys = least-append (lesser found (Some x)) xs ys
 
-pub least-held : (found : Option Late) (slots : List Slot) (carried : List Carried) (place v : ℕ) (spans : List Span) (i : ℕ) (span : Span) → i < length spans → span ≡ get_or spans i span → has_slot carried v span ≡ true
-    → least_of found (slot_lates (drop place slots) (slotted_spans carried v (drop i spans)))
-    ≡ least_of (lesser found (late_of (head_slot (drop place slots)) span)) (slot_lates (drop (place + 1) slots) (slotted_spans carried v (drop (i + 1) spans)))
-least-held found slots carried place v spans i span within at held =
-    ap (λ some. least_of found (slot_lates (drop place slots) some)) (spans-held carried v spans i span within at held)
-    ∙ least-cons found (late_of (head_slot (drop place slots)) span) (slot_lates (drop 1 (drop place slots)) (slotted_spans carried v (drop (i + 1) spans)))
-    ∙ ap (λ others. least_of (lesser found (late_of (head_slot (drop place slots)) span)) (slot_lates others (slotted_spans carried v (drop (i + 1) spans)))) (drop-drop 1 place slots)
+pub least-held : (found : Option Late) (slots : List Slot) (carried : List Carried) (place : ℕ) (span : Span) (spans list : List Span) → list ≡ span ∷ spans → is_carried carried span.id ≡ false
+    → least_of found (slot_lates (drop place slots) (free_spans carried list))
+    ≡ least_of (lesser found (late_of (head_slot (drop place slots)) span)) (slot_lates (drop (place + 1) slots) (free_spans carried spans))
+least-held found slots carried place span spans list is free =
+    ap (λ some. least_of found (slot_lates (drop place slots) some)) (spans-held carried span spans list is free)
+    ∙ least-cons found (late_of (head_slot (drop place slots)) span) (slot_lates (drop 1 (drop place slots)) (free_spans carried spans))
+    ∙ ap (λ others. least_of (lesser found (late_of (head_slot (drop place slots)) span)) (slot_lates others (free_spans carried spans))) (drop-drop 1 place slots)
 
-pub least-passed : (found : Option Late) (slots : List Slot) (carried : List Carried) (v : ℕ) (spans : List Span) (i : ℕ) (span : Span) → i < length spans → span ≡ get_or spans i span → has_slot carried v span ≡ false
-    → least_of found (slot_lates slots (slotted_spans carried v (drop i spans))) ≡ least_of found (slot_lates slots (slotted_spans carried v (drop (i + 1) spans)))
-least-passed found slots carried v spans i span within at passed = ap (λ some. least_of found (slot_lates slots some)) (spans-passed carried v spans i span within at passed)
+pub least-passed : (found : Option Late) (slots : List Slot) (carried : List Carried) (span : Span) (spans list : List Span) → list ≡ span ∷ spans → is_carried carried span.id ≡ true
+    → least_of found (slot_lates slots (free_spans carried list)) ≡ least_of found (slot_lates slots (free_spans carried spans))
+least-passed found slots carried span spans list is passed = ap (λ some. least_of found (slot_lates slots some)) (spans-passed carried span spans list is passed)
 
 pub least-carried : (found : Option Late) (spans : List Span) (row : Carried) (rows : List Carried) → least_of found (filter_map (carried_late spans) (row ∷ rows)) ≡ least_of (lesser found (carried_late spans row)) (filter_map (carried_late spans) rows)
 least-carried found spans row rows = least-cons found (carried_late spans row) (filter_map (carried_late spans) rows)
+
+-- without slots there are none
+pub lates-none : (slots : List Slot) (spans : List Span) → length slots ≡ 0 → slot_lates slots spans ≡ []
+lates-none [] [] is = refl
+lates-none [] (span ∷ spans) is = lates-none [] spans is
+lates-none (slot ∷ slots) spans is = absurd (omega (arith, is))
 
 -- ---- the least
 

@@ -15,6 +15,7 @@ pub mod PairLemmas
 pub mod PutLemmas
 pub mod ReadLemmas
 pub mod RebaseLemmas
+pub mod RoomLemmas
 pub mod SlottedLemmas
 pub mod StepLemmas
 pub mod VersionLemmas

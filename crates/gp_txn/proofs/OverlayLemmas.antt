@@ -18,9 +18,9 @@ use Rattle.gp_txn.specs.declared.overlay.Slot.{Slot}
 use Rattle.gp_txn.specs.declared.overlay.Slot.TheVariants.{Same, Put, Dropped}
 use Rattle.gp_txn.specs.Changes.{Change, update, delete, cond_of, rows_after, touched}
 use Rattle.gp_txn.specs.declared.overlay.TableWrites.{TableWrites}
-use Rattle.gp_txn.specs.Overlay.{PlainRow, carried_row, has_slot, is_carried, head_slot, shown, slotted, overlaid, own_row, view_rows}
+use Rattle.gp_txn.specs.Overlay.{PlainRow, carried_row, is_carried, head_slot, shown, slotted, overlaid, own_row, view_rows}
 use Rattle.gp_txn.specs.Slots.{carried_after, changed_carried, changed_table, effect, is_touched, changed_slot, changed_slots, passes_seen, stored_after, changed_own, count_touched, one_if, with_own}
-use Rattle.gp_txn.proofs.SlottedLemmas.{rows-held, rows-passed, slotted_at}
+use Rattle.gp_txn.proofs.SlottedLemmas.{rows-held, rows-passed, slotted_of}
 
 -- ---- UPDATE and DELETE
 
@@ -133,29 +133,29 @@ count-carried change carried (Some cells) is = rw is (count-one change (record {
 
 -- ---- turns of loops
 
-pub turn-held : (change : Change) (done : List Slot) (slots : List Slot) (carried : List Carried) (place v : ℕ) (spans : List Span) (i : ℕ) (span : Span) → i < length spans → span ≡ get_or spans i span → has_slot carried v span ≡ true
-    → done ++ changed_slots change (drop place slots) (slotted_at carried v (drop i spans)) ≡ (done ++ changed_slot change (head_slot (drop place slots)) span.row ∷ []) ++ changed_slots change (drop (place + 1) slots) (slotted_at carried v (drop (i + 1) spans))
-turn-held change done slots carried place v spans i span within at held =
-    ap (λ rows. done ++ changed_slots change (drop place slots) rows) (rows-held carried v spans i span within at held)
-    ∙ ap (λ others. done ++ changed_slot change (head_slot (drop place slots)) span.row ∷ changed_slots change others (slotted_at carried v (drop (i + 1) spans))) (drop-drop 1 place slots)
-    ∙ sym (append_assoc done (changed_slot change (head_slot (drop place slots)) span.row ∷ []) (changed_slots change (drop (place + 1) slots) (slotted_at carried v (drop (i + 1) spans))))
+pub turn-held : (change : Change) (done : List Slot) (slots : List Slot) (carried : List Carried) (place : ℕ) (span : Span) (spans list : List Span) → list ≡ span ∷ spans → is_carried carried span.id ≡ false
+    → done ++ changed_slots change (drop place slots) (slotted_of carried list) ≡ (done ++ changed_slot change (head_slot (drop place slots)) span.row ∷ []) ++ changed_slots change (drop (place + 1) slots) (slotted_of carried spans)
+turn-held change done slots carried place span spans list is free =
+    ap (λ rows. done ++ changed_slots change (drop place slots) rows) (rows-held carried span spans list is free)
+    ∙ ap (λ others. done ++ changed_slot change (head_slot (drop place slots)) span.row ∷ changed_slots change others (slotted_of carried spans)) (drop-drop 1 place slots)
+    ∙ sym (append_assoc done (changed_slot change (head_slot (drop place slots)) span.row ∷ []) (changed_slots change (drop (place + 1) slots) (slotted_of carried spans)))
 
-pub turn-passed : (change : Change) (done : List Slot) (slots : List Slot) (carried : List Carried) (v : ℕ) (spans : List Span) (i : ℕ) (span : Span) → i < length spans → span ≡ get_or spans i span → has_slot carried v span ≡ false
-    → done ++ changed_slots change slots (slotted_at carried v (drop i spans)) ≡ done ++ changed_slots change slots (slotted_at carried v (drop (i + 1) spans))
-turn-passed change done slots carried v spans i span within at passed = ap (λ rows. done ++ changed_slots change slots rows) (rows-passed carried v spans i span within at passed)
+pub turn-passed : (change : Change) (done : List Slot) (slots : List Slot) (carried : List Carried) (span : Span) (spans list : List Span) → list ≡ span ∷ spans → is_carried carried span.id ≡ true
+    → done ++ changed_slots change slots (slotted_of carried list) ≡ done ++ changed_slots change slots (slotted_of carried spans)
+turn-passed change done slots carried span spans list is passed = ap (λ rows. done ++ changed_slots change slots rows) (rows-passed carried span spans list is passed)
 
-pub count-held : (change : Change) (count : ℕ) (slots : List Slot) (carried : List Carried) (place v : ℕ) (spans : List Span) (i : ℕ) (span : Span) → i < length spans → span ≡ get_or spans i span → has_slot carried v span ≡ true
-    → count + count_touched change (overlaid (drop place slots) (slotted_at carried v (drop i spans))) ≡ (count + one_if (is_touched change (head_slot (drop place slots)) span.row)) + count_touched change (overlaid (drop (place + 1) slots) (slotted_at carried v (drop (i + 1) spans)))
-count-held change count slots carried place v spans i span within at held =
-    ap (λ rows. count + count_touched change (overlaid (drop place slots) rows)) (rows-held carried v spans i span within at held)
-    ∙ ap (λ others. count + count_touched change (shown (head_slot (drop place slots)) (row_of plain span) ++ overlaid others (slotted_at carried v (drop (i + 1) spans)))) (drop-drop 1 place slots)
-    ∙ ap (λ n. count + n) (count-append change (shown (head_slot (drop place slots)) (row_of plain span)) (overlaid (drop (place + 1) slots) (slotted_at carried v (drop (i + 1) spans))))
-    ∙ ap (λ n. count + (n + count_touched change (overlaid (drop (place + 1) slots) (slotted_at carried v (drop (i + 1) spans))))) (count-shown change (head_slot (drop place slots)) (row_of plain span))
-    ∙ sym (add_assoc count (one_if (is_touched change (head_slot (drop place slots)) span.row)) (count_touched change (overlaid (drop (place + 1) slots) (slotted_at carried v (drop (i + 1) spans)))))
+pub count-held : (change : Change) (count : ℕ) (slots : List Slot) (carried : List Carried) (place : ℕ) (span : Span) (spans list : List Span) → list ≡ span ∷ spans → is_carried carried span.id ≡ false
+    → count + count_touched change (overlaid (drop place slots) (slotted_of carried list)) ≡ (count + one_if (is_touched change (head_slot (drop place slots)) span.row)) + count_touched change (overlaid (drop (place + 1) slots) (slotted_of carried spans))
+count-held change count slots carried place span spans list is free =
+    ap (λ rows. count + count_touched change (overlaid (drop place slots) rows)) (rows-held carried span spans list is free)
+    ∙ ap (λ others. count + count_touched change (shown (head_slot (drop place slots)) (row_of plain span) ++ overlaid others (slotted_of carried spans))) (drop-drop 1 place slots)
+    ∙ ap (λ n. count + n) (count-append change (shown (head_slot (drop place slots)) (row_of plain span)) (overlaid (drop (place + 1) slots) (slotted_of carried spans)))
+    ∙ ap (λ n. count + (n + count_touched change (overlaid (drop (place + 1) slots) (slotted_of carried spans)))) (count-shown change (head_slot (drop place slots)) (row_of plain span))
+    ∙ sym (add_assoc count (one_if (is_touched change (head_slot (drop place slots)) span.row)) (count_touched change (overlaid (drop (place + 1) slots) (slotted_of carried spans))))
 
-pub count-passed : (change : Change) (count : ℕ) (slots : List Slot) (carried : List Carried) (v : ℕ) (spans : List Span) (i : ℕ) (span : Span) → i < length spans → span ≡ get_or spans i span → has_slot carried v span ≡ false
-    → count + count_touched change (overlaid slots (slotted_at carried v (drop i spans))) ≡ count + count_touched change (overlaid slots (slotted_at carried v (drop (i + 1) spans)))
-count-passed change count slots carried v spans i span within at passed = ap (λ rows. count + count_touched change (overlaid slots rows)) (rows-passed carried v spans i span within at passed)
+pub count-passed : (change : Change) (count : ℕ) (slots : List Slot) (carried : List Carried) (span : Span) (spans list : List Span) → list ≡ span ∷ spans → is_carried carried span.id ≡ true
+    → count + count_touched change (overlaid slots (slotted_of carried list)) ≡ count + count_touched change (overlaid slots (slotted_of carried spans))
+count-passed change count slots carried span spans list is passed = ap (λ rows. count + count_touched change (overlaid slots rows)) (rows-passed carried span spans list is passed)
 
 pub one_if-few : (b : Bool) → one_if b < 2
 one_if-few true = omega arith

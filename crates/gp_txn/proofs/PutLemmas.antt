@@ -14,26 +14,26 @@ use Rattle.gp_txn.specs.declared.carried.Carried.{Carried}
 use Rattle.gp_txn.specs.declared.overlay.Slot.{Slot}
 use Rattle.gp_txn.specs.declared.overlay.Slot.TheVariants.{Same, Put, Dropped}
 use Rattle.gp_txn.specs.declared.overlay.TableWrites.{TableWrites}
-use Rattle.gp_txn.specs.Overlay.{PlainRow, base_writes, carried_row, carried_write, has_slot, head_slot, own_write, slot_write, slot_writes, table_writes}
+use Rattle.gp_txn.specs.Overlay.{PlainRow, base_writes, carried_row, carried_write, head_slot, is_carried, own_write, slot_write, slot_writes, table_writes}
 use Rattle.gp_txn.specs.Slots.{put_count}
-use Rattle.gp_txn.proofs.SlottedLemmas.{rows-held, rows-passed, slotted_at}
+use Rattle.gp_txn.proofs.SlottedLemmas.{rows-held, rows-passed, slotted_of}
 
 length-put : (slot : Slot) (row : PlainRow) (writes : List Write) → length (live_rows plain (cons_option (slot_write slot row) writes)) ≡ put_count slot + length (live_rows plain writes)
 length-put Same row writes = omega arith
 length-put (Put cells) row writes = omega arith
 length-put Dropped row writes = omega arith
 
-pub put-held : (count : ℕ) (slots : List Slot) (carried : List Carried) (place v : ℕ) (spans : List Span) (i : ℕ) (span : Span) → i < length spans → span ≡ get_or spans i span → has_slot carried v span ≡ true
-    → count + length (live_rows plain (base_writes (drop place slots) (slotted_at carried v (drop i spans)))) ≡ (count + put_count (head_slot (drop place slots))) + length (live_rows plain (base_writes (drop (place + 1) slots) (slotted_at carried v (drop (i + 1) spans))))
-put-held count slots carried place v spans i span within at held =
-    ap (λ rows. count + length (live_rows plain (base_writes (drop place slots) rows))) (rows-held carried v spans i span within at held)
-    ∙ ap (λ others. count + length (live_rows plain (cons_option (slot_write (head_slot (drop place slots)) (row_of plain span)) (base_writes others (slotted_at carried v (drop (i + 1) spans)))))) (drop-drop 1 place slots)
-    ∙ ap (λ n. count + n) (length-put (head_slot (drop place slots)) (row_of plain span) (base_writes (drop (place + 1) slots) (slotted_at carried v (drop (i + 1) spans))))
-    ∙ sym (add_assoc count (put_count (head_slot (drop place slots))) (length (live_rows plain (base_writes (drop (place + 1) slots) (slotted_at carried v (drop (i + 1) spans))))))
+pub put-held : (count : ℕ) (slots : List Slot) (carried : List Carried) (place : ℕ) (span : Span) (spans list : List Span) → list ≡ span ∷ spans → is_carried carried span.id ≡ false
+    → count + length (live_rows plain (base_writes (drop place slots) (slotted_of carried list))) ≡ (count + put_count (head_slot (drop place slots))) + length (live_rows plain (base_writes (drop (place + 1) slots) (slotted_of carried spans)))
+put-held count slots carried place span spans list is free =
+    ap (λ rows. count + length (live_rows plain (base_writes (drop place slots) rows))) (rows-held carried span spans list is free)
+    ∙ ap (λ others. count + length (live_rows plain (cons_option (slot_write (head_slot (drop place slots)) (row_of plain span)) (base_writes others (slotted_of carried spans))))) (drop-drop 1 place slots)
+    ∙ ap (λ n. count + n) (length-put (head_slot (drop place slots)) (row_of plain span) (base_writes (drop (place + 1) slots) (slotted_of carried spans)))
+    ∙ sym (add_assoc count (put_count (head_slot (drop place slots))) (length (live_rows plain (base_writes (drop (place + 1) slots) (slotted_of carried spans)))))
 
-pub put-passed : (count : ℕ) (slots : List Slot) (carried : List Carried) (v : ℕ) (spans : List Span) (i : ℕ) (span : Span) → i < length spans → span ≡ get_or spans i span → has_slot carried v span ≡ false
-    → count + length (live_rows plain (base_writes slots (slotted_at carried v (drop i spans)))) ≡ count + length (live_rows plain (base_writes slots (slotted_at carried v (drop (i + 1) spans))))
-put-passed count slots carried v spans i span within at passed = ap (λ rows. count + length (live_rows plain (base_writes slots rows))) (rows-passed carried v spans i span within at passed)
+pub put-passed : (count : ℕ) (slots : List Slot) (carried : List Carried) (span : Span) (spans list : List Span) → list ≡ span ∷ spans → is_carried carried span.id ≡ true
+    → count + length (live_rows plain (base_writes slots (slotted_of carried list))) ≡ count + length (live_rows plain (base_writes slots (slotted_of carried spans)))
+put-passed count slots carried span spans list is passed = ap (λ rows. count + length (live_rows plain (base_writes slots rows))) (rows-passed carried span spans list is passed)
 
 pub put-few : (slot : Slot) → put_count slot < 2
 put-few Same = omega arith

@@ -14,11 +14,11 @@ use Rattle.gp_txn.specs.declared.carried.Carried.{Carried}
 use Rattle.gp_txn.specs.declared.overlay.Slot.{Slot}
 use Rattle.gp_txn.specs.declared.overlay.Slot.TheVariants.{Same, Put, Dropped}
 use Rattle.gp_txn.specs.declared.overlay.TableWrites.{TableWrites}
-use Rattle.gp_txn.specs.Overlay.{PlainRow, carried_row, has_slot, head_slot, shown, slotted, overlaid, own_row, stored_of, view_rows}
+use Rattle.gp_txn.specs.Overlay.{PlainRow, carried_row, head_slot, is_carried, shown, slotted, overlaid, own_row, stored_of, view_rows}
 use Rattle.gp_txn.specs.Slots.{shown_count}
 use Rattle.gp_txn.specs.Wanted.{wanted, wanted_own}
 use Rattle.gp_txn.proofs.OverlayLemmas.{filter_map-one}
-use Rattle.gp_txn.proofs.SlottedLemmas.{rows-held, rows-passed, slotted_at}
+use Rattle.gp_txn.proofs.SlottedLemmas.{rows-held, rows-passed, slotted_of}
 use Rattle.gp_base.proofs.SmallLemmas.{filter-map, length-map}
 
 pub wanted-all : (rows : List PlainRow) → wanted None rows ≡ rows
@@ -28,17 +28,17 @@ wanted-all (row ∷ rows) = ap (λ (others : List PlainRow). row ∷ others) (wa
 wanted-append : (c : Option Cond) (xs ys : List PlainRow) → map stored_of (wanted c (xs ++ ys)) ≡ map stored_of (wanted c xs) ++ map stored_of (wanted c ys)
 wanted-append c xs ys = ap (λ (rows : List PlainRow). map stored_of rows) (filter-append (λ (row : PlainRow). passes_where c row.cells) xs ys) ∙ map-append stored_of (wanted c xs) (wanted c ys)
 
-pub seen-held : (c : Option Cond) (done : List Stored) (slots : List Slot) (carried : List Carried) (place v : ℕ) (spans : List Span) (i : ℕ) (span : Span) → i < length spans → span ≡ get_or spans i span → has_slot carried v span ≡ true
-    → done ++ map stored_of (wanted c (overlaid (drop place slots) (slotted_at carried v (drop i spans)))) ≡ (done ++ map stored_of (wanted c (shown (head_slot (drop place slots)) (row_of plain span)))) ++ map stored_of (wanted c (overlaid (drop (place + 1) slots) (slotted_at carried v (drop (i + 1) spans))))
-seen-held c done slots carried place v spans i span within at held =
-    ap (λ rows. done ++ map stored_of (wanted c (overlaid (drop place slots) rows))) (rows-held carried v spans i span within at held)
-    ∙ ap (λ others. done ++ map stored_of (wanted c (shown (head_slot (drop place slots)) (row_of plain span) ++ overlaid others (slotted_at carried v (drop (i + 1) spans))))) (drop-drop 1 place slots)
-    ∙ ap (λ (rows : List Stored). done ++ rows) (wanted-append c (shown (head_slot (drop place slots)) (row_of plain span)) (overlaid (drop (place + 1) slots) (slotted_at carried v (drop (i + 1) spans))))
-    ∙ sym (append_assoc done (map stored_of (wanted c (shown (head_slot (drop place slots)) (row_of plain span)))) (map stored_of (wanted c (overlaid (drop (place + 1) slots) (slotted_at carried v (drop (i + 1) spans))))))
+pub seen-held : (c : Option Cond) (done : List Stored) (slots : List Slot) (carried : List Carried) (place : ℕ) (span : Span) (spans list : List Span) → list ≡ span ∷ spans → is_carried carried span.id ≡ false
+    → done ++ map stored_of (wanted c (overlaid (drop place slots) (slotted_of carried list))) ≡ (done ++ map stored_of (wanted c (shown (head_slot (drop place slots)) (row_of plain span)))) ++ map stored_of (wanted c (overlaid (drop (place + 1) slots) (slotted_of carried spans)))
+seen-held c done slots carried place span spans list is free =
+    ap (λ rows. done ++ map stored_of (wanted c (overlaid (drop place slots) rows))) (rows-held carried span spans list is free)
+    ∙ ap (λ others. done ++ map stored_of (wanted c (shown (head_slot (drop place slots)) (row_of plain span) ++ overlaid others (slotted_of carried spans)))) (drop-drop 1 place slots)
+    ∙ ap (λ (rows : List Stored). done ++ rows) (wanted-append c (shown (head_slot (drop place slots)) (row_of plain span)) (overlaid (drop (place + 1) slots) (slotted_of carried spans)))
+    ∙ sym (append_assoc done (map stored_of (wanted c (shown (head_slot (drop place slots)) (row_of plain span)))) (map stored_of (wanted c (overlaid (drop (place + 1) slots) (slotted_of carried spans)))))
 
-pub seen-passed : (c : Option Cond) (done : List Stored) (slots : List Slot) (carried : List Carried) (v : ℕ) (spans : List Span) (i : ℕ) (span : Span) → i < length spans → span ≡ get_or spans i span → has_slot carried v span ≡ false
-    → done ++ map stored_of (wanted c (overlaid slots (slotted_at carried v (drop i spans)))) ≡ done ++ map stored_of (wanted c (overlaid slots (slotted_at carried v (drop (i + 1) spans))))
-seen-passed c done slots carried v spans i span within at passed = ap (λ rows. done ++ map stored_of (wanted c (overlaid slots rows))) (rows-passed carried v spans i span within at passed)
+pub seen-passed : (c : Option Cond) (done : List Stored) (slots : List Slot) (carried : List Carried) (span : Span) (spans list : List Span) → list ≡ span ∷ spans → is_carried carried span.id ≡ true
+    → done ++ map stored_of (wanted c (overlaid slots (slotted_of carried list))) ≡ done ++ map stored_of (wanted c (overlaid slots (slotted_of carried spans)))
+seen-passed c done slots carried span spans list is passed = ap (λ rows. done ++ map stored_of (wanted c (overlaid slots rows))) (rows-passed carried span spans list is passed)
 
 own-stored : (own : List Stored) → map stored_of (map own_row own) ≡ own
 own-stored [] = refl
@@ -69,23 +69,23 @@ view-counted writes base =
     let rows = filter_map carried_row writes.carried in
     omega (arith, length-append slots (rows ++ map own_row writes.own), length-append rows (map own_row writes.own), length-map own_row writes.own)
 
-length-shown : (slot : Slot) (row : PlainRow) → length (shown slot row) ≡ shown_count slot
+pub length-shown : (slot : Slot) (row : PlainRow) → length (shown slot row) ≡ shown_count slot
 length-shown Same row = refl
 length-shown (Put cells) row = refl
 length-shown Dropped row = refl
 
-pub length-held : (count : ℕ) (slots : List Slot) (carried : List Carried) (place v : ℕ) (spans : List Span) (i : ℕ) (span : Span) → i < length spans → span ≡ get_or spans i span → has_slot carried v span ≡ true
-    → count + length (overlaid (drop place slots) (slotted_at carried v (drop i spans))) ≡ (count + shown_count (head_slot (drop place slots))) + length (overlaid (drop (place + 1) slots) (slotted_at carried v (drop (i + 1) spans)))
-length-held count slots carried place v spans i span within at held =
-    ap (λ rows. count + length (overlaid (drop place slots) rows)) (rows-held carried v spans i span within at held)
-    ∙ ap (λ others. count + length (shown (head_slot (drop place slots)) (row_of plain span) ++ overlaid others (slotted_at carried v (drop (i + 1) spans)))) (drop-drop 1 place slots)
-    ∙ ap (λ n. count + n) (length-append (shown (head_slot (drop place slots)) (row_of plain span)) (overlaid (drop (place + 1) slots) (slotted_at carried v (drop (i + 1) spans))))
-    ∙ ap (λ n. count + (n + length (overlaid (drop (place + 1) slots) (slotted_at carried v (drop (i + 1) spans))))) (length-shown (head_slot (drop place slots)) (row_of plain span))
-    ∙ sym (add_assoc count (shown_count (head_slot (drop place slots))) (length (overlaid (drop (place + 1) slots) (slotted_at carried v (drop (i + 1) spans)))))
+pub length-held : (count : ℕ) (slots : List Slot) (carried : List Carried) (place : ℕ) (span : Span) (spans list : List Span) → list ≡ span ∷ spans → is_carried carried span.id ≡ false
+    → count + length (overlaid (drop place slots) (slotted_of carried list)) ≡ (count + shown_count (head_slot (drop place slots))) + length (overlaid (drop (place + 1) slots) (slotted_of carried spans))
+length-held count slots carried place span spans list is free =
+    ap (λ rows. count + length (overlaid (drop place slots) rows)) (rows-held carried span spans list is free)
+    ∙ ap (λ others. count + length (shown (head_slot (drop place slots)) (row_of plain span) ++ overlaid others (slotted_of carried spans))) (drop-drop 1 place slots)
+    ∙ ap (λ n. count + n) (length-append (shown (head_slot (drop place slots)) (row_of plain span)) (overlaid (drop (place + 1) slots) (slotted_of carried spans)))
+    ∙ ap (λ n. count + (n + length (overlaid (drop (place + 1) slots) (slotted_of carried spans)))) (length-shown (head_slot (drop place slots)) (row_of plain span))
+    ∙ sym (add_assoc count (shown_count (head_slot (drop place slots))) (length (overlaid (drop (place + 1) slots) (slotted_of carried spans))))
 
-pub length-passed : (count : ℕ) (slots : List Slot) (carried : List Carried) (v : ℕ) (spans : List Span) (i : ℕ) (span : Span) → i < length spans → span ≡ get_or spans i span → has_slot carried v span ≡ false
-    → count + length (overlaid slots (slotted_at carried v (drop i spans))) ≡ count + length (overlaid slots (slotted_at carried v (drop (i + 1) spans)))
-length-passed count slots carried v spans i span within at passed = ap (λ rows. count + length (overlaid slots rows)) (rows-passed carried v spans i span within at passed)
+pub length-passed : (count : ℕ) (slots : List Slot) (carried : List Carried) (span : Span) (spans list : List Span) → list ≡ span ∷ spans → is_carried carried span.id ≡ true
+    → count + length (overlaid slots (slotted_of carried list)) ≡ count + length (overlaid slots (slotted_of carried spans))
+length-passed count slots carried span spans list is passed = ap (λ rows. count + length (overlaid slots rows)) (rows-passed carried span spans list is passed)
 
 pub shown-few : (slot : Slot) → shown_count slot < 2
 shown-few Same = omega arith

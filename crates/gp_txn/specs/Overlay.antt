@@ -1,6 +1,6 @@
 -- Part of the statement: what a running transaction keeps of a table, over the rows of a version: a slot for each row that it had not written over
 -- an earlier version, in order, the rows that it wrote over earlier versions, and the rows that it inserted.
-use Rattle.std.specs.Prelude.{ℕ, Bool, true, not, ◌&&◌, List, [], ◌∷◌, ◌++◌, map, filter, drop, Option, Some, None}
+use Rattle.std.specs.Prelude.{ℕ, Bool, true, not, List, [], ◌∷◌, ◌++◌, map, filter, drop, Option, Some, None}
 use Rattle.std.specs.List.{cons_option, filter_map, list_any}
 use Rattle.std.specs.Option.{option_map}
 use Rattle.gp_base.specs.declared.stored.Stored.{Stored}
@@ -12,7 +12,7 @@ use Rattle.gp_txn.specs.declared.overlay.Slot.TheVariants.{Same, Put, Dropped}
 use Rattle.gp_txn.specs.declared.overlay.TableWrites.{TableWrites}
 use Rattle.gp_versions.specs.declared.span.Span.{Span}
 use Rattle.gp_versions.specs.declared.span.Write.{Write}
-use Rattle.gp_versions.specs.Spans.{holds_at, rows_at, spans_at}
+use Rattle.gp_versions.specs.Spans.{rows_at, spans_at}
 
 -- a row without annotation
 abbrev pub PlainRow : Type 0
@@ -40,11 +40,7 @@ overlaid slots (row ∷ rows) = shown (head_slot slots) row ++ overlaid (drop 1 
 abbrev pub is_carried : List Carried → Identity → Bool
 is_carried carried id = list_any (λ (row : Carried). same_identity row.id id) carried
 
--- whether the row of a span has a slot: it is in the version, and the transaction did not write it over an earlier one
-abbrev pub has_slot : List Carried → ℕ → Span → Bool
-has_slot carried version span = holds_at version span && not (is_carried carried span.id)
-
--- the spans of a version whose rows have a slot
+-- the spans of a version whose rows have a slot: those that the transaction did not write over an earlier version
 abbrev pub slotted_spans : List Carried → ℕ → List Span → List Span
 slotted_spans carried version spans = filter (λ (span : Span). not (is_carried carried span.id)) (spans_at version spans)
 

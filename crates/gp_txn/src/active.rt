@@ -17,7 +17,7 @@ use crate::overlay::TableWrites;
 use crate::rebase::{append_own, count_at, view_at, writes_for};
 use gp_base::{MAX_TABLES, NoMemory, Sequence, Stored};
 use gp_expr::Cond;
-use gp_versions::{Span, VersionTable};
+use gp_versions::{SpanList, VersionTable};
 use std::alloc::Global;
 use std::array;
 use std::marker::Model;
@@ -68,13 +68,23 @@ impl Model for Active {
 }
 
 /// The spans of a table; none if it is not there.
-pub fn spans_of(versions: &[VersionTable], table: u32) -> &[Span]
-    ensures spans { result.now ≡ (table_at table versions.now).spans }
+pub fn spans_of(versions: &[VersionTable], table: u32) -> SpanList<'_>
+    ensures spans { result ≡ (table_at table versions.now).spans }
     ensures apart { NoOverlap (table_at table versions.now).spans }
 {
     match versions.get(table as usize) {
-        Some(table) => table.as_slice(),
-        None => &[],
+        Some(table) => table.as_list(),
+        None => SpanList::new(),
+    }
+}
+
+/// How many spans a table has; none if it is not there.
+pub fn span_count(versions: &[VersionTable], table: u32) -> usize
+    ensures { result ≡ length (table_at table versions.now).spans }
+{
+    match versions.get(table as usize) {
+        Some(table) => table.len(),
+        None => 0,
     }
 }
 
@@ -160,7 +170,8 @@ impl Active {
         ensures { IfOk result (λ rows. rows
             ≡ map stored_of (view_at self.now.tables versions.now version table)) }
     {
-        self.view_over(table, version, spans_of(versions, table), None)
+        let spans = spans_of(versions, table);
+        self.view_over(table, version, &spans, None)
     }
 
     /// The rows of a table that it sees at a version, over these spans: all of them, or those that pass a condition.
@@ -168,7 +179,7 @@ impl Active {
         &self,
         table: u32,
         version: u32,
-        spans: &[Span],
+        spans: &SpanList<'_>,
         cond: Option<&Cond>,
     ) -> Result<Sequence<Stored>, NoMemory>
         requires { where_is_simple (option_map (λ c. cond_view c.now) cond) ≡ true }
@@ -193,7 +204,7 @@ impl Active {
             (λ count. count ≡ length (view_at self.now.tables versions.now version table)) }
     {
         let spans = spans_of(versions, table);
-        count_at(self.alloc, self.writes(table), spans, version)
+        count_at(self.alloc, self.writes(table), &spans, version)
     }
 
     /// Keeps these writes of a table, which statement k left.
@@ -214,7 +225,7 @@ impl Active {
         k: u32,
         table: u32,
         version: u32,
-        spans: &[Span],
+        spans: &SpanList<'_>,
         new: Sequence<Stored>,
     ) -> Result<u32, NoMemory>
         requires table { table < MAX_TABLES }

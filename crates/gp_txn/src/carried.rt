@@ -1,15 +1,14 @@
 //! Rows that a transaction wrote over an earlier version.
 
-ghost use Rattle.std.specs.Prelude.{◌≡◌, [], map, not, IfOk};
+ghost use Rattle.std.specs.Prelude.{◌≡◌, [], map, IfOk};
 ghost use Rattle.std.specs.List.{list_any};
 ghost use Rattle.std.specs.List.Sorted.{IsSorted, IsPermutation};
 ghost use Rattle.std.specs.Ordering.{is_eq};
 ghost use Rattle.gp_base.specs.Identities.{identity_cmp};
 ghost use Rattle.gp_txn.specs.CarriedCode.{carried_id};
-ghost use Rattle.gp_txn.specs.Overlay.{has_slot, is_carried};
+ghost use Rattle.gp_txn.specs.Overlay.{is_carried};
 
 use gp_base::{NoMemory, Row, RowId};
-use gp_versions::Span;
 use std::alloc::Global;
 use std::marker::Model;
 
@@ -106,11 +105,4 @@ impl CarriedRows {
     {
         self.list.as_slice()
     }
-}
-
-/// Whether the row of a span has a slot: it is in version v, and the transaction did not write it over an earlier one.
-pub fn has_slot(carried: &CarriedRows, v: u32, span: &Span) -> bool
-    ensures { result ≡ has_slot carried.now v span.now }
-{
-    span.holds(v) && !carried.has(&span.id)
 }

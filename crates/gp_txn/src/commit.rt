@@ -19,19 +19,22 @@ use gp_base::NoMemory;
 use gp_versions::{VersionTable, Writes};
 use std::alloc::Global;
 
-/// Enters the spans of a table, if the transaction wrote rows of it over earlier versions.
+/// Enters the spans of a table, if the transaction wrote any of its rows.
 fn enter_one(writes: &TableWrites, table: &mut VersionTable) -> Result<(), NoMemory>
     ensures { table.new ≡ table.old }
 {
-    if !writes.carried.as_slice().is_empty() {
+    let is_unwritten = writes.slots.as_slice().is_empty()
+        && writes.carried.as_slice().is_empty()
+        && writes.own.as_slice().is_empty();
+    if !is_unwritten {
         table.enter()?;
     }
     Ok(())
 }
 
-/// Enters the spans of the tables of which the transaction wrote rows over earlier versions, as the later writes of these
-/// rows are looked up. A table is entered once, and then the spans that began since. Contracts do not see which spans are
-/// entered.
+/// Enters the spans of the tables that the transaction wrote: the commit looks up the spans that it ends, and the later
+/// writes of rows that were written over earlier versions. A table is entered once, and then the spans that began since.
+/// Contracts do not see which spans are entered.
 fn enter_spans(tables: &[TableWrites], versions: &mut [VersionTable]) -> Result<(), NoMemory>
     requires { length versions.old ≤ length tables.now }
     ensures { versions.new ≡ versions.old }

@@ -7,10 +7,10 @@ ghost use Rattle.gp_txn.specs.Conflicts.{IsFirstConflict, IsLeast, carried_late,
 ghost use Rattle.gp_txn.specs.LeastSoFar.{least_of, lesser};
 ghost use Rattle.gp_txn.specs.Overlay.{head_slot, slotted_spans};
 
-use crate::carried::{Carried, CarriedRows, has_slot};
+use crate::carried::{Carried, CarriedRows};
 use crate::overlay::{Slot, TableWrites};
 use gp_base::{NoMemory, RowId};
-use gp_versions::{Span, VersionTable};
+use gp_versions::{Span, SpanList, VersionTable};
 use std::cmp::Ordering;
 
 /// A row that the transaction wrote, and that a commit above its base wrote too.
@@ -71,20 +71,24 @@ fn lesser_slot(
     }
 }
 
-/// The least of the rows of version v that have a slot.
+/// The least of the rows of version v that have a slot. Without slots, as in a transaction that only inserts, nothing passes
+/// over the spans.
 fn least_slot(
     slots: &[Slot],
     carried: &CarriedRows,
-    spans: &[Span],
+    spans: &SpanList<'_>,
     v: u32,
 ) -> Result<Option<Late>, NoMemory>
     ensures { IfOk result (λ found. found
         ≡ least_of None (slot_lates slots.now (slotted_spans carried.now v spans.now))) }
 {
+    if slots.is_empty() {
+        return Ok(None);
+    }
     let mut found = None;
     let mut place = 0usize;
-    for span in spans {
-        if has_slot(carried, v, span) {
+    for span in spans.as_of(v) {
+        if !carried.has(&span.id) {
             found = lesser_slot(found, slots, place, span)?;
             place += 1;
         }
@@ -128,7 +132,8 @@ fn table_conflict(writes: &TableWrites, table: &VersionTable) -> Result<Option<L
 {
     let carried = &writes.carried;
     let slots = writes.slots.as_slice();
-    let found = least_slot(slots, carried, table.as_slice(), writes.version)?;
+    let spans = table.as_list();
+    let found = least_slot(slots, carried, &spans, writes.version)?;
     Ok(least_carried(found, carried.as_slice(), table)?)
 }
 

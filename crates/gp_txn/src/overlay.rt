@@ -19,8 +19,8 @@ pub enum Slot {
 }
 
 /// What the transaction wrote of a table, over the rows of a version: the last one that a statement read that wrote the
-/// table. A write over that version is found by its place and not by its identity, so that statements and commits pass over
-/// a table once and search nothing.
+/// table. A write over that version is found by its place and not by its identity, so that a statement passes over the rows
+/// of the version once and searches nothing.
 #[derive(Drop)]
 pub struct TableWrites {
     /// The version.

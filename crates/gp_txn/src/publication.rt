@@ -27,7 +27,8 @@ fn prepare_one(
         (λ list. list ≡ table_writes writes.now (rows_below writes.now table.now.spans)) }
     ensures distinct { IfOk result (λ list. AreDistinct list) }
 {
-    let list = table_writes(alloc, writes, table.as_slice())?;
+    let spans = table.as_list();
+    let list = table_writes(alloc, writes, &spans)?;
     Ok(Writes::from_vec(alloc, list)?)
 }
 

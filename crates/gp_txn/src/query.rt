@@ -39,7 +39,7 @@ impl Active {
     {
         let spans = spans_of(versions, table);
         if reads_table(select, table) {
-            return self.view_over(table, version, spans, row_where(select));
+            return self.view_over(table, version, &spans, row_where(select));
         }
         Ok(Sequence::new(self.alloc()))
     }

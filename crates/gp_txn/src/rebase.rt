@@ -21,7 +21,7 @@ use crate::update::{Counted, changed};
 use crate::writes::slot_writes;
 use gp_base::{NoMemory, Row, Sequence, Stored};
 use gp_expr::Cond;
-use gp_versions::{Span, Write};
+use gp_versions::{SpanList, Write};
 use std::alloc::Global;
 
 /// The rows that were written over this version, to be carried over to a later one.
@@ -77,7 +77,7 @@ fn push_copies(rows: &mut Vec<Carried>, carried: &[Carried]) -> Result<(), NoMem
 fn carried_over(
     alloc: Global,
     writes: &TableWrites,
-    spans: &[Span],
+    spans: &SpanList<'_>,
 ) -> Result<CarriedRows, NoMemory>
     ensures { IfOk result
         (λ rows. rows ≡ carried_over writes.now (rows_below writes.now spans.now)) }
@@ -104,7 +104,7 @@ fn copied_own(alloc: Global, own: &[Stored]) -> Result<Sequence<Stored>, NoMemor
 fn moved(
     alloc: Global,
     writes: &TableWrites,
-    spans: &[Span],
+    spans: &SpanList<'_>,
     version: u32,
 ) -> Result<Option<TableWrites>, NoMemory>
     ensures { IfOk result (λ moved. IsMoved version spans.now writes.now moved) }
@@ -123,11 +123,11 @@ fn moved(
 }
 
 /// The writes of a table over a version, if they lie over another one. They show what the transaction sees there. It costs
-/// what the writes and a pass over the table cost, and not what was committed in between.
+/// what the writes and a pass over the rows of their version cost, and not what was committed in between.
 pub fn writes_for(
     alloc: Global,
     writes: &TableWrites,
-    spans: &[Span],
+    spans: &SpanList<'_>,
     version: u32,
 ) -> Result<Option<TableWrites>, NoMemory>
     ensures moved { IfOk result (λ moved. IsMoved version spans.now writes.now moved) }
@@ -142,7 +142,7 @@ pub fn writes_for(
 pub fn view_at(
     alloc: Global,
     writes: &TableWrites,
-    spans: &[Span],
+    spans: &SpanList<'_>,
     version: u32,
     cond: Option<&Cond>,
 ) -> Result<Sequence<Stored>, NoMemory>
@@ -161,7 +161,7 @@ pub fn view_at(
 pub fn count_at(
     alloc: Global,
     writes: &TableWrites,
-    spans: &[Span],
+    spans: &SpanList<'_>,
     version: u32,
 ) -> Result<usize, NoMemory>
     ensures { IfOk result (λ count. count ≡ length (table_view writes.now spans.now version)) }
@@ -176,7 +176,7 @@ pub fn count_at(
 pub fn changed_at(
     alloc: Global,
     writes: &TableWrites,
-    spans: &[Span],
+    spans: &SpanList<'_>,
     version: u32,
     change: &Change<'_>,
 ) -> Result<Counted<TableWrites>, NoMemory>

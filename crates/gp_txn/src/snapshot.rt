@@ -1,6 +1,6 @@
 //! What a transaction sees of a table, over the version that its writes of the table lie over.
 
-ghost use Rattle.std.specs.Prelude.{◌≡◌, ◌≤◌, ◌++◌, ◌∷◌, [], true, length, map, drop, IfOk, OnOk};
+ghost use Rattle.std.specs.Prelude.{◌≡◌, ◌≤◌, ◌++◌, ◌∷◌, [], true, length, map, drop, IfOk, OnOk, ◌<◌, ◌^◌};
 ghost use Rattle.std.specs.List.{filter_map};
 ghost use Rattle.std.specs.Option.{option_map, option_to_list};
 ghost use Rattle.gp_base.specs.Annotated.{plain};
@@ -12,11 +12,11 @@ ghost use Rattle.gp_txn.specs.Overlay.{carried_row, head_slot, overlaid, rows_be
 ghost use Rattle.gp_txn.specs.Slots.{seen, shown_count};
 ghost use Rattle.gp_txn.specs.Wanted.{wanted, wanted_own};
 
-use crate::carried::{Carried, CarriedRows, has_slot};
+use crate::carried::{Carried, CarriedRows};
 use crate::overlay::{Slot, TableWrites};
 use gp_base::{NoMemory, Row, Sequence, Stored};
 use gp_expr::{Cond, truth};
-use gp_versions::Span;
+use gp_versions::{Span, SpanList};
 use std::alloc::Global;
 
 /// The cells that the transaction sees of the row with the slot at this place.
@@ -81,7 +81,7 @@ fn seen_rows(
     alloc: Global,
     slots: &[Slot],
     carried: &CarriedRows,
-    spans: &[Span],
+    spans: &SpanList<'_>,
     v: u32,
     cond: Option<&Cond>,
 ) -> Result<Sequence<Stored>, NoMemory>
@@ -92,8 +92,8 @@ fn seen_rows(
 {
     let mut rows = Sequence::new(alloc);
     let mut place = 0usize;
-    for span in spans {
-        if has_slot(carried, v, span) {
+    for span in spans.as_of(v) {
+        if !carried.has(&span.id) {
             push_seen(&mut rows, slots, place, span, cond)?;
             place += 1;
         }
@@ -176,7 +176,7 @@ fn push_all_own(
 pub fn view_rows(
     alloc: Global,
     writes: &TableWrites,
-    spans: &[Span],
+    spans: &SpanList<'_>,
     cond: Option<&Cond>,
 ) -> Result<Sequence<Stored>, NoMemory>
     requires { where_is_simple (option_map (λ c. cond_view c.now) cond) ≡ true }
@@ -203,15 +203,15 @@ fn count_seen(slots: &[Slot], place: usize) -> usize
 }
 
 /// How many rows the transaction sees of the rows of version v that have a slot.
-fn count_base(slots: &[Slot], carried: &CarriedRows, spans: &[Span], v: u32) -> usize
+fn count_base(slots: &[Slot], carried: &CarriedRows, spans: &SpanList<'_>, v: u32) -> usize
     ensures count { result ≡ length
         (overlaid slots.now (slotted carried.now (rows_at plain v spans.now))) }
-    ensures few { result ≤ length spans.now }
+    ensures few { result < 2 ^ 60 }
 {
     let mut count = 0usize;
     let mut place = 0usize;
-    for span in spans {
-        if has_slot(carried, v, span) {
+    for span in spans.as_of(v) {
+        if !carried.has(&span.id) {
             count += count_seen(slots, place);
             place += 1;
         }
@@ -234,7 +234,7 @@ pub fn count_carried(carried: &[Carried]) -> usize
 }
 
 /// How many rows the transaction sees of a table, over the rows of the version below its writes. It takes no memory.
-pub fn count_rows(writes: &TableWrites, spans: &[Span]) -> usize
+pub fn count_rows(writes: &TableWrites, spans: &SpanList<'_>) -> usize
     ensures { result ≡ length (view_rows writes.now (rows_below writes.now spans.now)) }
 {
     let carried = &writes.carried;

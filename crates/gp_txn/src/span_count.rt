@@ -1,7 +1,7 @@
 //! How many row versions a commit leaves. The writes are counted where they stand, so that a commit that is refused copies
 //! nothing.
 
-ghost use Rattle.std.specs.Prelude.{◌≡◌, ◌≤◌, drop, length, nat_lt};
+ghost use Rattle.std.specs.Prelude.{◌≡◌, ◌≤◌, drop, length, nat_lt, ◌<◌, ◌^◌};
 ghost use Rattle.gp_base.specs.Annotated.{plain};
 ghost use Rattle.gp_txn.specs.Committing.{commit_of, spans_left};
 ghost use Rattle.gp_txn.specs.Overlay.{base_writes, head_slot, rows_below, slotted, table_writes};
@@ -9,11 +9,11 @@ ghost use Rattle.gp_txn.specs.Slots.{put_count};
 ghost use Rattle.gp_versions.specs.Commits.{live_rows};
 ghost use Rattle.gp_versions.specs.Spans.{rows_at};
 
-use crate::carried::{CarriedRows, has_slot};
+use crate::carried::CarriedRows;
 use crate::overlay::{Slot, TableWrites};
 use crate::snapshot::count_carried;
 use gp_base::MAX_SPANS;
-use gp_versions::{Span, VersionTable};
+use gp_versions::{SpanList, VersionTable};
 
 /// How many rows a commit puts in place of the row with the slot at this place.
 fn count_put(slots: &[Slot], place: usize) -> usize
@@ -25,16 +25,20 @@ fn count_put(slots: &[Slot], place: usize) -> usize
     }
 }
 
-/// How many rows a commit puts in place of the rows of version v that have a slot.
-fn count_base(slots: &[Slot], carried: &CarriedRows, spans: &[Span], v: u32) -> usize
+/// How many rows a commit puts in place of the rows of version v that have a slot. Without slots, nothing passes over the
+/// spans.
+fn count_base(slots: &[Slot], carried: &CarriedRows, spans: &SpanList<'_>, v: u32) -> usize
     ensures count { result ≡ length
         (live_rows plain (base_writes slots.now (slotted carried.now (rows_at plain v spans.now)))) }
-    ensures few { result ≤ length spans.now }
+    ensures few { result < 2 ^ 60 }
 {
+    if slots.is_empty() {
+        return 0;
+    }
     let mut count = 0usize;
     let mut place = 0usize;
-    for span in spans {
-        if has_slot(carried, v, span) {
+    for span in spans.as_of(v) {
+        if !carried.has(&span.id) {
             count += count_put(slots, place);
             place += 1;
         }
@@ -43,7 +47,7 @@ fn count_base(slots: &[Slot], carried: &CarriedRows, spans: &[Span], v: u32) -> 
 }
 
 /// How many of the writes of a commit to a table have a row.
-fn count_live(writes: &TableWrites, spans: &[Span]) -> usize
+fn count_live(writes: &TableWrites, spans: &SpanList<'_>) -> usize
     ensures { result ≡ length
         (live_rows plain (table_writes writes.now (rows_below writes.now spans.now))) }
 {
@@ -62,7 +66,8 @@ pub fn is_full(tables: &[TableWrites], versions: &[VersionTable]) -> bool
     for place in 0..versions.len() {
         let table = &versions[place];
         let old = table.len();
-        let new = count_live(&tables[place], table.as_slice());
+        let spans = table.as_list();
+        let new = count_live(&tables[place], &spans);
         if old > left || new > left - old {
             return true;
         }

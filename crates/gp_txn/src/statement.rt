@@ -13,7 +13,7 @@ ghost use Rattle.gp_txn.specs.Changes.{change_is_simple, change_view, statement_
 ghost use Rattle.gp_txn.specs.Inserting.{Prepares, are_many};
 ghost use Rattle.gp_txn.specs.Transactions.{AreOwn, HoldsOthers, view_at, writes_at};
 
-use crate::active::{Active, number, spans_of};
+use crate::active::{Active, number, span_count, spans_of};
 use crate::change::Change;
 use crate::error::StmtStop;
 use crate::insert::{given_rows, made_rows};
@@ -41,7 +41,7 @@ impl Active {
     {
         let writes = self.writes(table);
         let spans = spans_of(versions, table);
-        let new = changed_at(self.alloc(), writes, spans, version, change)?;
+        let new = changed_at(self.alloc(), writes, &spans, version, change)?;
         let count = number(new.count)?;
         self.put(k, table, new.made);
         Ok(count)
@@ -64,6 +64,26 @@ impl Active {
         Ok(MAX_TABLE_ROWS.checked_sub(count))
     }
 
+    /// Whether a table surely has room for more rows at a version, this many: the transaction sees at most one row for each
+    /// row version, and the rows that it wrote. Most INSERTs count no rows then.
+    fn is_roomy(&self, table: u32, version: u32, versions: &[VersionTable], more: usize) -> bool
+        requires { table < MAX_TABLES }
+        ensures { result ≡ true → not (are_many
+            (length (view_at self.now.tables versions.now version table)) more) ≡ true }
+    {
+        let writes = self.writes(table);
+        if writes.version != version || more > MAX_TABLE_ROWS {
+            return false;
+        }
+        let room = MAX_TABLE_ROWS - more;
+        let old = span_count(versions, table);
+        if old > room {
+            return false;
+        }
+        let written = writes.carried.as_slice().len() + writes.own.as_slice().len();
+        written <= room - old
+    }
+
     /// Whether a table has room for more rows at a version, this many.
     fn has_room(
         &self,
@@ -76,6 +96,9 @@ impl Active {
         ensures { IfOk result (λ room. room ≡ not (are_many
             (length (view_at self.now.tables versions.now version table)) more)) }
     {
+        if self.is_roomy(table, version, versions, more) {
+            return Ok(true);
+        }
         match self.room(table, version, versions)? {
             Some(room) => Ok(more <= room),
             None => Ok(false),
@@ -153,7 +176,8 @@ impl Active {
             versions.now self.old self.new }
     {
         let new = self.given(k, table, version, rows, versions)?;
-        Ok(self.insert_rows(k, table, version, spans_of(versions, table), new)?)
+        let spans = spans_of(versions, table);
+        Ok(self.insert_rows(k, table, version, &spans, new)?)
     }
 
     /// Applies an INSERT with a query, which reads what the transaction saw before.
@@ -174,7 +198,8 @@ impl Active {
             versions.now self.old self.new }
     {
         let new = self.made(k, table, version, select, versions)?;
-        Ok(self.insert_rows(k, table, version, spans_of(versions, table), new)?)
+        let spans = spans_of(versions, table);
+        Ok(self.insert_rows(k, table, version, &spans, new)?)
     }
 
     /// Applies statement k, an INSERT, an UPDATE or a DELETE that reads a version, and gives the number of rows that it writes.

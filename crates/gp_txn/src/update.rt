@@ -1,6 +1,6 @@
 //! UPDATE and DELETE over the writes of a transaction. Both pass over the rows of a table once.
 
-ghost use Rattle.std.specs.Prelude.{◌≡◌, ◌≤◌, ◌++◌, ◌∷◌, [], length, true, map, drop, IfOk, OnOk};
+ghost use Rattle.std.specs.Prelude.{◌≡◌, ◌≤◌, ◌++◌, ◌∷◌, [], length, true, map, drop, IfOk, OnOk, ◌<◌, ◌^◌};
 ghost use Rattle.std.specs.Option.{option_map, option_to_list};
 ghost use Rattle.gp_base.specs.Annotated.{plain};
 ghost use Rattle.gp_expr.specs.Values as v;
@@ -11,13 +11,13 @@ ghost use Rattle.gp_txn.specs.Overlay.{carried_row, head_slot, own_row, overlaid
 ghost use Rattle.gp_txn.specs.Slots.{carried_after, cells_after, cells_for, changed_carried, changed_own, changed_slot, changed_slots, changed_table, count_touched, effect, is_touched, one_if, passes_seen, seen, slot_for, stored_after};
 
 use crate::assignment::assigned;
-use crate::carried::{Carried, CarriedRows, has_slot};
+use crate::carried::{Carried, CarriedRows};
 use crate::change::Change;
 use crate::overlay::{Slot, TableWrites};
 use crate::snapshot::{copied_row, seen};
 use gp_base::{NoMemory, Row, Sequence, Stored};
 use gp_expr::truth;
-use gp_versions::Span;
+use gp_versions::SpanList;
 use std::alloc::Global;
 
 /// What a statement makes, and how many rows it writes there.
@@ -93,7 +93,7 @@ fn changed_slots(
     change: &Change<'_>,
     slots: &[Slot],
     carried: &CarriedRows,
-    spans: &[Span],
+    spans: &SpanList<'_>,
     v: u32,
 ) -> Result<Counted<Sequence<Slot>>, NoMemory>
     requires { change_is_simple (change_view change.now) ≡ true }
@@ -103,13 +103,13 @@ fn changed_slots(
     ensures count { IfOk result (λ new. new.count
         ≡ count_touched (change_view change.now)
         (overlaid slots.now (slotted carried.now (rows_at plain v spans.now)))) }
-    ensures few { IfOk result (λ new. new.count ≤ length spans.now) }
+    ensures few { IfOk result (λ new. new.count < 2 ^ 60) }
 {
     let mut new = Sequence::new(alloc);
     let mut count = 0usize;
     let mut place = 0usize;
-    for span in spans {
-        if has_slot(carried, v, span) {
+    for span in spans.as_of(v) {
+        if !carried.has(&span.id) {
             let slot = changed_slot(alloc, change, slots, place, &span.row)?;
             count += slot.count;
             new.push(slot.made)?;
@@ -268,7 +268,7 @@ fn changed_own(
 pub fn changed(
     alloc: Global,
     writes: &TableWrites,
-    spans: &[Span],
+    spans: &SpanList<'_>,
     change: &Change<'_>,
 ) -> Result<Counted<TableWrites>, NoMemory>
     requires { change_is_simple (change_view change.now) ≡ true }

@@ -6,10 +6,10 @@ ghost use Rattle.gp_base.specs.Annotated.{plain};
 ghost use Rattle.gp_txn.specs.Overlay.{base_writes, carried_write, head_slot, own_write, rows_below, slot_write, slot_writes, slotted, table_writes};
 ghost use Rattle.gp_versions.specs.Spans.{row_of, rows_at};
 
-use crate::carried::{Carried, CarriedRows, has_slot};
+use crate::carried::{Carried, CarriedRows};
 use crate::overlay::{Slot, TableWrites};
 use gp_base::{NoMemory, Row, RowId, Stored};
-use gp_versions::{Span, Write};
+use gp_versions::{Span, SpanList, Write};
 use std::alloc::Global;
 
 /// The write that puts cells into a row.
@@ -52,21 +52,24 @@ fn push_write(
     Ok(())
 }
 
-/// What a commit writes of the rows of version v that have a slot.
+/// What a commit writes of the rows of version v that have a slot. Without slots, nothing passes over the spans.
 fn base_writes(
     alloc: Global,
     slots: &[Slot],
     carried: &CarriedRows,
-    spans: &[Span],
+    spans: &SpanList<'_>,
     v: u32,
 ) -> Result<Vec<Write>, NoMemory>
     ensures { IfOk result (λ writes. writes.items
         ≡ base_writes slots.now (slotted carried.now (rows_at plain v spans.now))) }
 {
+    if slots.is_empty() {
+        return Ok(Vec::new(alloc));
+    }
     let mut writes = Vec::new(alloc);
     let mut place = 0usize;
-    for span in spans {
-        if has_slot(carried, v, span) {
+    for span in spans.as_of(v) {
+        if !carried.has(&span.id) {
             push_write(&mut writes, slots, place, span)?;
             place += 1;
         }
@@ -78,7 +81,7 @@ fn base_writes(
 pub fn slot_writes(
     alloc: Global,
     writes: &TableWrites,
-    spans: &[Span],
+    spans: &SpanList<'_>,
 ) -> Result<Vec<Write>, NoMemory>
     ensures { IfOk result
         (λ list. list.items ≡ slot_writes writes.now (rows_below writes.now spans.now)) }
@@ -125,7 +128,7 @@ fn push_own(writes: &mut Vec<Write>, own: &[Stored]) -> Result<(), NoMemory>
 pub fn table_writes(
     alloc: Global,
     writes: &TableWrites,
-    spans: &[Span],
+    spans: &SpanList<'_>,
 ) -> Result<Vec<Write>, NoMemory>
     ensures { IfOk result
         (λ list. list.items ≡ table_writes writes.now (rows_below writes.now spans.now)) }

@@ -10,12 +10,12 @@ use Rattle.gp_base.specs.Identities.{Identity, same_identity}
 use Rattle.gp_versions.specs.declared.id_key.IdKey.{IdKey}
 use Rattle.gp_versions.specs.declared.span.Span.{Span}
 use Rattle.gp_versions.specs.declared.span.Write.{Write}
-use Rattle.gp_versions.specs.Chains.{HasChains, IsKeyAt, IsLast, LeadsTo, change_after, is_begun, keys_of, same_keys, up_to}
+use Rattle.gp_versions.specs.Chains.{HasChains, HasNone, IsKeyAt, IsLast, LeadsTo, change_after, ids_of, is_begun, keys_of, same_keys, up_to}
 use Rattle.gp_versions.specs.Commits.{after_commit, begun, ended}
 use Rattle.gp_versions.specs.Keys.{key_of}
 use Rattle.gp_versions.specs.TableSpans.{AreWhole, IsApart, NoOverlap, later, later_end, least, written_after}
 use Rattle.gp_versions.proofs.HeldLemmas.{skip-end}
-use Rattle.gp_versions.proofs.SameLemmas.{same-exact}
+use Rattle.gp_versions.proofs.SameLemmas.{same-exact, same-itself}
 use Rattle.gp_versions.proofs.SpanLemmas.{ended_id}
 
 -- ---- keys
@@ -45,7 +45,7 @@ at-end : {X : Type 0} (xs : List X) (x y : X) → slice_get (xs ++ x ∷ []) (le
 at-end [] x y at = cc
 at-end (z ∷ xs) x y at = at-end xs x y at
 
-all-at : {X : Type 0} (P : X → Type 0) (xs : List X) (p : ℕ) (x : X) → AllByRecursion P xs → slice_get xs p ≡ Some x → P x
+pub all-at : {X : Type 0} (P : X → Type 0) (xs : List X) (p : ℕ) (x : X) → AllByRecursion P xs → slice_get xs p ≡ Some x → P x
 all-at P [] p x all at = absurd (cc)
 all-at P (y ∷ xs) zero x all at = subst P (cc) all.0
 all-at P (y ∷ xs) (suc p) x all at = all-at P xs p x all.1 at
@@ -233,7 +233,7 @@ settled id v (x ∷ spans) (suc p) span apart whole at same begun =
 
 -- ---- walks
 
-up_to-within : (spans : List Span) (id : Identity) (to : ℕ) (place : Option ℕ) → IsKeyAt spans id to place → up_to place ≤ to
+pub up_to-within : (spans : List Span) (id : Identity) (to : ℕ) (place : Option ℕ) → IsKeyAt spans id to place → up_to place ≤ to
 up_to-within spans id to None at = omega arith
 up_to-within spans id to (Some p) at = omega (arith, at.0)
 
@@ -260,3 +260,44 @@ step spans id v p span next found all at leads so_far =
     ∙ sym (least-assoc (written_after id v (take p spans)) change found)
     ∙ ap (λ w. least w found) (sym (written-one id v spans p span at))
     ∙ so_far
+
+-- ---- the newest span of an identity
+
+pub ids-at : (spans : List Span) (p : ℕ) (span : Span) → slice_get spans p ≡ Some span → slice_get (ids_of spans) p ≡ Some span.id
+ids-at [] p span at = absurd (cc)
+ids-at (x ∷ spans) zero span at = let e : x ≡ span = cc in ap (λ (s : Span). Some s.id) e
+ids-at (x ∷ spans) (suc p) span at = ids-at spans p span at
+
+-- its key is there too
+ids-keyed : (spans : List Span) (q : ℕ) (id : Identity) → slice_get (ids_of spans) q ≡ Some id → slice_get (keys_of spans) q ≡ Some (key_of id)
+ids-keyed [] q id at = absurd (cc)
+ids-keyed (x ∷ spans) zero id at = let e : x.id ≡ id = cc in ap (λ i. Some (key_of i)) e
+ids-keyed (x ∷ spans) (suc q) id at = ids-keyed spans q id at
+
+pub HasNone-last : (spans : List Span) (id : Identity) (to : ℕ) (place : Option ℕ) → IsLast (keys_of spans) (key_of id) to place → HasNone spans id to place
+HasNone-last spans id to place last = record { at = last.at; others = λ q above below at. last.others q above below (ids-keyed spans q id at) }
+
+-- a walk goes on behind a span of another identity
+pub HasNone-next : (spans : List Span) (id : Identity) (to p : ℕ) (span : Span) (next : Option ℕ) → slice_get spans p ≡ Some span → same_identity span.id id ≡ false → HasNone spans id to (Some p) → IsLast (keys_of spans) (key_of id) p next → HasNone spans id to next
+HasNone-next spans id to p span next here other none last =
+    record { at = IsKeyAt-within spans id p to next (omega (arith, none.at.0)) last.at; others = others }
+  where
+    not-here : slice_get (ids_of spans) p ≡ Some id → ⊥
+    not-here at = (let e : span.id ≡ id = (let f = ids-at spans p span here in cc) in false≢true (sym other ∙ (ap (λ i. same_identity i id) e ∙ same-itself id)))
+
+    others : (q : ℕ) → up_to next ≤ q → q < to → slice_get (ids_of spans) q ≡ Some id → ⊥
+    others q above below at = elim (cases_lt q p) [
+      | inl early ↦ last.others q above early (ids-keyed spans q id at)
+      | inr late ↦ elim (cases_lt p q) [
+        | inl behind ↦ none.others q (omega (arith, behind)) below at
+        | inr up ↦ not-here (subst (λ n. slice_get (ids_of spans) n ≡ Some id) (omega (arith, late, up)) at)
+      ]
+    ]
+
+-- or stops at one of the identity
+pub IsLast-here : (spans : List Span) (id : Identity) (to p : ℕ) (span : Span) → slice_get spans p ≡ Some span → same_identity span.id id ≡ true → HasNone spans id to (Some p) → IsLast (ids_of spans) id to (Some p)
+IsLast-here spans id to p span here same none =
+    record { at = (none.at.0, ids-at spans p span here ∙ ap Some (same-exact span.id id same)); others = none.others }
+
+pub IsLast-none : (spans : List Span) (id : Identity) (to : ℕ) → HasNone spans id to None → IsLast (ids_of spans) id to None
+IsLast-none spans id to none = record { at = tt; others = none.others }

@@ -1,6 +1,8 @@
 pub mod ChainLemmas
+pub mod EndLemmas
 pub mod HeldLemmas
 pub mod LaterLemmas
+pub mod ListedLemmas
 pub mod OrderLemmas
 pub mod SameLemmas
 pub mod SpanLemmas

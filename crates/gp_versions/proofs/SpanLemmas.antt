@@ -31,11 +31,11 @@ ended_row : {M : Type 0} (domain : Annotations M) (version : ℕ) (writes : List
 ended_row domain version writes span = elim (is_open span.to && is_written writes span.id) as (λ b. row_of domain (cond b (record span { to = Some version }) span) ≡ row_of domain span) [ true ↦ refl | false ↦ refl ]
 
 -- an end is never changed
-end-stays : (version : ℕ) (b : Bool) (to : Option ℕ) (P : ℕ → Type 0) → IsSomeAnd to P → IsSomeAnd (cond (is_open to && b) (Some version) to) P
+pub end-stays : (version : ℕ) (b : Bool) (to : Option ℕ) (P : ℕ → Type 0) → IsSomeAnd to P → IsSomeAnd (cond (is_open to && b) (Some version) to) P
 end-stays version b None P some = absurd some
 end-stays version b (Some to) P some = some
 
-apart-ended : (version : ℕ) (writes : List Write) (first later : Span) → IsApart first later → IsApart (ended version writes first) (ended version writes later)
+pub apart-ended : (version : ℕ) (writes : List Write) (first later : Span) → IsApart first later → IsApart (ended version writes first) (ended version writes later)
 apart-ended version writes first later apart =
     rw (ended_id version writes first, ended_id version writes later, ended_to version writes first, ended_from version writes later)
     (λ same. end-stays version (is_written writes first.id) first.to (λ to. to ≤ later.from) (apart same))

@@ -1,12 +1,14 @@
 -- Machinery: the entered spans of a table by their keys. Spans with equal keys are a chain, and each entered span knows the one before it in its
 -- chain. A walk along the chain of an identity meets each entered span of the identity, whatever the keys are.
-use Rattle.std.specs.Prelude.{◌≡◌, ℕ, suc, ◌<◌, ◌≤◌, Bool, ◌&&◌, List, length, map, take, slice_get, nat_le, Option, Some, None, if◌then◌else◌, IfSome}
+use Rattle.std.specs.Prelude.{◌≡◌, ℕ, zero, suc, ◌<◌, ◌≤◌, Bool, ◌&&◌, List, [], ◌∷◌, length, map, take, slice_get, nat_le, Option, Some, None, if◌then◌else◌, IfSome}
 use Rattle.indexmap.specs.IndexMap.{IndexMap, get}
 use Rattle.gp_base.specs.Identities.{Identity, same_identity}
 use Rattle.gp_versions.specs.contracts.id_key.IdKeyPartialEq.TheImpl as key_eq
 use Rattle.gp_versions.specs.declared.chains.Chains.{Chains}
 use Rattle.gp_versions.specs.declared.id_key.IdKey.{IdKey}
 use Rattle.gp_versions.specs.declared.span.Span.{Span}
+use Rattle.gp_versions.specs.declared.span.Write.{Write}
+use Rattle.gp_versions.specs.Commits.{ended, is_open}
 use Rattle.gp_versions.specs.Keys.{key_of}
 use Rattle.gp_versions.specs.TableSpans.{later, later_end, least, written_after}
 
@@ -22,8 +24,11 @@ abbrev pub up_to : Option ℕ → ℕ
 up_to None = 0
 up_to (Some place) = suc place
 
--- the key is at the place, if there is one, and not behind it and below `to`
-pub record IsLast (keys : List IdKey) (key : IdKey) (to : ℕ) (place : Option ℕ) : Type 0 where
+abbrev pub ids_of : List Span → List Identity
+ids_of spans = map (λ (span : Span). span.id) spans
+
+-- the key, or the identity, is at the place, if there is one, and not behind it and below `to`
+pub record IsLast {K : Type 0} (keys : List K) (key : K) (to : ℕ) (place : Option ℕ) : Type 0 where
   pub at : IfSome place (λ p. (p < to) × (slice_get keys p ≡ Some key))
   pub others : (q : ℕ) → up_to place ≤ q → q < to → slice_get keys q ≡ Some key → ⊥
 
@@ -55,7 +60,24 @@ is_begun id v span = nat_le span.from v && same_identity span.id id
 abbrev pub IsKeyAt : List Span → Identity → ℕ → Option ℕ → Type 0
 IsKeyAt spans id to place = IfSome place (λ p. (p < to) × (slice_get (keys_of spans) p ≡ Some (key_of id)))
 
+-- a span with the key of the identity is at the place, if there is one, and the identity is not behind it and below `to`
+pub record HasNone (spans : List Span) (id : Identity) (to : ℕ) (place : Option ℕ) : Type 0 where
+  pub at : IsKeyAt spans id to place
+  pub others : (q : ℕ) → up_to place ≤ q → q < to → slice_get (ids_of spans) q ≡ Some id → ⊥
+
 -- the later writes of the identity among the first `to` spans are those up to the place
 pub record LeadsTo (spans : List Span) (id : Identity) (v to : ℕ) (place : Option ℕ) : Type 0 where
   pub at : IsKeyAt spans id to place
   pub after : written_after id v (take (up_to place) spans) ≡ written_after id v (take to spans)
+
+-- ---- a commit
+
+-- an open span ends at the version
+abbrev pub closed : ℕ → Span → Span
+closed version span = if is_open span.to then record span { to = Some version } else span
+
+-- the first `to` spans after the ends that the writes make there, and the others as they are
+abbrev pub ended_first : ℕ → ℕ → List Write → List Span → List Span
+ended_first zero version writes spans = spans
+ended_first (suc to) version writes [] = []
+ended_first (suc to) version writes (span ∷ spans) = ended version writes span ∷ ended_first to version writes spans

@@ -1,5 +1,6 @@
 pub mod Chains
 pub mod Commits
+pub mod Listed
 pub mod Keys
 pub mod SpanCodes
 pub mod Spans

@@ -2,7 +2,7 @@
 
 ghost use Rattle.std.specs.Prelude.{◌≡◌, ℕ, ◌+◌, ◌<◌, List, OnOk, length, slice_get, take};
 ghost use Rattle.gp_versions.specs.declared.span.Span as declared;
-ghost use Rattle.gp_versions.specs.Chains.{IsChained, IsKeyAt, LeadsTo, change_after, entered, is_begun, keys_of};
+ghost use Rattle.gp_versions.specs.Chains.{IsChained, IsKeyAt, IsLast, LeadsTo, change_after, entered, ids_of, is_begun, keys_of};
 ghost use Rattle.gp_versions.specs.Keys.{key_of};
 ghost use Rattle.gp_versions.specs.TableSpans.{AreWhole, NoOverlap, written_after};
 
@@ -93,10 +93,25 @@ impl Chains {
 
     /// The place of the newest entered span with the key of the identity.
     fn newest(&self, id: &RowId) -> Option<u32>
-        ensures { (spans : List declared.Span) (v : ℕ) → IsChained self.now spans
-            → LeadsTo spans id.now v (entered self.now) result }
+        ensures { (spans : List declared.Span) → IsChained self.now spans
+            → IsLast (keys_of spans) (key_of id.now) (entered self.now) result }
     {
         self.newest.get(&key_of(id)).copied()
+    }
+
+    /// The place of the newest entered span of the identity, or None if there is none.
+    pub fn newest_of(&self, spans: &[Span], id: &RowId) -> Option<u32>
+        requires chained { IsChained self.now spans.now }
+        ensures { IsLast (ids_of spans.now) id.now (entered self.now) result }
+    {
+        let mut walk = self.newest(id);
+        while let Some(place) = walk {
+            if is_same(&spans[place as usize].id, id) {
+                return Some(place);
+            }
+            walk = self.befores[place as usize];
+        }
+        None
     }
 
     /// Where a walk goes on behind this place: at the place before it in the chain, or nowhere if no earlier span of the

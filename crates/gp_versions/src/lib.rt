@@ -6,8 +6,9 @@
 //! this transaction time, and SQL:2011 a system-versioned table.
 //!
 //! In reading order: [`Span`] and [`Write`], the [`Writes`] of a commit, and the [`VersionTable`] with [`AsOf`], the spans
-//! that hold a version. `chains.rt` finds the spans of an identity. The functions of `laws.rt`, as [`written_after_is_the_least`], are laws of the definitions in
-//! `specs/`, which the contracts cite.
+//! that hold a version; a [`SpanList`] is what code takes that reads versions of a table. `chains.rt` finds the spans of an
+//! identity, and `current.rt` those that hold the newest versions. The functions of `laws.rt`, as
+//! [`written_after_is_the_least`], are laws of the definitions in `specs/`, which the contracts cite.
 //!
 //! ```text
 //! let writes = Writes::from_vec(alloc, list)?;
@@ -20,11 +21,13 @@
 mod as_of;
 mod chains;
 mod commit;
+mod current;
 mod id_key;
 mod later;
 mod laws;
 mod order;
 mod span;
+mod span_list;
 mod table;
 mod writes;
 
@@ -33,5 +36,6 @@ pub use laws::{
     a_span_ends_at_the_next_write, a_version_has_one_row_of_an_identity, written_after_is_the_least,
 };
 pub use span::{Span, Write};
+pub use span_list::SpanList;
 pub use table::VersionTable;
 pub use writes::Writes;

@@ -12,9 +12,11 @@ ghost use Rattle.gp_versions.specs.TableSpans.{AreWhole, NoOverlap, written_afte
 use crate::as_of::AsOf;
 use crate::chains::Chains;
 use crate::commit::commit_spans;
+use crate::current::Current;
 use crate::later::{lesser, written_after};
 use crate::order::sorted_places;
 use crate::span::Span;
+use crate::span_list::SpanList;
 use crate::writes::Writes;
 use gp_base::{NoMemory, RowId};
 use std::alloc::Global;
@@ -24,17 +26,20 @@ use std::marker::Model;
 /// [`VersionTable::from_spans`] was given. Spans of one identity never overlap, so each version has at most one row of an
 /// identity, and each span holds at least one version.
 ///
-/// A later write of a row is looked up by its identity among the spans that [`VersionTable::enter`] has entered, and by a
-/// pass over the others, which began since. Contracts do not see which spans are entered.
+/// The later writes of a row, and the span that a commit ends, are looked up by the row's identity among the spans that
+/// [`VersionTable::enter`] has entered, and by a pass over the others, which began since. The rows of the newest versions are
+/// found among the spans that were open when they were entered, and the others. Contracts do not see which spans are entered.
 #[derive(Drop)]
 pub struct VersionTable {
     spans: Vec<Span>,
     chains: Chains,
+    current: Current,
 }
 
 impl Model for VersionTable {
     ghost use Rattle.std.specs.Prelude.{◌-◌, vec_capacity, vec_len};
     ghost use Rattle.gp_versions.specs.Chains.{IsChained};
+    ghost use Rattle.gp_versions.specs.Listed.{IsCurrent};
     ghost use Rattle.gp_versions.specs.Spans.{Versions};
     ghost use Rattle.gp_versions.specs.TableSpans.{AreWhole, NoOverlap};
     ghost use Rattle.gp_versions.specs.SpanCodes.{versions_code};
@@ -49,7 +54,7 @@ impl Model for VersionTable {
     } };
 
     ghost invariant = { λ a. NoOverlap a.spans.items × AreWhole a.spans.items
-        × IsChained a.chains a.spans.items };
+        × IsChained a.chains a.spans.items × IsCurrent a.current a.spans.items };
 }
 
 impl VersionTable {
@@ -60,6 +65,7 @@ impl VersionTable {
         VersionTable {
             spans: Vec::new(alloc),
             chains: Chains::new(alloc),
+            current: Current::new(alloc),
         }
     }
 
@@ -70,8 +76,12 @@ impl VersionTable {
         requires whole { AreWhole spans.items }
         ensures spans { result.spans ≡ spans.items }
     {
-        let chains = Chains::new(*spans.allocator());
-        VersionTable { spans, chains }
+        let alloc = *spans.allocator();
+        VersionTable {
+            spans,
+            chains: Chains::new(alloc),
+            current: Current::new(alloc),
+        }
     }
 
     /// The number of spans.
@@ -109,11 +119,19 @@ impl VersionTable {
         sorted_places(alloc, &self.spans)
     }
 
+    /// The spans, for those that read versions of the table.
+    pub fn as_list(&self) -> SpanList<'_>
+        ensures spans { result ≡ self.now.spans }
+        ensures apart { NoOverlap self.now.spans }
+    {
+        SpanList::of(&self.spans, &self.current)
+    }
+
     /// The spans that hold the version, in the order in which they began.
     pub fn as_of(&self, v: u32) -> AsOf<'_>
         ensures { result ≡ spans_at v self.now.spans }
     {
-        AsOf::new(&self.spans, v)
+        self.current.as_of(&self.spans, v)
     }
 
     /// The least version above v at which a span of the identity begins or ends, or None if there is none.
@@ -125,13 +143,15 @@ impl VersionTable {
         lesser(entered, written_after(&spans[self.chains.len()..], id, v))
     }
 
-    /// Enters the spans that began since the last call, so that [`VersionTable::written_after`] looks them up by identity.
-    /// The spans and the room are unchanged, also if memory runs out; some spans are entered then. Places that 32 bits cannot
-    /// number run out of memory.
+    /// Enters the spans that began since the last call: [`VersionTable::written_after`] and [`VersionTable::append_commit`] then
+    /// look them up by identity, and the rows of new versions are found without a pass over those that have ended. The spans
+    /// and the room are unchanged, also if memory runs out; some spans are entered then. Places that 32 bits cannot number run
+    /// out of memory.
     pub fn enter(&mut self) -> Result<(), NoMemory>
         ensures { self.new ≡ self.old }
     {
-        self.chains.enter(&self.spans)
+        self.chains.enter(&self.spans)?;
+        self.current.cover(&self.spans)
     }
 
     /// Makes room for at least n more spans. The spans are unchanged, and no room is lost, also if memory runs out.
@@ -161,6 +181,6 @@ impl VersionTable {
             ++ live_rows plain writes }
         ensures below { AreBelow (version + 1) self.new.spans }
     {
-        commit_spans(&mut self.spans, version, writes);
+        commit_spans(&mut self.spans, &self.chains, version, writes);
     }
 }

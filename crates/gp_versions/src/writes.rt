@@ -14,7 +14,7 @@ use std::alloc::Global;
 use std::marker::Model;
 
 /// The writes of a commit to one table, in order. Contracts see a list of writes. Their identities are sorted beside it,
-/// once, so that ending spans is one pass with a binary search for each span.
+/// once, so that a pass over spans that are not entered is one binary search for each of them.
 #[derive(Drop)]
 pub struct Writes {
     list: Vec<Write>,

@@ -1,17 +1,38 @@
-use Rattle.std.proofs.Common.{arith, sym, ◌∙◌}
-use Rattle.gp_txn.proofs.ConflictLemmas.{least-held, least-passed}
+use Rattle.std.proofs.Common.{None, ap, arith, drop, length, sym, ◌∙◌}
+use Rattle.std.proofs.lemmas.Bool.{eqb-true}
+use Rattle.gp_txn.specs.LeastSoFar.{least_of}
+use Rattle.gp_txn.specs.Overlay.{slotted_spans}
+use Rattle.gp_txn.proofs.ConflictLemmas.{lates-none, least-held, least-passed}
 use Rattle.gp_txn.proofs.conflict.least_slot.Goals as goal
-use Rattle.gp_txn.proofs.conflict.least_slot.Goals.{then-has_slot+in_ok-found, else-has_slot}
+
+pub returns-then-is_empty : goal.returns-then-is_empty
+returns-then-is_empty c =
+    sym (ap (least_of None) (lates-none c.args.slots.now (slotted_spans c.args.carried.now c.args.v c.args.spans.now) (eqb-true _ _ (sym c.is_empty.ensures ∙ c.if-is_empty.true))))
+
+pub loop-span-preserved-then-not-has : goal.loop-span-preserved-then-not-has
+loop-span-preserved-then-not-has c =
+    let slots = c.args.slots.now in
+    let carried = c.args.carried.now in
+    let place = c.loop-span.place in
+    let span = c.in-Some.span.now in
+    let rest = c.next.new.self in
+    let is = c.in-Some.ensures.steps in
+    let free = sym c.has.ensures ∙ c.if-not-has.true in
+    record {
+      rest = rw c.in_ok-found.ensures (sym (least-held c.loop-span.found slots carried place span rest c.loop-span.span-iterator is free) ∙ c.loop-span.invariant.rest);
+      below = omega (arith, ap length is, c.loop-span.invariant.below);
+    }
 
 pub loop-span-preserved : goal.loop-span-preserved
 loop-span-preserved c =
-    elim c.if-has_slot.branch [
-      | then-has_slot+in_ok-found w ↦ record {
-        rest = rw (w.found-is, w.place-is, w.in_ok-found.ensures) (sym (least-held c.loop-span.found c.args.slots.now c.args.carried.now c.loop-span.place c.args.v c.args.spans.now c.loop-span.span-index c.span-item.result (omega arith) c.span-item.is (sym c.has_slot.ensures ∙ w.if-has_slot.true)) ∙ c.loop-span.invariant.rest);
-        below = omega (arith, w.place-is);
-      }
-      | else-has_slot w ↦ record {
-        rest = rw (w.found-is, w.place-is) (sym (least-passed c.loop-span.found _ c.args.carried.now c.args.v c.args.spans.now c.loop-span.span-index c.span-item.result (omega arith) c.span-item.is (sym c.has_slot.ensures ∙ w.if-has_slot.false)) ∙ c.loop-span.invariant.rest);
-        below = omega (arith, w.place-is);
-      }
-    ]
+    let slots = c.args.slots.now in
+    let carried = c.args.carried.now in
+    let place = c.loop-span.place in
+    let span = c.in-Some.span.now in
+    let rest = c.next.new.self in
+    let is = c.in-Some.ensures.steps in
+    let passed = sym c.has.ensures ∙ c.if-not-has.false in
+    record {
+      rest = sym (least-passed c.loop-span.found (drop place slots) carried span rest c.loop-span.span-iterator is passed) ∙ c.loop-span.invariant.rest;
+      below = omega (arith, ap length is, c.loop-span.invariant.below);
+    }

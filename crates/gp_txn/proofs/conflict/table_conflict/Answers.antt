@@ -13,8 +13,8 @@ returns c =
       c.in_ok-least_carried.ensures,
       c.in_ok-found.ensures,
       c.as_slice-slots.ensures,
-      c.as_slice.ensures.spans,
-      c.as_slice-2.ensures,
+      c.as_list-spans.ensures.spans,
+      c.as_slice.ensures,
       sym (least-append None (slot_lates writes.slots (slotted_spans writes.carried writes.version spans)) (filter_map (carried_late spans) writes.carried)),
     )
     (least-is (lates writes spans))

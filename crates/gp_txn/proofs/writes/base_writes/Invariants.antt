@@ -1,11 +1,12 @@
-use Rattle.std.proofs.Common.{◌≡◌, ◌≤◌, ◌++◌, drop}
+use Rattle.std.proofs.Common.{◌≡◌, ◌++◌, drop, ◌+◌, length, ◌<◌, ◌^◌}
 use Rattle.gp_base.specs.Annotated.{plain}
 use Rattle.gp_versions.specs.Spans.{rows_at}
 use Rattle.gp_txn.specs.Overlay.{base_writes, slotted}
+use Rattle.gp_txn.proofs.SlottedLemmas.{slotted_of}
 use Rattle.gp_txn.proofs.writes.base_writes.Given as goal
 
 abbrev pub invariant-loop-span : goal.invariant-loop-span
 invariant-loop-span l = record {
-  rest : l.writes.items ++ base_writes (drop l.place l.slots) (slotted l.carried (rows_at plain l.v (drop l.span-index l.spans))) ≡ base_writes l.slots (slotted l.carried (rows_at plain l.v l.spans));
-  below : l.place ≤ l.span-index;
+  rest : l.writes.items ++ base_writes (drop l.place l.slots) (slotted_of l.carried l.span-iterator) ≡ base_writes l.slots (slotted l.carried (rows_at plain l.v l.spans));
+  below : l.place + length l.span-iterator < 2 ^ 60;
 }

@@ -4,4 +4,4 @@ use Rattle.gp_txn.proofs.AppliedLemmas.{insert_select-wrote}
 use Rattle.gp_txn.proofs.active.Active.insert_select.Goals as goal
 
 pub returns : goal.returns
-returns c = rw (c.in_ok-insert_rows.ensures.ok, c.spans_of.ensures.spans) (insert_select-wrote c.args.k c.args.version c.args.table (select_view c.args.select.now) c.in_ok-new.new c.args.versions.now c.args.self.now c.in_ok-insert_rows.field-0 (omega (arith, c.requires.table, c.in_ok-insert_rows.ensures.tables)) c.in_ok-new.ensures.rows c.in_ok-insert_rows.ensures.count)
+returns c = rw (c.in_ok-insert_rows.ensures.ok, c.spans_of-spans.ensures.spans) (insert_select-wrote c.args.k c.args.version c.args.table (select_view c.args.select.now) c.in_ok-new.new c.args.versions.now c.args.self.now c.in_ok-insert_rows.field-0 (omega (arith, c.requires.table, c.in_ok-insert_rows.ensures.tables)) c.in_ok-new.ensures.rows c.in_ok-insert_rows.ensures.count)

@@ -5,12 +5,12 @@ use Rattle.gp_versions.specs.declared.span.Span.{Span}
 use Rattle.gp_versions.specs.Chains.{entered, up_to}
 use Rattle.gp_versions.specs.Keys.{key_of}
 use Rattle.gp_versions.specs.TableSpans.{written_after}
-use Rattle.gp_versions.proofs.ChainLemmas.{IsKeyAt-within, least-none, step}
+use Rattle.gp_versions.proofs.ChainLemmas.{IsKeyAt-within, LeadsTo-last, least-none, step}
 use Rattle.gp_versions.proofs.chains.Chains.written_after.Goals as goal
 
 pub loop-walk-init : goal.loop-walk-init
 loop-walk-init c =
-    let leads = c.newest-walk.ensures c.args.spans.now c.args.v c.requires.chained in
+    let leads = LeadsTo-last c.args.spans.now c.args.id.now c.args.v (entered c.args.self.now) c.newest-walk.result (c.newest-walk.ensures c.args.spans.now c.requires.chained) in
     record {
       at = leads.at;
       after = least-none (written_after c.args.id.now c.args.v (take (up_to c.newest-walk.result) c.args.spans.now)) ∙ leads.after;
