@@ -6,7 +6,7 @@ use Rattle.std.proofs.lemmas.Bool.Decides.{nat_tests}
 use Rattle.gp_machine.proofs.HeldPoints.{version_is}
 use Rattle.gp_machine.proofs.LogLemmas.{began_same, committed_same, created_same, ended_same, ran_same, versions_le}
 use Rattle.gp_machine.specs.Entries.{End, Entry, Created, Began, Ran, Committed, Ended, begin_version, committer_of, is_read_committed, log_of, statement_count, statement_version, transactions_in, version_of, versions_in}
-use Rattle.gp_machine.specs.Replaying.{CommitsInOrder}
+use Rattle.gp_machine.specs.ReplayForms.{CommitsInOrder}
 use Rattle.gp_log.proofs.SteadyLemmas.{steady_began, steady_committed, steady_created, steady_ended, steady_none, steady_ran, unequal_from}
 use Rattle.gp_log.specs.Discipline.{transaction_in}
 use Rattle.gp_log.specs.Indexing.{AreSteady}

@@ -1,6 +1,7 @@
 pub mod CheckedEntries
 pub mod CountLemmas
 pub mod EntryLemmas
+pub mod FindingLemmas
 pub mod FittingLogs
 pub mod IndexLemmas
 pub mod KeptSessions

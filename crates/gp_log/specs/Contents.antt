@@ -1,4 +1,4 @@
--- What a log has, in the terms of the history machine.
+-- Part of the statement: what a log has, in the terms of the history machine.
 use Rattle.std.specs.Prelude.{List}
 use Rattle.gp_base.specs.declared.table.Table.{Table}
 use Rattle.gp_machine.specs.Entries.{Entry}

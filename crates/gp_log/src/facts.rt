@@ -4,8 +4,9 @@ ghost use Rattle.std.specs.Prelude.{◌≡◌, ◌<◌, ◌^◌, length};
 ghost use Rattle.std.specs.Option.{option_map};
 ghost use Rattle.gp_algebra.specs.Views.{statement_view};
 ghost use Rattle.gp_log.specs.LogCounts.{version_at, version_read};
-ghost use Rattle.gp_log.specs.Logs.{log_view};
-ghost use Rattle.gp_machine.specs.Entries.{begin_version, committer_of, fate_of, is_read_committed, statement_at, statement_count, version_of};
+ghost use Rattle.gp_log.specs.Finding.{is_own};
+ghost use Rattle.gp_log.specs.Logs.{entry_view, log_view};
+ghost use Rattle.gp_machine.specs.Entries.{begin_version, committer_of, fate_of, is_read_committed, statement_at, statement_count, statement_of, version_of};
 
 use crate::entry::{Entry, What};
 use gp_algebra::Stmt;
@@ -149,6 +150,26 @@ pub fn committer(entries: &[Entry], version: u32) -> u32
         }
     }
     found
+}
+
+/// Whether an entry is statement k of a transaction.
+pub fn is_own(entry: &Entry, t: u32, k: u32) -> bool
+    ensures { result ≡ is_own t k entry.now }
+{
+    match entry.what {
+        What::Statement { k: number, .. } => entry.t == t && number == k,
+        _ => false,
+    }
+}
+
+/// The statement of an entry, if it is one.
+pub fn statement_of(entry: &Entry) -> Option<&Stmt>
+    ensures { option_map (λ s. statement_view s.now) result ≡ statement_of (entry_view entry.now) }
+{
+    match &entry.what {
+        What::Statement { stmt, .. } => Some(stmt),
+        _ => None,
+    }
 }
 
 /// The statement of this number in the transaction.

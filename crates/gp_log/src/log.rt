@@ -332,6 +332,13 @@ impl Log {
         ensures { option_map (λ s. statement_view s.now) result
             ≡ statement_at t k (entries self.now) }
     {
+        // A pass over all entries for each statement of a transaction would be slow.
+        for place in self.first_statement(t)..self.len() {
+            let entry = self.entry(place);
+            if facts::is_own(entry, t, k) {
+                return facts::statement_of(entry);
+            }
+        }
         facts::statement(&self.entries, t, k)
     }
 
