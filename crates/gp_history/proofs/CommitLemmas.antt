@@ -40,7 +40,7 @@ use Rattle.gp_history.specs.declared.error.HistoryStop.{HistoryStop}
 use Rattle.gp_history.specs.declared.error.HistoryStop.TheVariants.{Inconsistent, Rows, Ancestry, NoMemory}
 use Rattle.gp_history.specs.Agreement.{agree, key_of, keys_agree}
 use Rattle.gp_history.specs.Annotating.{Annotates}
-use Rattle.gp_history.specs.Changes.{AreChanges, AreNotes, ChangesTable, Finds, FindsRows, IsChange, IsKept, are_noted, commit_stop, held, is_noted, made, maker, maker_stop, past, published}
+use Rattle.gp_history.specs.Changes.{AreChanges, AreNotes, ChangesTable, Finds, FindsRows, IsChange, IsKept, are_noted, commit_stop, held, is_noted, limited_to, made, maker, maker_stop, past, past_of, published, stop_within}
 use Rattle.gp_history.specs.Images.{IsImage}
 use Rattle.gp_history.specs.Matching.{keys_of}
 use Rattle.gp_history.specs.Noted.{first_noted, first_written}
@@ -93,7 +93,7 @@ held_differ domain (span ∷ spans) d = (
 -- ---- marks do not matter
 
 module _ {M : Type 0} (all : List (Annotated M)) where
-  unmarked_keys : map key_of (map unmarked all) ≡ map key_of all
+  pub unmarked_keys : map key_of (map unmarked all) ≡ map key_of all
   unmarked_keys = map-map key_of unmarked all
 
   unmarked_identified : identified (map unmarked all) ≡ identified all
@@ -104,7 +104,7 @@ unmarked_annotation domain id [] = refl
 unmarked_annotation domain id (row ∷ all) = ap (cond (same_identity row.identity id) row.annotation) (unmarked_annotation domain id all)
 
 -- keys have no annotations
-keys_same : {M : Type 0} (domain : Annotations M) (version : ℕ) (spans : List Span) → keys_of version spans ≡ map key_of (rows_at domain version spans)
+pub keys_same : {M : Type 0} (domain : Annotations M) (version : ℕ) (spans : List Span) → keys_of version spans ≡ map key_of (rows_at domain version spans)
 keys_same domain version spans = map-map key_of (row_of plain) (spans_at version spans) ∙ sym (map-map key_of (row_of domain) (spans_at version spans))
 
 -- ---- stops
@@ -142,76 +142,80 @@ pushed (z ∷ xs) x (suc k) (suc n) y count is = by (pushed xs x k n y (omega ar
     by (inl here) = inl here
     by (inr last) = inr (ap suc last.0, last.1)
 
+-- ---- annotations of rows
+
+-- notes of rows that stand for these, none of them twice, have the annotations of these
+module _ {M : Type 0} (domain : Annotations M) (version : ℕ) (rows all : List (Annotated M)) (bag : SameBag rows all) (differ : HaveDifferentIdentities all) where
+  annotation_is : (id : Identity) → annotation_of domain id rows ≡ annotation_of domain id (map unmarked all)
+  annotation_is id = annotation_same domain id rows all bag differ ∙ sym (unmarked_annotation domain id all)
+
+  annotations : (id : Identity) → unwrap_or (first_noted id rows) domain.one ≡ annotation_of domain id (map unmarked all)
+  annotations id = noted_is domain id rows ∙ annotation_is id
+
+  -- of a row that the transaction wrote
+  written : (id : Identity) (annotation : M) → first_written id rows ≡ Some annotation → annotation ≡ annotation_of domain id (map unmarked all)
+  written id annotation is =
+      sym (written_is domain id rows (rows_differ rows (distinct_bag (mapped (λ (row : Annotated M). row.identity) bag) (ids_differ all differ))) annotation is)
+      ∙ annotation_is id
+
+  noted_span : (notes : BTreeMap Identity M) → ((id : Identity) → get identity_cmp notes id ≡ first_written id rows) → (span : Span) → is_noted version notes span ≡ true
+      → (span.from == version) ≡ true → unwrap_or (get identity_cmp notes span.id) domain.one ≡ annotation_of domain span.id (map unmarked all)
+  noted_span notes finds span is begins =
+      by_note (get identity_cmp notes span.id) (finds span.id) (sym (ap (λ b. cond b (is_some (get identity_cmp notes span.id)) true) begins) ∙ is)
+    where
+      by_note : (o : Option M) → o ≡ first_written span.id rows → is_some o ≡ true → unwrap_or o domain.one ≡ annotation_of domain span.id (map unmarked all)
+      by_note None at there = absurd (true≢false (sym there))
+      by_note (Some annotation) at there = written span.id annotation (sym at)
+
+  all_noted : (notes : BTreeMap Identity M) → ((id : Identity) → get identity_cmp notes id ≡ first_written id rows) → (spans : List Span) → are_noted version notes spans ≡ true
+      → Finds domain version notes spans (map unmarked all)
+  all_noted notes finds [] there = tt
+  all_noted notes finds (span ∷ spans) there =
+      let parts = and_parts (is_noted version notes span) (are_noted version notes spans) there in
+      (λ begins. noted_span notes finds span parts.0 begins, all_noted notes finds spans parts.1)
+
+  each_noted : (notes : BTreeMap Identity M) → ((id : Identity) → get identity_cmp notes id ≡ first_noted id rows) → (spans : List Span) → Finds domain version notes spans (map unmarked all)
+  each_noted notes finds [] = tt
+  each_noted notes finds (span ∷ spans) = (λ begins. ap (λ o. unwrap_or o domain.one) (finds span.id) ∙ annotations span.id, each_noted notes finds spans)
+
+  pub notes_found : (notes : BTreeMap Identity M) (spans : List Span) → AreNotes rows spans version notes → Finds domain version notes spans (map unmarked all)
+  notes_found notes spans (inl every) = each_noted notes every spans
+  notes_found notes spans (inr some) = all_noted notes some.0 spans some.1
+
 -- ---- one commit
 
 module _ {M : Type 0} (domain : Annotations M) (entries : List Entry) (spans : ℕ → List Span) (before : ℕ) where
   abbrev log : Log
   log = log_of entries
 
+  -- what agrees with the spans of a version has no row twice
+  pub published_differ : (table : ℕ) → NoOverlap (spans table) → agree (made domain log spans before table) (held domain log spans before table) ≡ true
+      → HaveDifferentIdentities (published domain log spans before table)
+  published_differ table apart same =
+      let bag : SameBag (identified (made domain log spans before table)) (identified (held domain log spans before table)) =
+      unpermuted (identified (made domain log spans before table)) (identified (held domain log spans before table)) (agree_is (made domain log spans before table) (held domain log spans before table) same) in
+      rows_differ (published domain log spans before table)
+      (distinct_bag
+      (subst (λ (own : List Identity). SameBag own (ids (held domain log spans before table))) (map-map (λ p. p.0) (λ row. (row.identity, row.cells)) (map unmarked (published domain log spans before table)) ∙ map-map (λ row. row.identity) unmarked (published domain log spans before table))
+      (subst (λ (own : List Identity). SameBag (map (λ p. p.0) (identified (made domain log spans before table))) own) (map-map (λ p. p.0) (λ row. (row.identity, row.cells)) (held domain log spans before table))
+      (mapped (λ p. p.0) bag)))
+      (ids_differ (held domain log spans before table) (held_differ domain (spans_at (suc before) (spans table)) (held-differ (suc before) (spans table) apart))))
+
   -- computed rows, in any order, say what becomes of their table
   pub rows_change : (table : ℕ) → NoOverlap (spans table) → (rows : List (Annotated M)) → IsPermutation rows (published domain log spans before table) → maker_stop domain log spans before ≡ None
       → (result : Result (Option (BTreeMap Identity M)) HistoryStop) → FindsRows rows (spans table) (suc before) table result → ChangesTable domain log spans before table result
   rows_change table apart rows moved no_stop result finds = by result finds
     where
-      bag : SameBag rows (published domain log spans before table)
-      bag = unpermuted rows (published domain log spans before table) moved
-
       keys : keys_agree (map key_of rows) (keys_of (suc before) (spans table)) ≡ agree (made domain log spans before table) (held domain log spans before table)
       keys =
           keys_moved (map key_of rows) (map key_of (published domain log spans before table)) (keys_of (suc before) (spans table)) (IsPermutation-map key_of rows (published domain log spans before table) moved)
           ∙ (λ i. keys_agree (sym (unmarked_keys (published domain log spans before table)) i) (keys_same domain (suc before) (spans table) i))
 
-      differ : agree (made domain log spans before table) (held domain log spans before table) ≡ true → HaveDifferentIdentities (published domain log spans before table)
-      differ same =
-          let bag : SameBag (identified (made domain log spans before table)) (identified (held domain log spans before table)) =
-          unpermuted (identified (made domain log spans before table)) (identified (held domain log spans before table)) (agree_is (made domain log spans before table) (held domain log spans before table) same) in
-          rows_differ (published domain log spans before table)
-          (distinct_bag
-          (subst (λ (own : List Identity). SameBag own (ids (held domain log spans before table))) (map-map (λ p. p.0) (λ row. (row.identity, row.cells)) (map unmarked (published domain log spans before table)) ∙ map-map (λ row. row.identity) unmarked (published domain log spans before table))
-          (subst (λ (own : List Identity). SameBag (map (λ p. p.0) (identified (made domain log spans before table))) own) (map-map (λ p. p.0) (λ row. (row.identity, row.cells)) (held domain log spans before table))
-          (mapped (λ p. p.0) bag)))
-          (ids_differ (held domain log spans before table) (held_differ domain (spans_at (suc before) (spans table)) (held-differ (suc before) (spans table) apart))))
-
-      annotation_is : agree (made domain log spans before table) (held domain log spans before table) ≡ true → (id : Identity) → annotation_of domain id rows ≡ annotation_of domain id (made domain log spans before table)
-      annotation_is same id = annotation_same domain id rows (published domain log spans before table) bag (differ same) ∙ sym (unmarked_annotation domain id (published domain log spans before table))
-
-      annotations : agree (made domain log spans before table) (held domain log spans before table) ≡ true → (id : Identity) → unwrap_or (first_noted id rows) domain.one ≡ annotation_of domain id (made domain log spans before table)
-      annotations same id = noted_is domain id rows ∙ annotation_is same id
-
-      -- of a row that the transaction wrote
-      written : agree (made domain log spans before table) (held domain log spans before table) ≡ true → (id : Identity) (annotation : M) → first_written id rows ≡ Some annotation
-          → annotation ≡ annotation_of domain id (made domain log spans before table)
-      written same id annotation is =
-          sym (written_is domain id rows
-          (rows_differ rows (distinct_bag (mapped (λ (row : Annotated M). row.identity) bag) (ids_differ (published domain log spans before table) (differ same))))
-          annotation is)
-          ∙ annotation_is same id
-
-      noted_span : agree (made domain log spans before table) (held domain log spans before table) ≡ true → (notes : BTreeMap Identity M) → ((id : Identity) → get identity_cmp notes id ≡ first_written id rows)
-          → (span : Span) → is_noted (suc before) notes span ≡ true → (span.from == suc before) ≡ true → unwrap_or (get identity_cmp notes span.id) domain.one ≡ annotation_of domain span.id (made domain log spans before table)
-      noted_span same notes finds span is begins =
-          by_note (get identity_cmp notes span.id) (finds span.id) (sym (ap (λ b. cond b (is_some (get identity_cmp notes span.id)) true) begins) ∙ is)
-        where
-          by_note : (o : Option M) → o ≡ first_written span.id rows → is_some o ≡ true → unwrap_or o domain.one ≡ annotation_of domain span.id (made domain log spans before table)
-          by_note None at there = absurd (true≢false (sym there))
-          by_note (Some annotation) at there = written same span.id annotation (sym at)
-
-      all_noted : agree (made domain log spans before table) (held domain log spans before table) ≡ true → (notes : BTreeMap Identity M) → ((id : Identity) → get identity_cmp notes id ≡ first_written id rows)
-          → (all : List Span) → are_noted (suc before) notes all ≡ true → Finds domain (suc before) notes all (made domain log spans before table)
-      all_noted same notes finds [] there = tt
-      all_noted same notes finds (span ∷ all) there =
-          let parts = and_parts (is_noted (suc before) notes span) (are_noted (suc before) notes all) there in
-          (λ begins. noted_span same notes finds span parts.0 begins, all_noted same notes finds all parts.1)
-
-      each_noted : agree (made domain log spans before table) (held domain log spans before table) ≡ true → (notes : BTreeMap Identity M) → ((id : Identity) → get identity_cmp notes id ≡ first_noted id rows)
-          → (all : List Span) → Finds domain (suc before) notes all (made domain log spans before table)
-      each_noted same notes finds [] = tt
-      each_noted same notes finds (span ∷ all) = (λ begins. ap (λ o. unwrap_or o domain.one) (finds span.id) ∙ annotations same span.id, each_noted same notes finds all)
-
       notes_are : agree (made domain log spans before table) (held domain log spans before table) ≡ true → (notes : BTreeMap Identity M) → AreNotes rows (spans table) (suc before) notes
           → Finds domain (suc before) notes (spans table) (made domain log spans before table)
-      notes_are same notes (inl every) = each_noted same notes every (spans table)
-      notes_are same notes (inr some) = all_noted same notes some.0 (spans table) some.1
+      notes_are same notes are =
+          notes_found domain (suc before) rows (published domain log spans before table) (unpermuted rows (published domain log spans before table) moved)
+          (published_differ table apart same) notes (spans table) are
 
       by : (result : Result (Option (BTreeMap Identity M)) HistoryStop) → FindsRows rows (spans table) (suc before) table result → ChangesTable domain log spans before table result
       by (Ok None) finds = absurd finds
@@ -224,9 +228,10 @@ module _ {M : Type 0} (domain : Annotations M) (entries : List Entry) (spans : �
       by (Err NoMemory) finds = tt
 
   -- a program that stops, stops its commit
-  pub stops_change : (table : ℕ) (stop : Stop) → option_map step_stop (maker_stop domain log spans before) ≡ Some stop → option_map stop_refusal (maker_stop domain log spans before) ≡ Some (refusal_at (maker log before) stop)
-  stops_change table stop is =
-      run_refused domain parameters log (maker log before) (past domain log spans before) (log.statement_count (maker log before)) ∙ ap (option_map (refusal_at (maker log before))) is
+  pub stops_change : (few : ℕ → List Span) (most : ℕ) (stop : Stop) → option_map step_stop (stop_within domain log spans before few most) ≡ Some stop
+      → option_map stop_refusal (stop_within domain log spans before few most) ≡ Some (refusal_at (maker log before) stop)
+  stops_change few most stop is =
+      run_refused domain (limited_to most) log (maker log before) (past_of domain log spans before few) (log.statement_count (maker log before)) ∙ ap (option_map (refusal_at (maker log before))) is
 
   -- ---- all tables
 
@@ -253,7 +258,7 @@ module _ {M : Type 0} (domain : Annotations M) (entries : List Entry) (spans : �
         same : identified (made domain log spans before table) ≡ identified (held domain log spans before table)
         same =
             unmarked_identified (published domain log spans before table)
-            ∙ ap identified (kept_is domain image entries spans fit spans_fit before (maker log before) before table kept.unwritten)
+            ∙ ap identified (kept_is domain image entries spans spans fit spans_fit before (maker log before) before table kept.unwritten)
             ∙ map-map (λ row. (row.identity, row.cells)) _ (spans_at before (spans table))
             ∙ ap (map (λ (span : Span). (span.id, span.row))) (sym (untouched_spans before (spans table) kept.untouched))
             ∙ sym (map-map (λ row. (row.identity, row.cells)) (row_of domain) (spans_at (suc before) (spans table)))

@@ -25,24 +25,23 @@ use Rattle.gp_kexec.specs.AnnotatedStops.{program_stop}
 use Rattle.gp_kexec.specs.Rows.{environment_view, held_view, pair_view, pairs_of, scanned_rows, stored_view}
 use Rattle.gp_kexec.specs.Running.{IsSomeTableProgram, Runs, RunsTable}
 use Rattle.gp_log.specs.LogFacts.{tables_in}
+use Rattle.gp_log.specs.LogFitting.{SpansFit}
 use Rattle.gp_machine.specs.Entries.{Entry, Log, log_of, versions_in}
 use Rattle.gp_reenact.specs.Reenacting.{spans_of}
 use Rattle.gp_reenact.proofs.StopLemmas.{scanned_once, step_stop}
 use Rattle.gp_semiring.specs.Sums.{summed}
 use Rattle.gp_versions.specs.declared.span.Span.{Span}
 use Rattle.gp_versions.specs.Spans.{Versions}
-use Rattle.gp_history.specs.Changes.{Publishes, maker_program, maker_stop, past, published}
+use Rattle.gp_history.specs.Changes.{Publishes, maker_program, past_of, published_of, stop_within}
 use Rattle.gp_history.specs.Images.{IsImage}
 use Rattle.gp_history.specs.Noted.{row_view}
 use Rattle.gp_history.specs.Running.{SumsOver}
 use Rattle.gp_history.specs.Scanning.{AgreesOn, IsScanned}
 use Rattle.gp_history.specs.Sound.{IsSound}
-use Rattle.gp_history.specs.SpanAnnotations.{AreAnnotated, versions_with}
 use Rattle.gp_history.proofs.AnnotatedScans.{program_meaning_agrees, program_stop_agrees}
 use Rattle.gp_history.proofs.ChangeLemmas.{columns, program_same, some, t}
 use Rattle.gp_history.proofs.CommitLemmas.{stop_none, stops_change}
 use Rattle.gp_history.proofs.ImageLemmas.{published_means, published_stops}
-use Rattle.gp_history.proofs.SpanLemmas.{versions_are}
 use Rattle.gp_base.proofs.SmallLemmas.{map-map}
 
 -- ---- scans of an environment
@@ -104,37 +103,38 @@ module _ {M : Type 0} (domain : Annotations M) (image : IsImage domain) (entries
         table_program_is_built (tables_in entries) entries sound.statements (t entries versions sound before within table) before table (some entries versions sound before within table),
       )
 
-  module _ (known : List (List M)) (are : AreAnnotated domain log spans before known) (env : KEnv M) (agree : AgreesOn (annotated_program_scans (maker_program entries before table)) (environment_view env) (versions_with spans known)) where
-    over : (past domain log spans before) ≡ versions_with spans known
-    over = sym (versions_are domain log spans before known are)
+  module _ (few : ℕ → List Span) (few_fit : SpansFit (tables_in entries) few) (most : ℕ) (known : Environment M) (are : (version own_table : ℕ) → known version own_table ≡ past_of domain log spans before few version own_table)
+      (env : KEnv M) (agree : AgreesOn (annotated_program_scans (maker_program entries before table)) (environment_view env) known) where
+    over : known ≡ past_of domain log spans before few
+    over = λ i. λ version own_table. are version own_table i
 
-    rows_are : program_meaning domain (environment_view env) (maker_program entries before table) ≡ map (scanned domain) (published domain log spans before table)
+    rows_are : program_meaning domain (environment_view env) (maker_program entries before table) ≡ map (scanned domain) (published_of domain log spans before few table)
     rows_are =
-        program_meaning_agrees domain (environment_view env) (versions_with spans known) (maker_program entries before table) agree
-        ∙ ap (λ (e : Environment M). program_meaning domain e (maker_program entries before table)) (sym over)
-        ∙ ap (program_meaning domain (past domain log spans before)) (program_same entries versions sound before within table)
-        ∙ published_means domain image entries spans sound.statements sound.spans before (t entries versions sound before within table) before table
+        program_meaning_agrees domain (environment_view env) known (maker_program entries before table) agree
+        ∙ ap (λ (e : Environment M). program_meaning domain e (maker_program entries before table)) over
+        ∙ ap (program_meaning domain (past_of domain log spans before few)) (program_same entries versions sound before within table)
+        ∙ published_means domain image entries spans few sound.statements few_fit before (t entries versions sound before within table) before table
 
-    stop_is : program_stop domain MAX_TABLE_ROWS MAX_NODES (environment_view env) (maker_program entries before table) ≡ option_map step_stop (maker_stop domain log spans before)
+    stop_is : program_stop domain most MAX_NODES (environment_view env) (maker_program entries before table) ≡ option_map step_stop (stop_within domain log spans before few most)
     stop_is =
-        program_stop_agrees domain (environment_view env) (versions_with spans known) MAX_TABLE_ROWS MAX_NODES (maker_program entries before table) agree
-        ∙ ap (λ (e : Environment M). program_stop domain MAX_TABLE_ROWS MAX_NODES e (maker_program entries before table)) (sym over)
-        ∙ ap (program_stop domain MAX_TABLE_ROWS MAX_NODES (past domain log spans before)) (program_same entries versions sound before within table)
-        ∙ published_stops domain image entries spans sound.statements sound.spans before (t entries versions sound before within table) before table
+        program_stop_agrees domain (environment_view env) known most MAX_NODES (maker_program entries before table) agree
+        ∙ ap (λ (e : Environment M). program_stop domain most MAX_NODES e (maker_program entries before table)) over
+        ∙ ap (program_stop domain most MAX_NODES (past_of domain log spans before few)) (program_same entries versions sound before within table)
+        ∙ published_stops domain image entries spans few sound.statements few_fit before (t entries versions sound before within table) before table most
 
     held_as : (held : List (Held M)) → map held_view held ≡ map (scanned domain) (map row_view held)
     held_as held = sym (map-map (scanned domain) row_view held)
 
-    pub publishes : {X : Type 0} (view : X → List (Held M)) (result : Result X ExecStop) → RunsTable domain view result env (maker_program entries before table)
-        → Publishes domain log spans before (λ found. map row_view (view found)) table result
+    pub publishes : {X : Type 0} (view : X → List (Held M)) (result : Result X ExecStop) → RunsTable domain most view result env (maker_program entries before table)
+        → Publishes domain log spans before few most (λ found. map row_view (view found)) table result
     publishes view (Ok found) runs = (
-      stop_none (maker_stop domain log spans before) (sym stop_is ∙ runs.0),
-      subst (λ (rows : List (Annotated M)). IsPermutation rows (published domain log spans before table))
-          (sym (scanned_once domain (map row_view (view found)) (published domain log spans before table) (sym (held_as (view found)) ∙ runs.1 ∙ rows_are)))
-          (IsPermutation-refl (published domain log spans before table)),
+      stop_none (stop_within domain log spans before few most) (sym stop_is ∙ runs.0),
+      subst (λ (rows : List (Annotated M)). IsPermutation rows (published_of domain log spans before few table))
+          (sym (scanned_once domain (map row_view (view found)) (published_of domain log spans before few table) (sym (held_as (view found)) ∙ runs.1 ∙ rows_are)))
+          (IsPermutation-refl (published_of domain log spans before few table)),
     )
-    publishes view (Err (exec.Rows j)) runs = stops_change domain entries spans before table (stops.rows j) (sym stop_is ∙ runs)
-    publishes view (Err (exec.Ancestry j)) runs = stops_change domain entries spans before table (stops.ancestry j) (sym stop_is ∙ runs)
+    publishes view (Err (exec.Rows j)) runs = stops_change domain entries spans before few most (stops.rows j) (sym stop_is ∙ runs)
+    publishes view (Err (exec.Ancestry j)) runs = stops_change domain entries spans before few most (stops.ancestry j) (sym stop_is ∙ runs)
     publishes view (Err exec.Answer) runs = absurd runs
     publishes view (Err exec.NoMemory) runs = tt
 

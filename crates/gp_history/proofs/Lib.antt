@@ -1,6 +1,7 @@
 mod AgreementLemmas
 mod AnnotatedScans
 mod AskingLemmas
+mod Cancelling
 mod ChangeLemmas
 mod CommitLemmas
 mod DecodedLemmas
@@ -11,10 +12,15 @@ mod ImageLemmas
 mod KeepingLemmas
 mod MakerLemmas
 mod MatchingLemmas
+mod NarrowLemmas
+mod NarrowedChange
+mod NarrowingLemmas
+mod NarrowedLemmas
 mod NotedLemmas
 mod ProvenanceLemmas
 mod ProvingLemmas
 mod PublishedLemmas
+mod ReachLemmas
 mod RunLemmas
 mod SpanLemmas
 mod StartLemmas

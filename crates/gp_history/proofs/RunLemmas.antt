@@ -11,21 +11,20 @@ use Rattle.gp_exec.specs.Running.{RunsTable, environment_view, scanned_rows}
 use Rattle.gp_exec.specs.declared.env.Env.{Env}
 use Rattle.gp_exec.specs.declared.error.ExecStop.{ExecStop}
 use Rattle.gp_exec.specs.declared.error.ExecStop.TheVariants.{Ancestry, Answer, NoMemory, Rows}
-use Rattle.gp_base.specs.declared.limit.TheConstants.{MAX_TABLE_ROWS}
 use Rattle.gp_algebra.specs.Scans.{AgreeOn}
 use Rattle.gp_algebra.specs.declared.plain.ScanAt.{ScanAt}
 use Rattle.gp_history.specs.Running.{RunsTableOver}
 use Rattle.gp_history.specs.Scanning.{scans_at}
 
-pub runs_over : {X : Type 0} (view : X → List (List Cell)) (result : Result X ExecStop) (scanned : Env) (env : PlainEnvironment) (program meant : PlainProgram)
+pub runs_over : {X : Type 0} (most : ℕ) (view : X → List (List Cell)) (result : Result X ExecStop) (scanned : Env) (env : PlainEnvironment) (program meant : PlainProgram)
     → program_meaning (environment_view scanned) program ≡ program_meaning env meant
-    → program_stop MAX_TABLE_ROWS MAX_NODES (environment_view scanned) program ≡ program_stop MAX_TABLE_ROWS MAX_NODES env meant
-    → RunsTable view result scanned program → RunsTableOver view result env meant
-runs_over view (Ok found) scanned env program meant same_rows same_stop runs = (sym same_stop ∙ runs.0, subst (λ rows. IsPermutation (view found) rows) (runs.1 ∙ same_rows) (IsPermutation-refl (view found)))
-runs_over view (Err (Rows j)) scanned env program meant same_rows same_stop runs = sym same_stop ∙ runs
-runs_over view (Err (Ancestry j)) scanned env program meant same_rows same_stop runs = sym same_stop ∙ runs
-runs_over view (Err Answer) scanned env program meant same_rows same_stop runs = runs
-runs_over view (Err NoMemory) scanned env program meant same_rows same_stop runs = tt
+    → program_stop most MAX_NODES (environment_view scanned) program ≡ program_stop most MAX_NODES env meant
+    → RunsTable most view result scanned program → RunsTableOver most view result env meant
+runs_over most view (Ok found) scanned env program meant same_rows same_stop runs = (sym same_stop ∙ runs.0, subst (λ rows. IsPermutation (view found) rows) (runs.1 ∙ same_rows) (IsPermutation-refl (view found)))
+runs_over most view (Err (Rows j)) scanned env program meant same_rows same_stop runs = sym same_stop ∙ runs
+runs_over most view (Err (Ancestry j)) scanned env program meant same_rows same_stop runs = sym same_stop ∙ runs
+runs_over most view (Err Answer) scanned env program meant same_rows same_stop runs = runs
+runs_over most view (Err NoMemory) scanned env program meant same_rows same_stop runs = tt
 
 -- ---- scans of an environment
 

@@ -22,7 +22,6 @@ use Rattle.gp_algebra.specs.Stops.{program_stop}
 use Rattle.gp_algebra.specs.WellBuilt.{is_well_built}
 use Rattle.gp_compose.specs.Composed.{composed, last_write, published_table, writes}
 use Rattle.gp_compose.proofs.ProgramLemmas.{composed_step_is, published_table_gives, table_program_is_built}
-use Rattle.gp_base.specs.declared.limit.TheConstants.{MAX_TABLE_ROWS}
 use Rattle.gp_log.specs.Parameters.{parameters}
 use Rattle.gp_log.specs.LogFacts.{tables_in}
 use Rattle.gp_log.specs.LogFitting.{SpanFits, SpansFit, statements_fit}
@@ -40,6 +39,7 @@ use Rattle.gp_reenact.proofs.StopLemmas.{gives_run, program_stops, scanned_once,
 use Rattle.gp_rewrite.specs.Meaning.{AreAsWide, IsMonoid}
 use Rattle.gp_versions.specs.declared.span.Span.{Span}
 use Rattle.gp_versions.specs.Spans.{holds_at, spans_at}
+use Rattle.gp_history.specs.Changes.{limited_to}
 use Rattle.gp_base.proofs.SmallLemmas.{each_map, eq_itself, eq_turned}
 
 pub monoid : IsMonoid monomials
@@ -104,12 +104,12 @@ module _ (entries : List Entry) (spans : ℕ → List Span) (fit : statements_fi
       let given = rows_between true (columns table) (tables_are columns true past widths table program built) in
       given.1 ∙ ap (map (encoded_row true)) (scanned_once monomials given.0 (at_commit monomials (log_of entries) t before past table) (sym given.2 ∙ means))
 
-  -- it stops where the run does
-  pub stop_is : program_stop MAX_TABLE_ROWS MAX_NODES (encoded true past) (plain_program columns true program)
-      ≡ option_map step_stop (run_stop monomials parameters (log_of entries) t count past)
-  stop_is =
+  -- it stops where the run does, if an INSERT may leave this many rows
+  pub stop_is : (most : ℕ) → program_stop most MAX_NODES (encoded true past) (plain_program columns true program)
+      ≡ option_map step_stop (run_stop monomials (limited_to most) (log_of entries) t count past)
+  stop_is most =
       let steps : List QueryStep = composed columns (log_of entries) t count in
-      program_stops true parameters (tables_in entries) entries t count past program.last fit
+      program_stops true (limited_to most) (tables_in entries) entries t count past program.last fit
       (held_rows monomials (tables_in entries) spans spans_fit versions)
       (gives_run true columns (step_table steps) (log_of entries) t past count
       (λ j own statement within is writes_it. composed_step_is monomials monoid (tables_in entries) entries fit past wide (none_marked monomials (tables_in entries) spans spans_fit versions) t count j own statement within is writes_it)

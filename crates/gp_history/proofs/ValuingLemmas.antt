@@ -116,10 +116,10 @@ module _ {K : Type 0} (domain : Annotations K) (image : IsImage domain) (plus : 
   needed = needed_version entries point
 
   abbrev past : ℕ → Environment K
-  past n = env domain image (log_of entries) spans n
+  past n = env domain image (log_of entries) spans spans n
 
   abbrev word_past : ℕ → Environment (List Token)
-  word_past n = word_env domain image (log_of entries) spans n
+  word_past n = word_env domain image (log_of entries) spans spans n
 
   abbrev program : Program
   program = program_at columns entries point select
@@ -133,7 +133,7 @@ module _ {K : Type 0} (domain : Annotations K) (image : IsImage domain) (plus : 
   -- its rows with their elements are those of the answer
   pairs : k.pairs_of (program_meaning domain (past (versions_in entries)) program) ≡ a.pairs_of elements
   pairs =
-      ap k.pairs_of (meaning_carried domain image (log_of entries) spans (versions_in entries) program)
+      ap k.pairs_of (meaning_carried domain image (log_of entries) spans spans (versions_in entries) program)
       ∙ map-map (λ (row : Derived K). (row.cells, row.annotation)) (derived_reannotated image.image) made
       ∙ sym (map-map (λ (row : Derived (List Token)). (row.cells, image.image row.annotation)) unmarked made)
       ∙ ap (map (λ (row : Derived (List Token)). (row.cells, image.image row.annotation)))
@@ -144,7 +144,7 @@ module _ {K : Type 0} (domain : Annotations K) (image : IsImage domain) (plus : 
       ∙ sym (map-map (λ (element : Element K). (element.cells, element.annotation)) (element_reannotated image.image) word_elements)
       ∙ ap a.pairs_of
       (sym (answer_reannotated words domain image.image image.keeps select (at_point words entries point (word_past (versions_in entries))) (at_point domain entries point (past (versions_in entries)))
-      (at_point_reannotated words domain image.image image.keeps (word_past (versions_in entries)) (past (versions_in entries)) (env_carried domain image (log_of entries) spans (versions_in entries)) entries point)))
+      (at_point_reannotated words domain image.image image.keeps (word_past (versions_in entries)) (past (versions_in entries)) (env_carried domain image (log_of entries) spans spans (versions_in entries)) entries point)))
     where
       made : List (Derived (List Token))
       made = program_meaning words (word_past (versions_in entries)) program
@@ -163,16 +163,16 @@ module _ {K : Type 0} (domain : Annotations K) (image : IsImage domain) (plus : 
 
 module _ {K : Type 0} (domain : Annotations K) (image : IsImage domain) (entries : List Entry) (versions : List Versions) (sound : IsSound entries versions) (select : Select) where
   stops : (point : y.State)
-      → own_stop domain parameters entries point (env domain image (log_of entries) (spans_of versions) (versions_in entries))
+      → own_stop domain parameters entries point (env domain image (log_of entries) (spans_of versions) (spans_of versions) (versions_in entries))
       ≡ option_map (refusal_at (transaction_at point))
-      (program_stop domain MAX_TABLE_ROWS MAX_NODES (env domain image (log_of entries) (spans_of versions) (versions_in entries)) (program_at (width_of (tables_in entries)) entries point select))
+      (program_stop domain MAX_TABLE_ROWS MAX_NODES (env domain image (log_of entries) (spans_of versions) (spans_of versions) (versions_in entries)) (program_at (width_of (tables_in entries)) entries point select))
   stops (y.as_of version) = refl
   stops (y.after t j) =
-      run_refused domain parameters (log_of entries) t (env domain image (log_of entries) (spans_of versions) (versions_in entries)) j
-      ∙ ap (option_map (refusal_at t)) (sym (steps_stop_is domain image entries (spans_of versions) sound.statements sound.spans (versions_in entries) t j (program_at (width_of (tables_in entries)) entries (y.after t j) select).last))
+      run_refused domain parameters (log_of entries) t (env domain image (log_of entries) (spans_of versions) (spans_of versions) (versions_in entries)) j
+      ∙ ap (option_map (refusal_at t)) (sym (steps_stop_is domain image entries (spans_of versions) (spans_of versions) sound.statements sound.spans (versions_in entries) MAX_TABLE_ROWS t j (program_at (width_of (tables_in entries)) entries (y.after t j) select).last))
   stops (y.State.commit t) =
-      run_refused domain parameters (log_of entries) t (env domain image (log_of entries) (spans_of versions) (versions_in entries)) (statement_count t entries)
-      ∙ ap (option_map (refusal_at t)) (sym (steps_stop_is domain image entries (spans_of versions) sound.statements sound.spans (versions_in entries) t (statement_count t entries) (program_at (width_of (tables_in entries)) entries (y.State.commit t) select).last))
+      run_refused domain parameters (log_of entries) t (env domain image (log_of entries) (spans_of versions) (spans_of versions) (versions_in entries)) (statement_count t entries)
+      ∙ ap (option_map (refusal_at t)) (sym (steps_stop_is domain image entries (spans_of versions) (spans_of versions) sound.statements sound.spans (versions_in entries) MAX_TABLE_ROWS t (statement_count t entries) (program_at (width_of (tables_in entries)) entries (y.State.commit t) select).last))
 
 module _ {K : Type 0} (domain : Annotations K) (image : IsImage domain) (plus : K → K → K) (entries : List Entry) (versions : List Versions) (sound : IsSound entries versions) (select : Select)
     (fits : select_fits (tables_in entries) select ≡ true) (point : y.State) (known : log_refusal entries point ≡ None) where

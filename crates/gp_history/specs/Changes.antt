@@ -21,6 +21,7 @@ use Rattle.gp_machine.specs.Annotating.{annotated, annotation_of, computed}
 use Rattle.gp_machine.specs.Committed.{cleared}
 use Rattle.gp_machine.specs.Entries.{Entry, Log, log_of, version_of}
 use Rattle.gp_machine.specs.HistorySpans.{as_of}
+use Rattle.gp_machine.specs.Parameters.{Parameters}
 use Rattle.gp_machine.specs.Points.{RunStop, run_stop, version_before}
 use Rattle.gp_machine.specs.Questions.{difference, stop_refusal}
 use Rattle.gp_machine.specs.Runs.{at_commit}
@@ -114,6 +115,10 @@ module _ {M : Type 0} (one : M) where
 
 -- ---- the commit that makes a version
 
+-- the limits of its run, where an INSERT may leave this many rows
+abbrev pub limited_to : ℕ → Parameters
+limited_to most = record parameters { rows = most }
+
 -- the transaction that makes it
 abbrev pub maker : Log → ℕ → ℕ
 maker log before = log.committer (suc before)
@@ -135,13 +140,19 @@ module _ {M : Type 0} (domain : Annotations M) where
   IsChange log t version table spans made (Some found) = Finds version found spans made
 
   module _ (log : Log) (spans : ℕ → List Span) (before : ℕ) where
-    -- the versions before it
-    abbrev pub past : Environment M
-    past = annotated domain spans (computed domain log spans before)
+    -- the versions before it, of these spans
+    abbrev pub past_of : (ℕ → List Span) → Environment M
+    past_of few = annotated domain few (computed domain log spans before)
 
-    -- what its transaction publishes, and the version that it makes
+    abbrev pub past : Environment M
+    past = past_of spans
+
+    -- what its transaction publishes of them, and the version that it makes
+    abbrev pub published_of : (ℕ → List Span) → Database M
+    published_of few = at_commit domain log (maker log before) before (past_of few)
+
     abbrev pub published : Database M
-    published = at_commit domain log (maker log before) before past
+    published = published_of spans
 
     abbrev pub made : Database M
     made = cleared published
@@ -150,16 +161,20 @@ module _ {M : Type 0} (domain : Annotations M) where
     abbrev pub held : Database M
     held = as_of domain spans (suc before)
 
+    -- where its run over these spans stops, if an INSERT may leave this many rows
+    abbrev pub stop_within : (ℕ → List Span) → ℕ → Option RunStop
+    stop_within few most = run_stop domain (limited_to most) log (maker log before) (log.statement_count (maker log before)) (past_of few)
+
     abbrev pub maker_stop : Option RunStop
     maker_stop = run_stop domain parameters log (maker log before) (log.statement_count (maker log before)) past
 
-    -- what running the program of a table that it published gives: its rows in any order, or its stop
-    abbrev pub Publishes : {X : Type 0} → (X → List (Annotated M)) → ℕ → Result X ExecStop → Type 0
-    Publishes view table (Ok found) = (maker_stop ≡ None) × IsPermutation (view found) (published table)
-    Publishes view table (Err (exec.Rows j)) = option_map stop_refusal maker_stop ≡ Some (E25 (maker log before) j)
-    Publishes view table (Err (exec.Ancestry j)) = option_map stop_refusal maker_stop ≡ Some (E26 (maker log before) j)
-    Publishes view table (Err exec.Answer) = ⊥
-    Publishes view table (Err exec.NoMemory) = Unit {0}
+    -- what running the program of a table that it published gives, over these spans and within this limit: its rows in any order, or its stop
+    abbrev pub Publishes : {X : Type 0} → (ℕ → List Span) → ℕ → (X → List (Annotated M)) → ℕ → Result X ExecStop → Type 0
+    Publishes few most view table (Ok found) = (stop_within few most ≡ None) × IsPermutation (view found) (published_of few table)
+    Publishes few most view table (Err (exec.Rows j)) = option_map stop_refusal (stop_within few most) ≡ Some (E25 (maker log before) j)
+    Publishes few most view table (Err (exec.Ancestry j)) = option_map stop_refusal (stop_within few most) ≡ Some (E26 (maker log before) j)
+    Publishes few most view table (Err exec.Answer) = ⊥
+    Publishes few most view table (Err exec.NoMemory) = Unit {0}
 
     -- what looking at one table answers
     abbrev pub ChangesTable : ℕ → Result (Option (BTreeMap Identity M)) HistoryStop → Type 0

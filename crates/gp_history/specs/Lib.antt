@@ -5,6 +5,7 @@ pub mod Decoded
 pub mod Images
 pub mod Keeping
 pub mod Matching
+pub mod Narrowing
 pub mod Noted
 pub mod Provenance
 pub mod Running

@@ -1,5 +1,5 @@
 -- Machinery: what a program gives over an environment: a plain one the rows of a table, an annotated one sums of elements.
-use Rattle.std.specs.Prelude.{◌≡◌, ◌<◌, ◌≤◌, length, List, Some, None, Result, Ok, Err}
+use Rattle.std.specs.Prelude.{◌≡◌, ◌<◌, ◌≤◌, ℕ, length, List, Some, None, Result, Ok, Err}
 use Rattle.std.specs.List.Sorted.{IsPermutation}
 use Rattle.gp_base.specs.declared.cell.Cell.{Cell}
 use Rattle.gp_base.specs.declared.row_id.TheConstants.{MAX_NODES}
@@ -16,14 +16,14 @@ use Rattle.gp_kexec.specs.AnnotatedStops as k
 use Rattle.gp_kexec.specs.Rows.{pairs_of}
 use Rattle.gp_semiring.specs.Sums.{summed}
 
--- the rows in any order, unless a step stops
-abbrev pub RunsTableOver : {X : Type 0} → (X → List (List Cell)) → Result X ExecStop → PlainEnvironment → PlainProgram → Type 0
-RunsTableOver view (Ok found) env program =
-    (program_stop MAX_TABLE_ROWS MAX_NODES env program ≡ None) × IsPermutation (view found) (program_meaning env program)
-RunsTableOver view (Err (exec.Rows j)) env program = program_stop MAX_TABLE_ROWS MAX_NODES env program ≡ Some (rows j)
-RunsTableOver view (Err (exec.Ancestry j)) env program = program_stop MAX_TABLE_ROWS MAX_NODES env program ≡ Some (ancestry j)
-RunsTableOver view (Err exec.Answer) env program = ⊥
-RunsTableOver view (Err exec.NoMemory) env program = Unit {0}
+-- the rows in any order, unless a step stops; an INSERT may leave this many rows
+abbrev pub RunsTableOver : {X : Type 0} → ℕ → (X → List (List Cell)) → Result X ExecStop → PlainEnvironment → PlainProgram → Type 0
+RunsTableOver most view (Ok found) env program =
+    (program_stop most MAX_NODES env program ≡ None) × IsPermutation (view found) (program_meaning env program)
+RunsTableOver most view (Err (exec.Rows j)) env program = program_stop most MAX_NODES env program ≡ Some (rows j)
+RunsTableOver most view (Err (exec.Ancestry j)) env program = program_stop most MAX_NODES env program ≡ Some (ancestry j)
+RunsTableOver most view (Err exec.Answer) env program = ⊥
+RunsTableOver most view (Err exec.NoMemory) env program = Unit {0}
 
 module _ {K : Type 0} (domain : Annotations K) where
   -- the distinct rows of the last query in ascending order, each with the sum of its elements, unless a step stops, or no step stops and there are too many

@@ -44,8 +44,8 @@ fn keys_in<A>(alloc: Global, rows: &[Held<A>]) -> Result<Vec<Row>, NoMemory>
 }
 
 /// The keys of the rows of a version.
-fn keys_at(alloc: Global, spans: &[Span], version: u32) -> Result<Vec<Row>, NoMemory>
-    ensures { IfOk result (λ keys. keys.items ≡ keys_of version spans.now) }
+fn keys_at(alloc: Global, spans: &[&Span], version: u32) -> Result<Vec<Row>, NoMemory>
+    ensures { IfOk result (λ keys. keys.items ≡ keys_of version (map (λ span. span.now) spans.now)) }
 {
     let mut keys = Vec::new(alloc);
     for span in spans {
@@ -75,11 +75,12 @@ fn are_equal(keys: &[Row], others: &[Row]) -> bool
 pub fn agree<A>(
     alloc: Global,
     rows: &[Held<A>],
-    spans: &[Span],
+    spans: &[&Span],
     version: u32,
 ) -> Result<bool, NoMemory>
     ensures { IfOk result (λ yes.
-        yes ≡ keys_agree (map held_key rows.now) (keys_of version spans.now)) }
+        yes ≡ keys_agree (map held_key rows.now)
+        (keys_of version (map (λ span. span.now) spans.now))) }
 {
     let parts = rows.split_at(first_marked(rows));
     if are_in_order(parts.0, parts.1, spans, version) {
@@ -92,11 +93,12 @@ pub fn agree<A>(
 fn sorted_agree<A>(
     alloc: Global,
     rows: &[Held<A>],
-    spans: &[Span],
+    spans: &[&Span],
     version: u32,
 ) -> Result<bool, NoMemory>
     ensures { IfOk result (λ yes.
-        yes ≡ keys_agree (map held_key rows.now) (keys_of version spans.now)) }
+        yes ≡ keys_agree (map held_key rows.now)
+        (keys_of version (map (λ span. span.now) spans.now))) }
 {
     let mut own = keys_in(alloc, rows)?;
     let mut due = keys_at(alloc, spans, version)?;

@@ -1,18 +1,19 @@
 //! What row versions are annotated with.
 
-ghost use Rattle.std.specs.Prelude.{◌≡◌, ◌<◌, map, IfOk};
+ghost use Rattle.std.specs.Prelude.{◌≡◌, ◌<◌, ℕ, map, IfOk};
 ghost use Rattle.gp_algebra.specs.QueryViews.{annotated_program_view};
 ghost use Rattle.gp_base.specs.Annotated.{Annotations};
 ghost use Rattle.gp_machine.specs.Entries as m;
 ghost use Rattle.gp_reenact.specs.Reenacting.{spans_of};
-ghost use Rattle.gp_history.specs.Changes.{Publishes, maker_program};
+ghost use Rattle.gp_history.specs.Changes.{Publishes, maker_program, past_of};
 ghost use Rattle.gp_history.specs.Images.{IsImage};
+ghost use Rattle.gp_history.specs.Narrowing.{narrow_spans, narrow_versions};
 ghost use Rattle.gp_history.specs.Noted.{row_view};
 ghost use Rattle.gp_history.specs.Sound.{IsSound};
-ghost use Rattle.gp_history.specs.SpanAnnotations.{AreAnnotated};
-ghost use Rattle.gp_log.specs.Contents.{entries};
+ghost use Rattle.gp_log.specs.Contents.{entries, tables};
+ghost use Rattle.gp_log.specs.LogFitting.{SpansFit};
 
-use crate::annotated::Annotated;
+use crate::narrowed::Narrowed;
 use gp_algebra::AProgram;
 use gp_base::NoMemory;
 use gp_exec::ExecStop;
@@ -45,25 +46,27 @@ pub trait Annotator<A: Drop> {
     fn copy(&self, alloc: Global, annotation: &A) -> Result<A, NoMemory>
         ensures { IfOk result (λ copy. copy ≡ annotation.now) };
 
-    /// The rows of a table that a transaction published, in any order, from the annotations of the versions before. Rows and Ancestry
-    /// as its run stops.
+    /// The rows of a table that a transaction published, in any order, over some of the row versions with their annotations. Rows and
+    /// Ancestry as its run over these stops; an INSERT may leave as many rows as `known` says.
     fn rows(
         &self,
         alloc: Global,
         log: &Log,
         versions: &[VersionTable],
-        known: &Annotated<A>,
+        known: &Narrowed<'_, A>,
         of: &Publication,
     ) -> Result<Vec<Held<A>>, ExecStop>
         requires sound { IsSound (entries log.now) versions.now }
         requires within { of.now.before < m.versions_in (entries log.now) }
         requires program { annotated_program_view of.now.program
             ≡ maker_program (entries log.now) of.now.before of.now.table }
-        requires known { AreAnnotated (domain self.now) (m.log_of (entries log.now))
-            (spans_of versions.now) of.now.before known.now }
+        requires fit { SpansFit (tables log.now) (narrow_spans known.now) }
+        requires known { (version table : ℕ) → narrow_versions known.now version table
+            ≡ past_of (domain self.now) (m.log_of (entries log.now)) (spans_of versions.now)
+            of.now.before (narrow_spans known.now) version table }
         ensures { Publishes (domain self.now) (m.log_of (entries log.now))
-            (spans_of versions.now) of.now.before (λ rows. map row_view rows.items)
-            of.now.table result };
+            (spans_of versions.now) of.now.before (narrow_spans known.now) known.now.most
+            (λ rows. map row_view rows.items) of.now.table result };
 
     /// Its annotations are what lists of tokens stand for.
     ghost is_image: { (annotator : Self) → IsImage (domain annotator) };

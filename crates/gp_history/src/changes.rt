@@ -1,11 +1,14 @@
 //! What a commit changes, table by table.
 
-ghost use Rattle.std.specs.Prelude.{◌≡◌, ◌<◌, true, length, map};
+ghost use Rattle.std.specs.Prelude.{◌≡◌, ◌<◌, ◌&&◌, not, true, length, map};
+ghost use Rattle.std.specs.List.{list_any};
 ghost use Rattle.gp_algebra.specs.Fitting.{is_there};
+ghost use Rattle.gp_algebra.specs.QueryViews.{annotated_program_view, annotated_view};
 ghost use Rattle.gp_machine.specs.Entries as m;
 ghost use Rattle.gp_reenact.specs.Reenacting.{spans_of};
-ghost use Rattle.gp_history.specs.Changes.{AreChanges, ChangesTable, FindsRows, commit_stop, maker, stopped};
+ghost use Rattle.gp_history.specs.Changes.{AreChanges, ChangesTable, FindsRows, commit_stop, is_scan, is_touched, maker, maker_program, stopped};
 ghost use Rattle.gp_history.specs.Annotating.{Annotates};
+ghost use Rattle.gp_history.specs.Narrowing.{IsNarrow};
 ghost use Rattle.gp_history.specs.Noted.{row_view};
 ghost use Rattle.gp_history.specs.Sound.{IsSound};
 ghost use Rattle.gp_history.specs.SpanAnnotations.{AreAnnotated};
@@ -16,8 +19,10 @@ use crate::annotated::Annotated;
 use crate::annotator::{Annotator, Publication};
 use crate::error::HistoryStop;
 use crate::found::notes_of;
+use crate::narrowed::Narrowed;
 use crate::published::{is_scan, published_program};
 use crate::spans::{are_touched, spans_in};
+use gp_algebra::AQuery;
 use gp_base::RowId;
 use gp_exec::ExecStop;
 use gp_kexec::Held;
@@ -42,11 +47,12 @@ fn rows_change<A: Drop, N: Annotator<A>>(
     alloc: Global,
     annotator: &N,
     rows: &[Held<A>],
-    spans: &[Span],
+    spans: &[&Span],
     version: u32,
     table: u32,
 ) -> Result<Option<BTreeMap<RowId, A>>, HistoryStop>
-    ensures { FindsRows (map row_view rows.now) spans.now version table result }
+    ensures { FindsRows (map row_view rows.now) (map (λ span. span.now) spans.now) version table
+        result }
 {
     if !agree(alloc, rows, spans, version)? {
         return Err(HistoryStop::Inconsistent { version, table });
@@ -54,14 +60,61 @@ fn rows_change<A: Drop, N: Annotator<A>>(
     Ok(Some(notes_of(alloc, annotator, rows, spans, version)?))
 }
 
+/// Whether a program is a scan, and no span begins or ends at the version.
+fn is_untouched(last: &AQuery, spans: &[&Span], version: u32) -> bool
+    ensures { result ≡ (is_scan (annotated_view last.now)
+        && not (list_any (is_touched version) (map (λ span. span.now) spans.now))) }
+{
+    is_scan(last) && !are_touched(spans, version)
+}
+
+/// What a commit does to a table whose published rows are computed over all row versions and compared with them.
+fn whole_change<A: Drop, N: Annotator<A>>(
+    alloc: Global,
+    annotator: &N,
+    log: &Log,
+    versions: &[VersionTable],
+    known: &Annotated<A>,
+    t: u32,
+    of: &Publication,
+) -> Result<Option<BTreeMap<RowId, A>>, HistoryStop>
+    requires sound { IsSound (entries log.now) versions.now }
+    requires within { of.now.before < m.versions_in (entries log.now) }
+    requires maker { t ≡ maker (m.log_of (entries log.now)) of.now.before }
+    requires program { annotated_program_view of.now.program
+        ≡ maker_program (entries log.now) of.now.before of.now.table }
+    requires known { AreAnnotated (N.domain annotator.now) (m.log_of (entries log.now))
+        (spans_of versions.now) of.now.before known.now }
+    ensures { ChangesTable (N.domain annotator.now) (m.log_of (entries log.now))
+        (spans_of versions.now) of.now.before of.now.table result }
+{
+    // The number of commits has 32 bits, and row versions of one identity never overlap.
+    let _commits = log.commits();
+    let _all = spans_in(versions, of.table as usize);
+    let whole = Narrowed::whole(alloc, versions, known)?;
+    match annotator.rows(alloc, log, versions, &whole, of) {
+        Ok(rows) => rows_change(
+            alloc,
+            annotator,
+            &rows,
+            whole.spans(of.table),
+            of.before + 1,
+            of.table,
+        ),
+        Err(stop) => Err(stopped(t, stop)),
+    }
+}
+
 /// What the commit after a version does to a table: nothing, if the transaction has no statement on it and no span begins or
-/// ends there; else the rows that it published are computed and compared.
+/// ends there; else the rows that it published are computed and compared, over the row versions that matter to it. If a step
+/// stops there, all row versions tell whether the transaction's run does.
 fn table_change<A: Drop, N: Annotator<A>>(
     alloc: Global,
     annotator: &N,
     log: &Log,
     versions: &[VersionTable],
     known: &Annotated<A>,
+    narrowed: &Narrowed<'_, A>,
     before: u32,
     t: u32,
     table: u32,
@@ -72,6 +125,8 @@ fn table_change<A: Drop, N: Annotator<A>>(
     requires there { is_there (tables log.now) table ≡ true }
     requires known { AreAnnotated (N.domain annotator.now) (m.log_of (entries log.now))
         (spans_of versions.now) before known.now }
+    requires narrowed { IsNarrow (m.log_of (entries log.now)) t before
+        (spans_of versions.now) known.now narrowed.now }
     ensures { ChangesTable (N.domain annotator.now) (m.log_of (entries log.now))
         (spans_of versions.now) before table result }
 {
@@ -82,13 +137,14 @@ fn table_change<A: Drop, N: Annotator<A>>(
         table,
         program: published_program(alloc, log, t, table)?,
     };
-    let spans = spans_in(versions, table as usize);
-    if is_scan(&of.program.last) && !are_touched(spans, before + 1) {
+    let spans = narrowed.spans(table);
+    if is_untouched(&of.program.last, spans, before + 1) {
         return Ok(None);
     }
-    match annotator.rows(alloc, log, versions, known, &of) {
+    match annotator.rows(alloc, log, versions, narrowed, &of) {
         Ok(rows) => rows_change(alloc, annotator, &rows, spans, before + 1, table),
-        Err(stop) => Err(stopped(t, stop)),
+        Err(ExecStop::NoMemory) => Err(HistoryStop::NoMemory),
+        Err(_) => whole_change(alloc, annotator, log, versions, known, t, &of),
     }
 }
 
@@ -126,9 +182,12 @@ pub fn changes_of<A: Drop, N: Annotator<A>>(
         (spans_of versions.now) before (tables log.now)) }
 {
     let t = maker_after(log, before);
+    let narrowed = Narrowed::of_commit(alloc, log, versions, known, before, t)?;
     let mut changes = Vec::new(alloc);
     for table in 0..log.catalog().len() {
-        let change = match table_change(alloc, annotator, log, versions, known, before, t, table) {
+        let change = match table_change(
+            alloc, annotator, log, versions, known, &narrowed, before, t, table,
+        ) {
             Ok(change) => change,
             Err(stop) => return Err(stop),
         };

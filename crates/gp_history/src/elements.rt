@@ -5,12 +5,13 @@ ghost use Rattle.gp_kexec.specs.Rows.{environment_view, stored_view};
 ghost use Rattle.gp_kexec.specs.Valuing.{values_by};
 ghost use Rattle.gp_reenact.specs.Reenacting.{spans_of};
 ghost use Rattle.gp_history.specs.Images.{values_are_images};
+ghost use Rattle.gp_history.specs.Narrowing.{narrow_versions};
 ghost use Rattle.gp_history.specs.Scanning.{AgreesOn, IsScanned};
 ghost use Rattle.gp_history.specs.SpanAnnotations.{row_with, rows_with, versions_with};
 
 use crate::annotated::Annotated;
 use crate::annotator::{Annotator, Publication};
-use crate::spans::spans_in;
+use crate::narrowed::Narrowed;
 use gp_algebra::{ScanAt, scans_of};
 use gp_base::{NoMemory, Sequence};
 use gp_exec::ExecStop;
@@ -33,12 +34,13 @@ fn stored<K: Semiring>(alloc: Global, span: &Span, value: &K) -> Result<KStored<
 /// The rows of a version, from spans with their values.
 fn stored_rows<K: Semiring>(
     alloc: Global,
-    spans: &[Span],
-    values: &[K],
+    spans: &[&Span],
+    values: &[&K],
     version: u32,
 ) -> Result<Sequence<KStored<K>>, NoMemory>
     ensures { IfOk result
-        (λ rows. map stored_view rows ≡ rows_with version spans.now values.now) }
+        (λ rows. map stored_view rows ≡ rows_with version
+        (map (λ span. span.now) spans.now) (map (λ value. value.now) values.now)) }
 {
     let mut rows = Sequence::new(alloc);
     for (i, span) in spans.iter().enumerate() {
@@ -46,7 +48,7 @@ fn stored_rows<K: Semiring>(
             return Ok(rows);
         };
         if span.holds(version) {
-            rows.push(stored(alloc, span, value)?)?;
+            rows.push(stored(alloc, span, *value)?)?;
         }
     }
     Ok(rows)
@@ -55,16 +57,30 @@ fn stored_rows<K: Semiring>(
 /// The rows of a table in a version.
 fn scanned<K: Semiring>(
     alloc: Global,
-    versions: &[VersionTable],
-    known: &Annotated<K>,
+    known: &Narrowed<'_, K>,
     at: &ScanAt,
 ) -> Result<KScanned<K>, NoMemory>
-    ensures { IfOk result
-        (λ found. IsScanned (versions_with (spans_of versions.now) known.now) at.now found) }
+    ensures { IfOk result (λ found. IsScanned (narrow_versions known.now) at.now found) }
 {
-    let spans = spans_in(versions, at.table as usize);
+    let spans = known.spans(at.table);
     let rows = stored_rows(alloc, spans, known.annotations(at.table), at.version)?;
     Ok(KScanned { at: *at, rows })
+}
+
+/// The rows of these tables in these versions with their values, one list for each scan, of the row versions that are left.
+fn narrow_env<K: Semiring>(
+    alloc: Global,
+    known: &Narrowed<'_, K>,
+    scans: &[ScanAt],
+) -> Result<KEnv<K>, NoMemory>
+    ensures { IfOk result
+        (λ env. AgreesOn scans.now (environment_view env) (narrow_versions known.now)) }
+{
+    let mut found = Sequence::new(alloc);
+    for at in scans {
+        found.push(scanned(alloc, known, at)?)?;
+    }
+    Ok(KEnv { scans: found })
 }
 
 /// The rows of these tables in these versions with their values, one list for each scan. The row versions are those that were
@@ -78,11 +94,8 @@ pub fn k_env<K: Semiring>(
     ensures { IfOk result (λ env. AgreesOn scans.now (environment_view env)
         (versions_with (spans_of versions.now) known.now)) }
 {
-    let mut found = Sequence::new(alloc);
-    for at in scans {
-        found.push(scanned(alloc, versions, known, at)?)?;
-    }
-    Ok(KEnv { scans: found })
+    let whole = Narrowed::whole(alloc, versions, known)?;
+    narrow_env(alloc, &whole, scans)
 }
 
 impl<K: Semiring, F: Answers<K>> Annotator<K> for Valuation<K, F> {
@@ -100,13 +113,13 @@ impl<K: Semiring, F: Answers<K>> Annotator<K> for Valuation<K, F> {
         &self,
         alloc: Global,
         _log: &Log,
-        versions: &[VersionTable],
-        known: &Annotated<K>,
+        _versions: &[VersionTable],
+        known: &Narrowed<'_, K>,
         of: &Publication,
     ) -> Result<Vec<Held<K>>, ExecStop> {
         let asked = scans_of(alloc, &of.program)?;
-        let env = k_env(alloc, versions, known, &asked)?;
-        run_k_table(alloc, &of.program, &env, self)
+        let env = narrow_env(alloc, known, &asked)?;
+        run_k_table(alloc, &of.program, &env, self, known.most)
     }
 
     ghost is_image = { λ valuation.

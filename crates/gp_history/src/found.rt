@@ -77,8 +77,8 @@ fn is_noted<A>(notes: &BTreeMap<RowId, A>, span: &Span, version: u32) -> bool
 }
 
 /// Whether each span that begins with the version has an annotation.
-fn are_noted<A>(notes: &BTreeMap<RowId, A>, spans: &[Span], version: u32) -> bool
-    ensures { result ≡ are_noted version notes.now spans.now }
+fn are_noted<A>(notes: &BTreeMap<RowId, A>, spans: &[&Span], version: u32) -> bool
+    ensures { result ≡ are_noted version notes.now (map (λ span. span.now) spans.now) }
 {
     for span in spans {
         if !is_noted(notes, span, version) {
@@ -94,11 +94,12 @@ pub fn notes_of<A: Drop, N: Annotator<A>>(
     alloc: Global,
     annotator: &N,
     rows: &[Held<A>],
-    spans: &[Span],
+    spans: &[&Span],
     version: u32,
 ) -> Result<BTreeMap<RowId, A>, NoMemory>
     ensures { IfOk result
-        (λ notes. AreNotes (map row_view rows.now) spans.now version notes) }
+        (λ notes. AreNotes (map row_view rows.now)
+        (map (λ span. span.now) spans.now) version notes) }
 {
     let written = written_in(alloc, annotator, rows)?;
     if are_noted(&written, spans, version) {

@@ -5,13 +5,14 @@
 //! published over the versions before, as they are annotated by then, compares the rows with those of the spans, and gives each
 //! span that begins there the monomial of its row. [`annotate_in`] does the same with the elements of a semiring. Both are
 //! [`annotate_by`] over an [`Annotator`], which knows how programs are run over its annotations. [`provenance`] answers a query
-//! over a past state with monomials, [`values`] with elements. The functions of `value_laws.rt` say that what is computed with elements
+//! over a past state with monomials, [`values`] with elements. Most rows of a table stay as they are at a commit, so its programs run over
+//! the row versions that matter to it alone (`narrowed.rt`). The functions of `value_laws.rt` say that what is computed with elements
 //! is what the monomials of the history come to.
 //!
-//! In `specs/`, `Agreement` says when two tables have the same rows, `SpanAnnotations` what annotated spans hold, `Annotating` what
-//! annotating answers, `Images` why elements may stand for monomials, and `Provenance` and `Values` what questions answer;
-//! `ValueAnswers` has the answer for values by the monomials of the annotated answer, and what is computed for it, `DistinctRows` the rows
-//! of an answer, and `Room` how often a token can occur in an annotation.
+//! In `specs/`, `Narrowing` says which row versions these are, `Agreement` when two tables have the same rows, `SpanAnnotations` what
+//! annotated spans hold, `Annotating` what annotating answers, `Images` why elements may stand for monomials, and `Provenance` and
+//! `Values` what questions answer; `ValueAnswers` has the answer for values by the monomials of the annotated answer, and what is
+//! computed for it, `DistinctRows` the rows of an answer, and `Room` how often a token can occur in an annotation.
 //!
 //! ```text
 //! let known = annotate(alloc, &log, &versions, v)?; // a monomial for each row version
@@ -29,10 +30,12 @@ mod changes;
 mod elements;
 mod error;
 mod found;
+mod inert;
 mod kept;
 mod laws;
 mod matching;
 mod monomials;
+mod narrowed;
 mod proving;
 mod published;
 mod spans;

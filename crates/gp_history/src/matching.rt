@@ -109,9 +109,9 @@ fn take_row<A>(
 }
 
 /// Whether these rows, in two parts, are those of the version, as far as one pass shows it.
-pub fn are_in_order<A>(kept: &[Held<A>], written: &[Held<A>], spans: &[Span], version: u32) -> bool
+pub fn are_in_order<A>(kept: &[Held<A>], written: &[Held<A>], spans: &[&Span], version: u32) -> bool
     ensures { result ≡ true → IsPermutation (map held_key kept.now ++ map held_key written.now)
-        (keys_of version spans.now) }
+        (keys_of version (map (λ span. span.now) spans.now)) }
 {
     let mut at = Places {
         kept: 0,

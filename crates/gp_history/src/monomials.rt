@@ -11,6 +11,7 @@ ghost use Rattle.gp_prov.specs.Encoding.{encoded, encoded_row};
 ghost use Rattle.gp_reenact.specs.Reenacting.{spans_of};
 ghost use Rattle.gp_history.specs.Decoded.{cells_of, decoded, decoded_row, identity_of, is_marked, monomial_of};
 ghost use Rattle.gp_history.specs.Images.{monomials_are_images};
+ghost use Rattle.gp_history.specs.Narrowing.{narrow_versions};
 ghost use Rattle.gp_history.specs.Noted.{row_view};
 ghost use Rattle.gp_history.specs.Running.{RunsTableOver};
 ghost use Rattle.gp_history.specs.Scanning.{scanned, scans_at};
@@ -18,7 +19,7 @@ ghost use Rattle.gp_history.specs.SpanAnnotations.{row_with, rows_with, versions
 
 use crate::annotated::Annotated;
 use crate::annotator::{Annotator, Publication};
-use crate::spans::spans_in;
+use crate::narrowed::Narrowed;
 use gp_algebra::{PProgram, ScanAt, programs_read_their_scans, scans};
 use gp_base::{Cell, Monomial, NoMemory, Row, RowId, Sequence};
 use gp_exec::{Env, ExecStop, Scanned, run_table};
@@ -45,12 +46,13 @@ fn encoded_row(span: &Span, monomial: &Monomial) -> Result<Row, NoMemory>
 /// The rows of a version, from spans with their monomials.
 fn encoded_rows(
     alloc: Global,
-    spans: &[Span],
-    monomials: &[Monomial],
+    spans: &[&Span],
+    monomials: &[&Monomial],
     version: u32,
 ) -> Result<Sequence<Row>, NoMemory>
     ensures { IfOk result (λ rows.
-        rows ≡ map (encoded_row true) (rows_with version spans.now monomials.now)) }
+        rows ≡ map (encoded_row true) (rows_with version (map (λ span. span.now) spans.now)
+        (map (λ monomial. monomial.now) monomials.now))) }
 {
     let mut rows = Sequence::new(alloc);
     for (i, span) in spans.iter().enumerate() {
@@ -65,18 +67,30 @@ fn encoded_rows(
 }
 
 /// The rows of a table in a version.
-fn scanned(
-    alloc: Global,
-    versions: &[VersionTable],
-    known: &Annotated<Monomial>,
-    at: ScanAt,
-) -> Result<Scanned, NoMemory>
-    ensures { IfOk result (λ found. found
-        ≡ scanned (encoded true (versions_with (spans_of versions.now) known.now)) at) }
+fn scanned(alloc: Global, known: &Narrowed<'_, Monomial>, at: ScanAt) -> Result<Scanned, NoMemory>
+    ensures { IfOk result
+        (λ found. found ≡ scanned (encoded true (narrow_versions known.now)) at) }
 {
-    let spans = spans_in(versions, at.table as usize);
+    let spans = known.spans(at.table);
     let rows = encoded_rows(alloc, spans, known.annotations(at.table), at.version)?;
     Ok(Scanned { at, rows })
+}
+
+/// The rows of these tables in these versions, with identity, the mark NO and monomial, one list for each scan, of the row versions
+/// that are left.
+fn narrow_env(
+    alloc: Global,
+    known: &Narrowed<'_, Monomial>,
+    scans: &[ScanAt],
+) -> Result<Env, NoMemory>
+    ensures { IfOk result (λ env. AgreeOn scans.now (environment_view env)
+        (encoded true (narrow_versions known.now))) }
+{
+    let mut found = Sequence::new(alloc);
+    for at in scans {
+        found.push(scanned(alloc, known, *at)?)?;
+    }
+    Ok(Env { scans: found })
 }
 
 /// The rows of these tables in these versions, with identity, the mark NO and monomial, one list for each scan. The row
@@ -90,11 +104,8 @@ pub fn env(
     ensures { IfOk result (λ env. AgreeOn scans.now (environment_view env)
         (encoded true (versions_with (spans_of versions.now) known.now))) }
 {
-    let mut found = Sequence::new(alloc);
-    for at in scans {
-        found.push(scanned(alloc, versions, known, *at)?)?;
-    }
-    Ok(Env { scans: found })
+    let whole = Narrowed::whole(alloc, versions, known)?;
+    narrow_env(alloc, &whole, scans)
 }
 
 // ---- rows
@@ -198,25 +209,23 @@ fn decoded(alloc: Global, rows: &[Row]) -> Result<Vec<Held<Monomial>>, NoMemory>
 
 // ---- programs
 
-/// The rows of a plain program over annotated versions.
+/// The rows of a plain program over annotated row versions.
 fn plain_rows(
     alloc: Global,
-    versions: &[VersionTable],
-    known: &Annotated<Monomial>,
+    known: &Narrowed<'_, Monomial>,
     program: &PProgram,
 ) -> Result<Vec<Row>, ExecStop>
     requires { is_well_built (program_view program.now) ≡ true }
-    ensures { RunsTableOver (λ found. found.items) result
-        (encoded true (versions_with (spans_of versions.now) known.now))
-        (program_view program.now) }
+    ensures { RunsTableOver known.now.most (λ found. found.items) result
+        (encoded true (narrow_versions known.now)) (program_view program.now) }
 {
     programs_read_their_scans();
     merged_programs_mean_the_same();
     merged_programs_are_normal();
     let merged = merge(alloc, program)?;
     let asked = scans(alloc, &merged)?;
-    let env = env(alloc, versions, known, &asked)?;
-    run_table(alloc, &merged, &env)
+    let env = narrow_env(alloc, known, &asked)?;
+    run_table(alloc, &merged, &env, known.most)
 }
 
 /// The monomials of rows: the ways in which they came to be.
@@ -238,12 +247,12 @@ impl Annotator<Monomial> for Monomials {
         &self,
         alloc: Global,
         log: &Log,
-        versions: &[VersionTable],
-        known: &Annotated<Monomial>,
+        _versions: &[VersionTable],
+        known: &Narrowed<'_, Monomial>,
         of: &Publication,
     ) -> Result<Vec<Held<Monomial>>, ExecStop> {
         let plain = to_plain(alloc, &of.program, log.catalog(), true)?;
-        match plain_rows(alloc, versions, known, &plain) {
+        match plain_rows(alloc, known, &plain) {
             Ok(rows) => Ok(decoded(alloc, &rows)?),
             Err(stop) => Err(stop),
         }

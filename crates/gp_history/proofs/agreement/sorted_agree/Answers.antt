@@ -11,7 +11,7 @@ pub returns : goal.returns
 returns g c =
     let own : c.as_slice.result.now ≡ sorted_by row_cmp (map held_key c.args.rows.now) =
     c.as_slice.ensures.value ∙ c.in_ok-sort_rows.ensures.unique ∙ ap (sorted_by row_cmp) c.in_ok-own.ensures in
-    let expected : c.as_slice-2.result.now ≡ sorted_by row_cmp (keys_of c.args.version c.args.spans.now) =
+    let expected : c.as_slice-2.result.now ≡ sorted_by row_cmp (keys_of c.args.version (map (λ span. span.now) c.args.spans.now)) =
     c.as_slice-2.ensures.value ∙ c.in_ok-sort_rows-2.ensures.unique ∙ ap (sorted_by row_cmp) c.in_ok-due.ensures in
     c.are_equal.ensures
     ∙ ap (λ (keys : List (List Cell)). is_eq (slice_cmp row_cmp keys c.as_slice-2.result.now)) own

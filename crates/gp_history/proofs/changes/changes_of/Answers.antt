@@ -1,13 +1,24 @@
-use Rattle.std.proofs.Common.{Global, List, Option, Vec, [], ap, arith, length, subst, suc, sym, ℕ, ◌++◌, ◌+◌, ◌<◌, ◌∷◌, ◌≡◌}
+use Rattle.std.proofs.Common.{Global, List, Option, Vec, [], ap, arith, length, subst, suc, sym, ℕ, ◌++◌, ◌+◌, ◌<◌, ◌∷◌, ◌∙◌, ◌≡◌}
+use Rattle.std.proofs.lemmas.List.{length-map}
 use Rattle.std.specs.BTreeMap.{BTreeMap}
 use Rattle.gp_base.specs.Identities.{Identity}
 use Rattle.gp_log.specs.LogFacts.{tables_in}
 use Rattle.gp_log.specs.Logs.{log_view}
+use Rattle.gp_machine.specs.Annotating.{annotation_of, computed}
 use Rattle.gp_machine.specs.Entries.{log_of}
 use Rattle.gp_reenact.specs.Reenacting.{spans_of}
+use Rattle.gp_versions.specs.declared.span.Span.{Span}
 use Rattle.gp_history.specs.Changes.{AreChanges}
 use Rattle.gp_history.proofs.CommitLemmas.{Partly, partly_all, partly_more, partly_stop}
 use Rattle.gp_history.proofs.changes.changes_of.Goals as goal
+
+pub of_commit-requires-clause-known : goal.of_commit-requires-clause-known
+of_commit-requires-clause-known g c = λ table.
+    let domain = g.N.Annotator.domain c.args.annotator.now in
+    let entries = log_view c.args.log.now.entries in
+    let spans = spans_of c.args.versions.now in
+    ap length (c.requires.known.tables table)
+    ∙ length-map (spans table) (λ (span : Span). annotation_of domain span.id (computed domain (log_of entries) spans c.args.before span.from table))
 
 pub returns-in-Err : goal.returns-in-Err
 returns-in-Err g c =

@@ -1,4 +1,4 @@
-use Rattle.std.proofs.Common.{List, ap, refl, sym, ◌∙◌}
+use Rattle.std.proofs.Common.{List, map, ap, refl, sym, ◌∙◌}
 use Rattle.gp_base.specs.declared.cell.Cell.{Cell}
 use Rattle.gp_history.specs.Agreement.{key_of, keys_agree}
 use Rattle.gp_history.specs.Matching.{keys_of}
@@ -8,10 +8,10 @@ use Rattle.gp_base.proofs.SmallLemmas.{map-map}
 
 pub returns-then-not-branch : goal.returns-then-not-branch
 returns-then-not-branch g c =
-    let expected = keys_of c.args.version c.args.spans.now in
+    let expected = keys_of c.args.version (map (λ span. span.now) c.args.spans.now) in
     (ap (λ (keys : List (List Cell)). keys_agree keys expected) (map-map key_of row_view c.args.rows.now) ∙ sym c.in_ok-agree.ensures ∙ c.if-not-branch.true, (refl, refl))
 
 pub returns : goal.returns
 returns g c =
-    let expected = keys_of c.args.version c.args.spans.now in
+    let expected = keys_of c.args.version (map (λ span. span.now) c.args.spans.now) in
     (ap (λ (keys : List (List Cell)). keys_agree keys expected) (map-map key_of row_view c.args.rows.now) ∙ sym c.in_ok-agree.ensures ∙ c.if-not-branch.false, c.in_ok-notes_of.ensures)

@@ -5,4 +5,6 @@ use Rattle.gp_history.proofs.elements.stored_rows.Given as goal
 
 -- the spans that remain give the other rows
 abbrev pub invariant-loop-i : goal.invariant-loop-i
-invariant-loop-i g l = map stored_view l.rows ++ rows_with l.version (drop l.i l.spans) (drop l.i l.values) ≡ rows_with l.version l.spans l.values
+invariant-loop-i g l =
+    map stored_view l.rows ++ rows_with l.version (map (λ span. span.now) (drop l.i l.spans)) (map (λ value. value.now) (drop l.i l.values))
+    ≡ rows_with l.version (map (λ span. span.now) l.spans) (map (λ value. value.now) l.values)

@@ -1,4 +1,4 @@
-use Rattle.std.proofs.Common.{◌+◌, ◌≤◌, List, [], length, drop, sym, subst}
+use Rattle.std.proofs.Common.{◌+◌, ◌≤◌, List, [], length, drop, map, ap, sym, subst}
 use Rattle.std.specs.List.Sorted.{IsPermutation}
 use Rattle.std.proofs.lemmas.List.Sorted.{IsPermutation-refl}
 use Rattle.gp_base.specs.declared.cell.Cell.{Cell}
@@ -16,8 +16,8 @@ loop-span-preserved g c = λ found.
     let at = c.loop-span.span-index in
     c.loop-span.invariant
     (subst (λ (left : List Span). IsPermutation (keys_from c.args.kept.now c.args.written.now c.loop-span.at) (keys_of c.args.version left))
-    (sym (drop_more spans at c.span-item.result c.loop-span-test.true c.span-item.is))
-    (c.in-Some.ensures (drop (at + 1) spans) found))
+    (sym (ap (map (λ span. span.now)) (drop_more spans at c.span-item.result c.loop-span-test.true c.span-item.is)))
+    (c.in-Some.ensures (map (λ span. span.now) (drop (at + 1) spans)) found))
 
 pub returns : goal.returns
 returns g c = λ yes.
@@ -27,5 +27,5 @@ returns g c = λ yes.
     let all : length kept ≤ c.loop-span.at.kept = c.if-at-kept.false in
     let every : length written ≤ c.loop-span.at.written = c.if-at-written.false in
     c.loop-span.invariant
-    (subst (λ (left : List Span). IsPermutation (keys_from kept written c.loop-span.at) (keys_of version left)) (sym (drop_past c.args.spans.now c.loop-span.span-index c.loop-span-test.false))
+    (subst (λ (left : List Span). IsPermutation (keys_from kept written c.loop-span.at) (keys_of version left)) (sym (ap (map (λ span. span.now)) (drop_past c.args.spans.now c.loop-span.span-index c.loop-span-test.false)))
     (subst (λ (left : List (List Cell)). IsPermutation left []) (sym (none_left kept written c.loop-span.at all every)) (IsPermutation-refl [])))

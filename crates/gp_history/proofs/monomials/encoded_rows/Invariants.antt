@@ -5,4 +5,6 @@ use Rattle.gp_history.proofs.monomials.encoded_rows.Given as goal
 
 -- the spans that remain give the other rows
 abbrev pub invariant-loop-i : goal.invariant-loop-i
-invariant-loop-i l = l.rows ++ map (encoded_row true) (rows_with l.version (drop l.i l.spans) (drop l.i l.monomials)) ≡ map (encoded_row true) (rows_with l.version l.spans l.monomials)
+invariant-loop-i l =
+    l.rows ++ map (encoded_row true) (rows_with l.version (map (λ span. span.now) (drop l.i l.spans)) (map (λ monomial. monomial.now) (drop l.i l.monomials)))
+    ≡ map (encoded_row true) (rows_with l.version (map (λ span. span.now) l.spans) (map (λ monomial. monomial.now) l.monomials))

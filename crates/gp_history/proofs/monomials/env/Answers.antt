@@ -1,14 +1,18 @@
-use Rattle.std.proofs.Common.{ap, true, ◌∙◌}
-use Rattle.std.proofs.lemmas.List.{take_all}
-use Rattle.gp_algebra.specs.Plain.{PlainEnvironment}
-use Rattle.gp_prov.specs.Encoding.{encoded}
+use Rattle.std.proofs.Common.{List, ap, map, true, ◌∙◌}
+use Rattle.std.proofs.lemmas.Result.{IfOk-weaker}
+use Rattle.gp_algebra.specs.Scans.{AgreeOn}
+use Rattle.gp_base.specs.Annotated.{Annotated}
+use Rattle.gp_base.specs.Tokens.{Monomial}
+use Rattle.gp_exec.specs.Running.{environment_view}
+use Rattle.gp_prov.specs.Encoding.{encoded, encoded_row}
 use Rattle.gp_reenact.specs.Reenacting.{spans_of}
-use Rattle.gp_history.specs.Scanning.{scans_at}
+use Rattle.gp_history.specs.Narrowing.{narrow_versions}
 use Rattle.gp_history.specs.SpanAnnotations.{versions_with}
-use Rattle.gp_history.proofs.RunLemmas.{scans_found}
 use Rattle.gp_history.proofs.monomials.env.Goals as goal
 
 pub returns : goal.returns
 returns c =
-    let env : PlainEnvironment = encoded true (versions_with (spans_of c.args.versions.now) c.args.known.now) in
-    rw (c.loop-at.invariant ∙ ap (scans_at env) (take_all c.loop-at.at-index c.args.scans.now c.loop-at-test.false)) (scans_found env c.args.scans.now)
+    IfOk-weaker c.narrow_env.result
+    (λ env. AgreeOn c.args.scans.now (environment_view env) (encoded true (narrow_versions c.in_ok-whole.whole)))
+    (λ env. AgreeOn c.args.scans.now (environment_view env) (encoded true (versions_with (spans_of c.args.versions.now) c.args.known.now)))
+    (λ env agrees at there. agrees at there ∙ ap (λ (rows : List (Annotated Monomial)). map (encoded_row true) rows) (c.in_ok-whole.ensures.versions at.version at.table)) c.narrow_env.ensures

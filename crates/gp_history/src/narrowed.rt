@@ -1,0 +1,409 @@
+//! What the programs of a commit are run over: the row versions that matter to it, where they stand.
+//!
+//! Most rows of a table stay as they are when a transaction commits. A row version that the table has from the first version that
+//! the transaction reads up to the version that it makes, and that none of its statements writes or makes a row of, is in all of
+//! these versions and in what the commit publishes. So it is left out on both sides: programs run over the other row versions, and what
+//! they publish is compared with the other row versions. Only the number of rows that an INSERT leaves counts all rows, so the
+//! programs stop as many rows before.
+
+ghost use Rattle.std.specs.Prelude.{◌≡◌, ◌+◌, ◌≤◌, ◌<◌, ◌&&◌, ◌++◌, ℕ, [], not, true, length, map, slice_index_or, IfOk, OnOk};
+ghost use Rattle.std.specs.List.{list_all};
+ghost use Rattle.std.specs.Option.{option_map};
+ghost use Rattle.gp_algebra.specs.Views.{statement_view};
+ghost use Rattle.gp_history.specs.Changes.{maker};
+ghost use Rattle.gp_history.specs.Narrowing as n;
+ghost use Rattle.gp_history.specs.Narrowing.{Covers, IsLeft, IsLeftBy, IsNarrow, narrow_annotations, narrow_spans, narrow_versions, part_annotations, part_of, part_spans, tests_are_simple};
+ghost use Rattle.gp_history.specs.Sound.{IsSound};
+ghost use Rattle.gp_history.specs.SpanAnnotations.{versions_with};
+ghost use Rattle.gp_log.specs.Contents.{entries};
+ghost use Rattle.gp_log.specs.Sessions.{KeepsSessions};
+ghost use Rattle.gp_machine.specs.Entries as m;
+ghost use Rattle.gp_reenact.specs.Reenacting.{spans_of};
+
+use crate::annotated::Annotated;
+use crate::inert::{all_leave, are_swept, insert_into};
+use crate::spans::spans_in;
+use gp_algebra::Stmt;
+use gp_base::{MAX_TABLE_ROWS, NoMemory};
+use gp_log::Log;
+use gp_versions::{Span, VersionTable};
+use std::alloc::Global;
+
+// ---- what a transaction reads
+
+/// The first and the last of the versions that a transaction reads and the one that it makes.
+#[derive(Clone, Copy)]
+pub struct Reach {
+    /// The first.
+    pub first: u32,
+    /// The last.
+    pub last: u32,
+}
+
+impl Reach {
+    /// Whether a span holds one of the versions between them.
+    fn meets(self, span: &Span) -> bool
+        ensures { result ≡ n.meets self span.now }
+    {
+        span.from <= self.last
+            && match span.to {
+                Some(to) => self.first < to,
+                None => true,
+            }
+    }
+
+    /// Whether a span holds all of them.
+    fn is_held(self, span: &Span) -> bool
+        ensures { result ≡ n.is_held self span.now }
+    {
+        span.from <= self.first
+            && match span.to {
+                Some(to) => self.last < to,
+                None => true,
+            }
+    }
+}
+
+/// The versions from the BEGIN of the transaction that made the version after this one, up to that one.
+fn reach_of(log: &Log, t: u32, before: u32) -> Reach
+    requires sessions { KeepsSessions (entries log.now) }
+    requires within { before < m.versions_in (entries log.now) }
+    requires maker { t ≡ maker (m.log_of (entries log.now)) before }
+    ensures { Covers (m.log_of (entries log.now)) t before result }
+{
+    // The number of commits has 32 bits.
+    let _commits = log.commits();
+    match log.begin_version(t) {
+        Some(first) => Reach {
+            first,
+            last: before + 1,
+        },
+        None => unreachable!(),
+    }
+}
+
+/// Appends a statement, if there is one.
+fn push_found<'a>(statements: &mut Vec<&'a Stmt>, found: Option<&'a Stmt>) -> Result<(), NoMemory>
+    ensures { OnOk result (map (λ stmt. statement_view stmt.now) statements.new.items
+        ≡ map (λ stmt. statement_view stmt.now) statements.old.items
+        ++ n.listed (option_map (λ stmt. statement_view stmt.now) found.entry)) }
+{
+    match found {
+        Some(stmt) => Ok(statements.push(stmt)?),
+        None => Ok(()),
+    }
+}
+
+/// The statements of a transaction.
+fn statements_of(alloc: Global, log: &Log, t: u32) -> Result<Vec<&Stmt>, NoMemory>
+    ensures { IfOk result (λ all. map (λ stmt. statement_view stmt.now) all.items
+        ≡ n.statements_upto (m.log_of (entries log.now)) t
+        (m.statement_count t (entries log.now))) }
+{
+    let mut statements = Vec::new(alloc);
+    for ran in 0..log.statement_count(t) {
+        push_found(&mut statements, log.statement(t, ran + 1))?;
+    }
+    Ok(statements)
+}
+
+/// Whether the row of a span stays as it is: all versions have it, it is no row of the transaction's own, and its statements leave it.
+fn row_stays(span: &Span, reach: Reach, t: u32, statements: &[&Stmt], table: u32) -> bool
+    requires { list_all tests_are_simple
+        (map (λ stmt. statement_view stmt.now) statements.now) ≡ true }
+    ensures { result ≡ n.row_stays reach t
+        (map (λ stmt. statement_view stmt.now) statements.now) table span.now }
+{
+    reach.is_held(span) && span.id.t() != t && all_leave(statements, table, &span.row)
+}
+
+/// The same, if rows are tested.
+fn stays_if(
+    tested: bool,
+    span: &Span,
+    reach: Reach,
+    t: u32,
+    statements: &[&Stmt],
+    table: u32,
+) -> bool
+    requires { list_all tests_are_simple
+        (map (λ stmt. statement_view stmt.now) statements.now) ≡ true }
+    ensures { result ≡ n.stays_if tested reach t
+        (map (λ stmt. statement_view stmt.now) statements.now) table span.now }
+{
+    tested && row_stays(span, reach, t, statements, table)
+}
+
+// ---- one table
+
+/// References to values.
+fn refs<'a, T>(alloc: Global, values: &'a [T]) -> Result<Vec<&'a T>, NoMemory>
+    ensures { IfOk result (λ refs. map (λ value. value.now) refs.items ≡ values.now) }
+{
+    let mut refs = Vec::with_capacity(alloc, values.len())?;
+    for value in values {
+        refs.push(value)?;
+    }
+    Ok(refs)
+}
+
+/// Row versions of a table with their annotations, where they stand.
+#[derive(Drop)]
+pub struct Part<'a, A> {
+    /// The row versions.
+    pub spans: Vec<&'a Span>,
+    /// The annotation of each.
+    pub annotations: Vec<&'a A>,
+    /// How many rows of each version are left out.
+    pub left_out: usize,
+}
+
+impl<'a, A: Drop> Part<'a, A> {
+    /// No row versions.
+    fn new(alloc: Global) -> Part<'a, A>
+        ensures spans { part_spans result ≡ [] }
+        ensures annotations { part_annotations result ≡ [] }
+        ensures left_out { result.left_out ≡ 0 }
+    {
+        Part {
+            spans: Vec::new(alloc),
+            annotations: Vec::new(alloc),
+            left_out: 0,
+        }
+    }
+
+    /// Counts a row version that stays, or adds one that meets the versions. There are so many in all.
+    fn take(
+        &mut self,
+        span: &'a Span,
+        annotation: &'a A,
+        stays: bool,
+        meets: bool,
+        count: usize,
+    ) -> Result<(), NoMemory>
+        requires { stays ≡ true → self.old.left_out < count }
+        ensures spans { OnOk result (part_spans self.new
+            ≡ part_spans self.old ++ n.only (meets && not stays) span.now) }
+        ensures annotations { OnOk result (part_annotations self.new
+            ≡ part_annotations self.old ++ n.only (meets && not stays) annotation.now) }
+        ensures left_out { OnOk result
+            (self.new.left_out ≡ self.old.left_out + length (n.only stays span.now)) }
+    {
+        if stays {
+            self.left_out += 1;
+            return Ok(());
+        }
+        if meets {
+            self.spans.push(span)?;
+            self.annotations.push(annotation)?;
+        }
+        Ok(())
+    }
+
+    /// All row versions of a table.
+    fn whole(
+        alloc: Global,
+        spans: &'a [Span],
+        annotations: &'a [A],
+    ) -> Result<Part<'a, A>, NoMemory>
+        ensures spans { IfOk result (λ part. part_spans part ≡ spans.now) }
+        ensures annotations { IfOk result (λ part. part_annotations part ≡ annotations.now) }
+    {
+        let spans = refs(alloc, spans)?;
+        let annotations = refs(alloc, annotations)?;
+        Ok(Part {
+            spans,
+            annotations,
+            left_out: 0,
+        })
+    }
+
+    /// Those that meet the versions and do not stay. Where rows are not tested, none stays.
+    fn left(
+        alloc: Global,
+        spans: &'a [Span],
+        annotations: &'a [A],
+        table: u32,
+        reach: Reach,
+        t: u32,
+        statements: &[&Stmt],
+        tested: bool,
+    ) -> Result<Part<'a, A>, NoMemory>
+        requires each { length annotations.now ≡ length spans.now }
+        requires simple { list_all tests_are_simple
+            (map (λ stmt. statement_view stmt.now) statements.now) ≡ true }
+        ensures { IfOk result (IsLeft (n.meets reach) (n.stays_if tested reach t
+            (map (λ stmt. statement_view stmt.now) statements.now) table)
+            spans.now annotations.now) }
+    {
+        let mut part = Part::new(alloc);
+        for i in 0..spans.len() {
+            let span = &spans[i];
+            let stays = stays_if(tested, span, reach, t, statements, table);
+            let meets = reach.meets(span);
+            part.take(span, &annotations[i], stays, meets, spans.len())?;
+        }
+        Ok(part)
+    }
+
+    /// Those that matter to a commit. Rows are not tested one by one if a statement leaves none of them, and none stays if more rows would
+    /// than a table may have.
+    fn narrow(
+        alloc: Global,
+        spans: &'a [Span],
+        annotations: &'a [A],
+        table: u32,
+        reach: Reach,
+        t: u32,
+        statements: &[&Stmt],
+    ) -> Result<Part<'a, A>, NoMemory>
+        requires each { length annotations.now ≡ length spans.now }
+        requires simple { list_all tests_are_simple
+            (map (λ stmt. statement_view stmt.now) statements.now) ≡ true }
+        ensures { IfOk result (IsLeftBy reach t
+            (map (λ stmt. statement_view stmt.now) statements.now) table spans.now annotations.now) }
+    {
+        let tested = !are_swept(statements, table);
+        let part = Part::left(
+            alloc,
+            spans,
+            annotations,
+            table,
+            reach,
+            t,
+            statements,
+            tested,
+        )?;
+        if part.left_out <= MAX_TABLE_ROWS {
+            return Ok(part);
+        }
+        drop(part);
+        Ok(Part::left(
+            alloc,
+            spans,
+            annotations,
+            table,
+            reach,
+            t,
+            statements,
+            false,
+        )?)
+    }
+
+    /// The lesser limit: this one, or the room beside the rows that are left out, if there is an INSERT into the table.
+    fn room(&self, most: usize, inserts: bool) -> usize
+        requires { self.now.left_out ≤ MAX_TABLE_ROWS }
+        ensures less { result ≤ most }
+        ensures room { inserts ≡ true → result + self.now.left_out ≤ MAX_TABLE_ROWS }
+    {
+        let beside = MAX_TABLE_ROWS - self.left_out;
+        if inserts && beside < most {
+            beside
+        } else {
+            most
+        }
+    }
+}
+
+// ---- all tables
+
+/// Row versions of all tables.
+#[derive(Drop)]
+pub struct Narrowed<'a, A> {
+    /// Those of each table.
+    pub parts: Vec<Part<'a, A>>,
+    /// Those of a table that is not there.
+    pub none: Part<'a, A>,
+    /// How many of these rows an INSERT may leave in its table.
+    pub most: usize,
+}
+
+impl<'a, A: Drop> Narrowed<'a, A> {
+    /// All row versions.
+    pub fn whole(
+        alloc: Global,
+        versions: &'a [VersionTable],
+        known: &'a Annotated<A>,
+    ) -> Result<Narrowed<'a, A>, NoMemory>
+        ensures spans { IfOk result (λ whole. (table : ℕ)
+            → narrow_spans whole table ≡ spans_of versions.now table) }
+        ensures versions { IfOk result (λ whole. (version table : ℕ)
+            → narrow_versions whole version table
+            ≡ versions_with (spans_of versions.now) known.now version table) }
+        ensures most { IfOk result (λ whole. whole.most ≡ MAX_TABLE_ROWS) }
+    {
+        let mut parts = Vec::new(alloc);
+        for (table, own) in versions.iter().enumerate() {
+            parts.push(Part::whole(alloc, own.as_slice(), known.annotations(table))?)?;
+        }
+        Ok(Narrowed {
+            parts,
+            none: Part::new(alloc),
+            most: MAX_TABLE_ROWS,
+        })
+    }
+
+    /// The row versions that matter to the commit after a version, by transaction t.
+    pub fn of_commit(
+        alloc: Global,
+        log: &Log,
+        versions: &'a [VersionTable],
+        known: &'a Annotated<A>,
+        before: u32,
+        t: u32,
+    ) -> Result<Narrowed<'a, A>, NoMemory>
+        requires sound { IsSound (entries log.now) versions.now }
+        requires within { before < m.versions_in (entries log.now) }
+        requires maker { t ≡ maker (m.log_of (entries log.now)) before }
+        requires known { (table : ℕ) → length (slice_index_or known.now table [])
+            ≡ length (spans_of versions.now table) }
+        ensures { IfOk result (IsNarrow (m.log_of (entries log.now)) t before
+            (spans_of versions.now) known.now) }
+    {
+        let statements = statements_of(alloc, log, t)?;
+        let reach = reach_of(log, t, before);
+        let mut parts = Vec::new(alloc);
+        let mut most = MAX_TABLE_ROWS;
+        for table in 0..log.catalog().len() {
+            let part = Part::narrow(
+                alloc,
+                spans_in(versions, table as usize),
+                known.annotations(table as usize),
+                table,
+                reach,
+                t,
+                &statements,
+            )?;
+            most = part.room(most, insert_into(&statements, table));
+            parts.push(part)?;
+        }
+        Ok(Narrowed {
+            parts,
+            none: Part::new(alloc),
+            most,
+        })
+    }
+
+    /// The part of a table.
+    fn part(&self, table: u32) -> &Part<'a, A>
+        ensures { result.now ≡ part_of self.now table }
+    {
+        let parts = self.parts.as_slice();
+        parts.get(table as usize).unwrap_or(&self.none)
+    }
+
+    /// The row versions of a table.
+    pub fn spans(&self, table: u32) -> &[&'a Span]
+        ensures { map (λ span. span.now) result.now ≡ narrow_spans self.now table }
+    {
+        self.part(table).spans.as_slice()
+    }
+
+    /// Their annotations.
+    pub fn annotations(&self, table: u32) -> &[&'a A]
+        ensures { map (λ annotation. annotation.now) result.now
+            ≡ narrow_annotations self.now table }
+    {
+        self.part(table).annotations.as_slice()
+    }
+}
