@@ -34,7 +34,8 @@ use Rattle.gp_machine.specs.Event.{name_at}
 use Rattle.gp_machine.specs.HistorySpans.{as_of}
 use Rattle.gp_machine.specs.Questions.{given, is_known, statement_refusal, transaction_refusal}
 use Rattle.gp_machine.specs.Runs.{run_before}
-use Rattle.gp_reenact.specs.Looking.{Looks, looked_answer, looked_refusal, looked_rows, system_row}
+use Rattle.gp_reenact.specs.Looking.{looked_refusal}
+use Rattle.gp_reenact.specs.LookingForms.{Looks, looked_answer, looked_rows, system_row}
 use Rattle.gp_reenact.specs.declared.error.ReenactStop.TheVariants as stop
 use Rattle.gp_versions.specs.declared.span.Span.{Span}
 use Rattle.gp_versions.specs.Spans.{Versions}

@@ -23,7 +23,8 @@ use Rattle.gp_machine.specs.HistorySpans.{span_from, spans_upto}
 use Rattle.gp_machine.specs.Points.{run_stop, statement_stop}
 use Rattle.gp_machine.specs.Publishing.{publish, was_written}
 use Rattle.gp_machine.specs.Reading.{Seen}
-use Rattle.gp_machine.specs.Replaying.{Replay, replay_stop, replayed, replayed_spans, rerun, version_stop}
+use Rattle.gp_machine.specs.Replaying.{Replay, replay_stop, replayed, rerun, version_stop}
+use Rattle.gp_machine.specs.ReplayForms.{replayed_spans}
 use Rattle.gp_machine.specs.Runs.{refreshed, run, run_before, stepped}
 use Rattle.gp_machine.proofs.Distinct.{each_both, each_filter, each_weaker}
 use Rattle.gp_machine.proofs.ReplayLemmas.{unstopped}

@@ -9,7 +9,8 @@ use Rattle.gp_versions.specs.declared.span.Span.{Span}
 use Rattle.gp_log.specs.LogFacts.{tables_in}
 use Rattle.gp_machine.specs.Entries.{Entry, log_of, versions_in}
 use Rattle.gp_machine.specs.Replayed.{replayed_state}
-use Rattle.gp_machine.specs.Replaying.{ReplayStop, replayed_spans}
+use Rattle.gp_machine.specs.Replaying.{ReplayStop}
+use Rattle.gp_machine.specs.ReplayForms.{replayed_spans}
 use Rattle.gp_whatif.specs.Replays.{stop_upto}
 use Rattle.gp_dump.specs.Dumps.{Dump}
 use Rattle.gp_ask.specs.declared.answered.Answered.{Answered}

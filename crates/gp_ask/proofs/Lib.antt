@@ -2,6 +2,7 @@ mod BackendLemmas
 mod CausesLemmas
 mod ChangedLines
 mod ChangesLemmas
+mod CommitLines
 mod CountedLemmas
 mod DeletionLemmas
 mod DeltaLemmas

@@ -10,7 +10,8 @@ use Rattle.gp_algebra.specs.Fitting.{branches_fit, cond_fits, is_countable, is_t
 use Rattle.gp_algebra.specs.Statements.{width_of}
 use Rattle.gp_algebra.specs.Statements.{Statement, insert, insert_select, update, delete, read}
 use Rattle.gp_machine.specs.Bases.{Based, is_new, with_base}
-use Rattle.gp_machine.specs.Conflicts.{Conflict, IsBased, IsLeastConflict, least_conflict}
+use Rattle.gp_machine.specs.Conflicts.{Conflict, least_conflict}
+use Rattle.gp_machine.specs.ConflictForms.{IsBased, IsLeastConflict}
 use Rattle.gp_machine.specs.Entries.{Entry, committer_of, log_of, statement_at, statement_count, statement_version}
 use Rattle.gp_machine.specs.Points.{RunStop, run_stop}
 use Rattle.gp_machine.specs.Reading.{wrote_by}

@@ -9,9 +9,11 @@ use Rattle.gp_base.specs.Annotated.{plain}
 use Rattle.gp_base.specs.Identities.{Identity}
 use Rattle.gp_algebra.specs.Effects.{Written}
 use Rattle.gp_machine.specs.Bases.{Based}
-use Rattle.gp_machine.specs.Conflicts.{Conflict, IsLeastConflict, least_conflict}
+use Rattle.gp_machine.specs.Conflicts.{Conflict, least_conflict}
+use Rattle.gp_machine.specs.ConflictForms.{IsLeastConflict}
 use Rattle.gp_machine.specs.Entries.{Entry, log_of, versions_in}
-use Rattle.gp_machine.specs.Replaying.{Loses, ReplayStop, replayed_spans}
+use Rattle.gp_machine.specs.Replaying.{Loses, ReplayStop}
+use Rattle.gp_machine.specs.ReplayForms.{replayed_spans}
 use Rattle.gp_grammar.specs.Syntax as y
 use Rattle.gp_log.specs.Parameters.{parameters}
 use Rattle.gp_log.specs.LogFacts.{tables_in}

@@ -31,17 +31,6 @@ abbrev pub is_added : Signed → Bool
 is_added (removed row) = false
 is_added (added row) = true
 
-abbrev pub row_of : Signed → List Cell
-row_of (removed row) = row
-row_of (added row) = row
-
--- the rows with a minus, and those with a plus
-abbrev pub removed_rows : List Signed → List (List Cell)
-removed_rows lines = map row_of (filter is_removed lines)
-
-abbrev pub added_rows : List Signed → List (List Cell)
-added_rows lines = map row_of (filter is_added lines)
-
 abbrev pub signed_text : Signed → List ℕ
 signed_text (removed row) = codes "- " ++ row_text row
 signed_text (added row) = codes "+ " ++ row_text row

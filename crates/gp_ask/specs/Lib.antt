@@ -20,8 +20,10 @@ pub mod Questions
 pub mod Remaining
 pub mod Replays
 pub mod Seeing
+pub mod ShownWrites
 pub mod Texts
 pub mod Transactions
 pub mod Values
 pub mod Witnesses
 pub mod Writes
+pub mod DeltaForms

@@ -1,6 +1,6 @@
 -- Part of the statement: deletion in thought: the rows that a query gives over a database without the rows that have some token in their provenance (the
 -- propagation of deletions by provenance, Green, Karvounarakis and Tannen 2007).
-use Rattle.std.specs.Prelude.{ℕ, nat_lt, ◌||◌, Bool, List, length, map, Option, Some, None, Result, if◌then◌else◌}
+use Rattle.std.specs.Prelude.{nat_lt, ◌||◌, Bool, List, length, Option, Some, None, Result, if◌then◌else◌}
 use Rattle.std.specs.List.{list_any}
 use Rattle.std.specs.Option.{option_or}
 use Rattle.gp_base.specs.declared.refusal.Refusal.{Refusal}
@@ -22,10 +22,6 @@ use Rattle.gp_ask.specs.Values.{kind_of}
 -- a pattern of tokens, as a rule by which they count nothing
 abbrev pub pattern_of : y.Rule → Rule
 pattern_of rule = record { kind = kind_of rule.kind; t = rule.t; k = rule.k; n = rule.n; value = 0 }
-
--- the rules by which a token that a pattern fits counts nothing, and any other once
-abbrev pub left_out : List y.Rule → List Rule × Option ℕ
-left_out patterns = (map pattern_of patterns, Some 1)
 
 -- whether a pattern fits the token
 abbrev pub is_left_out : List Rule → Token → Bool

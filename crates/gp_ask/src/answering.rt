@@ -15,7 +15,6 @@ ghost use Rattle.gp_ask.specs.Formats.{asks_rows};
 ghost use Rattle.gp_ask.specs.Keeping.{AreKept};
 
 use crate::answered::Answered;
-use crate::asking::ask_answer;
 use crate::causes::causes_answer;
 use crate::changes::{changes_answer, commit_changes_answer};
 use crate::checked::check_answer;
@@ -26,6 +25,7 @@ use crate::logs::log_answer;
 use crate::queries::query_answer_by;
 use crate::row_versions::versions_answer;
 use crate::seeing::saw_answer;
+use crate::states::ask_answer;
 use crate::transactions::transactions_answer;
 use gp_base::NoMemory;
 use gp_dump::Dump;

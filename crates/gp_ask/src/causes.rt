@@ -22,11 +22,11 @@ ghost use Rattle.gp_ask.specs.Keeping.{AreKept};
 ghost use Rattle.gp_ask.specs.Writes.{ArePut, AreWrites, IsAsked, IsLine, committed_write, listed_line, write_of, write_view};
 
 use crate::answered::Answered;
-use crate::asking::ask_answer;
 use crate::deltas::{Sizes, delta_sizes};
 use crate::differences::rows_in;
 use crate::hypothetical::{what_if_answer, what_if_from};
 use crate::keeping::KeptAnnotations;
+use crate::states::ask_answer;
 use gp_algebra::Stmt;
 use gp_base::{NoMemory, Refusal, Row, Sequence, Text, append_all, text_of_pieces, write_refusal};
 use gp_dump::Dump;

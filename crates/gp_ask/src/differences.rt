@@ -16,10 +16,10 @@ ghost use Rattle.gp_ask.specs.Hypothetical as h;
 ghost use Rattle.gp_ask.specs.Keeping.{AreKept};
 
 use crate::answered::Answered;
-use crate::asking::ask_answer;
 use crate::deltas::{Sizes, delta_lines, delta_sizes};
 use crate::hypothetical::what_if_answer;
 use crate::keeping::KeptAnnotations;
+use crate::states::ask_answer;
 use gp_base::{MAX_ANSWER_ROWS, NoMemory, Refusal, Row, Sequence};
 use gp_dump::Dump;
 use gp_syntax::{Query, Side};

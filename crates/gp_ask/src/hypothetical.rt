@@ -23,11 +23,11 @@ ghost use Rattle.gp_ask.specs.Hypothetical as h;
 ghost use Rattle.gp_ask.specs.Hypothetical.{replayed_dump};
 
 use crate::answered::Answered;
-use crate::asking::ask_answer;
 use crate::keeping::KeptAnnotations;
 use crate::laws::changed_histories_answer_their_questions;
 use crate::programs::program_answer;
 use crate::queries::asked;
+use crate::states::ask_answer;
 use crate::values::rules_refusal;
 use gp_base::{Limit, NoMemory, Refusal, RowId, Sequence};
 use gp_check::CheckStop;

@@ -1,10 +1,10 @@
 //! Laws of answers. Each function does nothing: its postcondition is the law, and some cite laws of the crates below.
 
-ghost use Rattle.std.specs.Prelude.{◌≡◌, ◌↔◌, ◌++◌, [], ℕ, true, Contains, List, length, map, None, Ok, Option};
+ghost use Rattle.std.specs.Prelude.{◌≡◌, ◌↔◌, ◌++◌, ◌<◌, [], ℕ, suc, true, Contains, List, length, map, None, Ok, Option};
 ghost use Rattle.std.specs.List.Sorted.{IsPermutation, IsSorted};
 ghost use Rattle.gp_base.specs.declared.cell.Cell.{Cell};
 ghost use Rattle.gp_base.specs.Annotated.{monomials, plain};
-ghost use Rattle.gp_base.specs.Order.{row_cmp};
+ghost use Rattle.gp_base.specs.Order.{row_cmp, sorted_by};
 ghost use Rattle.gp_base.specs.Tokens.{Monomial};
 ghost use Rattle.gp_algebra.specs.Statements.{Select};
 ghost use Rattle.gp_grammar.specs.Reading.{question_of};
@@ -12,11 +12,13 @@ ghost use Rattle.gp_grammar.specs.Syntax as y;
 ghost use Rattle.gp_history.specs.Agreement.{agree};
 ghost use Rattle.gp_log.specs.Parameters.{parameters};
 ghost use Rattle.gp_log.specs.LogFacts.{tables_in};
+ghost use Rattle.gp_machine.specs.Committed.{is_written};
 ghost use Rattle.gp_machine.specs.Entries.{Entry, log_of, versions_in};
 ghost use Rattle.gp_machine.specs.Event.{Line, after};
 ghost use Rattle.gp_machine.specs.HistorySpans.{state_spans};
 ghost use Rattle.gp_machine.specs.Replayed.{replayed_state};
-ghost use Rattle.gp_machine.specs.Replaying.{CommitsInOrder, replay_stop, replayed_spans};
+ghost use Rattle.gp_machine.specs.Replaying.{replay_stop};
+ghost use Rattle.gp_machine.specs.ReplayForms.{CommitsInOrder, replayed_spans};
 ghost use Rattle.gp_machine.specs.State.{State, start};
 ghost use Rattle.gp_machine.specs.Unstopped.{IsUnstopped};
 ghost use Rattle.gp_dump.specs.Dumps.{Dump, IsDump, dump_of};
@@ -24,20 +26,24 @@ ghost use Rattle.gp_semiring.specs.declared.rules.Rule.{Rule};
 ghost use Rattle.gp_semiring.specs.Values.{token_value};
 ghost use Rattle.gp_history.specs.ValueAnswers.{held_value_answer, value_answer};
 ghost use Rattle.gp_versions.specs.declared.span.Span.{Span};
+ghost use Rattle.gp_versions.specs.Spans.{span_cmp};
 ghost use Rattle.gp_whatif.specs.Replays.{IsCoherent, IsReplayable, stop_upto};
 ghost use Rattle.gp_ask.specs.Answerable.{question_is_valid};
 ghost use Rattle.gp_ask.specs.Answers.{answer_to, held_to, remade_to};
 ghost use Rattle.gp_ask.specs.Asking.{spans_at};
-ghost use Rattle.gp_ask.specs.Deltas.{added_rows, delta, removed_rows, row_of};
+ghost use Rattle.gp_ask.specs.Changes.{spans_texts};
+ghost use Rattle.gp_ask.specs.Deltas.{delta};
+ghost use Rattle.gp_ask.specs.DeltaForms.{added_rows, removed_rows, row_of};
 ghost use Rattle.gp_ask.specs.Hypothetical.{replayed_dump, what_if_answer, what_if_held};
 ghost use Rattle.gp_ask.specs.Replays.{dump_in};
+ghost use Rattle.gp_ask.specs.ShownWrites.{ShowsWrites};
 
 use gp_algebra::annotations_commute;
 use gp_base::Monomial as BaseMonomial;
 use gp_history::{agreement_is_having_the_same_rows, values_are_those_of_the_history};
 use gp_machine::{
     annotations_change_no_replay, annotations_change_no_reply, commits_publish_the_spans,
-    histories_do_not_stop, identities_begin_with_their_committers,
+    histories_do_not_stop, identities_begin_with_their_committers, spans_hold_the_versions,
     unstopped_histories_answer_their_questions,
 };
 use gp_semiring::{Bool, Cost, Count, Level, Poly, PosBool, Semiring};
@@ -111,6 +117,21 @@ pub fn histories_answer_as_their_dumps()
     commits_publish_the_spans::<BaseMonomial>();
     identities_begin_with_their_committers::<BaseMonomial>();
     annotations_change_no_reply::<BaseMonomial, ()>()
+}
+
+/// On the dump of a history, `CHANGES` of the commit that made a version has a line for each row that the commit wrote and that the
+/// version before it or its own has, in the order of their identities in each table, and no other line. It shows the cells of the row
+/// in the version before, and in the commit's own.
+pub fn commits_show_what_they_wrote()
+    ensures { (lines : List Line) (name : List ℕ) (version table : ℕ)
+        → version < versions_in (after monomials parameters start lines).entries → ShowsWrites name
+        (λ id. is_written table id ((after monomials parameters start lines).written (suc version)))
+        ((after monomials parameters start lines).committed version table)
+        ((after monomials parameters start lines).committed (suc version) table)
+        (spans_texts name (suc version) None
+        (sorted_by span_cmp (state_spans (after monomials parameters start lines) table))) }
+{
+    spans_hold_the_versions::<BaseMonomial>()
 }
 
 /// The difference of two bags of rows, each in row order: the first without the rows that have a minus, and with those that have a plus, is

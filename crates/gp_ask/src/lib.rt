@@ -28,7 +28,6 @@
 
 mod answered;
 mod answering;
-mod asking;
 mod causes;
 mod changes;
 mod checked;
@@ -48,6 +47,7 @@ mod queries;
 mod row_versions;
 mod rules;
 mod seeing;
+mod states;
 mod transactions;
 mod values;
 
@@ -59,7 +59,7 @@ pub use format::Format;
 pub use gp_exec::{Backend, Plain};
 pub use keeping::KeptAnnotations;
 pub use laws::{
-    changed_histories_answer_their_questions, deltas_are_differences,
+    changed_histories_answer_their_questions, commits_show_what_they_wrote, deltas_are_differences,
     dumps_answer_as_changed_histories, histories_answer_as_their_dumps, read_questions_are_valid,
     replays_answer_as_their_histories, unstopped_histories_answer_as_their_dumps,
 };

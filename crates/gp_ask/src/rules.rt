@@ -1,6 +1,7 @@
 //! The rules of a question, as valuations take them.
 
-ghost use Rattle.std.specs.Prelude.{◌≡◌, map, true, IfOk};
+ghost use Rattle.std.specs.Prelude.{◌≡◌, ℕ, List, Option, Some, map, true, IfOk};
+ghost use Rattle.gp_semiring.specs.declared.rules.Rule.{Rule};
 ghost use Rattle.gp_syntax.specs.Views.{rule_view};
 ghost use Rattle.gp_ask.specs.Remaining as r;
 ghost use Rattle.gp_ask.specs.Values as v;
@@ -83,8 +84,8 @@ fn patterns_in_order(alloc: Global, rules: &[WrittenRule]) -> Result<Sequence<Ru
 
 /// The rules by which the tokens that a pattern fits count 0, and all other tokens 1.
 pub fn left_out(alloc: Global, rules: &[WrittenRule]) -> Result<Rules, NoMemory>
-    ensures { IfOk result
-        (λ found. (found.rules, found.other) ≡ r.left_out (map rule_view rules.now)) }
+    ensures { IfOk result (λ found. ◌≡◌ {A = List Rule × Option ℕ} (found.rules, found.other)
+        (map r.pattern_of (map rule_view rules.now), Some 1)) }
 {
     Ok(Rules {
         rules: patterns_in_order(alloc, rules)?,

@@ -199,17 +199,20 @@ in_place cols versions before (x ∷ xs) first all right =
       in_place cols versions (x ∷ before) xs all.0 all.1 right.1,
     )
 
+-- spans in the order of a dump: each may be before every later one
+pub sorted_after : (spans : List Span) → NoOverlap spans → AreWhole spans → Pairwise (λ a b. is_after a b ≡ true) (sorted_by span_cmp spans)
+sorted_after spans apart whole =
+    let clear : Pairwise Clear spans = all_clear spans whole apart in
+    pairwise_both (λ a b. is_after a b ≡ true) Below Clear below_after (sorted_by span_cmp spans) (sorted_below spans clear) (sorted_pairwise span_cmp Clear turned spans clear)
+
 module _ (tables : List Table) (place : ℕ) (table : Table) (there : slice_get tables place ≡ Some table) (versions : ℕ) (spans : List Span) where
   pub all_in_place : NoOverlap spans → AreWhole spans → AreBelow (suc versions) spans → AllByRecursion (λ (span : Span). 1 ≤ span.from) spans → AllByRecursion (λ (span : Span). Fits tables place span.id span.row) spans
       → AreInPlace table.cols versions [] (sorted_by span_cmp spans)
   all_in_place apart whole below first fits =
       in_place table.cols versions [] (sorted_by span_cmp spans) (each_all _ (λ x. refl) (sorted_by span_cmp spans))
-      (pairwise_both (λ a b. is_after a b ≡ true) Below Clear below_after (sorted_by span_cmp spans) (sorted_below spans clear) (sorted_pairwise span_cmp Clear turned spans clear))
+      (sorted_after spans apart whole)
       (sorted_each span_cmp (IsRight table.cols versions) spans right)
     where
-      clear : Pairwise Clear spans
-      clear = all_clear spans whole apart
-
       same : (other : Table) → slice_get tables place ≡ Some other → other ≡ table
       same other e = let f : Some other ≡ Some table = sym e ∙ there in cc
 

@@ -7,7 +7,7 @@ use Rattle.gp_versions.specs.declared.span.Span.{Span}
 use Rattle.gp_machine.specs.Entries.{log_of, versions_in}
 use Rattle.gp_machine.specs.HistorySpans.{state_spans}
 use Rattle.gp_machine.specs.Replayed.{replayed_state}
-use Rattle.gp_machine.specs.Replaying.{replayed_spans}
+use Rattle.gp_machine.specs.ReplayForms.{replayed_spans}
 use Rattle.gp_machine.specs.State.{State}
 use Rattle.gp_log.specs.LogFacts.{tables_in}
 use Rattle.gp_dump.specs.Dumps.{dump_of, dump_with, spans_in_order}

@@ -13,7 +13,7 @@ use Rattle.gp_log.specs.Logs.{log_view}
 use Rattle.gp_log.specs.Parameters.{parameters}
 use Rattle.gp_machine.specs.Entries.{Entry, statement_at}
 use Rattle.gp_reenact.proofs.HeldLemmas.{FitsIfSome, logged_fits}
-use Rattle.gp_reenact.specs.Looking.{Looks, looked_answer}
+use Rattle.gp_reenact.specs.LookingForms.{Looks, looked_answer}
 use Rattle.gp_reenact.specs.Reenacting.{spans_of}
 use Rattle.gp_reenact.specs.declared.error.ReenactStop.TheVariants as stop
 use Rattle.gp_versions.specs.declared.span.Span.{Span}

@@ -11,7 +11,7 @@ use Rattle.gp_ask.specs.Answers.{answer_to}
 use Rattle.gp_ask.specs.Asking.{dump_query, dump_values}
 use Rattle.gp_ask.specs.Values.{rules_of, semiring_of}
 use Rattle.gp_ask.proofs.WitnessLemmas.{asked_values}
-use Rattle.gp_ask.proofs.asking.ask_answer.Goals as goal
+use Rattle.gp_ask.proofs.states.ask_answer.Goals as goal
 
 pub returns-in-Value-clause-answered : goal.returns-in-Value-clause-answered
 returns-in-Value-clause-answered c =
