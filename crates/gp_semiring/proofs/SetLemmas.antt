@@ -1,5 +1,6 @@
 -- Items put in their places come to the set of them, and sets put to others come to the minimal ones.
-use Rattle.std.proofs.Common.{◌≡◌, ◌≤◌, ◌<◌, ◌+◌, ℕ, suc, refl, sym, ap, subst, ◌∙◌, arith, cond, T, Bool, true, false, not, ◌&&◌, ◌||◌, List, [], ◌∷◌, ◌++◌, length, drop, slice_index_or, insert}
+use Rattle.std.proofs.Common.{◌≡◌, ◌≤◌, ◌<◌, ◌+◌, ℕ, zero, suc, refl, sym, ap, subst, ◌∙◌, arith, cond, T, Bool, true, false, not, ◌&&◌, ◌||◌, List, [], ◌∷◌, ◌++◌, length, drop, slice_index_or, insert}
+use Rattle.std.proofs.lemmas.Cmp.{tied_itself}
 use Rattle.std.proofs.lemmas.List.{drop_more}
 use Rattle.std.specs.Prelude.{◌≢◌, Option, Some, None, unwrap_or}
 use Rattle.std.specs.List.{filter, list_any, list_all}
@@ -14,11 +15,11 @@ use Rattle.gp_base.specs.declared.token.Token.{Token}
 use Rattle.gp_base.specs.Tokens.{token_cmp}
 use Rattle.gp_base.specs.TokenOrder.{token_cmp_total, token_cmp-exact}
 use Rattle.gp_semiring.specs.SumForms.{Each}
-use Rattle.gp_semiring.specs.SumLaws.{first, second, both, less, below_less, is_sorted_of, is_true_of}
+use Rattle.gp_semiring.specs.SumLaws.{first, second, both, less, equal, below_less, is_sorted_of, is_true_of}
 use Rattle.gp_semiring.specs.Witnesses.{Sets, contains, is_within, placed, set_of, with_set, witness_plus, witness_times}
 use Rattle.gp_semiring.specs.WitnessForms.{IsRising, IsWitness, tagged}
 use Rattle.gp_semiring.specs.WitnessAdding.{place_in, rest_after, with_items, with_sets, with_row, with_unions}
-use Rattle.gp_semiring.specs.WitnessLaws.{or_crossed, or_assoc, or_false, and_false, any_append, all_append, any_placed, all_set, rising_placed, rising_set, same_rising, holds, holds_with, holds_plus, holds_times, with_set_in, none_in, plus_in, times_in, same_witness}
+use Rattle.gp_semiring.specs.WitnessLaws.{all_own, rising_filter, sets_same, sets_total, or_crossed, or_assoc, or_false, and_false, any_append, all_append, any_placed, all_set, rising_placed, rising_set, same_rising, holds, holds_with, holds_plus, holds_times, with_set_in, none_in, plus_in, times_in, same_witness}
 
 module _ {X : Type 0} (R : X → X → Ordering) where
   place_within : (x : X) (ys : List X) → place_in R x ys ≤ length ys
@@ -136,6 +137,89 @@ module _ {X : Type 0} (R : X → X → Ordering) where
           | Equal ↦ λ q. subst (λ l. IsRising R (unwrap_or l ys)) q (rest_rises y ys k)
           | Greater ↦ λ q. rest_after_rises x ys zs (rest_rises y ys k) q
         ] e
+
+    none_first : (x y : X) (xs ys : List X) → R x y ≡ Less → IsRising R ys → T (below_all R y (tagged ys)) → is_within R (x ∷ xs) (y ∷ ys) ≡ true → ⊥
+    none_first x y xs ys p k h w = false_true (sym (ap (λ b. b && is_within R xs (y ∷ ys)) (none_below x (y ∷ ys) (below_both x y ys p h))) ∙ w)
+      where
+        false_true : false ≡ true → ⊥
+        false_true q = cc
+
+    both_left : (x y : X) (xs ys : List X) → IsRising R (x ∷ xs) → IsRising R (y ∷ ys) → R x y ≡ Equal → is_within R (x ∷ xs) (y ∷ ys) ≡ is_within R xs ys
+    both_left x y xs ys h k p = found x xs (y ∷ ys) ys h k (ap (λ r. by_order r None (Some ys) (rest_after R x ys)) p)
+
+    one_left : (x y : X) (xs ys : List X) → IsRising R (x ∷ xs) → R x y ≡ Greater → is_within R (x ∷ xs) (y ∷ ys) ≡ is_within R (x ∷ xs) ys
+    one_left x y xs ys h p = head_skipped y ys (x ∷ xs) (below_both y x xs (o.antisymm y x ∙ ap ordering_reverse p) (below_of x xs h))
+
+    -- a list within another is no longer, and as long only if it is the same
+    no_longer : (xs ys : List X) → IsRising R xs → IsRising R ys → is_within R xs ys ≡ true → length xs ≤ length ys
+    no_longer [] ys h k w = omega arith
+    no_longer (x ∷ xs) [] h k w = absurd (cc)
+    no_longer (x ∷ xs) (y ∷ ys) h k w =
+        elim (R x y) as (λ r. R x y ≡ r → suc (length xs) ≤ suc (length ys)) [
+          | Less ↦ λ p. absurd (none_first x y xs ys p (rest_rises y ys k) (below_of y ys k) w)
+          | Equal ↦ λ p. (let rest = no_longer xs ys (rest_rises x xs h) (rest_rises y ys k) (sym (both_left x y xs ys h k p) ∙ w) in omega arith)
+          | Greater ↦ λ p. (let rest = no_longer (x ∷ xs) ys h (rest_rises y ys k) (sym (one_left x y xs ys h p) ∙ w) in omega arith)
+        ] refl
+
+    as_long : (xs ys : List X) → IsRising R xs → IsRising R ys → is_within R xs ys ≡ true → length ys ≤ length xs → xs ≡ ys
+    as_long [] [] h k w l = refl
+    as_long [] (y ∷ ys) h k w l = absurd (omega arith)
+    as_long (x ∷ xs) [] h k w l = absurd (cc)
+    as_long (x ∷ xs) (y ∷ ys) h k w l =
+        elim (R x y) as (λ r. R x y ≡ r → x ∷ xs ≡ y ∷ ys) [
+          | Less ↦ λ p. absurd (none_first x y xs ys p (rest_rises y ys k) (below_of y ys k) w)
+          | Equal ↦ λ p. ap (λ z. z ∷ xs) (same x y p) ∙ ap (λ zs. y ∷ zs) (as_long xs ys (rest_rises x xs h) (rest_rises y ys k) (sym (both_left x y xs ys h k p) ∙ w) (omega arith))
+          | Greater ↦ λ p. (let rest = no_longer (x ∷ xs) ys h (rest_rises y ys k) (sym (one_left x y xs ys h p) ∙ w) in absurd (omega arith))
+        ] refl
+
+    -- ---- an item among ascending ones, found by halves
+
+    below_at : (k : X) (ys : List X) (n : ℕ) (z : X) → T (below_all R k (tagged ys)) → n < length ys → z ≡ slice_index_or ys n z → R k z ≡ Less
+    below_at k [] n z h lt is = absurd (omega arith)
+    below_at k (y ∷ ys) zero z h lt is = ap (R k) is ∙ less (R k y) (first (is_lt (R k y)) (below_all R k (tagged ys)) h)
+    below_at k (y ∷ ys) (suc n) z h lt is = below_at k ys n z (second (is_lt (R k y)) (below_all R k (tagged ys)) h) (omega arith) is
+
+    smaller_before : (x y z : X) → R y z ≡ Less → R x z ≡ Greater → R x y ≡ Greater
+    smaller_before x y z p q =
+        let back : R z x ≡ Less = o.antisymm z x ∙ ap ordering_reverse q in
+        o.antisymm x y ∙ ap ordering_reverse (o.trans y z x p back)
+
+    place_after : (x : X) (ys : List X) (n : ℕ) (z : X) → IsRising R ys → n < length ys → z ≡ slice_index_or ys n z → R x z ≡ Greater → suc n ≤ place_in R x ys
+    place_after x [] n z h lt is p = absurd (omega arith)
+    place_after x (y ∷ ys) zero z h lt is p = rw (sym (ap (R x) is) ∙ p) (omega arith)
+    place_after x (y ∷ ys) (suc n) z h lt is p =
+        let rest = place_after x ys n z (rest_rises y ys h) (omega arith) is p in
+        rw (smaller_before x y z (below_at y ys n z (below_of y ys h) (omega arith) is) p) (omega arith)
+
+    place_before : (x : X) (ys : List X) (n : ℕ) (z : X) → n < length ys → z ≡ slice_index_or ys n z → R x z ≢ Greater → place_in R x ys ≤ n
+    place_before x [] n z lt is p = absurd (omega arith)
+    place_before x (y ∷ ys) zero z lt is p =
+        elim (R x y) as (λ r. R x y ≡ r → cond (is_gt r) (suc (place_in R x ys)) 0 ≤ 0) [
+          | Less ↦ λ q. omega arith
+          | Equal ↦ λ q. omega arith
+          | Greater ↦ λ q. absurd (p (ap (R x) is ∙ q))
+        ] refl
+    place_before x (y ∷ ys) (suc n) z lt is p =
+        let rest = place_before x ys n z (omega arith) is p in
+        elim (is_gt (R x y)) as (λ b. cond b (suc (place_in R x ys)) 0 ≤ suc n) [ true ↦ omega arith | false ↦ omega arith ]
+
+    absent : (x : X) (ys : List X) → place_in R x ys ≡ length ys → false ≡ contains R x ys
+    absent x [] e = refl
+    absent x (y ∷ ys) e =
+        elim (R x y) as (λ r. cond (is_gt r) (suc (place_in R x ys)) 0 ≡ suc (length ys) → false ≡ (is_eq r || contains R x ys)) [
+          | Less ↦ λ l. absurd (omega arith)
+          | Equal ↦ λ l. absurd (omega arith)
+          | Greater ↦ λ l. absent x ys (omega arith)
+        ] e
+
+    found_there : (x : X) (ys : List X) (z : X) → IsRising R ys → place_in R x ys < length ys → z ≡ slice_index_or ys (place_in R x ys) z → is_eq (R x z) ≡ contains R x ys
+    found_there x [] z h lt is = absurd (omega arith)
+    found_there x (y ∷ ys) z h lt is =
+        elim (R x y) as (λ r. R x y ≡ r → cond (is_gt r) (suc (place_in R x ys)) 0 < suc (length ys) → z ≡ slice_index_or (y ∷ ys) (cond (is_gt r) (suc (place_in R x ys)) 0) z → is_eq (R x z) ≡ (is_eq r || contains R x ys)) [
+          | Less ↦ λ p l i. ap (λ w. is_eq (R x w)) i ∙ ap is_eq p ∙ sym (none_below x ys (below_less R (λ (a : Unit {0}) (b : Unit {0}). a) o x y (tagged ys) p (below_of y ys h)))
+          | Equal ↦ λ p l i. ap (λ w. is_eq (R x w)) i ∙ ap is_eq p
+          | Greater ↦ λ p l i. found_there x ys z (rest_rises y ys h) (omega arith) i
+        ] refl lt is
 
 token_missing : (x : Token) (xs ys : List Token) → IsRising token_cmp (x ∷ xs) → IsRising token_cmp ys → rest_after token_cmp x ys ≡ None → is_within token_cmp (x ∷ xs) ys ≡ false
 token_missing = missing token_cmp token_cmp_total token_cmp-exact
@@ -257,6 +341,88 @@ product_in xs ys = unions_in token_cmp token_cmp_total token_cmp-exact xs ys [] 
 
 pub product_is : (xs ys : Sets) → IsWitness token_cmp xs → IsWitness token_cmp ys → with_unions token_cmp xs ys [] ≡ witness_times token_cmp xs ys
 product_is = unions_are token_cmp token_cmp_total token_cmp-exact
+
+-- ---- a set beside others
+
+all_total : IsTotalOrder (slice_cmp token_cmp)
+all_total = sets_total token_cmp token_cmp_total token_cmp-exact
+
+all_same : (s t : List Token) → slice_cmp token_cmp s t ≡ Equal → s ≡ t
+all_same = sets_same token_cmp token_cmp_total token_cmp-exact
+
+-- a set that is not shorter is not within another
+pub none_within : (xs ys : List Token) → IsRising token_cmp xs → IsRising token_cmp ys → xs ≢ ys → length ys ≤ length xs → false ≡ is_within token_cmp xs ys
+none_within xs ys h k differ l =
+    elim (is_within token_cmp xs ys) as (λ b. is_within token_cmp xs ys ≡ b → false ≡ b) [
+      | true ↦ λ w. absurd (differ (as_long token_cmp token_cmp_total token_cmp-exact xs ys h k w l))
+      | false ↦ λ w. refl
+    ] refl
+
+pub set_after : (x : List Token) (ys : Sets) (n : ℕ) (z : List Token) → IsRising (slice_cmp token_cmp) ys → n < length ys → z ≡ slice_index_or ys n z → slice_cmp token_cmp x z ≡ Greater → suc n ≤ place_in (slice_cmp token_cmp) x ys
+set_after = place_after (slice_cmp token_cmp) all_total all_same
+
+pub set_before : (x : List Token) (ys : Sets) (n : ℕ) (z : List Token) → n < length ys → z ≡ slice_index_or ys n z → slice_cmp token_cmp x z ≢ Greater → place_in (slice_cmp token_cmp) x ys ≤ n
+set_before = place_before (slice_cmp token_cmp) all_total all_same
+
+pub set_absent : (x : List Token) (ys : Sets) → place_in (slice_cmp token_cmp) x ys ≡ length ys → false ≡ contains (slice_cmp token_cmp) x ys
+set_absent = absent (slice_cmp token_cmp) all_total all_same
+
+pub set_there : (x : List Token) (ys : Sets) (z : List Token) → IsRising (slice_cmp token_cmp) ys → place_in (slice_cmp token_cmp) x ys < length ys → z ≡ slice_index_or ys (place_in (slice_cmp token_cmp) x ys) z → is_eq (slice_cmp token_cmp x z) ≡ contains (slice_cmp token_cmp) x ys
+set_there = found_there (slice_cmp token_cmp) all_total all_same
+
+-- each of sets is another one than a set that is none of them
+pub differs : (set : List Token) (sets : Sets) (n : ℕ) (other : List Token) → contains (slice_cmp token_cmp) set sets ≡ false → n < length sets → other ≡ slice_index_or sets n other → set ≢ other
+differs set [] n other c lt is = absurd (omega arith)
+differs set (s ∷ sets) zero other c lt is = λ e.
+    let tie : slice_cmp token_cmp set s ≡ Equal = ap (slice_cmp token_cmp set) (sym (e ∙ is)) ∙ tied_itself all_total set in
+    true_false (sym (ap (λ r. is_eq r || contains (slice_cmp token_cmp) set sets) tie) ∙ c)
+  where
+    true_false : true ≡ false → ⊥
+    true_false q = cc
+differs set (s ∷ sets) (suc n) other c lt is = differs set sets n other (or_right (eq_by_cmp (slice_cmp token_cmp) set s) (contains (slice_cmp token_cmp) set sets) c) (omega arith) is
+  where
+    or_right : (a b : Bool) → (a || b) ≡ false → b ≡ false
+    or_right true b h = absurd (cc)
+    or_right false b h = h
+
+pub others_differ : (set : List Token) (sets : Sets) (n : ℕ) (other : List Token) → contains (slice_cmp token_cmp) set sets ≡ false → n < length sets → other ≡ slice_index_or sets n other → other ≢ set
+others_differ set sets n other c lt is = λ e. differs set sets n other c lt is (sym e)
+
+held : (set : List Token) (sets : Sets) → contains (slice_cmp token_cmp) set sets ≡ true → list_any (λ t. is_within token_cmp t set) sets ≡ true
+held set [] c = absurd (cc)
+held set (s ∷ sets) c =
+    elim (eq_by_cmp (slice_cmp token_cmp) set s) as (λ b. eq_by_cmp (slice_cmp token_cmp) set s ≡ b → (b || contains (slice_cmp token_cmp) set sets) ≡ true → (is_within token_cmp s set || list_any (λ t. is_within token_cmp t set) sets) ≡ true) [
+      | true ↦ λ e h.
+          let is : set ≡ s = all_same set s (equal (slice_cmp token_cmp set s) (subst T (sym e) tt)) in
+          ap (λ b. b || list_any (λ t. is_within token_cmp t set) sets) (subst (λ t. is_within token_cmp t set ≡ true) is (all_own token_cmp token_cmp_total token_cmp-exact set))
+      | false ↦ λ e h. ap (λ b. is_within token_cmp s set || b) (held set sets h) ∙ or_true (is_within token_cmp s set)
+    ] refl c
+  where
+    or_true : (a : Bool) → (a || true) ≡ true
+    or_true true = refl
+    or_true false = refl
+
+-- a set that is there is not put there again
+pub with_held : (set : List Token) (sets : Sets) → contains (slice_cmp token_cmp) set sets ≡ true → sets ≡ with_set token_cmp set sets
+with_held set sets c = sym (ap (λ b. cond b sets (placed (slice_cmp token_cmp) set (filter (λ t. not (is_within token_cmp set t)) sets))) (held set sets c))
+
+pub rising_kept : (p : List Token → Bool) (sets : Sets) → IsRising (slice_cmp token_cmp) sets → IsRising (slice_cmp token_cmp) (filter p sets)
+rising_kept = rising_filter (slice_cmp token_cmp) all_total all_same
+
+pub rising_with : (set : List Token) (sets : Sets) → IsRising (slice_cmp token_cmp) sets → IsRising (slice_cmp token_cmp) (with_set token_cmp set sets)
+rising_with set sets h =
+    elim (list_any (λ t. is_within token_cmp t set) sets) as (λ b. IsRising (slice_cmp token_cmp) (cond b sets (placed (slice_cmp token_cmp) set (filter (λ t. not (is_within token_cmp set t)) sets)))) [
+      | true ↦ h
+      | false ↦ rising_placed (slice_cmp token_cmp) all_total all_same set (filter (λ t. not (is_within token_cmp set t)) sets) (rising_kept (λ t. not (is_within token_cmp set t)) sets h)
+    ]
+
+pub rising_row : (s : List Token) (ts sets : Sets) → IsRising (slice_cmp token_cmp) sets → IsRising (slice_cmp token_cmp) (with_row token_cmp s ts sets)
+rising_row s [] sets h = h
+rising_row s (t ∷ ts) sets h = rising_row s ts (with_set token_cmp (set_of token_cmp (s ++ t)) sets) (rising_with (set_of token_cmp (s ++ t)) sets h)
+
+pub ruleset sets_searched = (set_within, set_after, set_before)
+
+pub ruleset among = (set_within, set_absent, set_there)
 
 pub ruleset token_places = (token_within, token_equal, token_inside, token_end)
 

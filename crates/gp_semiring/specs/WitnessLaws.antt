@@ -305,7 +305,7 @@ module _ {X : Type 0} (R : X → X → Ordering) (o : IsTotalOrder R) (same : (x
 
   -- ---- witnesses that say the same are the same
 
-  all_own : (s : List X) → list_all (λ x. contains R x s) s ≡ true
+  pub all_own : (s : List X) → list_all (λ x. contains R x s) s ≡ true
   all_own s = each_own s (λ x i. contains_own R o same x s i)
     where
       each_own : (xs : List X) → ((x : X) → In x xs → contains R x s ≡ true) → list_all (λ x. contains R x s) xs ≡ true

@@ -1,6 +1,6 @@
 //! Sets of tokens.
 
-ghost use Rattle.std.specs.Prelude.{◌≡◌, ◌++◌, ◌∷◌, [], option_map, IfOk, OnOk};
+ghost use Rattle.std.specs.Prelude.{◌≡◌, ◌≢◌, ◌++◌, ◌∷◌, [], option_map, IfOk, OnOk};
 ghost use Rattle.std.specs.Cmp.Lexicographic.{slice_cmp};
 ghost use Rattle.gp_base.specs.Tokens.{token_cmp};
 ghost use Rattle.gp_base.specs.Tokens as t;
@@ -154,6 +154,18 @@ impl TokenSet {
         ensures { result ≡ w.is_within token_cmp self.now other.now }
     {
         are_within(self.tokens.as_slice(), other.tokens.as_slice())
+    }
+
+    /// Whether each of its tokens is one of the other's, which is another set: it has fewer tokens then.
+    #[tactic(auto, using(crate::proofs::SetLemmas::none_within))]
+    pub fn is_part_of(&self, other: &TokenSet) -> bool
+        requires { self.now ≢ other.now }
+        ensures { result ≡ w.is_within token_cmp self.now other.now }
+    {
+        if self.tokens.len() >= other.tokens.len() {
+            return false;
+        }
+        self.is_within(other)
     }
 
     /// The order of sets: by the first token that differs; a proper prefix is less.
