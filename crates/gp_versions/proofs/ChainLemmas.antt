@@ -7,12 +7,15 @@ use Rattle.std.proofs.lemmas.List.{length-append, map-append, take-append-drop}
 use Rattle.std.proofs.lemmas.Option.{slice_get_within}
 use Rattle.indexmap.specs.IndexMap.{IndexMap, get}
 use Rattle.gp_base.specs.Identities.{Identity, same_identity}
-use Rattle.gp_versions.specs.declared.id_key.IdKey.{IdKey}
+use Rattle.gp_versions.specs.declared.columns.ColumnIndex.{ColumnIndex}
+use Rattle.gp_versions.specs.declared.key.By.TheVariants as variant
+use Rattle.gp_versions.specs.declared.key.Key.{Key}
 use Rattle.gp_versions.specs.declared.span.Span.{Span}
 use Rattle.gp_versions.specs.declared.span.Write.{Write}
-use Rattle.gp_versions.specs.Chains.{HasChains, HasNone, IsKeyAt, IsLast, LeadsTo, change_after, ids_of, is_begun, keys_of, same_keys, up_to}
-use Rattle.gp_versions.specs.Commits.{after_commit, begun, ended}
-use Rattle.gp_versions.specs.Keys.{key_of}
+use Rattle.gp_versions.specs.Chains.{AreIndexes, HasChains, HasNone, IsKeyAt, IsLast, LeadsTo, change_after, ids_of, is_begun, keys_of, same_keys, up_to}
+use Rattle.gp_versions.specs.Commits.{after_commit, begun, ended, is_open, is_written}
+use Rattle.gp_versions.specs.Keys.{key_by, key_of, key_of_cell}
+use Rattle.gp_versions.specs.Places.{cell_at}
 use Rattle.gp_versions.specs.TableSpans.{AreWhole, IsApart, NoOverlap, later, later_end, least, written_after}
 use Rattle.gp_versions.proofs.HeldLemmas.{skip-end}
 use Rattle.gp_versions.proofs.SameLemmas.{same-exact, same-itself}
@@ -20,7 +23,7 @@ use Rattle.gp_versions.proofs.SpanLemmas.{ended_id}
 
 -- ---- keys
 
-keys-same : (a b : IdKey) → same_keys a b ≡ true → a ≡ b
+keys-same : (a b : Key) → same_keys a b ≡ true → a ≡ b
 keys-same a b is =
     let t = and_parts (eqb a.t b.t) (eqb a.k b.k && (eqb a.n b.n && eqb a.folded b.folded)) is in
     let k = and_parts (eqb a.k b.k) (eqb a.n b.n && eqb a.folded b.folded) t.1 in
@@ -31,7 +34,7 @@ keys-same a b is =
     let h = eqb-true a.folded b.folded n.1 in
     λ i. record { t = e i; k = f i; n = g i; folded = h i }
 
-keys-itself : (a : IdKey) → same_keys a a ≡ true
+keys-itself : (a : Key) → same_keys a a ≡ true
 keys-itself a = grind (arith, nat_tests)
 
 -- ---- elements of lists
@@ -57,7 +60,7 @@ length-end (y ∷ xs) x = ap suc (length-end xs x)
 -- ---- the last place of a key
 
 -- keys behind the places change nothing
-IsLast-longer : (keys more : List IdKey) (key : IdKey) (to : ℕ) (place : Option ℕ) → to ≤ length keys → IsLast keys key to place → IsLast (keys ++ more) key to place
+IsLast-longer : (keys more : List Key) (key : Key) (to : ℕ) (place : Option ℕ) → to ≤ length keys → IsLast keys key to place → IsLast (keys ++ more) key to place
 IsLast-longer keys more key to None within last =
     record { at = tt; others = λ q above below at. last.others q above below (sym (at-longer keys more q (omega arith)) ∙ at) }
 IsLast-longer keys more key to (Some p) within last =
@@ -67,7 +70,7 @@ IsLast-longer keys more key to (Some p) within last =
     }
 
 -- nor does a place of another key
-IsLast-other : (keys : List IdKey) (key : IdKey) (to : ℕ) (place : Option ℕ) → (slice_get keys to ≡ Some key → ⊥) → IsLast keys key to place → IsLast keys key (suc to) place
+IsLast-other : (keys : List Key) (key : Key) (to : ℕ) (place : Option ℕ) → (slice_get keys to ≡ Some key → ⊥) → IsLast keys key to place → IsLast keys key (suc to) place
 IsLast-other keys key to place other last = record { at = at-more place last.at; others = λ q above below at. others q above below at }
   where
     at-more : (place : Option ℕ) → IfSome place (λ p. (p < to) × (slice_get keys p ≡ Some key)) → IfSome place (λ p. (p < suc to) × (slice_get keys p ≡ Some key))
@@ -82,7 +85,7 @@ IsLast-other keys key to place other last = record { at = at-more place last.at;
 
 -- ---- chains
 
-pub HasChains-unchanged : {S : Type 0} (old new : IndexMap IdKey ℕ S) (befores : List (Option ℕ)) (keys : List IdKey) → new.entries ≡ old.entries → HasChains old befores keys → HasChains new befores keys
+pub HasChains-unchanged : {S : Type 0} (old new : IndexMap Key ℕ S) (befores : List (Option ℕ)) (keys : List Key) → new.entries ≡ old.entries → HasChains old befores keys → HasChains new befores keys
 HasChains-unchanged old new befores keys same chains =
     record {
       within = chains.within;
@@ -90,7 +93,7 @@ HasChains-unchanged old new befores keys same chains =
       linked = chains.linked;
     }
 
-HasChains-longer : {S : Type 0} (newest : IndexMap IdKey ℕ S) (befores : List (Option ℕ)) (keys more : List IdKey) → HasChains newest befores keys → HasChains newest befores (keys ++ more)
+HasChains-longer : {S : Type 0} (newest : IndexMap Key ℕ S) (befores : List (Option ℕ)) (keys more : List Key) → HasChains newest befores keys → HasChains newest befores (keys ++ more)
 HasChains-longer newest befores keys more chains =
     record {
       within = omega (arith, chains.within, length-append keys more);
@@ -100,22 +103,38 @@ HasChains-longer newest befores keys more chains =
           IsLast-longer keys more key p place (omega arith) (chains.linked p key place at (sym (at-longer keys more p within) ∙ is));
     }
 
-keys-ended : (version : ℕ) (writes : List Write) (spans : List Span) → keys_of (map (ended version writes) spans) ≡ keys_of spans
-keys-ended version writes [] = refl
-keys-ended version writes (span ∷ spans) = rw (ended_id version writes span) (ap (λ keys. key_of span.id ∷ keys) (keys-ended version writes spans))
+keys-kept : (key : Span → Key) (version : ℕ) (writes : List Write) (spans : List Span) → ((span : Span) → key (ended version writes span) ≡ key span) → map key (map (ended version writes) spans) ≡ map key spans
+keys-kept key version writes [] kept = refl
+keys-kept key version writes (span ∷ spans) kept =
+    ap (λ k. k ∷ map key (map (ended version writes) spans)) (kept span) ∙ ap (λ keys. key span ∷ keys) (keys-kept key version writes spans kept)
 
 -- a commit leaves the keys of the spans that are there
-pub HasChains-after : {S : Type 0} (newest : IndexMap IdKey ℕ S) (befores : List (Option ℕ)) (version : ℕ) (writes : List Write) (spans : List Span) →
+HasChains-kept : {S : Type 0} (newest : IndexMap Key ℕ S) (befores : List (Option ℕ)) (key : Span → Key) (version : ℕ) (writes : List Write) (spans : List Span) → ((span : Span) → key (ended version writes span) ≡ key span) →
+    HasChains newest befores (map key spans) → HasChains newest befores (map key (after_commit version writes spans))
+HasChains-kept newest befores key version writes spans kept chains =
+    let begun_spans = filter_map (begun version) writes in
+    let keys : map key (after_commit version writes spans) ≡ map key spans ++ map key begun_spans =
+    map-append key (map (ended version writes) spans) begun_spans ∙ ap (λ list. list ++ map key begun_spans) (keys-kept key version writes spans kept) in
+    subst (HasChains newest befores) (sym keys) (HasChains-longer newest befores (map key spans) (map key begun_spans) chains)
+
+pub HasChains-after : {S : Type 0} (newest : IndexMap Key ℕ S) (befores : List (Option ℕ)) (version : ℕ) (writes : List Write) (spans : List Span) →
     HasChains newest befores (keys_of spans) → HasChains newest befores (keys_of (after_commit version writes spans))
 HasChains-after newest befores version writes spans chains =
-    let begun_spans = filter_map (begun version) writes in
-    let keys : keys_of (after_commit version writes spans) ≡ keys_of spans ++ keys_of begun_spans =
-    map-append (λ (span : Span). key_of span.id) (map (ended version writes) spans) begun_spans ∙ ap (λ list. list ++ keys_of begun_spans) (keys-ended version writes spans) in
-    subst (HasChains newest befores) (sym keys) (HasChains-longer newest befores (keys_of spans) (keys_of begun_spans) chains)
+    HasChains-kept newest befores (λ (span : Span). key_of span.id) version writes spans (λ span. ap key_of (ended_id version writes span)) chains
+
+ended-cells : (version : ℕ) (writes : List Write) (span : Span) → (ended version writes span).row ≡ span.row
+ended-cells version writes span = elim (is_open span.to && is_written writes span.id) as (λ b. (cond b (record span { to = Some version }) span).row ≡ span.row) [ true ↦ refl | false ↦ refl ]
+
+pub AreIndexes-after : (indexes : List ColumnIndex) (version : ℕ) (writes : List Write) (spans : List Span) → AreIndexes indexes spans → AreIndexes indexes (after_commit version writes spans)
+AreIndexes-after [] version writes spans all = tt
+AreIndexes-after (index ∷ indexes) version writes spans all = (
+  HasChains-kept index.chains.newest index.chains.befores.items (key_by (variant.Column index.column)) version writes spans (λ span. ap (λ row. key_of_cell (cell_at index.column row)) (ended-cells version writes span)) all.0,
+  AreIndexes-after indexes version writes spans all.1,
+)
 
 -- a span is entered
-pub HasChains-entered : {S : Type 0} (old new : IndexMap IdKey ℕ S) (befores : List (Option ℕ)) (keys : List IdKey) (key : IdKey) (place : ℕ) (before : Option ℕ) → place ≡ length befores → slice_get keys (length befores) ≡ Some key →
-    ((q : IdKey) → get same_keys new q ≡ cond (same_keys key q) (Some place) (get same_keys old q)) → before ≡ get same_keys old key →
+pub HasChains-entered : {S : Type 0} (old new : IndexMap Key ℕ S) (befores : List (Option ℕ)) (keys : List Key) (key : Key) (place : ℕ) (before : Option ℕ) → place ≡ length befores → slice_get keys (length befores) ≡ Some key →
+    ((q : Key) → get same_keys new q ≡ cond (same_keys key q) (Some place) (get same_keys old q)) → before ≡ get same_keys old key →
     HasChains old befores keys → HasChains new (befores ++ before ∷ []) keys
 HasChains-entered {S} old new befores keys key place before end at updates is chains =
     record {
@@ -127,14 +146,14 @@ HasChains-entered {S} old new befores keys key place before end at updates is ch
     here : IsLast keys key (suc (length befores)) (Some (length befores))
     here = record { at = (omega arith, at); others = λ q above below is. absurd (omega arith) }
 
-    last : (q : IdKey) → IsLast keys q (suc (length befores)) (cond (same_keys key q) (Some (length befores)) (get same_keys old q))
+    last : (q : Key) → IsLast keys q (suc (length befores)) (cond (same_keys key q) (Some (length befores)) (get same_keys old q))
     last q = elim (same_keys key q) as (λ c. same_keys key q ≡ c → IsLast keys q (suc (length befores)) (cond c (Some (length befores)) (get same_keys old q))) [
       | true ↦ λ same. subst (λ k. IsLast keys k (suc (length befores)) (Some (length befores))) (keys-same key q same) here
       | false ↦ λ other. IsLast-other keys q (length befores) (get same_keys old q)
           (λ there. let e : key ≡ q = cc in absurd (false≢true (sym other ∙ (ap (same_keys key) (sym e) ∙ keys-itself key)))) (chains.last q)
     ] refl
 
-    linked : (p : ℕ) (k : IdKey) (place : Option ℕ) → slice_get (befores ++ before ∷ []) p ≡ Some place → slice_get keys p ≡ Some k → IsLast keys k p place
+    linked : (p : ℕ) (k : Key) (place : Option ℕ) → slice_get (befores ++ before ∷ []) p ≡ Some place → slice_get keys p ≡ Some k → IsLast keys k p place
     linked p k place link there = elim (cases_lt p (length befores)) [
       | inl early ↦ chains.linked p k place (sym (at-longer befores (before ∷ []) p early) ∙ link) there
       | inr late ↦

@@ -1,9 +1,11 @@
 pub mod ChainLemmas
+pub mod ColumnLemmas
 pub mod EndLemmas
 pub mod HeldLemmas
 pub mod LaterLemmas
 pub mod ListedLemmas
 pub mod OrderLemmas
+pub mod PlaceLemmas
 pub mod SameLemmas
 pub mod SpanLemmas
 pub mod WritesLemmas

@@ -1,17 +1,19 @@
 -- The listed spans of a table: what is entered, what a commit leaves of them, and the spans of a version.
-use Rattle.std.proofs.Common.{◌≡◌, ℕ, zero, suc, ◌+◌, ◌<◌, ◌≤◌, Bool, true, false, cond, ◌&&◌, leb, ltb, List, [], ◌∷◌, ◌++◌, drop, length, map, take, slice_get, Option, Some, None, IfSome, refl, ap, sym, ◌∙◌, subst, arith}
+use Rattle.std.proofs.Common.{◌≡◌, ℕ, zero, suc, ◌+◌, ◌<◌, ◌≤◌, Bool, true, false, cond, ◌&&◌, leb, ltb, List, [], ◌∷◌, ◌++◌, drop, length, map, take, slice_get, Option, Some, None, IfSome, refl, ap, sym, ◌∙◌, arith}
 use Rattle.std.specs.Option.{option_map}
-use Rattle.std.specs.List.{AllByRecursion, cons_option, filter, filter_map}
-use Rattle.std.proofs.lemmas.Bool.{false≢true, leb-true, le-ltb}
+use Rattle.std.specs.List.{AllByRecursion, cons_option, filter, filter_map, range_with_len}
+use Rattle.std.proofs.lemmas.Bool.{false≢true, le-ltb}
 use Rattle.std.proofs.lemmas.Bool.Decides.{nat_tests}
-use Rattle.std.proofs.lemmas.List.{length-append, length-map, take-append-drop, take-append-le, take-map, append-nil}
+use Rattle.std.proofs.lemmas.List.{length-append, length-map, take-append-drop, append-nil}
 use Rattle.std.proofs.lemmas.List.Elements.{filter-append}
 use Rattle.std.proofs.lemmas.Option.{slice_get_within}
 use Rattle.gp_versions.specs.declared.span.Span.{Span}
 use Rattle.gp_versions.specs.declared.span.Write.{Write}
 use Rattle.gp_versions.specs.Commits.{after_commit, begun, ended, is_open, is_written}
-use Rattle.gp_versions.specs.Listed.{IsListed, end_or, greater, held, is_some_open, later_of, listed, newest_end, open_places}
+use Rattle.gp_versions.specs.Listed.{IsListed, IsWhere, end_or, greater, held, is_some_open, later_of, listed, newest_end, open_places}
+use Rattle.gp_versions.specs.Places.{among, is_where}
 use Rattle.gp_versions.specs.Spans.{holds_at, is_before_end, spans_at}
+use Rattle.gp_versions.proofs.PlaceLemmas.{all-range, among-append, among-narrower, listed-among, listed-first, places-first, range-more}
 use Rattle.gp_versions.proofs.SpanLemmas.{ended_from, ended_to}
 
 -- ---- the spans of a version
@@ -28,7 +30,11 @@ at-few v (span ∷ spans) =
 pub as_of-listed : (places : List ℕ) (covered floor v : ℕ) (spans : List Span) → IsListed places covered floor spans → floor ≤ v
     → spans_at v (listed spans places) ++ spans_at v (drop covered spans) ≡ spans_at v spans
 as_of-listed places covered floor v spans is from =
-    ap (λ ss. ss ++ spans_at v (drop covered spans)) (sym (is.same v from))
+    let first : spans_at v (listed spans places) ≡ spans_at v (take covered spans) =
+    listed-among (holds_at v) spans places
+    ∙ ap (listed spans) (sym (is.same v from) ∙ sym (places-first (holds_at v) covered spans))
+    ∙ listed-first (holds_at v) covered spans in
+    ap (λ ss. ss ++ spans_at v (drop covered spans)) first
     ∙ sym (at-append v (take covered spans) (drop covered spans))
     ∙ ap (spans_at v) (take-append-drop covered spans)
 
@@ -49,50 +55,41 @@ ended-passed : (v version : ℕ) (writes : List Write) (span : Span) → holds_a
 ended-passed v version writes span passed =
     rw (ended_from version writes span, ended_to version writes span) (passed-still v version (is_written writes span.id) span.from span.to passed)
 
--- what a commit leaves of the spans of a version
-at-ended : (v version : ℕ) (writes : List Write) (spans : List Span) → spans_at v (map (ended version writes) spans) ≡ spans_at v (map (ended version writes) (spans_at v spans))
-at-ended v version writes [] = refl
-at-ended v version writes (span ∷ spans) =
-    let now = ended version writes span in
-    let some = spans_at v (map (ended version writes) spans) in
-    let rest = at-ended v version writes spans in
-    elim (holds_at v span) as (λ c. holds_at v span ≡ c → cond (holds_at v now) (now ∷ some) some ≡ spans_at v (map (ended version writes) (cond c (span ∷ spans_at v spans) (spans_at v spans)))) [
-      | true ↦ λ holds. ap (λ ss. cond (holds_at v now) (now ∷ ss) ss) rest
-      | false ↦ λ passed. ap (λ b. cond b (now ∷ some) some) (ended-passed v version writes span passed) ∙ rest
-    ] refl
-
 get-mapped : (f : Span → Span) (spans more : List Span) (p : ℕ) → p < length spans → slice_get (map f spans ++ more) p ≡ option_map f (slice_get spans p)
 get-mapped f [] more p low = absurd (omega arith)
 get-mapped f (span ∷ spans) more zero low = refl
 get-mapped f (span ∷ spans) more (suc p) low = get-mapped f spans more p (omega arith)
 
-cons-mapped : (f : Span → Span) (o : Option Span) (spans : List Span) → cons_option (option_map f o) (map f spans) ≡ map f (cons_option o spans)
-cons-mapped f None spans = refl
-cons-mapped f (Some span) spans = refl
+where-ended : (v version : ℕ) (writes : List Write) (o : Option Span) → is_where (holds_at v) o ≡ false → is_where (holds_at v) (option_map (ended version writes) o) ≡ false
+where-ended v version writes None passed = refl
+where-ended v version writes (Some span) passed = ended-passed v version writes span passed
 
-listed-mapped : (f : Span → Span) (spans more : List Span) (covered : ℕ) (places : List ℕ) → covered ≤ length spans → AllByRecursion (λ place. place < covered) places → listed (map f spans ++ more) places ≡ map f (listed spans places)
-listed-mapped f spans more covered [] within low = refl
-listed-mapped f spans more covered (place ∷ places) within low =
-    ap (λ o. cons_option o (listed (map f spans ++ more) places)) (get-mapped f spans more place (omega (arith, low.0)))
-    ∙ ap (λ ss. cons_option (option_map f (slice_get spans place)) ss) (listed-mapped f spans more covered places within low.1)
-    ∙ cons-mapped f (slice_get spans place) (listed spans places)
+-- what does not hold a version does not hold it after a commit
+all-passed : (v version : ℕ) (writes : List Write) (spans more : List Span) (places : List ℕ) → AllByRecursion (λ place. place < length spans) places
+    → AllByRecursion (λ place. is_where (holds_at v) (slice_get spans place) ≡ false → is_where (holds_at v) (slice_get (map (ended version writes) spans ++ more) place) ≡ false) places
+all-passed v version writes spans more [] low = tt
+all-passed v version writes spans more (place ∷ places) low = (
+  λ passed. ap (is_where (holds_at v)) (get-mapped (ended version writes) spans more place low.0) ∙ where-ended v version writes (slice_get spans place) passed,
+  all-passed v version writes spans more places low.1,
+)
+
+all-lower : (low high : ℕ) (places : List ℕ) → low ≤ high → AllByRecursion (λ place. place < low) places → AllByRecursion (λ place. place < high) places
+all-lower low high [] le all = tt
+all-lower low high (place ∷ places) le all = (omega (arith, all.0), all-lower low high places le all.1)
 
 pub IsListed-after : (places : List ℕ) (covered floor version : ℕ) (writes : List Write) (spans : List Span) → IsListed places covered floor spans → IsListed places covered floor (after_commit version writes spans)
 IsListed-after places covered floor version writes spans is =
     let end = ended version writes in
     let more = filter_map (begun version) writes in
     let same-length : length (map end spans) ≡ length spans = length-map spans end in
-    let first : take covered (map end spans ++ more) ≡ map end (take covered spans) =
-    take-append-le covered (map end spans) more (omega (arith, is.within, same-length)) ∙ take-map end covered spans in
+    let narrower = λ (v : ℕ) (some : List ℕ) (low : AllByRecursion (λ place. place < length spans) some). among-narrower (holds_at v) (holds_at v) spans (map end spans ++ more) some (all-passed v version writes spans more some low) in
     record {
       within = omega (arith, is.within, length-append (map end spans) more, same-length);
       low = is.low;
       same = λ v from.
-          ap (spans_at v) first
-          ∙ at-ended v version writes (take covered spans)
-          ∙ ap (λ ss. spans_at v (map end ss)) (is.same v from)
-          ∙ sym (at-ended v version writes (listed spans places))
-          ∙ ap (spans_at v) (sym (listed-mapped end spans more covered places is.within is.low));
+          sym (narrower v (range_with_len 0 covered) (all-range (length spans) 0 covered (omega (arith, is.within))))
+          ∙ ap (among (holds_at v) (map end spans ++ more)) (is.same v from)
+          ∙ narrower v places (all-lower covered (length spans) places is.within is.low);
     }
 
 -- ---- one span more
@@ -105,22 +102,6 @@ all-more : (covered : ℕ) (places : List ℕ) → AllByRecursion (λ place. pla
 all-more covered [] low = (omega arith, tt)
 all-more covered (place ∷ places) low = (omega (arith, low.0), all-more covered places low.1)
 
-take-one : (spans : List Span) (p : ℕ) (span : Span) → slice_get spans p ≡ Some span → take (p + 1) spans ≡ take p spans ++ span ∷ []
-take-one spans p span at = let e : p + 1 ≡ suc p = omega arith in rw e (one spans p span at)
-  where
-    one : (spans : List Span) (p : ℕ) (span : Span) → slice_get spans p ≡ Some span → take (suc p) spans ≡ take p spans ++ span ∷ []
-    one [] p span at = absurd (cc)
-    one (x ∷ spans) zero span at = let e : x ≡ span = cc in ap (λ (s : Span). s ∷ []) e
-    one (x ∷ spans) (suc p) span at = ap (λ ss. x ∷ ss) (one spans p span at)
-
-listed-append : (spans : List Span) (xs ys : List ℕ) → listed spans (xs ++ ys) ≡ listed spans xs ++ listed spans ys
-listed-append spans [] ys = refl
-listed-append spans (x ∷ xs) ys = ap (cons_option (slice_get spans x)) (listed-append spans xs ys) ∙ cons-append (slice_get spans x) (listed spans xs) (listed spans ys)
-  where
-    cons-append : (o : Option Span) (xs ys : List Span) → cons_option o (xs ++ ys) ≡ cons_option o xs ++ ys
-    cons-append None xs ys = refl
-    cons-append (Some x) xs ys = refl
-
 pub IsListed-open : (places new : List ℕ) (place covered next floor : ℕ) (spans : List Span) (span : Span) → place ≡ covered → next ≡ covered + 1 → new ≡ places ++ place ∷ [] → slice_get spans covered ≡ Some span
     → IsListed places covered floor spans → IsListed new next floor spans
 IsListed-open places new place covered next floor spans span is-place is-next is-new at is =
@@ -129,12 +110,10 @@ IsListed-open places new place covered next floor spans span is-place is-next is
       within = omega (arith, slice_get_within spans covered span at);
       low = all-more covered places is.low;
       same = λ v from.
-          ap (spans_at v) (take-one spans covered span at)
-          ∙ at-append v (take covered spans) (span ∷ [])
-          ∙ ap (λ ss. ss ++ spans_at v (span ∷ [])) (is.same v from)
-          ∙ sym (at-append v (listed spans places) (span ∷ []))
-          ∙ ap (λ o. spans_at v (listed spans places ++ cons_option o [])) (sym at)
-          ∙ ap (spans_at v) (sym (listed-append spans places (covered ∷ [])));
+          ap (among (holds_at v) spans) (range-more covered)
+          ∙ among-append (holds_at v) spans (range_with_len 0 covered) (covered ∷ [])
+          ∙ ap (λ some. some ++ among (holds_at v) spans (covered ∷ [])) (is.same v from)
+          ∙ sym (among-append (holds_at v) spans places (covered ∷ []));
     }
 
 greater-left : (version other : ℕ) → version ≤ greater version other
@@ -147,8 +126,10 @@ greater-right version other = grind (arith, nat_tests)
 ended-out : (v to from : ℕ) → to ≤ v → (leb from v && ltb v to) ≡ false
 ended-out v to from late = rw (le-ltb v to late) (elim (leb from v) as (λ b. (b && false) ≡ false) [ true ↦ refl | false ↦ refl ])
 
-out : (v to : ℕ) (span : Span) → span.to ≡ Some to → to ≤ v → spans_at v (span ∷ []) ≡ []
-out v to span is late = ap (λ b. cond b (span ∷ []) []) (ap (λ e. leb span.from v && is_before_end v e) is ∙ ended-out v to span.from late)
+out : (v to place : ℕ) (spans : List Span) (span : Span) → slice_get spans place ≡ Some span → span.to ≡ Some to → to ≤ v → among (holds_at v) spans (place ∷ []) ≡ []
+out v to place spans span at is late =
+    ap (λ o. cond (is_where (holds_at v) o) (place ∷ []) []) at
+    ∙ ap (λ b. cond b (place ∷ []) []) (ap (λ e. leb span.from v && is_before_end v e) is ∙ ended-out v to span.from late)
 
 pub IsListed-ended : (places : List ℕ) (covered next floor above to : ℕ) (spans : List Span) (span : Span) → next ≡ covered + 1 → above ≡ greater floor to → span.to ≡ Some to → slice_get spans covered ≡ Some span
     → IsListed places covered floor spans → IsListed places next above spans
@@ -158,10 +139,10 @@ IsListed-ended places covered next floor above to spans span is-next is-above en
       within = omega (arith, slice_get_within spans covered span at);
       low = all-higher covered places is.low;
       same = λ v from.
-          ap (spans_at v) (take-one spans covered span at)
-          ∙ at-append v (take covered spans) (span ∷ [])
-          ∙ ap (λ ss. spans_at v (take covered spans) ++ ss) (out v to span ends (omega (arith, from, greater-right floor to)))
-          ∙ append-nil (spans_at v (take covered spans))
+          ap (among (holds_at v) spans) (range-more covered)
+          ∙ among-append (holds_at v) spans (range_with_len 0 covered) (covered ∷ [])
+          ∙ ap (λ some. among (holds_at v) spans (range_with_len 0 covered) ++ some) (out v to covered spans span at ends (omega (arith, from, greater-right floor to)))
+          ∙ append-nil (among (holds_at v) spans (range_with_len 0 covered))
           ∙ is.same v (omega (arith, from, greater-left floor to));
     }
 
@@ -196,24 +177,34 @@ out-of : (v floor : ℕ) (to : Option ℕ) (from : ℕ) → IfSome to (λ end. e
 out-of v floor None from ended above closed = absurd (false≢true (sym closed))
 out-of v floor (Some to) from ended above closed = ended-out v to from (omega (arith, ended, above))
 
-dropped : (v floor : ℕ) (o : Option Span) (some : List Span) → IsEnded floor o → floor ≤ v → is_some_open o ≡ false → cons_option (held v o) some ≡ some
-dropped v floor None some ended above closed = refl
-dropped v floor (Some span) some ended above closed = ap (λ b. cons_option (cond b (Some span) None) some) (out-of v floor span.to span.from ended above closed)
+dropped : (v floor : ℕ) (o : Option Span) → IsEnded floor o → floor ≤ v → is_where (λ (span : Span). is_open span.to) o ≡ false → is_where (holds_at v) o ≡ false
+dropped v floor None ended above closed = refl
+dropped v floor (Some span) ended above closed = out-of v floor span.to span.from ended above closed
+
+open-where : (o : Option Span) → is_where (λ (span : Span). is_open span.to) o ≡ is_some_open o
+open-where None = refl
+open-where (Some span) = refl
 
 -- they hold no version from the newest end on
-open-listed : (v floor : ℕ) (spans : List Span) (places : List ℕ) → newest_end floor spans places ≤ v → spans_at v (listed spans places) ≡ spans_at v (listed spans (open_places spans places))
-open-listed v floor spans [] above = refl
-open-listed v floor spans (place ∷ places) above =
-    let o = slice_get spans place in
-    let kept = open_places spans places in
-    let rest = open-listed v (end_or floor o) spans places above in
-    let ended = end-ends floor (end_or floor o) o (omega arith) in
-    at-listed v place spans places
-    ∙ ap (cons_option (held v o)) rest
-    ∙ (elim (is_some_open o) as (λ b. is_some_open o ≡ b → cons_option (held v o) (spans_at v (listed spans kept)) ≡ spans_at v (listed spans (cond b (place ∷ kept) kept))) [
-      | true ↦ λ is. sym (at-listed v place spans kept)
-      | false ↦ λ closed. dropped v (end_or floor o) o (spans_at v (listed spans kept)) ended (omega (arith, newest-above (end_or floor o) spans places, above)) closed
-    ] refl)
+all-dropped : (v floor : ℕ) (spans : List Span) (places : List ℕ) → newest_end floor spans places ≤ v
+    → AllByRecursion (λ place. is_where (λ (span : Span). is_open span.to) (slice_get spans place) ≡ false → is_where (holds_at v) (slice_get spans place) ≡ false) places
+all-dropped v floor spans [] above = tt
+all-dropped v floor spans (place ∷ places) above =
+    let o = slice_get spans place in (
+      dropped v (end_or floor o) o (end-ends floor (end_or floor o) o (omega arith)) (omega (arith, newest-above (end_or floor o) spans places, above)),
+      all-dropped v (end_or floor o) spans places above,
+    )
+
+open-among : (spans : List Span) (places : List ℕ) → among (λ (span : Span). is_open span.to) spans places ≡ open_places spans places
+open-among spans [] = refl
+open-among spans (place ∷ places) =
+    ap (λ b. cond b (place ∷ among (λ (span : Span). is_open span.to) spans places) (among (λ (span : Span). is_open span.to) spans places)) (open-where (slice_get spans place))
+    ∙ ap (λ some. cond (is_some_open (slice_get spans place)) (place ∷ some) some) (open-among spans places)
+
+open-listed : (v floor : ℕ) (spans : List Span) (places : List ℕ) → newest_end floor spans places ≤ v → among (holds_at v) spans places ≡ among (holds_at v) spans (open_places spans places)
+open-listed v floor spans places above =
+    sym (among-narrower (λ (span : Span). is_open span.to) (holds_at v) spans spans places (all-dropped v floor spans places above))
+    ∙ ap (among (holds_at v) spans) (open-among spans places)
 
 all-open : (P : ℕ → Type 0) (p : ℕ → Bool) (places : List ℕ) → AllByRecursion P places → AllByRecursion P (filter p places)
 all-open P p [] all = tt
@@ -228,3 +219,8 @@ IsListed-dropped places kept covered floor above spans is-kept is-above is =
       low = all-open (λ place. place < covered) (λ place. is_some_open (slice_get spans place)) places is.low;
       same = λ v from. is.same v (omega (arith, from, newest-above floor spans places)) ∙ open-listed v floor spans places from;
     }
+
+-- ---- where the spans of a version are
+
+pub IsWhere-listed : (places : List ℕ) (covered floor v : ℕ) (spans : List Span) → IsListed places covered floor spans → floor ≤ v → IsWhere places covered v spans
+IsWhere-listed places covered floor v spans is from = record { within = is.within; same = is.same v from }

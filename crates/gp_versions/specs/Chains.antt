@@ -1,22 +1,25 @@
 -- Machinery: the entered spans of a table by their keys. Spans with equal keys are a chain, and each entered span knows the one before it in its
 -- chain. A walk along the chain of an identity meets each entered span of the identity, whatever the keys are.
 use Rattle.std.specs.Prelude.{◌≡◌, ℕ, zero, suc, ◌<◌, ◌≤◌, Bool, ◌&&◌, List, [], ◌∷◌, length, map, take, slice_get, nat_le, Option, Some, None, if◌then◌else◌, IfSome}
+use Rattle.std.specs.List.{AllByRecursion}
 use Rattle.indexmap.specs.IndexMap.{IndexMap, get}
 use Rattle.gp_base.specs.Identities.{Identity, same_identity}
-use Rattle.gp_versions.specs.contracts.id_key.IdKeyPartialEq.TheImpl as key_eq
+use Rattle.gp_versions.specs.contracts.key.KeyPartialEq.TheImpl as key_eq
 use Rattle.gp_versions.specs.declared.chains.Chains.{Chains}
-use Rattle.gp_versions.specs.declared.id_key.IdKey.{IdKey}
+use Rattle.gp_versions.specs.declared.columns.ColumnIndex.{ColumnIndex}
+use Rattle.gp_versions.specs.declared.key.By.TheVariants as variant
+use Rattle.gp_versions.specs.declared.key.Key.{Key}
 use Rattle.gp_versions.specs.declared.span.Span.{Span}
 use Rattle.gp_versions.specs.declared.span.Write.{Write}
 use Rattle.gp_versions.specs.Commits.{ended, is_open}
-use Rattle.gp_versions.specs.Keys.{key_of}
+use Rattle.gp_versions.specs.Keys.{key_of, keys_by}
 use Rattle.gp_versions.specs.TableSpans.{later, later_end, least, written_after}
 
 -- what == answers at keys
-abbrev pub same_keys : IdKey → IdKey → Bool
+abbrev pub same_keys : Key → Key → Bool
 same_keys = (key_eq.ghosts).eq
 
-abbrev pub keys_of : List Span → List IdKey
+abbrev pub keys_of : List Span → List Key
 keys_of spans = map (λ (span : Span). key_of span.id) spans
 
 -- how many places there are up to this one, if there is one
@@ -33,18 +36,29 @@ pub record IsLast {K : Type 0} (keys : List K) (key : K) (to : ℕ) (place : Opt
   pub others : (q : ℕ) → up_to place ≤ q → q < to → slice_get keys q ≡ Some key → ⊥
 
 -- the first places are entered: `newest` has the last one of each key, and `befores`, for each of them, the one before it with its key
-pub record HasChains {S : Type 0} (newest : IndexMap IdKey ℕ S) (befores : List (Option ℕ)) (keys : List IdKey) : Type 0 where
+pub record HasChains {S : Type 0} (newest : IndexMap Key ℕ S) (befores : List (Option ℕ)) (keys : List Key) : Type 0 where
   pub within : length befores ≤ length keys
-  pub last : (key : IdKey) → IsLast keys key (length befores) (get same_keys newest key)
-  pub linked : (p : ℕ) (key : IdKey) (place : Option ℕ) → slice_get befores p ≡ Some place → slice_get keys p ≡ Some key → IsLast keys key p place
+  pub last : (key : Key) → IsLast keys key (length befores) (get same_keys newest key)
+  pub linked : (p : ℕ) (key : Key) (place : Option ℕ) → slice_get befores p ≡ Some place → slice_get keys p ≡ Some key → IsLast keys key p place
 
 -- how many spans are entered
 abbrev pub entered : Chains → ℕ
 entered chains = length chains.befores.items
 
--- the chains are right for the first spans, as many as are entered
+-- the chains are right for the first of these keys, as many as are entered
+abbrev pub AreChained : Chains → List Key → Type 0
+AreChained chains keys = HasChains chains.newest chains.befores.items keys
+
+-- the chains are right for the first spans, by their identities
 abbrev pub IsChained : Chains → List Span → Type 0
-IsChained chains spans = HasChains chains.newest chains.befores.items (keys_of spans)
+IsChained chains spans = AreChained chains (keys_of spans)
+
+-- those of each index are right by the cells of its column
+abbrev pub IsIndex : List Span → ColumnIndex → Type 0
+IsIndex spans index = AreChained index.chains (keys_by (variant.Column index.column) spans)
+
+abbrev pub AreIndexes : List ColumnIndex → List Span → Type 0
+AreIndexes indexes spans = AllByRecursion (IsIndex spans) indexes
 
 -- ---- a walk
 

@@ -1,10 +1,18 @@
--- Machinery: the key of an identity, by which a table finds its spans: the identity's own numbers, and one folded from all numbers of it and of its
--- sources, in order. Equal identities have equal keys, and nothing is asked of the keys of others.
-use Rattle.std.specs.Prelude.{ℕ, ◌+◌, ◌*◌, ◌^◌, ◌%◌}
+-- Machinery: the keys by which a table finds its spans. That of an identity has the identity's own numbers, and one folded from all numbers of it
+-- and of its sources, in order; that of a cell has its number, or one folded from the bytes of its text. Equal identities and equal cells have equal
+-- keys, and nothing is asked of the keys of others.
+use Rattle.std.specs.Prelude.{ℕ, ◌+◌, ◌*◌, ◌^◌, ◌%◌, List, map, unsigned_abs}
+use Rattle.std.specs.List.{fold}
+use Rattle.gp_base.specs.declared.cell.Cell.{Cell}
+use Rattle.gp_base.specs.declared.cell.Cell.TheVariants as cell
 use Rattle.gp_base.specs.Identities.{Identity, Sources, identity, no_sources, source}
 use Rattle.gp_base.specs.IdentityParts.{number_of, statement_of, transaction_of}
-use Rattle.gp_versions.specs.declared.id_key.IdKey.{IdKey}
-use Rattle.gp_versions.specs.declared.id_key.TheConstants.{FACTOR}
+use Rattle.gp_versions.specs.declared.key.By.{By}
+use Rattle.gp_versions.specs.declared.key.By.TheVariants as variant
+use Rattle.gp_versions.specs.declared.key.Key.{Key}
+use Rattle.gp_versions.specs.declared.key.TheConstants.{FACTOR}
+use Rattle.gp_versions.specs.declared.span.Span.{Span}
+use Rattle.gp_versions.specs.Places.{cell_at}
 
 -- one step of a fold, in 64 bits
 abbrev pub mixed : ℕ → ℕ → ℕ
@@ -18,5 +26,21 @@ abbrev mutual
   folded_over_all folded no_sources = folded
   folded_over_all folded (source id ids) = folded_over_all (folded_over folded id) ids
 
-abbrev pub key_of : Identity → IdKey
+abbrev pub key_of : Identity → Key
 key_of id = record { t = transaction_of id; k = statement_of id; n = number_of id; folded = folded_over 0 id }
+
+abbrev pub folded_cell : Cell → ℕ
+folded_cell (cell.Int n) = unsigned_abs n
+folded_cell (cell.Text text) = fold mixed 0 text
+folded_cell _ = 0
+
+abbrev pub key_of_cell : Cell → Key
+key_of_cell x = record { t = 0; k = 0; n = 0; folded = folded_cell x }
+
+-- the key of a span: of its identity, or of its cell in a column
+abbrev pub key_by : By → Span → Key
+key_by variant.Identity span = key_of span.id
+key_by (variant.Column column) span = key_of_cell (cell_at column span.row)
+
+abbrev pub keys_by : By → List Span → List Key
+keys_by by_what spans = map (key_by by_what) spans

@@ -1,6 +1,7 @@
 pub mod Chains
 pub mod Commits
 pub mod Listed
+pub mod Places
 pub mod Keys
 pub mod SpanCodes
 pub mod Spans

@@ -1,11 +1,12 @@
 -- Machinery: the spans of a table that hold its newest versions, found without those that ended. The places of the first spans are listed, but for
--- spans that ended at a version or before it; from that version on, the listed spans hold what all of the first spans do.
-use Rattle.std.specs.Prelude.{◌≡◌, ℕ, ◌<◌, ◌≤◌, Bool, false, List, [], ◌∷◌, filter, length, nat_lt, slice_get, take, Option, Some, None, if◌then◌else◌}
-use Rattle.std.specs.List.{AllByRecursion, filter_map}
+-- spans that ended at a version or before it; from that version on, the listed spans are those of the first spans that hold a version.
+use Rattle.std.specs.Prelude.{◌≡◌, ℕ, ◌<◌, ◌≤◌, Bool, false, List, [], ◌∷◌, filter, length, nat_lt, slice_get, Option, Some, None, if◌then◌else◌}
+use Rattle.std.specs.List.{AllByRecursion, filter_map, range_with_len}
 use Rattle.gp_versions.specs.declared.current.Current.{Current}
 use Rattle.gp_versions.specs.declared.span.Span.{Span}
 use Rattle.gp_versions.specs.Commits.{is_open}
-use Rattle.gp_versions.specs.Spans.{holds_at, spans_at}
+use Rattle.gp_versions.specs.Places.{among}
+use Rattle.gp_versions.specs.Spans.{holds_at}
 
 -- the spans at these places
 abbrev pub listed : List Span → List ℕ → List Span
@@ -15,7 +16,12 @@ listed spans places = filter_map (slice_get spans) places
 pub record IsListed (places : List ℕ) (covered floor : ℕ) (spans : List Span) : Type 0 where
   pub within : covered ≤ length spans
   pub low : AllByRecursion (λ place. place < covered) places
-  pub same : (v : ℕ) → floor ≤ v → spans_at v (take covered spans) ≡ spans_at v (listed spans places)
+  pub same : (v : ℕ) → floor ≤ v → among (holds_at v) spans (range_with_len 0 covered) ≡ among (holds_at v) spans places
+
+-- where the spans of a version are looked for: at these places, and from one on
+pub record IsWhere (places : List ℕ) (from v : ℕ) (spans : List Span) : Type 0 where
+  pub within : from ≤ length spans
+  pub same : among (holds_at v) spans (range_with_len 0 from) ≡ among (holds_at v) spans places
 
 abbrev pub IsCurrent : Current → List Span → Type 0
 IsCurrent current spans = IsListed current.places.items current.covered current.floor spans

@@ -1,26 +1,29 @@
-//! The spans of a table by their identities.
+//! The spans of a table by their identities, or by their cells in a column.
 
-ghost use Rattle.std.specs.Prelude.{◌≡◌, ℕ, ◌+◌, ◌<◌, List, OnOk, length, slice_get, take};
-ghost use Rattle.gp_versions.specs.declared.span.Span as declared;
-ghost use Rattle.gp_versions.specs.Chains.{IsChained, IsKeyAt, IsLast, LeadsTo, change_after, entered, ids_of, is_begun, keys_of};
-ghost use Rattle.gp_versions.specs.Keys.{key_of};
+ghost use Rattle.std.specs.Prelude.{◌≡◌, ℕ, ◌+◌, ◌<◌, IfOk, IfSome, List, OnOk, length, slice_get, take};
+ghost use Rattle.gp_versions.specs.declared.key.By.TheVariants as variant;
+ghost use Rattle.gp_versions.specs.declared.key.Key as declared;
+ghost use Rattle.gp_versions.specs.Chains.{AreChained, IsChained, IsKeyAt, IsLast, LeadsTo, change_after, entered, ids_of, is_begun};
+ghost use Rattle.gp_versions.specs.Keys.{keys_by};
+ghost use Rattle.gp_versions.specs.Places.{holds_with, places_where};
 ghost use Rattle.gp_versions.specs.TableSpans.{AreWhole, NoOverlap, written_after};
 
-use crate::id_key::{IdKey, key_of};
+use crate::key::{By, Key, key_by, key_of, key_of_cell};
 use crate::later::{changed_after, is_same, lesser};
+use crate::places::{InColumn, Sought, push_listed};
 use crate::span::Span;
 use gp_base::{NoMemory, RowId};
 use indexmap::IndexMap;
 use std::alloc::Global;
 
-/// The places of spans by their identities. The first spans of a table are entered, one after another. Those with equal
-/// keys are a chain: the newest one is found by the key, and each knows the one before it. A walk along a chain compares
-/// identities, so keys decide how long it is and not what it finds. A commit ends spans and appends others, and neither
-/// changes the chains.
+/// The places of spans by keys, of their identities or of their cells in a column. The first spans of a table are entered,
+/// one after another. Those with equal keys are a chain: the newest one is found by the key, and each knows the one before
+/// it. A walk along a chain compares identities or cells, so keys decide how long it is and not what it finds. A commit ends
+/// spans and appends others, and neither changes the chains.
 #[derive(Drop)]
 pub struct Chains {
     // The place of the newest entered span of each key.
-    newest: IndexMap<IdKey, u32>,
+    newest: IndexMap<Key, u32>,
     // For each entered span the place of the one before it with an equal key.
     befores: Vec<Option<u32>>,
 }
@@ -46,7 +49,7 @@ fn is_begun(span: &Span, id: &RowId, v: u32) -> bool
 impl Chains {
     /// The chains of no spans, which take no memory.
     pub fn new(alloc: Global) -> Chains
-        ensures { (spans : List declared.Span) → IsChained result spans }
+        ensures { (keys : List declared.Key) → AreChained result keys }
     {
         Chains {
             newest: IndexMap::new(alloc),
@@ -61,42 +64,41 @@ impl Chains {
         self.befores.len()
     }
 
-    /// Enters the next span, which is of this identity. If memory runs out, it is not entered.
-    fn enter_next(&mut self, id: &RowId) -> Result<(), NoMemory>
+    /// Enters the next span, which has this key. If memory runs out, it is not entered.
+    fn enter_next(&mut self, key: Key) -> Result<(), NoMemory>
         ensures one { OnOk result (entered self.new ≡ entered self.old + 1) }
-        ensures chained { (spans : List declared.Span)
-            → slice_get (keys_of spans) (entered self.old) ≡ Some (key_of id.now)
-            → IsChained self.old spans → IsChained self.new spans }
+        ensures chained { (keys : List declared.Key) → slice_get keys (entered self.old) ≡ Some key
+            → AreChained self.old keys → AreChained self.new keys }
     {
         let Ok(place) = u32::try_from(self.befores.len()) else {
             return Err(NoMemory);
         };
         self.befores.reserve(1)?;
-        let before = self.newest.insert(key_of(id), place)?;
+        let before = self.newest.insert(key, place)?;
         self.befores.push_reserved(before);
         Ok(())
     }
 
     /// Enters the spans that are not yet entered. If memory runs out, some of them are. Places that 32 bits cannot number
     /// run out of memory.
-    pub fn enter(&mut self, spans: &[Span]) -> Result<(), NoMemory>
-        requires chained { IsChained self.old spans.now }
-        ensures chained { IsChained self.new spans.now }
+    pub fn enter(&mut self, by: By, spans: &[Span]) -> Result<(), NoMemory>
+        requires chained { AreChained self.old (keys_by by spans.now) }
+        ensures chained { AreChained self.new (keys_by by spans.now) }
         ensures all { OnOk result (entered self.new ≡ length spans.now) }
     {
         while self.befores.len() < spans.len() {
             let place = self.befores.len();
-            self.enter_next(&spans[place].id)?;
+            self.enter_next(key_by(by, &spans[place]))?;
         }
         Ok(())
     }
 
-    /// The place of the newest entered span with the key of the identity.
-    fn newest(&self, id: &RowId) -> Option<u32>
-        ensures { (spans : List declared.Span) → IsChained self.now spans
-            → IsLast (keys_of spans) (key_of id.now) (entered self.now) result }
+    /// The place of the newest entered span with the key.
+    fn newest(&self, key: Key) -> Option<u32>
+        ensures { (keys : List declared.Key) → AreChained self.now keys
+            → IsLast keys key (entered self.now) result }
     {
-        self.newest.get(&key_of(id)).copied()
+        self.newest.get(&key).copied()
     }
 
     /// The place of the newest entered span of the identity, or None if there is none.
@@ -104,7 +106,7 @@ impl Chains {
         requires chained { IsChained self.now spans.now }
         ensures { IsLast (ids_of spans.now) id.now (entered self.now) result }
     {
-        let mut walk = self.newest(id);
+        let mut walk = self.newest(key_of(id));
         while let Some(place) = walk {
             if is_same(&spans[place as usize].id, id) {
                 return Some(place);
@@ -138,11 +140,42 @@ impl Chains {
         ensures { result ≡ written_after id.now v (take (entered self.now) spans.now) }
     {
         let mut found = None;
-        let mut walk = self.newest(id);
+        let mut walk = self.newest(key_of(id));
         while let Some(place) = walk {
             found = lesser(change_after(&spans[place as usize], id, v), found);
             walk = self.earlier(spans, place, id, v);
         }
         found
+    }
+
+    /// The places of the entered spans that hold the version and have the cell, ascending. None if the walk has more than
+    /// this many steps.
+    pub fn places(
+        &self,
+        alloc: Global,
+        spans: &[Span],
+        own: InColumn<'_>,
+        v: u32,
+        most: usize,
+    ) -> Result<Option<Vec<u32>>, NoMemory>
+        requires { AreChained self.now (keys_by (variant.Column own.column) spans.now) }
+        ensures { IfOk result (λ found. IfSome found (λ places. places.items
+            ≡ places_where (holds_with v own.entry.column own.entry.cell.now)
+            (take (entered self.now) spans.now))) }
+    {
+        let sought = Sought { v, own: Some(own) };
+        let mut found = Vec::new(alloc);
+        let mut left = most;
+        let mut next = self.newest(key_of_cell(own.cell.as_ref()));
+        while let Some(place) = next {
+            if left == 0 {
+                return Ok(None);
+            }
+            left -= 1;
+            push_listed(&mut found, spans, &[place], &sought)?;
+            next = self.befores[place as usize];
+        }
+        found.reverse();
+        Ok(Some(found))
     }
 }

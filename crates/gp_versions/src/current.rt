@@ -2,7 +2,7 @@
 
 ghost use Rattle.std.specs.Prelude.{◌≡◌, ◌+◌, IfOk, List, OnOk, Some, slice_get};
 ghost use Rattle.gp_versions.specs.declared.span.Span as declared;
-ghost use Rattle.gp_versions.specs.Listed.{IsCurrent, end_or, greater, is_some_open, newest_end, open_places};
+ghost use Rattle.gp_versions.specs.Listed.{IsCurrent, IsWhere, end_or, greater, is_some_open, newest_end, open_places};
 ghost use Rattle.gp_versions.specs.Spans.{spans_at};
 
 use crate::as_of::AsOf;
@@ -143,6 +143,18 @@ impl Current {
         }
         self.drop_ended(spans)?;
         Ok(())
+    }
+
+    /// Where the spans that hold the version are: among those at these places, and from this one on.
+    pub fn listed_for(&self, v: u32) -> (&[u32], usize)
+        ensures { (spans : List declared.Span) → IsCurrent self.now spans
+            → IsWhere result.0.now result.1 v spans }
+    {
+        if self.floor <= v {
+            (&self.places, self.covered)
+        } else {
+            (&[], 0)
+        }
     }
 
     /// The spans that hold the version, in order.

@@ -7,7 +7,7 @@
 //!
 //! In reading order: [`Span`] and [`Write`], the [`Writes`] of a commit, and the [`VersionTable`] with [`AsOf`], the spans
 //! that hold a version; a [`SpanList`] is what code takes that reads versions of a table. `chains.rt` finds the spans of an
-//! identity, and `current.rt` those that hold the newest versions. The functions of `laws.rt`, as
+//! identity, `columns.rt` those with a cell, and `current.rt` those that hold the newest versions. The functions of `laws.rt`, as
 //! [`written_after_is_the_least`], are laws of the definitions in `specs/`, which the contracts cite.
 //!
 //! ```text
@@ -20,12 +20,14 @@
 
 mod as_of;
 mod chains;
+mod columns;
 mod commit;
 mod current;
-mod id_key;
+mod key;
 mod later;
 mod laws;
 mod order;
+mod places;
 mod span;
 mod span_list;
 mod table;

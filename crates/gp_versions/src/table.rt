@@ -11,8 +11,10 @@ ghost use Rattle.gp_versions.specs.TableSpans.{AreWhole, NoOverlap, written_afte
 
 use crate::as_of::AsOf;
 use crate::chains::Chains;
+use crate::columns::{ColumnIndex, enter_column};
 use crate::commit::commit_spans;
 use crate::current::Current;
+use crate::key::By;
 use crate::later::{lesser, written_after};
 use crate::order::sorted_places;
 use crate::span::Span;
@@ -28,17 +30,19 @@ use std::marker::Model;
 ///
 /// The later writes of a row, and the span that a commit ends, are looked up by the row's identity among the spans that
 /// [`VersionTable::enter`] has entered, and by a pass over the others, which began since. The rows of the newest versions are
-/// found among the spans that were open when they were entered, and the others. Contracts do not see which spans are entered.
+/// found among the spans that were open when they were entered, and the others. Rows with a cell are looked up in the columns
+/// that [`VersionTable::enter_column`] has indexed. Contracts do not see which spans are entered.
 #[derive(Drop)]
 pub struct VersionTable {
     spans: Vec<Span>,
     chains: Chains,
     current: Current,
+    indexes: Vec<ColumnIndex>,
 }
 
 impl Model for VersionTable {
     ghost use Rattle.std.specs.Prelude.{◌-◌, vec_capacity, vec_len};
-    ghost use Rattle.gp_versions.specs.Chains.{IsChained};
+    ghost use Rattle.gp_versions.specs.Chains.{AreIndexes, IsChained};
     ghost use Rattle.gp_versions.specs.Listed.{IsCurrent};
     ghost use Rattle.gp_versions.specs.Spans.{Versions};
     ghost use Rattle.gp_versions.specs.TableSpans.{AreWhole, NoOverlap};
@@ -54,7 +58,8 @@ impl Model for VersionTable {
     } };
 
     ghost invariant = { λ a. NoOverlap a.spans.items × AreWhole a.spans.items
-        × IsChained a.chains a.spans.items × IsCurrent a.current a.spans.items };
+        × IsChained a.chains a.spans.items × IsCurrent a.current a.spans.items
+        × AreIndexes a.indexes.items a.spans.items };
 }
 
 impl VersionTable {
@@ -66,6 +71,7 @@ impl VersionTable {
             spans: Vec::new(alloc),
             chains: Chains::new(alloc),
             current: Current::new(alloc),
+            indexes: Vec::new(alloc),
         }
     }
 
@@ -81,6 +87,7 @@ impl VersionTable {
             spans,
             chains: Chains::new(alloc),
             current: Current::new(alloc),
+            indexes: Vec::new(alloc),
         }
     }
 
@@ -124,7 +131,7 @@ impl VersionTable {
         ensures spans { result ≡ self.now.spans }
         ensures apart { NoOverlap self.now.spans }
     {
-        SpanList::of(&self.spans, &self.current)
+        SpanList::of(&self.spans, &self.current, &self.indexes)
     }
 
     /// The spans that hold the version, in the order in which they began.
@@ -150,8 +157,18 @@ impl VersionTable {
     pub fn enter(&mut self) -> Result<(), NoMemory>
         ensures { self.new ≡ self.old }
     {
-        self.chains.enter(&self.spans)?;
+        self.chains.enter(By::Identity, &self.spans)?;
         self.current.cover(&self.spans)
+    }
+
+    /// Enters the spans that began since the last call for this column: [`SpanList::places_with`] then looks them up by their
+    /// cell there. The first call for a column only notes it, as a single look-up is not worth an index. The spans and the
+    /// room are unchanged, also if memory runs out; some spans are entered then. Places that 32 bits cannot number run out of
+    /// memory.
+    pub fn enter_column(&mut self, column: u32) -> Result<(), NoMemory>
+        ensures { self.new ≡ self.old }
+    {
+        enter_column(&mut self.indexes, &self.spans, column)
     }
 
     /// Makes room for at least n more spans. The spans are unchanged, and no room is lost, also if memory runs out.

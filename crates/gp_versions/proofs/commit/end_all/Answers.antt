@@ -1,6 +1,6 @@
-use Rattle.std.proofs.Common.{ap, drop, length, map, ◌-◌, ◌∙◌, arith}
+use Rattle.std.proofs.Common.{ap, length, map, ◌-◌, ◌∙◌, arith}
 use Rattle.std.proofs.lemmas.List.{take_rest}
-use Rattle.gp_versions.specs.Chains.{ended_first, entered}
+use Rattle.gp_versions.specs.Chains.{entered}
 use Rattle.gp_versions.specs.Commits.{ended}
 use Rattle.gp_versions.proofs.EndLemmas.{ended_first-rest, put-rest}
 use Rattle.gp_versions.proofs.commit.end_all.Goals as goal

@@ -1,8 +1,8 @@
-use Rattle.std.proofs.Common.{◌≡◌, ℕ, length, arith, rules, [], ◌∷◌, ◌++◌, cond, List, Option, Some, None, ap, refl, sym, slice_get, ◌∙◌}
+use Rattle.std.proofs.Common.{◌≡◌, ℕ, length, arith, rules, [], ◌∷◌, ◌++◌, cond, List, Some, ap, refl, sym, slice_get, ◌∙◌}
 use Rattle.std.specs.List.{cons_option}
 use Rattle.gp_versions.specs.declared.span.Span.{Span}
 use Rattle.gp_versions.specs.Listed.{held, listed}
-use Rattle.gp_versions.specs.Spans.{holds_at, spans_at}
+use Rattle.gp_versions.specs.Spans.{spans_at}
 use Rattle.gp_versions.proofs.ListedLemmas.{at-listed}
 use Rattle.gp_versions.proofs.as_of.AsOfIterator.next.Goals as goal
 

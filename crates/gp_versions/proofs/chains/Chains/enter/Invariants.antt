@@ -1,9 +1,10 @@
 use Rattle.std.proofs.Common.{◌-◌, length}
-use Rattle.gp_versions.specs.Chains.{IsChained, entered}
+use Rattle.gp_versions.specs.Chains.{AreChained, entered}
+use Rattle.gp_versions.specs.Keys.{keys_by}
 use Rattle.gp_versions.proofs.chains.Chains.enter.Given as goal
 
-abbrev pub invariant-loop-self : goal.invariant-loop-self
-invariant-loop-self l = IsChained l.self l.spans
+abbrev pub invariant-loop-by : goal.invariant-loop-by
+invariant-loop-by l = AreChained l.self (keys_by l.by l.spans)
 
-abbrev pub decreases-loop-self : goal.decreases-loop-self
-decreases-loop-self l = length l.spans - entered l.self
+abbrev pub decreases-loop-by : goal.decreases-loop-by
+decreases-loop-by l = length l.spans - entered l.self

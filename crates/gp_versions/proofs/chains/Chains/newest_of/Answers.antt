@@ -1,14 +1,15 @@
-use Rattle.std.proofs.Common.{◌<◌, get_or, length, ◌∙◌, refl, sym, arith}
+use Rattle.std.proofs.Common.{◌<◌, get_or, length, ◌∙◌, refl, subst, sym, arith}
 use Rattle.std.proofs.lemmas.List.{length-map}
 use Rattle.std.proofs.lemmas.Option.{slice_get-get_or, slice_get_read}
 use Rattle.gp_versions.specs.declared.span.Span.{Span}
-use Rattle.gp_versions.specs.Chains.{entered}
+use Rattle.gp_versions.specs.Chains.{IsLast, entered, keys_of}
 use Rattle.gp_versions.specs.Keys.{key_of}
 use Rattle.gp_versions.proofs.ChainLemmas.{HasNone-last, HasNone-next, IsLast-here, IsLast-none, up_to-within}
 use Rattle.gp_versions.proofs.chains.Chains.newest_of.Goals as goal
 
 pub loop-walk-init : goal.loop-walk-init
-loop-walk-init c = HasNone-last c.args.spans.now c.args.id.now (entered c.args.self.now) c.newest-walk.result (c.newest-walk.ensures c.args.spans.now c.requires.chained)
+loop-walk-init c = HasNone-last c.args.spans.now c.args.id.now (entered c.args.self.now) c.newest-walk.result
+    (subst (λ key. IsLast (keys_of c.args.spans.now) key (entered c.args.self.now) c.newest-walk.result) c.key_of.ensures (c.newest-walk.ensures (keys_of c.args.spans.now) c.requires.chained))
 
 pub loop-walk-preserved : goal.loop-walk-preserved
 loop-walk-preserved c =

@@ -1,8 +1,8 @@
-use Rattle.std.proofs.Common.{◌<◌, length, take, refl, ◌∙◌, arith}
+use Rattle.std.proofs.Common.{◌<◌, length, take, refl, subst, ◌∙◌, arith}
 use Rattle.std.proofs.lemmas.List.{length-map}
 use Rattle.std.proofs.lemmas.Option.{slice_get_read}
 use Rattle.gp_versions.specs.declared.span.Span.{Span}
-use Rattle.gp_versions.specs.Chains.{entered, up_to}
+use Rattle.gp_versions.specs.Chains.{IsLast, entered, keys_of, up_to}
 use Rattle.gp_versions.specs.Keys.{key_of}
 use Rattle.gp_versions.specs.TableSpans.{written_after}
 use Rattle.gp_versions.proofs.ChainLemmas.{IsKeyAt-within, LeadsTo-last, least-none, step}
@@ -10,7 +10,8 @@ use Rattle.gp_versions.proofs.chains.Chains.written_after.Goals as goal
 
 pub loop-walk-init : goal.loop-walk-init
 loop-walk-init c =
-    let leads = LeadsTo-last c.args.spans.now c.args.id.now c.args.v (entered c.args.self.now) c.newest-walk.result (c.newest-walk.ensures c.args.spans.now c.requires.chained) in
+    let leads = LeadsTo-last c.args.spans.now c.args.id.now c.args.v (entered c.args.self.now) c.newest-walk.result
+    (subst (λ key. IsLast (keys_of c.args.spans.now) key (entered c.args.self.now) c.newest-walk.result) c.key_of.ensures (c.newest-walk.ensures (keys_of c.args.spans.now) c.requires.chained)) in
     record {
       at = leads.at;
       after = least-none (written_after c.args.id.now c.args.v (take (up_to c.newest-walk.result) c.args.spans.now)) ∙ leads.after;

@@ -1,11 +1,11 @@
 use Rattle.std.proofs.Common.{◌+◌, subst, sym, ap, ◌∙◌}
 use Rattle.gp_base.specs.Annotated.{plain}
-use Rattle.gp_versions.specs.Chains.{IsChained}
+use Rattle.gp_versions.specs.Chains.{AreIndexes, IsChained}
 use Rattle.gp_versions.specs.Commits.{AreBelow, after_commit}
 use Rattle.gp_versions.specs.Listed.{IsCurrent}
 use Rattle.gp_versions.specs.Spans.{Versions, rows_at}
 use Rattle.gp_versions.specs.TableSpans.{AreWhole, NoOverlap}
-use Rattle.gp_versions.proofs.ChainLemmas.{HasChains-after}
+use Rattle.gp_versions.proofs.ChainLemmas.{AreIndexes-after, HasChains-after}
 use Rattle.gp_versions.proofs.ListedLemmas.{IsListed-after}
 use Rattle.gp_versions.proofs.SpanLemmas.{below-after, no_overlap-after, rows-before, rows-new-at, whole-after}
 use Rattle.gp_versions.proofs.table.VersionTable.append_commit.Goals as goal
@@ -15,11 +15,13 @@ invariant_of-self c =
     let below = subst (λ (k : Versions). AreBelow c.args.version k.spans) (sym c.self.view_is) c.requires.above in
     let chains = c.self.inside.chains in
     let current = c.self.inside.current in
-    subst (λ spans. NoOverlap spans × AreWhole spans × IsChained chains spans × IsCurrent current spans) (sym c.commit_spans.ensures) (
+    let indexes = c.self.inside.indexes.items in
+    subst (λ spans. NoOverlap spans × AreWhole spans × IsChained chains spans × IsCurrent current spans × AreIndexes indexes spans) (sym c.commit_spans.ensures) (
       no_overlap-after c.args.version c.args.writes c.self.inside.spans.items below c.requires.distinct c.self.invariant.0,
       whole-after c.args.version c.args.writes c.self.inside.spans.items below c.self.invariant.1,
       HasChains-after chains.newest chains.befores.items c.args.version c.args.writes c.self.inside.spans.items c.self.invariant.2,
       IsListed-after current.places.items current.covered current.floor c.args.version c.args.writes c.self.inside.spans.items c.self.invariant.3,
+      AreIndexes-after indexes c.args.version c.args.writes c.self.inside.spans.items c.self.invariant.4,
     )
 
 pub returns-clause-older : goal.returns-clause-older

@@ -1,7 +1,7 @@
 use Rattle.std.proofs.Common.{◌+◌, ◌*◌}
 use Rattle.gp_base.specs.Identities.{nodes, nodes_in}
 use Rattle.gp_base.specs.IdentityParts.{sources_of}
-use Rattle.gp_versions.proofs.id_key.+fold.Given as goal
+use Rattle.gp_versions.proofs.key.+fold.Given as goal
 
 abbrev pub decreases-fold_id : goal.decreases-fold_id
 decreases-fold_id l = 2 * nodes l.id.now
