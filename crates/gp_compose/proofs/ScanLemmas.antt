@@ -10,7 +10,8 @@ use Rattle.gp_algebra.specs.AnnotatedQueries as q
 use Rattle.gp_algebra.specs.AnnotatedQueries.{Query, QueryStep}
 use Rattle.gp_algebra.specs.Scans.{annotated_program_scans, annotated_query_scans, annotated_steps_scans}
 use Rattle.gp_machine.specs.Entries.{Entry, Log, log_of, statement_count, statement_version, version_of}
-use Rattle.gp_machine.specs.Points.{IsAsked, to_commit, to_statement, to_version, version_before}
+use Rattle.gp_machine.specs.Points.{version_before}
+use Rattle.gp_machine.specs.QuestionForms.{IsAsked, to_commit, to_statement, to_version}
 use Rattle.gp_machine.specs.Questions.{log_refusal, needed_version}
 use Rattle.gp_machine.proofs.AskedLemmas.{asked}
 use Rattle.gp_log.specs.Sessions.{KeepsSessions}

@@ -77,10 +77,6 @@ published log t before table =
 abbrev pub commit : (ℕ → ℕ) → Log → ℕ → ℕ → Select → Program
 commit columns log t before select = record { steps = composed columns log t (log.statement_count t); last = query_of (published log t before) select }
 
--- a table that the transaction published
-abbrev pub published_table : (ℕ → ℕ) → Log → ℕ → ℕ → ℕ → Program
-published_table columns log t before table = record { steps = composed columns log t (log.statement_count t); last = published log t before table }
-
 -- a query over a version
 abbrev pub as_of : ℕ → Select → Program
 as_of version select = record { steps = []; last = query_of (λ table. q.scan table version) select }

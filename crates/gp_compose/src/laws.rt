@@ -21,9 +21,9 @@ ghost use Rattle.gp_machine.specs.Runs.{at_commit, run, run_before};
 ghost use Rattle.gp_log.specs.LogFitting.{statements_fit};
 ghost use Rattle.gp_log.specs.Sessions.{KeepsSessions};
 ghost use Rattle.gp_rewrite.specs.Meaning.{IsMonoid, of_element, unmarked};
-ghost use Rattle.gp_compose.specs.Composed.{composed, program_at, published_table};
+ghost use Rattle.gp_compose.specs.Composed.{composed, program_at};
+ghost use Rattle.gp_compose.specs.Composing.{looking_program, published_table};
 ghost use Rattle.gp_compose.specs.Seen.{looked_at};
-ghost use Rattle.gp_compose.specs.Composing.{looking_program};
 ghost use Rattle.gp_compose.specs.Versions.{AreVersions};
 
 /// Reenactment of a transaction, for the annotations of any monoid and over any versions whose rows are unmarked and as wide

@@ -14,7 +14,7 @@ ghost use Rattle.gp_compose.specs.Composing as c;
 ghost use Rattle.gp_compose.specs.Composing.{looking_in};
 ghost use Rattle.gp_compose.specs.Composition.{HasTable};
 
-use crate::state_check::{begin_version, statement_version};
+use crate::state_check::begin_version;
 use crate::steps::{Parts, composed};
 use gp_algebra::{AProgram, AQuery, Stmt, copy_query};
 use gp_base::NoMemory;
@@ -76,7 +76,7 @@ pub fn looked(
     let _count = log.catalog().len();
     let k = before + 1;
     let mut parts = composed(alloc, log, t, begin_version(log, t), before)?;
-    parts.move_to(alloc, statement_version(log, t, k))?;
+    parts.move_to(alloc, log.version_read_by(t, k))?;
     let last = looking(alloc, k, stmt, &parts.tables)?;
     parts.add(alloc, t, stmt, log.catalog())?;
     let Parts { steps, .. } = parts;

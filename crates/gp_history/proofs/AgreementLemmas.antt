@@ -16,7 +16,7 @@ use Rattle.gp_base.specs.Identities.{Identity, identity, no_sources}
 use Rattle.gp_base.specs.Order.{row_cmp, sorted_by}
 use Rattle.gp_base.specs.RowOrder.{exact_rows, row_cmp_total}
 use Rattle.gp_base.proofs.OrderLemmas.{rows_permuted, rows_sorted, sorted_rows_unique, equal_from_is_eq}
-use Rattle.gp_machine.specs.Annotating.{identified}
+use Rattle.gp_machine.specs.QuestionForms.{identified}
 use Rattle.gp_history.specs.Agreement.{agree, key_of, keys_agree}
 
 -- ---- keys

@@ -9,7 +9,7 @@ use Rattle.gp_algebra.specs.Statements.{width_of}
 use Rattle.gp_base.specs.declared.limit.TheConstants.{MAX_TABLE_ROWS}
 use Rattle.gp_base.specs.Annotated.{Annotated, Annotations}
 use Rattle.gp_base.specs.Identities.{Identity}
-use Rattle.gp_compose.specs.Composed.{published_table}
+use Rattle.gp_compose.specs.Composing.{published_table}
 use Rattle.gp_exec.specs.declared.error.ExecStop.{ExecStop}
 use Rattle.gp_exec.specs.declared.error.ExecStop.TheVariants as exec
 use Rattle.gp_log.specs.LogFacts.{tables_in}

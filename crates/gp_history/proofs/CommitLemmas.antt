@@ -20,7 +20,8 @@ use Rattle.gp_log.proofs.FittingLogs.{statement_at_fits}
 use Rattle.gp_log.specs.Parameters.{parameters}
 use Rattle.gp_log.specs.LogFacts.{tables_in}
 use Rattle.gp_log.specs.LogFitting.{SpansFit, statements_fit}
-use Rattle.gp_machine.specs.Annotating.{annotation_of, computed, identified}
+use Rattle.gp_machine.specs.Annotating.{annotation_of, computed}
+use Rattle.gp_machine.specs.QuestionForms.{identified}
 use Rattle.gp_machine.specs.Committed.{unmarked}
 use Rattle.gp_machine.specs.Entries.{Entry, Log, log_of}
 use Rattle.gp_machine.specs.Event.{name_at}

@@ -17,11 +17,13 @@ use Rattle.gp_semiring.specs.Semirings.{SemiringLaws}
 use Rattle.gp_machine.specs.Annotating.{annotated_versions}
 use Rattle.gp_machine.specs.Entries.{log_of}
 use Rattle.gp_machine.specs.Parameters.{Parameters}
-use Rattle.gp_machine.specs.Points.{IsAsked, at_point, held_at}
-use Rattle.gp_machine.specs.Questions.{AreAlike, annotated_answer, annotation_stop, given, held_answer, log_refusal, needed_version, own_stop}
+use Rattle.gp_machine.specs.Points.{at_point, held_at}
+use Rattle.gp_machine.specs.QuestionForms.{AreAlike, IsAsked}
+use Rattle.gp_machine.specs.Questions.{annotated_answer, annotation_stop, given, held_answer, log_refusal, needed_version, own_stop}
 use Rattle.gp_machine.specs.State.{State}
 use Rattle.gp_machine.proofs.AskedLemmas.{asked}
-use Rattle.gp_history.specs.ValueAnswers.{held_value_answer, history_refusal, limited, value_answer, values_of}
+use Rattle.gp_history.specs.ValueAnswers.{history_refusal, limited, values_of}
+use Rattle.gp_history.specs.ValueForms.{held_value_answer, value_answer}
 use Rattle.gp_history.proofs.ValueLemmas.{values_moved}
 
 none_above : (n : ℕ) → nat_lt n 0 ≡ false

@@ -3,7 +3,7 @@ use Rattle.std.proofs.Common.{◌≡◌, Bool, List, sym, ap, ◌∙◌, map}
 use Rattle.gp_base.specs.declared.cell.Cell.{Cell}
 use Rattle.gp_base.specs.Annotated.{Annotated}
 use Rattle.gp_base.specs.Identities.{Identity}
-use Rattle.gp_machine.specs.Annotating.{identified}
+use Rattle.gp_machine.specs.QuestionForms.{identified}
 use Rattle.gp_base.proofs.SmallLemmas.{map-map}
 use Rattle.gp_history.specs.AnswerForms.{IgnoreAnnotations}
 

@@ -13,7 +13,8 @@ use Rattle.gp_algebra.specs.AnnotatedMeaning.{Derived, scanned}
 use Rattle.gp_algebra.specs.Statements.{width_of}
 use Rattle.gp_algebra.specs.Plain.{no_steps}
 use Rattle.gp_algebra.specs.Reannotation.{reannotated}
-use Rattle.gp_compose.specs.Composed.{composed, current, last_write, onto, published_table}
+use Rattle.gp_compose.specs.Composed.{composed, current, last_write, onto}
+use Rattle.gp_compose.specs.Composing.{published_table}
 use Rattle.gp_compose.proofs.ProgramLemmas.{composed_step_is, published_table_gives}
 use Rattle.gp_kexec.specs.AnnotatedStops.{program_stop}
 use Rattle.gp_kexec.specs.SemiringForms.{derived_reannotated, environment_reannotated, words}

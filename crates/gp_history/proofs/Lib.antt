@@ -1,6 +1,5 @@
 mod AgreementLemmas
 mod AnnotatedScans
-mod AskingLemmas
 mod Cancelling
 mod ChangeLemmas
 mod CommitLemmas

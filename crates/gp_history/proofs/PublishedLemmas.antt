@@ -11,7 +11,7 @@ use Rattle.gp_base.specs.declared.cell.Cell.{Cell}
 use Rattle.gp_base.specs.declared.row_id.TheConstants.{MAX_NODES}
 use Rattle.gp_base.specs.Annotated.{Annotated, Environment, monomials}
 use Rattle.gp_base.specs.Tokens.{Monomial}
-use Rattle.gp_compose.specs.Composed.{published_table}
+use Rattle.gp_compose.specs.Composing.{published_table}
 use Rattle.gp_exec.specs.declared.error.ExecStop.{ExecStop}
 use Rattle.gp_exec.specs.declared.error.ExecStop.TheVariants as exec
 use Rattle.gp_machine.specs.Annotating.{computed}

@@ -20,7 +20,8 @@ use Rattle.gp_algebra.specs.AnnotatedQueries.{step_table}
 use Rattle.gp_algebra.specs.Statements.{Statement, delete, insert, insert_select, read, update}
 use Rattle.gp_algebra.specs.Stops.{program_stop}
 use Rattle.gp_algebra.specs.WellBuilt.{is_well_built}
-use Rattle.gp_compose.specs.Composed.{composed, last_write, published_table, writes}
+use Rattle.gp_compose.specs.Composed.{composed, last_write, writes}
+use Rattle.gp_compose.specs.Composing.{published_table}
 use Rattle.gp_compose.proofs.ProgramLemmas.{composed_step_is, published_table_gives, table_program_is_built}
 use Rattle.gp_log.specs.Parameters.{parameters}
 use Rattle.gp_log.specs.LogFacts.{tables_in}

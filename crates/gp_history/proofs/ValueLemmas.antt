@@ -24,7 +24,8 @@ use Rattle.gp_semiring.specs.Totals.{total_at}
 use Rattle.gp_base.proofs.Bags.{SameBag, first, none, swapped, through}
 use Rattle.gp_semiring.proofs.GroupLemmas.{summed_bag}
 use Rattle.gp_base.proofs.Permutations.{unpermuted}
-use Rattle.gp_machine.specs.Annotating.{annotated_versions, identified}
+use Rattle.gp_machine.specs.Annotating.{annotated_versions}
+use Rattle.gp_machine.specs.QuestionForms.{identified}
 use Rattle.gp_machine.specs.Entries.{Entry, log_of}
 use Rattle.gp_machine.specs.Parameters.{Parameters}
 use Rattle.gp_machine.specs.Points.{at_point}
@@ -35,8 +36,9 @@ use Rattle.gp_kexec.specs.SemiringForms.{counted, word_value, words}
 use Rattle.gp_kexec.proofs.WordLemmas.{counted_carries, value_of_counted, word_carries}
 use Rattle.gp_history.specs.DistinctRows.{distinct_rows}
 use Rattle.gp_history.specs.Room.{HasRoom}
-use Rattle.gp_history.specs.ValueAnswers.{all_elements, history_refusal, limited, value_answer, values_of}
+use Rattle.gp_history.specs.ValueAnswers.{all_elements, history_refusal, limited, values_of}
 use Rattle.gp_history.specs.AnswerForms.{IgnoreAnnotations, carried, summed_answer, sums_of}
+use Rattle.gp_history.specs.ValueForms.{value_answer}
 use Rattle.gp_history.proofs.AnswerCounts.{IsCountable, elements_countable}
 use Rattle.gp_history.proofs.DistinctLemmas.{rows_of, summed_totals}
 use Rattle.gp_history.proofs.VersionReannotation.{elements_reannotated}

@@ -38,7 +38,8 @@ use Rattle.gp_kexec.specs.Running.{IsSomeProgram}
 use Rattle.gp_log.specs.Parameters.{parameters}
 use Rattle.gp_log.specs.LogFacts.{tables_in}
 use Rattle.gp_log.specs.LogFitting.{SpanFits}
-use Rattle.gp_machine.specs.Annotating.{annotated_versions, computed, identified}
+use Rattle.gp_machine.specs.Annotating.{annotated_versions, computed}
+use Rattle.gp_machine.specs.QuestionForms.{identified}
 use Rattle.gp_machine.specs.Entries.{Entry, log_of, statement_count, versions_in}
 use Rattle.gp_machine.specs.Points.{at_point}
 use Rattle.gp_machine.specs.Questions.{annotation_stop, given, log_refusal, needed_version, own_stop}

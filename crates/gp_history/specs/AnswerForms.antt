@@ -11,7 +11,7 @@ use Rattle.gp_algebra.specs.Answers.{Element, answer, pairs_of}
 use Rattle.gp_algebra.specs.Reannotation.{element_reannotated}
 use Rattle.gp_algebra.specs.Statements.{Select}
 use Rattle.gp_semiring.specs.Sums.{summed}
-use Rattle.gp_machine.specs.Annotating.{identified}
+use Rattle.gp_machine.specs.QuestionForms.{identified}
 use Rattle.gp_machine.specs.Entries.{Entry}
 use Rattle.gp_machine.specs.Parameters.{Parameters}
 use Rattle.gp_machine.specs.State.{State}

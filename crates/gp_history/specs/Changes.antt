@@ -12,7 +12,8 @@ use Rattle.gp_base.specs.Identities.{Identity, identity_cmp}
 use Rattle.gp_algebra.specs.AnnotatedQueries as q
 use Rattle.gp_algebra.specs.AnnotatedQueries.{Program, Query}
 use Rattle.gp_algebra.specs.Statements.{width_of}
-use Rattle.gp_compose.specs.Composed.{last_write, published_table}
+use Rattle.gp_compose.specs.Composed.{last_write}
+use Rattle.gp_compose.specs.Composing.{published_table}
 use Rattle.gp_exec.specs.declared.error.ExecStop.{ExecStop}
 use Rattle.gp_exec.specs.declared.error.ExecStop.TheVariants as exec
 use Rattle.gp_log.specs.Parameters.{parameters}

@@ -16,4 +16,5 @@ pub mod Values
 pub mod DistinctRows
 pub mod Room
 pub mod ValueAnswers
+pub mod ValueForms
 pub mod AnswerForms

@@ -1,5 +1,5 @@
--- Part of the statement: the answer to a question for values in a semiring, by the monomials of the annotated answer, and by the elements of the
--- semiring as annotations. The limit of an answer is on distinct rows.
+-- Part of the statement: the values of the rows of an answer in a semiring, by their monomials; and the elements of an annotated answer, with its refusals
+-- by the history. The limit of an answer is on distinct rows.
 use Rattle.std.specs.Prelude.{ℕ, nat_lt, Bool, List, length, map, Option, Some, None, Result, Ok, Err, if◌then◌else◌}
 use Rattle.std.specs.Option.{option_or}
 use Rattle.gp_base.specs.declared.cell.Cell.{Cell}
@@ -7,7 +7,7 @@ use Rattle.gp_base.specs.declared.refusal.Refusal.{Refusal}
 use Rattle.gp_base.specs.declared.refusal.Refusal.TheVariants.{E27}
 use Rattle.gp_base.specs.declared.table.Table.{Table}
 use Rattle.gp_base.specs.declared.token.Token.{Token}
-use Rattle.gp_base.specs.Annotated.{Annotations, Annotated, monomials}
+use Rattle.gp_base.specs.Annotated.{Annotations, Annotated}
 use Rattle.gp_base.specs.Tokens.{Monomial}
 use Rattle.gp_grammar.specs.Syntax as y
 use Rattle.gp_versions.specs.declared.span.Span.{Span}
@@ -16,9 +16,8 @@ use Rattle.gp_algebra.specs.Statements.{Select}
 use Rattle.gp_machine.specs.Annotating.{annotated_versions}
 use Rattle.gp_machine.specs.Entries.{Entry, log_of}
 use Rattle.gp_machine.specs.Parameters.{Parameters}
-use Rattle.gp_machine.specs.Points.{at_point, held_at}
+use Rattle.gp_machine.specs.Points.{at_point}
 use Rattle.gp_machine.specs.Questions.{annotation_stop, given, log_refusal, needed_version, own_stop}
-use Rattle.gp_machine.specs.State.{State}
 use Rattle.gp_kexec.specs.InSemiring.{in_semiring}
 use Rattle.gp_history.specs.DistinctRows.{distinct_rows}
 
@@ -43,14 +42,3 @@ module _ {K : Type 0} (plus : K → K → K) where
     -- the distinct rows in row order, each with its value in the semiring: the sum, from zero, of the values of its monomials
     abbrev pub values_of : List (Element Monomial) → List (List Cell × K)
     values_of elements = map (λ row. (row, in_semiring zero_of one_of plus times value (pairs_of elements) row)) (distinct_rows (cells_of elements))
-
-module _ (parameters : Parameters) {K : Type 0} (plus : K → K → K) where
-  -- what the question asks for: the values of the annotated answer
-  abbrev pub value_answer : K → K → (K → K → K) → (Token → K) → (List (Annotated Monomial) → List (Annotated Monomial) → Bool) → List Table → List Entry → (ℕ → List Span) → y.State → Select → Result (List (List Cell × K)) Refusal
-  value_answer zero_of one_of times value agree catalogue entries spans point query =
-      limited parameters.answer (values_of plus zero_of one_of times value) (all_elements monomials parameters agree catalogue entries spans point query)
-
-  -- what the question asks for of the history
-  abbrev pub held_value_answer : K → K → (K → K → K) → (Token → K) → State Monomial → y.State → Select → Result (List (List Cell × K)) Refusal
-  held_value_answer zero_of one_of times value state point query =
-      limited parameters.answer (values_of plus zero_of one_of times value) (given (log_refusal state.entries point) (answer monomials query (held_at state point)))

@@ -25,10 +25,7 @@ fn statement_version(log: &Log, t: u64, k: u64) -> u32
     // Transactions and statements are numbered by 32 bits. That is known of a log where it is asked for their number.
     let _transactions = log.transactions();
     let _statements = log.statement_count(t as u32);
-    match log.statement_version(t as u32, k as u32) {
-        Some(version) => version,
-        None => unreachable!(),
-    }
+    log.version_read_by(t as u32, k as u32)
 }
 
 /// The last version whose annotations a state needs.

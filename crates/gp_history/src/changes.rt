@@ -155,10 +155,7 @@ fn maker_after(log: &Log, before: u32) -> u32
 {
     // The number of commits has 32 bits.
     let _commits = log.commits();
-    match log.committer(before + 1) {
-        Some(t) => t,
-        None => unreachable!(),
-    }
+    log.maker(before + 1)
 }
 
 /// What the commit after a version does to each table, or the first stop: of its transaction's run, or else of the first table

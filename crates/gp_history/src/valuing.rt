@@ -18,7 +18,7 @@ ghost use Rattle.gp_machine.specs.Questions.{annotation_stop};
 ghost use Rattle.gp_reenact.specs.Reenacting.{spans_of};
 ghost use Rattle.gp_syntax.specs.Views.{state_view};
 ghost use Rattle.gp_semiring.specs.Values.{token_value};
-ghost use Rattle.gp_history.specs.ValueAnswers.{value_answer};
+ghost use Rattle.gp_history.specs.ValueForms.{value_answer};
 ghost use Rattle.gp_history.specs.Agreement.{agree};
 ghost use Rattle.gp_history.specs.Annotating.{Annotates};
 ghost use Rattle.gp_history.specs.Keeping.{MayBeKept, Reaches};

@@ -47,6 +47,29 @@ version_read_is t (suc k) (m.Ran line session command u statement ∷ older) =
 version_read_is t (suc k) (m.Committed line session u ∷ older) = version_read_is t (suc k) older
 version_read_is t (suc k) (m.Ended line session end u ∷ older) = version_read_is t (suc k) older
 
+-- ---- the version as a number, which is 0 where there is no statement
+
+none-reads : (t k : ℕ) (entries : List m.Entry) → statement_at t (suc k) entries ≡ None → statement_version t (suc k) entries ≡ 0
+none-reads t k [] none = refl
+none-reads t k (m.Created line session table ∷ older) none = none-reads t k older none
+none-reads t k (m.Began line session u level ∷ older) none = none-reads t k older none
+none-reads t k (m.Ran line session command u statement ∷ older) none = go ((u == t) && (suc (statement_count t older) == suc k)) none (none-reads t k older)
+  where
+    go : (here : Bool) → cond here (Some statement) (statement_at t (suc k) older) ≡ None → (statement_at t (suc k) older ≡ None → statement_version t (suc k) older ≡ 0)
+        → cond here (cond (is_read_committed t older) (versions_in older) (begin_version t older)) (statement_version t (suc k) older) ≡ 0
+    go true some before = absurd (some_none statement some)
+    go false none before = before none
+none-reads t k (m.Committed line session u ∷ older) none = none-reads t k older none
+none-reads t k (m.Ended line session end u ∷ older) none = none-reads t k older none
+
+pub none-read : (t k : ℕ) (entries : List m.Entry) → 0 < k → None ≡ option_map (λ (s : Statement). statement_version t k entries) (statement_at t k entries) → 0 ≡ statement_version t k entries
+none-read t zero entries positive is = absurd (omega (arith, positive))
+none-read t (suc k) entries positive is = sym (none-reads t k entries (go (statement_at t (suc k) entries) refl is))
+  where
+    go : (found : Option Statement) → statement_at t (suc k) entries ≡ found → None ≡ option_map (λ (s : Statement). statement_version t (suc k) entries) found → found ≡ None
+    go None found e = refl
+    go (Some s) found e = absurd cc
+
 -- where each transaction that is not read committed has read its begin version, the numbers of its statements are enough
 pub steady_read : (t k : ℕ) (entries : List m.Entry) → AreSteady entries → is_read_committed t entries ≡ false
     → numbered k (statement_count t entries) (begin_version t entries) ≡ option_map (λ (s : Statement). statement_version t k entries) (statement_at t k entries)

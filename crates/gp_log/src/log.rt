@@ -271,16 +271,6 @@ impl Log {
         }
     }
 
-    /// The transaction that made a version: by the index or, where that does not have it, by a pass over the entries.
-    fn maker(&self, version: u32) -> u32
-        ensures { result ≡ committer_of version (entries self.now) }
-    {
-        match self.index.committer(version) {
-            Some(t) => t,
-            None => facts::committer(&self.entries, version),
-        }
-    }
-
     /// What has become of the transaction, or None if no transaction has this number.
     pub fn fate(&self, t: u32) -> Option<Fate>
         ensures { result ≡ numbered t (transactions_in (entries self.now))
@@ -353,6 +343,31 @@ impl Log {
             // A pass over the entries for each statement would be slow in a history without the words.
             Some(known) if !known.read_committed => known.steady_version(k),
             _ => facts::statement_version(&self.entries, t, k),
+        }
+    }
+
+    /// The version that the statement of this number in the transaction read, as [`statement_version`](Log::statement_version) tells
+    /// it. Statement 0 is the BEGIN. If there is no such statement, it is 0.
+    pub fn version_read_by(&self, t: u32, k: u32) -> u32
+        ensures { result ≡ statement_version t k (entries self.now) }
+    {
+        if k == 0 {
+            return self.known(t).begin;
+        }
+        match self.statement_version(t, k) {
+            Some(version) => version,
+            None => 0,
+        }
+    }
+
+    /// The transaction that made the version: by the index or, where that does not have it, by a pass over the entries. If no commit
+    /// made the version, it is 0, which no transaction has.
+    pub fn maker(&self, version: u32) -> u32
+        ensures { result ≡ committer_of version (entries self.now) }
+    {
+        match self.index.committer(version) {
+            Some(t) => t,
+            None => facts::committer(&self.entries, version),
         }
     }
 

@@ -15,7 +15,8 @@ use Rattle.gp_machine.specs.Entries.{Log, log_of, versions_in}
 use Rattle.gp_machine.specs.Histories.{IsHistory}
 use Rattle.gp_machine.specs.Parameters.{Parameters}
 use Rattle.gp_machine.specs.Reached.{IsReached}
-use Rattle.gp_machine.specs.Reading.{Seen, seen_by}
+use Rattle.gp_machine.specs.Reading.{Seen}
+use Rattle.gp_machine.specs.ReadBy.{seen_by}
 use Rattle.gp_machine.specs.State.{Active, State}
 use Rattle.gp_machine.specs.SeenRows.{HaveDifferentIdentities, IsViewOf}
 use Rattle.std.specs.List.{AllByRecursion}

@@ -5,7 +5,7 @@ use Rattle.std.specs.Option.{is_none}
 use Rattle.gp_grammar.specs.Syntax as y
 use Rattle.gp_base.specs.declared.refusal.Refusal.TheVariants.{E20, E21, E22, E23}
 use Rattle.gp_machine.specs.Entries.{Entry, fate_of, statement_count, version_of, versions_in}
-use Rattle.gp_machine.specs.Points.{IsAsked, to_commit, to_statement, to_version}
+use Rattle.gp_machine.specs.QuestionForms.{IsAsked, to_commit, to_statement, to_version}
 use Rattle.gp_machine.specs.Questions.{is_known, log_refusal, statement_refusal, transaction_refusal}
 use Rattle.gp_base.proofs.SmallLemmas.{none_parts, some_none}
 use Rattle.std.proofs.lemmas.Bool.{leb-true}

@@ -22,7 +22,8 @@ use Rattle.gp_machine.specs.Committed.{cleared, is_written, merged, unmarked}
 use Rattle.gp_machine.specs.Entries.{Log}
 use Rattle.gp_machine.specs.Histories.{IsHistory}
 use Rattle.gp_machine.specs.Publishing.{holds, publish}
-use Rattle.gp_machine.specs.Reading.{Seen, seen_by, started, wrote_by}
+use Rattle.gp_machine.specs.Reading.{Seen, started, wrote_by}
+use Rattle.gp_machine.specs.ReadBy.{seen_by}
 use Rattle.gp_machine.specs.Runs.{at_commit, refreshed, run, stepped}
 use Rattle.gp_machine.specs.SeenRows.{HaveDifferentIdentities, AreSeenRows, same_row, unwritten}
 use Rattle.std.specs.List.{AllByRecursion}

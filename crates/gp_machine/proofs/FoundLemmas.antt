@@ -38,7 +38,8 @@ use Rattle.gp_machine.specs.Parameters.{Parameters}
 use Rattle.gp_machine.specs.Publishing.{holds}
 use Rattle.gp_machine.specs.Reached.{IsReached}
 use Rattle.gp_machine.specs.Represents.{Kept, Overlay, Represents, RepresentsActive, base_in}
-use Rattle.gp_machine.specs.Reading.{Seen, seen_by, start_by, wrote_by}
+use Rattle.gp_machine.specs.Reading.{Seen, wrote_by}
+use Rattle.gp_machine.specs.ReadBy.{seen_by, start_by}
 use Rattle.gp_machine.specs.State.{Active, State, start}
 use Rattle.gp_machine.specs.declared.reply.Reply.{Reply}
 use Rattle.gp_versions.proofs.HeldLemmas.{held-end}

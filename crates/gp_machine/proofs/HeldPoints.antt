@@ -18,7 +18,8 @@ use Rattle.gp_machine.specs.Committed.{cleared, unmarked}
 use Rattle.gp_machine.specs.Entries.{Began, Committed, Created, Ended, Entry, Ran, committer_of, log_of, statement_count, version_of, versions_in}
 use Rattle.gp_machine.specs.HistorySpans.{state_spans}
 use Rattle.gp_machine.specs.Parameters.{Parameters}
-use Rattle.gp_machine.specs.Points.{IsAsked, at_point, at_version, held_at, run_stop, to_commit, to_statement, to_version, version_before}
+use Rattle.gp_machine.specs.Points.{at_point, at_version, held_at, run_stop, version_before}
+use Rattle.gp_machine.specs.QuestionForms.{IsAsked, to_commit, to_statement, to_version}
 use Rattle.gp_machine.specs.Runs.{at_commit, run}
 use Rattle.gp_machine.specs.State.{State}
 use Rattle.gp_machine.specs.Unstopped.{IsUnstopped}

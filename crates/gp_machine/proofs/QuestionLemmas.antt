@@ -15,13 +15,14 @@ use Rattle.gp_machine.proofs.AskedLemmas.{asked}
 use Rattle.gp_machine.proofs.HeldPoints.{committed_stops, never_stops, simulated, version_is}
 use Rattle.gp_machine.proofs.LogLemmas.{versions_le}
 use Rattle.gp_machine.proofs.Simulation.{consistent}
-use Rattle.gp_machine.specs.Annotating.{annotated_versions, computed, identified}
+use Rattle.gp_machine.specs.Annotating.{annotated_versions, computed}
+use Rattle.gp_machine.specs.QuestionForms.{AreAlike, IsAsked, identified, to_commit, to_statement, to_version}
 use Rattle.gp_machine.specs.Entries.{committer_of, log_of, statement_count, versions_in}
 use Rattle.gp_machine.specs.Event.{name_at}
 use Rattle.gp_machine.specs.HistorySpans.{as_of, state_spans}
 use Rattle.gp_machine.specs.Parameters.{Parameters}
-use Rattle.gp_machine.specs.Points.{IsAsked, at_point, held_at, to_commit, to_statement, to_version, version_before}
-use Rattle.gp_machine.specs.Questions.{AreAlike, annotated_answer, annotation_stop, answer_refusal, difference, given, held_answer, log_refusal, needed_version, own_stop, rows_answer, stop_refusal}
+use Rattle.gp_machine.specs.Points.{at_point, held_at, version_before}
+use Rattle.gp_machine.specs.Questions.{annotated_answer, annotation_stop, answer_refusal, difference, given, held_answer, log_refusal, needed_version, own_stop, rows_answer, stop_refusal}
 use Rattle.gp_machine.specs.State.{State}
 use Rattle.gp_machine.specs.Unstopped.{IsUnstopped}
 use Rattle.gp_versions.specs.declared.span.Span.{Span}

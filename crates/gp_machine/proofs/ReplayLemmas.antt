@@ -34,7 +34,8 @@ use Rattle.gp_machine.specs.Parameters.{Parameters}
 use Rattle.gp_machine.specs.CheckedTargets.{ChecksTargets}
 use Rattle.gp_machine.specs.Points.{RunStop, run_stop}
 use Rattle.gp_machine.specs.Reached.{IsReached}
-use Rattle.gp_machine.specs.Reading.{Seen, seen_by, start_by}
+use Rattle.gp_machine.specs.Reading.{Seen}
+use Rattle.gp_machine.specs.ReadBy.{seen_by, start_by}
 use Rattle.gp_machine.specs.Replaying.{Replay, first_stop, replay_stop, replayed, rerun, version_stop}
 use Rattle.gp_machine.specs.ReplayForms.{CommitsInOrder, upto_version, replayed_spans}
 use Rattle.gp_machine.specs.Runs.{run_before}

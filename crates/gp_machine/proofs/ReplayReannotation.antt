@@ -18,7 +18,8 @@ use Rattle.gp_machine.specs.Event.{published_rows}
 use Rattle.gp_machine.specs.Histories.{IsFirst, IsHistory}
 use Rattle.gp_machine.specs.HistorySpans.{spans_of}
 use Rattle.gp_machine.specs.Parameters.{Parameters}
-use Rattle.gp_machine.specs.Reading.{Seen, next_seen, seen_by, started, wrote_by}
+use Rattle.gp_machine.specs.Reading.{Seen, next_seen, started, wrote_by}
+use Rattle.gp_machine.specs.ReadBy.{seen_by}
 use Rattle.gp_machine.specs.Replaying.{Replay, commit_stop, first_stop, remade, replay_stop, replayed, rerun, run_written, version_stop}
 use Rattle.gp_machine.specs.ReplayForms.{replayed_spans}
 use Rattle.gp_machine.specs.Runs.{run, run_before, stepped}

@@ -21,7 +21,8 @@ use Rattle.gp_machine.specs.Histories.{IsHistory}
 use Rattle.gp_machine.specs.Parameters.{Parameters}
 use Rattle.gp_machine.specs.Points.{run_stop, statement_stop}
 use Rattle.gp_machine.specs.Publishing.{holds, publish}
-use Rattle.gp_machine.specs.Reading.{Seen, seen_by, start_by, wrote_by}
+use Rattle.gp_machine.specs.Reading.{Seen, wrote_by}
+use Rattle.gp_machine.specs.ReadBy.{seen_by, start_by}
 use Rattle.gp_machine.specs.Replaying.{run_written}
 use Rattle.gp_machine.specs.Runs.{refreshed, run, run_before, stepped}
 use Rattle.std.specs.List.{AllByRecursion}

@@ -11,7 +11,7 @@ use Rattle.gp_machine.specs.Event.{Line, after}
 use Rattle.gp_machine.specs.Parameters.{Parameters}
 use Rattle.gp_machine.specs.Points.{run_stop, statement_stop}
 use Rattle.gp_machine.specs.Reached.{IsReached}
-use Rattle.gp_machine.specs.Reading.{seen_by, start_by}
+use Rattle.gp_machine.specs.ReadBy.{seen_by, start_by}
 use Rattle.gp_machine.specs.Runs.{refreshed, run, run_before}
 use Rattle.gp_machine.specs.State.{State, start}
 use Rattle.gp_machine.specs.Unstopped.{IsUnstopped}

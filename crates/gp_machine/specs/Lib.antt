@@ -12,8 +12,10 @@ pub mod HistorySpans
 pub mod Parameters
 pub mod Points
 pub mod Publishing
+pub mod QuestionForms
 pub mod Questions
 pub mod Reached
+pub mod ReadBy
 pub mod Reading
 pub mod Recorded
 pub mod Replayed

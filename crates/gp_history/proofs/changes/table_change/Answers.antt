@@ -2,7 +2,7 @@ use Rattle.std.proofs.Common.{Global, List, None, Vec, ap, arith, map, subst, su
 use Rattle.std.specs.List.{list_any}
 use Rattle.std.specs.Prelude.{◌&&◌, not}
 use Rattle.gp_algebra.specs.Statements.{width_of}
-use Rattle.gp_compose.specs.Composed.{published_table}
+use Rattle.gp_compose.specs.Composing.{published_table}
 use Rattle.gp_kexec.specs.declared.held.Held.{Held}
 use Rattle.gp_log.specs.LogFacts.{tables_in}
 use Rattle.gp_log.specs.LogFitting.{SpanFits}

@@ -15,7 +15,7 @@ use Rattle.gp_reenact.specs.declared.error.ReenactStop.{ReenactStop}
 use Rattle.gp_reenact.specs.Reenacting.{spans_of, stopped, transaction_at}
 use Rattle.gp_syntax.specs.Views.{state_view}
 use Rattle.gp_semiring.specs.Values.{token_value}
-use Rattle.gp_history.specs.ValueAnswers.{value_answer}
+use Rattle.gp_history.specs.ValueForms.{value_answer}
 use Rattle.gp_history.specs.Agreement.{agree}
 use Rattle.gp_history.specs.Images.{value_in, values_are_images}
 use Rattle.gp_history.specs.Provenance.{AnnotatesOr}

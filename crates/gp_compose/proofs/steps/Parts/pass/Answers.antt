@@ -23,8 +23,7 @@ returns-in_ok-move_to-in-Some c =
     let next : old.ran + 1 ≡ suc old.ran = omega arith in
     let own : own_statement t (entry_view c.args.entry.now) ≡ Some statement = sym c.in-Some.ensures in
     let here : statement_at t (suc old.ran) entries ≡ Some statement = c.requires.here statement own in
-    let now : c.statement_version-now.result ≡ statement_version t (suc old.ran) entries =
-    c.statement_version-now.ensures statement (ap (λ k. statement_at t k entries) next ∙ here) ∙ ap (λ k. statement_version t k entries) next in
+    let now : c.version_read_by-now.result ≡ statement_version t (suc old.ran) entries = c.version_read_by-now.ensures ∙ ap (λ k. statement_version t k entries) next in
     let moved : IsMoved (width_of tables) log t old.ran (length tables) (parts_view c.move_to.new.self) =
     c.in_ok-move_to-in-Some.ensures.moved (width_of tables) log t (length tables) now c.requires.composed in
     let ran : c.move_to.new.self.ran ≡ old.ran = c.in_ok-move_to-in-Some.ensures.ran in
