@@ -1,5 +1,5 @@
 -- After a commit: its writes, the number of spans, and whose rows they are.
-use Rattle.std.proofs.Common.{◌≡◌, ◌≢◌, ℕ, zero, suc, ◌+◌, ◌≤◌, Bool, true, false, not, ◌||◌, List, [], ◌∷◌, ◌++◌, map, length, Option, Some, None, refl, ap, sym, ◌∙◌, subst, arith, inl, inr}
+use Rattle.std.proofs.Common.{◌≡◌, ◌≢◌, ℕ, zero, suc, ◌+◌, ◌<◌, ◌≤◌, Bool, true, false, not, ◌||◌, List, [], ◌∷◌, ◌++◌, map, length, Option, Some, None, refl, ap, sym, ◌∙◌, subst, arith, inl, inr}
 use Rattle.std.specs.List.{filter, filter_map, cons_option, AllByRecursion}
 use Rattle.std.specs.Option.{is_none, is_some, option_map}
 use Rattle.std.proofs.lemmas.Bool.{cases_lt, false≢true, or_left}
@@ -21,12 +21,13 @@ use Rattle.gp_txn.specs.declared.overlay.TableWrites.{TableWrites}
 use Rattle.gp_txn.specs.Committing.{Commits, commit_of, spans_left, unmarked, view_below}
 use Rattle.gp_txn.specs.Counts.{count_rows, count_spans}
 use Rattle.gp_txn.specs.Bases.{table_view}
-use Rattle.gp_txn.specs.Overlay.{PlainRow, carried_row, carried_write, own_row, own_write, rows_below, slot_writes, table_writes}
+use Rattle.gp_txn.specs.Overlay.{Overlay, PlainRow, carried_row, carried_write, overlay_of, own_row, own_write, rows_below, slot_writes, table_writes}
 use Rattle.gp_txn.specs.Prepared.{AreWritesOf}
-use Rattle.gp_txn.specs.Transactions.{AreOthers, AreThere, HoldsOthers, HoldsOwn, HoldsThere, Writes, base_at, database_below, has_span, no_table, table_at, view_at, writes_at}
+use Rattle.gp_txn.specs.Transactions.{AreOthers, AreThere, HoldsOthers, HoldsOwn, HoldsThere, Writes, base_at, database_below, has_span, no_table, overlay_at, table_at, view_at, writes_at}
 use Rattle.gp_txn.proofs.CommitLemmas.{AreMadeBy, inserted-own, slots-all, writes-own}
 use Rattle.gp_txn.proofs.CountLemmas.{count-after}
 use Rattle.gp_txn.proofs.PairLemmas.{all-weaker}
+use Rattle.gp_txn.proofs.PlacedLemmas.{overlay-after}
 use Rattle.gp_txn.proofs.RebaseLemmas.{view-nowhere}
 use Rattle.gp_txn.proofs.VersionLemmas.{live-view, unwritten-none}
 use Rattle.gp_base.proofs.SmallLemmas.{length-map}
@@ -46,7 +47,7 @@ no-carried [] there = refl
 no-carried (row ∷ rows) there = absurd (false≢true there.0)
 
 -- a table without row versions, of which the transaction sees no rows
-table-none : (table : TableWrites) (version : ℕ) → AreThere [] table.carried → table_view table [] version ≡ [] → table_writes table (rows_below table []) ≡ []
+table-none : (table : Overlay) (version : ℕ) → AreThere [] table.carried → table_view table [] version ≡ [] → table_writes table (rows_below table []) ≡ []
 table-none table version there none =
     let own = no-own table.own (none-behind (filter_map carried_row table.carried) (map own_row table.own) (sym (view-nowhere table version) ∙ none)) in
     rw (own, no-carried table.carried there) refl
@@ -64,7 +65,7 @@ module _ (writes : Writes) (versions : List Versions) where
   pub commit-bases : HoldsOwn writes → (place : ℕ) (id : Identity) → transaction_of id ≢ writes.t
       → is_written (commit_of writes.tables versions place) id ≡ is_some (base_at writes.tables versions place id)
   commit-bases own place id other =
-      let table = writes_at place writes.tables in
+      let table = overlay_at place writes.tables versions in
       let base = database_below writes.tables versions place in
       not-not (is_written (commit_of writes.tables versions place) id)
       ∙ ap not (unwritten-none table base writes.t (inserted-own writes.t writes.last table.own (own place).own).0 id other)
@@ -72,7 +73,7 @@ module _ (writes : Writes) (versions : List Versions) where
 
   -- it leaves the marked rows of what it sees
   pub commit-rows : (place : ℕ) → live_rows plain (commit_of writes.tables versions place) ≡ map unmarked (filter (λ row. row.mark) (view_below writes.tables versions place))
-  commit-rows place = live-view (writes_at place writes.tables) (table_at place versions).spans
+  commit-rows place = live-view (overlay_at place writes.tables versions) (table_at place versions).spans
 
   -- they are so many, where `count` counts the marked rows of the first tables
   pub commit-count : (count : ℕ → ℕ) → count zero ≡ 0 → ((place : ℕ) → count (suc place) ≡ count place + length (filter (λ row. row.mark) (view_below writes.tables versions place)))
@@ -86,7 +87,7 @@ module _ (writes : Writes) (versions : List Versions) where
   -- nothing, where there is no table and it sees no rows
   pub commit-none : (place version : ℕ) → length versions ≤ place → HoldsThere writes.tables versions → view_at writes.tables versions version place ≡ [] → commit_of writes.tables versions place ≡ []
   commit-none place version high there none =
-      let table = writes_at place writes.tables in
+      let table = overlay_at place writes.tables versions in
       let spans : (table_at place versions).spans ≡ [] = ap (λ (held : Versions). held.spans) (get_or-eq_default versions no_table high) in
       ap (λ some. table_writes table (rows_below table some)) spans
       ∙ table-none table version (subst (λ some. AreThere some table.carried) spans (there place)) (subst (λ some. table_view table some version ≡ []) spans none)
@@ -155,9 +156,9 @@ module _ (u : ℕ) where
   carried-others : (spans : List Span) (carried : List Carried) → AreOthers u spans → AreThere spans carried → AllByRecursion (λ (row : Carried). transaction_of row.id ≢ u) carried
   carried-others spans carried others there = all-weaker (λ (row : Carried). has_span spans row.id ≡ true) (λ (row : Carried). transaction_of row.id ≢ u) (λ row is. there-other spans row.id others is) carried there
 
-  others-table : (t : ℕ) (table : TableWrites) (spans : List Span) → u ≢ t → AreOthers u spans → AreThere spans table.carried → AreWritesOf t table → AreWritesOfOthers (table_writes table (rows_below table spans))
+  others-table : (t : ℕ) (table : TableWrites) (spans : List Span) → u ≢ t → AreOthers u spans → AreThere spans table.carried → AreWritesOf t table → AreWritesOfOthers (table_writes (overlay_of spans table) (rows_below (overlay_of spans table) spans))
   others-table t table spans differ others there mine =
-      writes-both (slot_writes table (rows_below table spans)) (map carried_write table.carried ++ map own_write table.own) (slots-all (λ id. transaction_of id ≢ u) table spans others)
+      writes-both (slot_writes (overlay_of spans table) (rows_below (overlay_of spans table) spans)) (map carried_write table.carried ++ map own_write table.own) (slots-all (λ id. transaction_of id ≢ u) (overlay_of spans table) spans others)
       (writes-both (map carried_write table.carried) (map own_write table.own) (others-carried table.carried (carried-others spans table.carried others there)) (others-own t table.own differ mine.inserted.0))
 
 -- no span is of a row of another transaction that had none
@@ -207,6 +208,19 @@ there-after tables version writes old new same commits there place =
 -- what the transaction sees of a table without row versions does not depend on the version
 pub view-beyond : (tables : List TableWrites) (versions : List Versions) (place version other : ℕ) → length versions ≤ place → view_at tables versions version place ≡ view_at tables versions other place
 view-beyond tables versions place version other high =
-    let table = writes_at place tables in
+    let table = overlay_at place tables versions in
     let spans : (table_at place versions).spans ≡ [] = ap (λ (held : Versions). held.spans) (get_or-eq_default versions no_table high) in
     subst (λ some. table_view table some version ≡ table_view table some other) (sym spans) (view-nowhere table version ∙ sym (view-nowhere table other))
+
+-- ---- the writes of other transactions
+
+-- what any transaction wrote over an earlier version is the same after a commit
+pub overlay-kept : (version : ℕ) (writes : Writes) (old new : List Versions) → length new ≡ length old → Commits version writes old new → (tables : List TableWrites) (place : ℕ)
+    → (writes_at place tables).version < version → overlay_at place tables new ≡ overlay_at place tables old
+overlay-kept version writes old new same commits tables place early =
+    let table = writes_at place tables in
+    elim (cases_lt place (length old)) [
+      | inl low ↦ ap (λ spans. overlay_of spans table) (commits.spans place low) ∙ overlay-after version (commit_of writes.tables old place) (table_at place old).spans table early
+      | inr high ↦
+          ap (λ (held : Versions). overlay_of held.spans table) (get_or-eq_default new no_table (subst (λ n. n ≤ place) (sym same) high)) ∙ sym (ap (λ (held : Versions). overlay_of held.spans table) (get_or-eq_default old no_table high))
+    ]

@@ -19,13 +19,14 @@ use Rattle.gp_txn.specs.declared.carried.Carried.{Carried}
 use Rattle.gp_txn.specs.declared.overlay.TableWrites.{TableWrites}
 use Rattle.gp_txn.specs.Changes.{Change, update, delete, statement_at, rows_after, touched}
 use Rattle.gp_txn.specs.Bases.{base_after, base_of, table_view}
-use Rattle.gp_txn.specs.Overlay.{PlainRow, no_writes, own_row, rows_below, view_rows}
+use Rattle.gp_txn.specs.Overlay.{Overlay, PlainRow, no_writes, overlay_of, own_row, rows_below, view_rows}
 use Rattle.gp_txn.specs.Rebasing.{IsMoved, or_writes, writes_over}
 use Rattle.gp_txn.specs.Transactions.{Applied, AreOthers, AreOwn, AreThere, HoldsOwn, KeepsOwn, Writes, base_at, has_written, table_at, view_at, writes_at}
 use Rattle.gp_txn.specs.Applying.{Wrote, has_too_many_rows, has_too_many_nodes}
 use Rattle.gp_txn.specs.Inserting.{Prepares}
-use Rattle.gp_txn.specs.Slots.{changed_carried, changed_table, count_touched, put_table, with_own}
+use Rattle.gp_txn.specs.Slots.{changed_carried, changed_overlay, changed_table, count_touched, put_table, with_own}
 use Rattle.gp_txn.proofs.BaseLemmas.{base-changed}
+use Rattle.gp_txn.proofs.ChangedLemmas.{overlay-changed}
 use Rattle.gp_txn.proofs.CommitLemmas.{AreMadeBy, inserted-own}
 use Rattle.gp_txn.proofs.DistinctLemmas.{IsMade, given_rows-made, made_rows-made}
 use Rattle.gp_txn.proofs.OverlayLemmas.{view-changed, view-more}
@@ -69,11 +70,15 @@ keeps-set t last k place tables new within later holds mine p =
     ]
 
 -- the writes of a table with more inserted rows, once they were moved
+pub inserted-is : (version : ℕ) (table before now : TableWrites) (moved : Option TableWrites) (spans : List Span) (new : List Stored) → IsMoved version spans table moved → before ≡ table → now ≡ with_own new (or_writes moved before)
+    → now ≡ with_own new (writes_over version spans table)
+inserted-is version table before now moved spans new is same made = made ∙ ap (λ (w : TableWrites). with_own new (or_writes moved w)) same ∙ ap (with_own new) (moved-is version table spans moved is)
+
+-- the transaction keeps its own rows
 pub inserted-keeps : (t last k version : ℕ) (table before now : TableWrites) (moved : Option TableWrites) (spans : List Span) (new : List Stored) → last ≤ k → NoOverlap spans → AreOthers t spans → KeepsOwn t last table
     → IsMoved version spans table moved → before ≡ table → now ≡ with_own new (or_writes moved before) → AreOwn t k (table.own ++ new) → KeepsOwn t k now
 inserted-keeps t last k version table before now moved spans new later apart others keeps is same made mine =
-    let over : now ≡ with_own new (writes_over version spans table) = made ∙ ap (λ (w : TableWrites). with_own new (or_writes moved w)) same ∙ ap (with_own new) (moved-is version table spans moved is) in
-    subst (KeepsOwn t k) (sym over) (record {
+    subst (KeepsOwn t k) (sym (inserted-is version table before now moved spans new is same made)) (record {
       own = subst (λ own. AreOwn t k (own ++ new)) (sym (own-over version table spans)) mine;
       carried = (keeps-over version table spans t last apart others keeps).carried;
     })
@@ -96,14 +101,17 @@ module _ (k version place : ℕ) (statement : Statement) (versions : List Versio
   base = rows_at plain version (spans place)
 
   module _ (new : TableWrites) (same : new.version ≡ version) where
-    same-view : table_view new (spans place) version ≡ view_rows new base
+    abbrev over : Overlay
+    over = overlay_of (spans place) new
+
+    same-view : table_view over (spans place) version ≡ view_rows over base
     same-view = rw (same, eq-eqb version version refl) refl
 
-    same-base : (id : Identity) → base_of new (rows_below new (spans place)) id ≡ base_of new base id
-    same-base id = ap (λ v. base_of new (rows_at plain v (spans place)) id) same
+    same-base : (id : Identity) → base_of over (rows_below over (spans place)) id ≡ base_of over base id
+    same-base id = ap (λ v. base_of over (rows_at plain v (spans place)) id) same
 
-    pub applied-put : view_rows new base ≡ next place → ((p : ℕ) → p ≢ place → next p ≡ view_at old.tables versions version p)
-        → ((id : Identity) → transaction_of id ≢ old.t → base_of new base id ≡ base_after version (has_written pairs place id) (base_of writes base id))
+    pub applied-put : view_rows over base ≡ next place → ((p : ℕ) → p ≢ place → next p ≡ view_at old.tables versions version p)
+        → ((id : Identity) → transaction_of id ≢ old.t → base_of over base id ≡ base_after version (has_written pairs place id) (base_of (overlay_of (spans place) writes) base id))
         → ((p : ℕ) (id : Identity) → p ≢ place → has_written pairs p id ≡ false)
         → (AreThere (spans place) writes.carried → AreThere (spans place) new.carried)
         → Applied k version statement versions old (put_table k place new old)
@@ -112,9 +120,9 @@ module _ (k version place : ℕ) (statement : Statement) (versions : List Versio
       read_committed = refl;
       begin = refl;
       last = refl;
-      view = put-all (λ p table. table_view table (spans p) version ≡ next p) k place new old within (same-view ∙ here) (λ p apart. sym (others p apart));
+      view = put-all (λ p table. table_view (overlay_of (spans p) table) (spans p) version ≡ next p) k place new old within (same-view ∙ here) (λ p apart. sym (others p apart));
       base = λ p id other.
-          put-all (λ q table. base_of table (rows_below table (spans q)) id ≡ base_after version (has_written pairs q id) (base_at old.tables versions q id)) k place new old within
+          put-all (λ q table. base_of (overlay_of (spans q) table) (rows_below (overlay_of (spans q) table) (spans q)) id ≡ base_after version (has_written pairs q id) (base_at old.tables versions q id)) k place new old within
           (same-base id ∙ bases id other ∙ ap (base_after version (has_written pairs place id)) (base-over version (writes_at place old.tables) (spans place) id))
           (λ q apart. sym (ap (λ b. base_after version b (base_at old.tables versions q id)) (elsewhere q id apart) ∙ after-none version (base_at old.tables versions q id))) p;
       below = put-all (λ p table. (table.version ≡ (writes_at p old.tables).version) ⊎ (table.version ≡ version)) k place new old within (inr same) (λ p apart. inl refl);
@@ -143,7 +151,7 @@ there-changed spans change (row ∷ rows) all = (all.0, there-changed spans chan
 
 pub applied-change : (k version place : ℕ) (change : Change) (versions : List Versions) (old : Writes) → place < length old.tables → KeepsOwn old.t old.last (writes_at place old.tables)
     → Applied k version (statement_at place change) versions old
-    (put_table k place (changed_table change (writes_over version (table_at place versions).spans (writes_at place old.tables)) (rows_at plain version (table_at place versions).spans)) old)
+    (put_table k place (changed_table change (table_at place versions).spans (writes_over version (table_at place versions).spans (writes_at place old.tables))) old)
 applied-change k version place change versions old within keeps =
     let db = view_at old.tables versions version in
     let spans = (table_at place versions).spans in
@@ -153,15 +161,19 @@ applied-change k version place change versions old within keeps =
     let same = version-over version (writes_at place old.tables) spans in
     let made : AreMadeBy old.t writes.own =
     subst (AreMadeBy old.t) (sym (own-over version (writes_at place old.tables) spans)) (inserted-own old.t old.last (writes_at place old.tables).own keeps.own).0 in
-    applied-put k version place (statement_at place change) versions old within (changed_table change writes base) same
-    (view-changed old.t k change writes base
+    let over = overlay_of spans writes in
+    let is : overlay_of spans (changed_table change spans writes) ≡ changed_overlay change over base = overlay-changed change spans writes ∙ ap (λ v. changed_overlay change over (rows_at plain v spans)) same in
+    applied-put k version place (statement_at place change) versions old within (changed_table change spans writes) same
+    (ap (λ (o : Overlay). view_rows o base) is
+    ∙ view-changed old.t k change over base
     ∙ ap (rows_after plain old.t k change) (sym shown)
     ∙ sym (step-change old.t k place change db place ∙ rows-here place (rows_after plain old.t k change (db place)) db))
     (λ p apart. step-change old.t k place change db p ∙ rows-other place p (rows_after plain old.t k change (db place)) db apart)
     (λ id other.
-    base-changed old.t change writes base id other made
-    ∙ (λ i. base_after (same i) (has_identity (touched change (sym shown i)) id) (base_of writes base id))
-    ∙ ap (λ b. base_after version b (base_of writes base id))
+    ap (λ (o : Overlay). base_of o base id) is
+    ∙ base-changed old.t change over base id other made
+    ∙ (λ i. base_after (same i) (has_identity (touched change (sym shown i)) id) (base_of over base id))
+    ∙ ap (λ b. base_after version b (base_of over base id))
     (sym (ap (λ pairs. has_written pairs place id) (wrote-change old.t k place change db) ∙ written-here place (touched change (db place)) id)))
     (λ p id apart. ap (λ pairs. has_written pairs p id) (wrote-change old.t k place change db) ∙ written-elsewhere place p (touched change (db place)) id apart)
     (there-changed spans change writes.carried)
@@ -180,13 +192,13 @@ applied-insert k version place statement rows new versions old within are made s
     let writes = writes_over version spans (writes_at place old.tables) in
     let shown = view-over version (writes_at place old.tables) spans in
     applied-put k version place statement versions old within (with_own new writes) (version-over version (writes_at place old.tables) spans)
-    (view-more writes new base ∙ (λ i. sym shown i ++ are i) ∙ sym (steps place ∙ rows-here place (db place ++ rows) db))
+    (view-more spans writes new base ∙ (λ i. sym shown i ++ are i) ∙ sym (steps place ∙ rows-here place (db place ++ rows) db))
     (λ p apart. steps p ∙ rows-other place p (db place ++ rows) db apart)
     (λ id other.
-    sym (ap (λ b. base_after version b (base_of writes base id))
+    sym (ap (λ b. base_after version b (base_of (overlay_of spans writes) base id))
     (ap (λ pairs. has_written pairs place id) writes_are ∙ written-here place rows id
     ∙ own-identity old.t rows id other (all-weaker (IsMade plain old.t k) (λ (row : PlainRow). transaction_of row.identity ≡ old.t) (λ row is. is.0) rows made))
-    ∙ after-none version (base_of writes base id)))
+    ∙ after-none version (base_of (overlay_of spans writes) base id)))
     (λ p id apart. ap (λ pairs. has_written pairs p id) writes_are ∙ written-elsewhere place p rows id apart)
     (λ there. there)
 
@@ -207,7 +219,7 @@ few-nodes k version place (delete c) versions old = refl
 -- an UPDATE and a DELETE pass no limit
 pub change-wrote : (k version place : ℕ) (change : Change) (versions : List Versions) (old : Writes) (count : ℕ) → place < length old.tables → KeepsOwn old.t old.last (writes_at place old.tables)
     → count ≡ count_touched change (view_at old.tables versions version place)
-    → Wrote k version (statement_at place change) versions old (put_table k place (changed_table change (writes_over version (table_at place versions).spans (writes_at place old.tables)) (rows_at plain version (table_at place versions).spans)) old) count
+    → Wrote k version (statement_at place change) versions old (put_table k place (changed_table change (table_at place versions).spans (writes_over version (table_at place versions).spans (writes_at place old.tables))) old) count
 change-wrote k version place change versions old count within own is = record {
   applied = applied-change k version place change versions old within own;
   number = is ∙ sym (ap length (wrote-change old.t k place change (view_at old.tables versions version)) ∙ length-map (λ (row : PlainRow). record { table = place; identity = row.identity }) (touched change (view_at old.tables versions version place)));

@@ -14,11 +14,10 @@ use Rattle.gp_versions.proofs.SameLemmas.{same-exact}
 use Rattle.gp_txn.specs.declared.carried.Carried.{Carried}
 use Rattle.gp_txn.specs.declared.overlay.Slot.{Slot}
 use Rattle.gp_txn.specs.declared.overlay.Slot.TheVariants.{Same, Put, Dropped}
-use Rattle.gp_txn.specs.declared.overlay.TableWrites.{TableWrites}
 use Rattle.gp_txn.specs.Bases.{base_after, base_of, carried_base}
 use Rattle.gp_txn.specs.Changes.{Change, cond_of, touched}
-use Rattle.gp_txn.specs.Overlay.{PlainRow, base_writes, carried_row, carried_write, head_slot, is_carried, own_row, own_write, overlaid, slot_write, slot_writes, slotted, table_writes, view_rows}
-use Rattle.gp_txn.specs.Slots.{changed_carried, changed_slots, changed_table}
+use Rattle.gp_txn.specs.Overlay.{Overlay, PlainRow, base_writes, carried_row, carried_write, head_slot, is_carried, own_row, own_write, overlaid, slot_write, slot_writes, slotted, table_writes, view_rows}
+use Rattle.gp_txn.specs.Slots.{changed_carried, changed_slots, changed_overlay}
 use Rattle.gp_txn.proofs.CommitLemmas.{AreMadeBy, carried-written, own-unwritten}
 use Rattle.gp_txn.proofs.OverlayLemmas.{slotted-same}
 use Rattle.gp_txn.proofs.WrittenLemmas.{all-touched, has_identity, own-rows, own-identity, touched-append, written-changed}
@@ -51,7 +50,7 @@ all-slotted carried (row ∷ base) =
     ] refl
 
 -- a row with a slot is not carried over
-pub written-uncarried : (writes : TableWrites) (base : List PlainRow) (id : Identity) → is_written (slot_writes writes base) id ≡ true → is_carried writes.carried id ≡ false
+pub written-uncarried : (writes : Overlay) (base : List PlainRow) (id : Identity) → is_written (slot_writes writes base) id ≡ true → is_carried writes.carried id ≡ false
 written-uncarried writes base id written =
     written-in (λ other. is_carried writes.carried other ≡ false) writes.slots (slotted writes.carried base) id (all-slotted writes.carried base) written
 
@@ -81,13 +80,13 @@ not-not true = refl
 not-not false = refl
 
 -- it has a base where it was written over the version below, or is carried over
-pub base-none : (writes : TableWrites) (base : List PlainRow) (id : Identity) → is_none (base_of writes base id) ≡ not (is_written (slot_writes writes base) id || is_carried writes.carried id)
+pub base-none : (writes : Overlay) (base : List PlainRow) (id : Identity) → is_none (base_of writes base id) ≡ not (is_written (slot_writes writes base) id || is_carried writes.carried id)
 base-none writes base id =
     none-after writes.version (is_written (slot_writes writes base) id) (carried_base writes.carried id)
     ∙ ap (λ b. not (is_written (slot_writes writes base) id || b)) (ap not (carried-some writes.carried id) ∙ not-not (is_carried writes.carried id))
 
 -- the rows of others that a commit writes
-pub table-written : (writes : TableWrites) (base : List PlainRow) (t : ℕ) (id : Identity) → transaction_of id ≢ t → AreMadeBy t writes.own
+pub table-written : (writes : Overlay) (base : List PlainRow) (t : ℕ) (id : Identity) → transaction_of id ≢ t → AreMadeBy t writes.own
     → is_written (table_writes writes base) id ≡ (is_written (slot_writes writes base) id || is_carried writes.carried id)
 table-written writes base t id other made =
     let list = slot_writes writes base in
@@ -128,7 +127,7 @@ none-touched change (row ∷ rows) id none =
     touched-one (passes (cond_of change) row.cells) row (touched change rows) id parts.0 (none-touched change rows id parts.1)
 
 -- the identities that an UPDATE or a DELETE writes of others
-pub view-touched : (t : ℕ) (change : Change) (writes : TableWrites) (base : List PlainRow) (id : Identity) → transaction_of id ≢ t → AreMadeBy t writes.own
+pub view-touched : (t : ℕ) (change : Change) (writes : Overlay) (base : List PlainRow) (id : Identity) → transaction_of id ≢ t → AreMadeBy t writes.own
     → has_identity (touched change (view_rows writes base)) id
     ≡ (has_identity (touched change (overlaid writes.slots (slotted writes.carried base))) id || has_identity (touched change (filter_map carried_row writes.carried)) id)
 view-touched t change writes base id other made =
@@ -154,8 +153,8 @@ base-kept version old new rows carried id uncarried (Some base) is = refl
 base-kept version old new rows carried id uncarried None is =
     base-new version old new rows (uncarried (not-true (is_carried carried id) (sym (carried-some carried id) ∙ ap is_none is)))
 
-pub base-changed : (t : ℕ) (change : Change) (writes : TableWrites) (base : List PlainRow) (id : Identity) → transaction_of id ≢ t → AreMadeBy t writes.own
-    → base_of (changed_table change writes base) base id ≡ base_after writes.version (has_identity (touched change (view_rows writes base)) id) (base_of writes base id)
+pub base-changed : (t : ℕ) (change : Change) (writes : Overlay) (base : List PlainRow) (id : Identity) → transaction_of id ≢ t → AreMadeBy t writes.own
+    → base_of (changed_overlay change writes base) base id ≡ base_after writes.version (has_identity (touched change (view_rows writes base)) id) (base_of writes base id)
 base-changed t change writes base id other made =
     let slots = slotted writes.carried base in
     let old = is_written (slot_writes writes base) id in

@@ -19,37 +19,13 @@ use Rattle.gp_txn.specs.declared.carried.Carried.{Carried}
 use Rattle.gp_txn.specs.declared.overlay.Slot.{Slot}
 use Rattle.gp_txn.specs.declared.overlay.Slot.TheVariants.{Same, Put, Dropped}
 use Rattle.gp_txn.specs.declared.overlay.TableWrites.{TableWrites}
-use Rattle.gp_txn.specs.Overlay.{PlainRow, base_writes, carried_write, head_slot, is_carried, own_write, rows_below, slot_write, slot_writes, slotted_spans, table_writes}
+use Rattle.gp_txn.specs.Overlay.{Overlay, PlainRow, base_writes, carried_write, head_slot, is_carried, overlay_of, own_write, rows_below, slot_write, slot_writes, slotted_spans, table_writes}
 use Rattle.gp_txn.specs.Prepared.{AreInserted, AreWritesOf}
 use Rattle.gp_txn.specs.Rebasing.{carried_of, carried_over}
 use Rattle.gp_txn.specs.Transactions.{AreCarried, AreOthers, AreOwn, IsOwn, KeepsOwn}
 use Rattle.gp_txn.proofs.PairLemmas.{all-filter, all-map}
-use Rattle.gp_txn.proofs.SlottedLemmas.{rows-held, rows-passed, rows-spans, slotted_of}
+use Rattle.gp_txn.proofs.SlottedLemmas.{rows-spans}
 use Rattle.gp_base.proofs.SmallLemmas.{each_append}
-
--- ---- the loop over the spans of a table
-
-cons_option-is : {X : Type 0} (x : Option X) (xs : List X) → cons_option x xs ≡ option_to_list x ++ xs
-cons_option-is None xs = refl
-cons_option-is (Some x) xs = refl
-
-pub write-held : (done : List Write) (slots : List Slot) (carried : List Carried) (place : ℕ) (span : Span) (spans list : List Span) → list ≡ span ∷ spans → is_carried carried span.id ≡ false
-    → done ++ base_writes (drop place slots) (slotted_of carried list) ≡ (done ++ option_to_list (slot_write (head_slot (drop place slots)) (row_of plain span))) ++ base_writes (drop (place + 1) slots) (slotted_of carried spans)
-write-held done slots carried place span spans list is free =
-    ap (λ rows. done ++ base_writes (drop place slots) rows) (rows-held carried span spans list is free)
-    ∙ ap (λ others. done ++ cons_option (slot_write (head_slot (drop place slots)) (row_of plain span)) (base_writes others (slotted_of carried spans))) (drop-drop 1 place slots)
-    ∙ ap (λ others. done ++ others) (cons_option-is (slot_write (head_slot (drop place slots)) (row_of plain span)) (base_writes (drop (place + 1) slots) (slotted_of carried spans)))
-    ∙ sym (append_assoc done (option_to_list (slot_write (head_slot (drop place slots)) (row_of plain span))) (base_writes (drop (place + 1) slots) (slotted_of carried spans)))
-
-pub write-passed : (done : List Write) (slots : List Slot) (carried : List Carried) (span : Span) (spans list : List Span) → list ≡ span ∷ spans → is_carried carried span.id ≡ true
-    → done ++ base_writes slots (slotted_of carried list) ≡ done ++ base_writes slots (slotted_of carried spans)
-write-passed done slots carried span spans list is passed = ap (λ rows. done ++ base_writes slots rows) (rows-passed carried span spans list is passed)
-
--- without slots there are none
-pub writes-none : (slots : List Slot) (rows : List PlainRow) → length slots ≡ 0 → base_writes slots rows ≡ []
-writes-none [] [] is = refl
-writes-none [] (row ∷ rows) is = writes-none [] rows is
-writes-none (slot ∷ slots) rows is = absurd (omega (arith, is))
 
 -- ---- the writes of a table are of different identities
 
@@ -165,14 +141,14 @@ base-all P slots [] all = tt
 base-all P slots (span ∷ spans) all = slot-all P (head_slot slots) span (base_writes (drop 1 slots) (map (row_of plain) spans)) all.0 (base-all P (drop 1 slots) spans all.1)
 
 -- of a table
-pub slots-all : (P : Identity → Type 0) (writes : TableWrites) (spans : List Span) → AllByRecursion (λ (span : Span). P span.id) spans → AllByRecursion (λ (write : Write). P write.id) (slot_writes writes (rows_below writes spans))
+pub slots-all : (P : Identity → Type 0) (writes : Overlay) (spans : List Span) → AllByRecursion (λ (span : Span). P span.id) spans → AllByRecursion (λ (write : Write). P write.id) (slot_writes writes (rows_below writes spans))
 slots-all P writes spans all =
     subst (λ (rows : List (Annotated (Unit {0}))). AllByRecursion (λ (write : Write). P write.id) (base_writes writes.slots rows)) (sym (rows-spans writes.carried writes.version spans))
     (base-all P writes.slots (slotted_spans writes.carried writes.version spans)
     (all-filter (λ (span : Span). P span.id) (λ (span : Span). not (is_carried writes.carried span.id)) (spans_at writes.version spans) (all-filter (λ (span : Span). P span.id) (holds_at writes.version) spans all)))
 
 -- and of each one that is carried over
-pub over-all : (P : Identity → Type 0) (writes : TableWrites) (spans : List Span) → AllByRecursion (λ (span : Span). P span.id) spans → AllByRecursion (λ (row : Carried). P row.id) writes.carried
+pub over-all : (P : Identity → Type 0) (writes : Overlay) (spans : List Span) → AllByRecursion (λ (span : Span). P span.id) spans → AllByRecursion (λ (row : Carried). P row.id) writes.carried
     → AllByRecursion (λ (row : Carried). P row.id) (carried_over writes (rows_below writes spans))
 over-all P writes spans all mine =
     each_append (λ (row : Carried). P row.id) (map (carried_of writes.version) (slot_writes writes (rows_below writes spans))) writes.carried
@@ -187,7 +163,10 @@ across-both : (left right writes : List Write) → AreUnwritten left writes → 
 across-both left right [] first second = tt
 across-both left right (write ∷ writes) first second = (unwritten-append write.id left right first.0 second.0, across-both left right writes first.1 second.1)
 
-module _ (writes : TableWrites) (spans : List Span) (t : ℕ) (apart : NoOverlap spans) (others : AreOthers t spans) where
+module _ (stored : TableWrites) (spans : List Span) (t : ℕ) (apart : NoOverlap spans) (others : AreOthers t spans) where
+  abbrev writes : Overlay
+  writes = overlay_of spans stored
+
   abbrev held : List Span
   held = slotted_spans writes.carried writes.version spans
 
@@ -200,7 +179,7 @@ module _ (writes : TableWrites) (spans : List Span) (t : ℕ) (apart : NoOverlap
   across-slots : AreUnwritten (map carried_write writes.carried) (slot_writes writes (rows_below writes spans))
   across-slots = subst (AreUnwritten (map carried_write writes.carried)) same-writes (across-carried writes.carried writes.slots held (all-uncarried writes.carried (spans_at writes.version spans)))
 
-  pub distinct-table : AreWritesOf t writes → AreDistinct (table_writes writes (rows_below writes spans))
+  pub distinct-table : AreWritesOf t stored → AreDistinct (table_writes writes (rows_below writes spans))
   distinct-table mine =
       let rows = map carried_write writes.carried in
       let own = map own_write writes.own in

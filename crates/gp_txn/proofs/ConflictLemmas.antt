@@ -1,6 +1,6 @@
 -- The least row that a transaction and a later commit wrote.
-use Rattle.std.proofs.Common.{◌≡◌, ℕ, ◌+◌, ◌<◌, true, false, cond, List, [], ◌∷◌, ◌++◌, drop, length, get_or, Option, Some, None, refl, ap, sym, ◌∙◌, subst, arith, inl, inr}
-use Rattle.std.specs.List.{cons_option, filter_map}
+use Rattle.std.proofs.Common.{◌≡◌, ℕ, ◌+◌, ◌<◌, true, false, cond, List, [], ◌∷◌, ◌++◌, drop, map, length, get_or, Option, Some, None, refl, ap, sym, ◌∙◌, subst, arith, inl, inr}
+use Rattle.std.specs.List.{cons_option, filter_map, flat_map}
 use Rattle.std.specs.Option.{option_to_list}
 use Rattle.std.specs.declared.cmp.Ordering.{Ordering}
 use Rattle.std.specs.declared.cmp.Ordering.TheVariants.{Less, Equal, Greater}
@@ -14,10 +14,14 @@ use Rattle.gp_versions.specs.declared.span.Span.{Span}
 use Rattle.gp_txn.specs.declared.carried.Carried.{Carried}
 use Rattle.gp_txn.specs.declared.overlay.Slot.{Slot}
 use Rattle.gp_txn.specs.declared.conflict.Late.{Late}
-use Rattle.gp_txn.specs.Overlay.{head_slot, is_carried, slotted_spans}
+use Rattle.gp_txn.specs.Overlay.{head_slot, slots_from, slotted_spans}
 use Rattle.gp_txn.specs.Conflicts.{IsLeast, carried_late, late_of, slot_lates}
 use Rattle.gp_txn.specs.LeastSoFar.{least_of, lesser}
-use Rattle.gp_txn.proofs.SlottedLemmas.{free_spans, spans-held, spans-passed}
+use Rattle.gp_txn.specs.declared.overlay.Placed.{Placed}
+use Rattle.gp_txn.specs.Ascending.{IsAscending, place_of}
+use Rattle.gp_txn.specs.Passes.{of_entry, row_lates}
+use Rattle.gp_txn.proofs.PlacedLemmas.{entries-made, made_of}
+use Rattle.gp_txn.proofs.PutLemmas.{cons_option-is}
 
 -- ---- the loops
 
@@ -30,26 +34,19 @@ pub least-append : (found : Option Late) (xs ys : List Late) → least_of found 
 least-append found [] ys = refl
 least-append found (x ∷ xs) ys = least-append (lesser found (Some x)) xs ys
 
-pub least-held : (found : Option Late) (slots : List Slot) (carried : List Carried) (place : ℕ) (span : Span) (spans list : List Span) → list ≡ span ∷ spans → is_carried carried span.id ≡ false
-    → least_of found (slot_lates (drop place slots) (free_spans carried list))
-    ≡ least_of (lesser found (late_of (head_slot (drop place slots)) span)) (slot_lates (drop (place + 1) slots) (free_spans carried spans))
-least-held found slots carried place span spans list is free =
-    ap (λ some. least_of found (slot_lates (drop place slots) some)) (spans-held carried span spans list is free)
-    ∙ least-cons found (late_of (head_slot (drop place slots)) span) (slot_lates (drop 1 (drop place slots)) (free_spans carried spans))
-    ∙ ap (λ others. least_of (lesser found (late_of (head_slot (drop place slots)) span)) (slot_lates others (free_spans carried spans))) (drop-drop 1 place slots)
+pub least-one : (found late : Option Late) → least_of found (option_to_list late) ≡ lesser found late
+least-one None None = refl
+least-one (Some first) None = refl
+least-one found (Some late) = refl
 
-pub least-passed : (found : Option Late) (slots : List Slot) (carried : List Carried) (span : Span) (spans list : List Span) → list ≡ span ∷ spans → is_carried carried span.id ≡ true
-    → least_of found (slot_lates slots (free_spans carried list)) ≡ least_of found (slot_lates slots (free_spans carried spans))
-least-passed found slots carried span spans list is passed = ap (λ some. least_of found (slot_lates slots some)) (spans-passed carried span spans list is passed)
+-- of all rows with a slot
+pub lates-made : (slots : List Slot) (spans : List Span) → made_of row_lates slots spans ≡ slot_lates slots spans
+lates-made slots [] = refl
+lates-made slots (span ∷ spans) =
+    ap (λ (rest : List Late). option_to_list (late_of (head_slot slots) span) ++ rest) (lates-made (drop 1 slots) spans) ∙ sym (cons_option-is (late_of (head_slot slots) span) (slot_lates (drop 1 slots) spans))
 
 pub least-carried : (found : Option Late) (spans : List Span) (row : Carried) (rows : List Carried) → least_of found (filter_map (carried_late spans) (row ∷ rows)) ≡ least_of (lesser found (carried_late spans row)) (filter_map (carried_late spans) rows)
 least-carried found spans row rows = least-cons found (carried_late spans row) (filter_map (carried_late spans) rows)
-
--- without slots there are none
-pub lates-none : (slots : List Slot) (spans : List Span) → length slots ≡ 0 → slot_lates slots spans ≡ []
-lates-none [] [] is = refl
-lates-none [] (span ∷ spans) is = lates-none [] spans is
-lates-none (slot ∷ slots) spans is = absurd (omega (arith, is))
 
 -- ---- the least
 
@@ -91,3 +88,8 @@ least-all (late ∷ lates) found = least-more lates (least-all lates) found late
 
 pub least-is : (lates : List Late) → IsLeast lates (least_of None lates)
 least-is lates = least-all lates None
+
+pub lates-entries : (carried : List Carried) (v : ℕ) (spans : List Span) (placed : List Placed) → IsAscending (map place_of placed)
+    → flat_map (of_entry row_lates carried v spans) placed ≡ slot_lates (slots_from carried v placed 0 spans) (slotted_spans carried v spans)
+lates-entries carried v spans placed ascend =
+    entries-made row_lates carried v spans placed (λ span. refl) ascend ∙ lates-made (slots_from carried v placed 0 spans) (slotted_spans carried v spans)

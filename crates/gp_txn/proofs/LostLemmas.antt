@@ -25,8 +25,8 @@ use Rattle.gp_txn.specs.declared.overlay.Slot.TheVariants.{Same, Put, Dropped}
 use Rattle.gp_txn.specs.declared.overlay.TableWrites.{TableWrites}
 use Rattle.gp_txn.specs.Bases.{base_after, base_of, carried_base}
 use Rattle.gp_txn.specs.Conflicts.{IsAmong, IsBeforeAll, IsFirstConflict, IsLost, carried_late, late_of, lates, lates_at, next_write, slot_lates}
-use Rattle.gp_txn.specs.Overlay.{base_writes, carried_write, head_slot, is_carried, rows_below, slot_write, slot_writes, slotted_spans}
-use Rattle.gp_txn.specs.Transactions.{base_at, no_table, table_at, writes_at}
+use Rattle.gp_txn.specs.Overlay.{Overlay, base_writes, carried_write, head_slot, is_carried, rows_below, slot_write, slot_writes, slotted_spans}
+use Rattle.gp_txn.specs.Transactions.{base_at, no_table, overlay_at, table_at, writes_at}
 use Rattle.gp_txn.proofs.BaseLemmas.{carried-none, written-uncarried}
 use Rattle.gp_txn.proofs.CommitLemmas.{carried-written}
 use Rattle.gp_txn.proofs.PairLemmas.{all-filter}
@@ -187,7 +187,7 @@ module _ (spans : List Span) where
   above-kept id version now wrote None is = absurd (cc)
   above-kept id version now wrote (Some base) is = is
 
-module _ (table : TableWrites) (spans : List Span) (apart : NoOverlap spans) (whole : AreWhole spans) where
+module _ (table : Overlay) (spans : List Span) (apart : NoOverlap spans) (whole : AreWhole spans) where
   abbrev held : List Span
   held = slotted_spans table.carried table.version spans
 
@@ -243,14 +243,14 @@ module _ (table : TableWrites) (spans : List Span) (apart : NoOverlap spans) (wh
 module _ (tables : List TableWrites) (versions : List Versions) (apart : (place : ℕ) → NoOverlap (table_at place versions).spans) (whole : (place : ℕ) → AreWhole (table_at place versions).spans)
     (distinct : (place : ℕ) → AreDistinct (map carried_write (writes_at place tables).carried)) where
   is-among : (place : ℕ) (id : Identity) (version : ℕ) → next_write tables versions place id ≡ Some version → IsAmong (record { id = id; version = version }) (lates_at tables versions place)
-  is-among place id version later = next-among (writes_at place tables) (table_at place versions).spans (apart place) (whole place) id version later
+  is-among place id version later = next-among (overlay_at place tables versions) (table_at place versions).spans (apart place) (whole place) id version later
 
   not-empty : (late : Late) (others : List Late) → others ≡ [] → IsAmong late others → ⊥
   not-empty late others none among = subst (λ some. IsAmong late some) none among
 
   pub lost-first : (conflict : Conflict) → IsFirstConflict (length versions) (lates_at tables versions) (Some conflict) → IsLost (next_write tables versions) conflict
   lost-first conflict found = record {
-    later = late-next (writes_at conflict.place tables) (table_at conflict.place versions).spans (apart conflict.place) (whole conflict.place) conflict.late (distinct conflict.place) found.1.0;
+    later = late-next (overlay_at conflict.place tables versions) (table_at conflict.place versions).spans (apart conflict.place) (whole conflict.place) conflict.late (distinct conflict.place) found.1.0;
     least = λ other version later.
         let late : Late = record { id = other.identity; version = version } in
         let here = is-among other.table other.identity version later in

@@ -17,10 +17,11 @@ use Rattle.gp_txn.specs.declared.carried.Carried.{Carried}
 use Rattle.gp_txn.specs.declared.overlay.Slot.{Slot}
 use Rattle.gp_txn.specs.declared.overlay.Slot.TheVariants.{Same, Put, Dropped}
 use Rattle.gp_txn.specs.Changes.{Change, update, delete, cond_of, rows_after, touched}
+use Rattle.gp_txn.specs.Overlay.{Overlay, PlainRow, carried_row, is_carried, head_slot, shown, slotted, overlaid, own_row, overlay_of, view_rows}
+use Rattle.gp_txn.specs.Slots.{carried_after, changed_carried, changed_overlay, effect, is_touched, changed_slot, changed_slots, passes_seen, stored_after, changed_own, count_touched, one_if, with_own}
+use Rattle.gp_txn.specs.Passes.{row_touched}
 use Rattle.gp_txn.specs.declared.overlay.TableWrites.{TableWrites}
-use Rattle.gp_txn.specs.Overlay.{PlainRow, carried_row, is_carried, head_slot, shown, slotted, overlaid, own_row, view_rows}
-use Rattle.gp_txn.specs.Slots.{carried_after, changed_carried, changed_table, effect, is_touched, changed_slot, changed_slots, passes_seen, stored_after, changed_own, count_touched, one_if, with_own}
-use Rattle.gp_txn.proofs.SlottedLemmas.{rows-held, rows-passed, slotted_of}
+use Rattle.gp_txn.proofs.PlacedLemmas.{made_of}
 
 -- ---- UPDATE and DELETE
 
@@ -100,8 +101,8 @@ carried-same change (row ∷ rows) id = ap (λ b. same_identity row.id id || b) 
 pub slotted-same : (change : Change) (carried : List Carried) (base : List PlainRow) → slotted (changed_carried change carried) base ≡ slotted carried base
 slotted-same change carried base = λ i. filter (λ (row : PlainRow). not (carried-same change carried row.identity i)) base
 
-pub view-changed : (t k : ℕ) (change : Change) (writes : TableWrites) (base : List PlainRow)
-    → view_rows (changed_table change writes base) base ≡ rows_after plain t k change (view_rows writes base)
+pub view-changed : (t k : ℕ) (change : Change) (writes : Overlay) (base : List PlainRow)
+    → view_rows (changed_overlay change writes base) base ≡ rows_after plain t k change (view_rows writes base)
 view-changed t k change writes base =
     let slots = overlaid writes.slots (slotted writes.carried base) in
     let rows = filter_map carried_row writes.carried in
@@ -121,7 +122,7 @@ count-append change xs ys =
 count-one : (change : Change) (row : PlainRow) → count_touched change (row ∷ []) ≡ one_if (passes (cond_of change) row.cells)
 count-one change row = elim (passes (cond_of change) row.cells) as (λ b. length (cond b (row ∷ []) []) ≡ one_if b) [ true ↦ refl | false ↦ refl ]
 
-count-shown : (change : Change) (slot : Slot) (row : PlainRow) → count_touched change (shown slot row) ≡ one_if (is_touched change slot row.cells)
+pub count-shown : (change : Change) (slot : Slot) (row : PlainRow) → count_touched change (shown slot row) ≡ one_if (is_touched change slot row.cells)
 count-shown change Same row = count-one change row
 count-shown change (Put now) row = count-one change (put_row now row)
 count-shown change Dropped row = refl
@@ -131,41 +132,19 @@ pub count-carried : (change : Change) (carried : Carried) (cells : Option (List 
 count-carried change carried None is = rw is refl
 count-carried change carried (Some cells) is = rw is (count-one change (record { identity = carried.id; cells = cells; mark = true; annotation = tt }))
 
--- ---- turns of loops
+-- ---- of all rows with a slot
 
-pub turn-held : (change : Change) (done : List Slot) (slots : List Slot) (carried : List Carried) (place : ℕ) (span : Span) (spans list : List Span) → list ≡ span ∷ spans → is_carried carried span.id ≡ false
-    → done ++ changed_slots change (drop place slots) (slotted_of carried list) ≡ (done ++ changed_slot change (head_slot (drop place slots)) span.row ∷ []) ++ changed_slots change (drop (place + 1) slots) (slotted_of carried spans)
-turn-held change done slots carried place span spans list is free =
-    ap (λ rows. done ++ changed_slots change (drop place slots) rows) (rows-held carried span spans list is free)
-    ∙ ap (λ others. done ++ changed_slot change (head_slot (drop place slots)) span.row ∷ changed_slots change others (slotted_of carried spans)) (drop-drop 1 place slots)
-    ∙ sym (append_assoc done (changed_slot change (head_slot (drop place slots)) span.row ∷ []) (changed_slots change (drop (place + 1) slots) (slotted_of carried spans)))
-
-pub turn-passed : (change : Change) (done : List Slot) (slots : List Slot) (carried : List Carried) (span : Span) (spans list : List Span) → list ≡ span ∷ spans → is_carried carried span.id ≡ true
-    → done ++ changed_slots change slots (slotted_of carried list) ≡ done ++ changed_slots change slots (slotted_of carried spans)
-turn-passed change done slots carried span spans list is passed = ap (λ rows. done ++ changed_slots change slots rows) (rows-passed carried span spans list is passed)
-
-pub count-held : (change : Change) (count : ℕ) (slots : List Slot) (carried : List Carried) (place : ℕ) (span : Span) (spans list : List Span) → list ≡ span ∷ spans → is_carried carried span.id ≡ false
-    → count + count_touched change (overlaid (drop place slots) (slotted_of carried list)) ≡ (count + one_if (is_touched change (head_slot (drop place slots)) span.row)) + count_touched change (overlaid (drop (place + 1) slots) (slotted_of carried spans))
-count-held change count slots carried place span spans list is free =
-    ap (λ rows. count + count_touched change (overlaid (drop place slots) rows)) (rows-held carried span spans list is free)
-    ∙ ap (λ others. count + count_touched change (shown (head_slot (drop place slots)) (row_of plain span) ++ overlaid others (slotted_of carried spans))) (drop-drop 1 place slots)
-    ∙ ap (λ n. count + n) (count-append change (shown (head_slot (drop place slots)) (row_of plain span)) (overlaid (drop (place + 1) slots) (slotted_of carried spans)))
-    ∙ ap (λ n. count + (n + count_touched change (overlaid (drop (place + 1) slots) (slotted_of carried spans)))) (count-shown change (head_slot (drop place slots)) (row_of plain span))
-    ∙ sym (add_assoc count (one_if (is_touched change (head_slot (drop place slots)) span.row)) (count_touched change (overlaid (drop (place + 1) slots) (slotted_of carried spans))))
-
-pub count-passed : (change : Change) (count : ℕ) (slots : List Slot) (carried : List Carried) (span : Span) (spans list : List Span) → list ≡ span ∷ spans → is_carried carried span.id ≡ true
-    → count + count_touched change (overlaid slots (slotted_of carried list)) ≡ count + count_touched change (overlaid slots (slotted_of carried spans))
-count-passed change count slots carried span spans list is passed = ap (λ rows. count + count_touched change (overlaid slots rows)) (rows-passed carried span spans list is passed)
-
-pub one_if-few : (b : Bool) → one_if b < 2
-one_if-few true = omega arith
-one_if-few false = omega arith
+pub touched-made : (change : Change) (slots : List Slot) (spans : List Span) → made_of (row_touched change) slots spans ≡ touched change (overlaid slots (map (row_of plain) spans))
+touched-made change slots [] = refl
+touched-made change slots (span ∷ spans) =
+    ap (λ (rows : List PlainRow). touched change (shown (head_slot slots) (row_of plain span)) ++ rows) (touched-made change (drop 1 slots) spans)
+    ∙ sym (filter-append (λ (row : PlainRow). passes (cond_of change) row.cells) (shown (head_slot slots) (row_of plain span)) (overlaid (drop 1 slots) (map (row_of plain) spans)))
 
 -- ---- INSERT
 
-pub view-more : (writes : TableWrites) (new : List Stored) (base : List PlainRow) → view_rows (with_own new writes) base ≡ view_rows writes base ++ map own_row new
-view-more writes new base =
-    let slots = overlaid writes.slots (slotted writes.carried base) in
+pub view-more : (spans : List Span) (writes : TableWrites) (new : List Stored) (base : List PlainRow) → view_rows (overlay_of spans (with_own new writes)) base ≡ view_rows (overlay_of spans writes) base ++ map own_row new
+view-more spans writes new base =
+    let slots = overlaid (overlay_of spans writes).slots (slotted writes.carried base) in
     let rows = filter_map carried_row writes.carried in
     let own = map own_row writes.own in
     ap (λ others. slots ++ (rows ++ others)) (map-append own_row writes.own new)

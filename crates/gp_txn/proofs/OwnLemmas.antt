@@ -19,7 +19,7 @@ use Rattle.gp_txn.specs.declared.overlay.Slot.{Slot}
 use Rattle.gp_txn.specs.declared.overlay.Slot.TheVariants.{Same, Put, Dropped}
 use Rattle.gp_txn.specs.Changes.{Change}
 use Rattle.gp_txn.specs.declared.overlay.TableWrites.{TableWrites}
-use Rattle.gp_txn.specs.Overlay.{PlainRow, carried_row, carried_write, head_slot, is_carried, shown, slotted, overlaid, own_row, own_write, view_rows}
+use Rattle.gp_txn.specs.Overlay.{PlainRow, carried_row, carried_write, head_slot, is_carried, shown, slotted, overlaid, overlay_of, own_row, own_write, view_rows}
 use Rattle.gp_txn.specs.Transactions.{AreCarried, AreOthers, AreOwn, IsOwn, KeepsOwn}
 use Rattle.gp_txn.specs.Inserting.{AreNew}
 use Rattle.gp_txn.specs.Slots.{changed_carried, changed_own, changed_table, effect, stored_after}
@@ -90,8 +90,8 @@ own-later t last k own later mine = (all-weaker (IsOwn t last) (IsOwn t k) (λ s
 pub own-changed : (t last k : ℕ) (change : Change) (own : List Stored) → last ≤ k → AreOwn t last own → AreOwn t k (changed_own change own)
 own-changed t last k change own later mine = own-later t last k (changed_own change own) later (all-own t last change own mine.0, distinct-own change own mine.1)
 
-pub keeps-changed : (t last k : ℕ) (change : Change) (writes : TableWrites) (base : List PlainRow) → last ≤ k → KeepsOwn t last writes → KeepsOwn t k (changed_table change writes base)
-keeps-changed t last k change writes base later keeps = record { own = own-changed t last k change writes.own later keeps.own; carried = carried-after t change writes.carried keeps.carried }
+pub keeps-changed : (t last k : ℕ) (change : Change) (spans : List Span) (writes : TableWrites) → last ≤ k → KeepsOwn t last writes → KeepsOwn t k (changed_table change spans writes)
+keeps-changed t last k change spans writes later keeps = record { own = own-changed t last k change writes.own later keeps.own; carried = carried-after t change writes.carried keeps.carried }
 
 -- ---- from tests to facts, and back
 
@@ -214,20 +214,20 @@ slot-apart : (carried : List Carried) (id : Identity) → is_carried carried id 
 slot-apart carried id none = others-apart id carried (carried-written carried id ∙ none)
 
 -- no two rows of a table are of one identity
-pub view-differ : (t last : ℕ) (writes : TableWrites) (v : ℕ) (spans : List Span) → NoOverlap spans → AreOthers t spans → KeepsOwn t last writes → Pairwise RowsDiffer (view_rows writes (rows_at plain v spans))
+pub view-differ : (t last : ℕ) (writes : TableWrites) (v : ℕ) (spans : List Span) → NoOverlap spans → AreOthers t spans → KeepsOwn t last writes → Pairwise RowsDiffer (view_rows (overlay_of spans writes) (rows_at plain v spans))
 view-differ t last writes v spans apart others keeps =
     let base = slotted writes.carried (rows_at plain v spans) in
-    let slots = overlaid writes.slots base in
+    let slots = overlaid (overlay_of spans writes).slots base in
     let rows = filter_map carried_row writes.carried in
     let own = map own_row writes.own in
     let differ = pairwise-filter RowsDiffer (λ (row : PlainRow). not (is_carried writes.carried row.identity)) (rows_at plain v spans) (spans-differ (spans_at v spans) (held-differ v spans apart)) in
     let other = all-filter (λ (row : PlainRow). transaction_of row.identity ≢ t) (λ (row : PlainRow). not (is_carried writes.carried row.identity)) (rows_at plain v spans) (others-rows t v spans others) in
-    let uncarried = all-overlaid (λ id. is_carried writes.carried id ≡ false) writes.slots base (all-slotted writes.carried (rows_at plain v spans)) in
+    let uncarried = all-overlaid (λ id. is_carried writes.carried id ≡ false) (overlay_of spans writes).slots base (all-slotted writes.carried (rows_at plain v spans)) in
     let behind = pairwise-append RowsDiffer rows own (carried-differ writes.carried keeps.carried.1) (distinct-rows writes.own keeps.own.1)
     (all-weaker (λ (row : PlainRow). transaction_of row.identity ≢ t) (λ row. AllByRecursion (RowsDiffer row) own) (λ row is. other-apart t last row writes.own is keeps.own.0) rows
     (all-carried (λ id. transaction_of id ≢ t) writes.carried keeps.carried.0)) in
     let across = all-weaker (λ (row : PlainRow). is_carried writes.carried row.identity ≡ false) (λ row. AllByRecursion (RowsDiffer row) rows)
     (λ row none. all-carried (λ id. row.identity ≢ id) writes.carried (slot-apart writes.carried row.identity none)) slots uncarried in
     let across_own = all-weaker (λ (row : PlainRow). transaction_of row.identity ≢ t) (λ row. AllByRecursion (RowsDiffer row) own) (λ row is. other-apart t last row writes.own is keeps.own.0) slots
-    (all-overlaid (λ id. transaction_of id ≢ t) writes.slots base other) in
-    pairwise-append RowsDiffer slots (rows ++ own) (overlaid-differ writes.slots base differ) behind (all-both slots rows own across across_own)
+    (all-overlaid (λ id. transaction_of id ≢ t) (overlay_of spans writes).slots base other) in
+    pairwise-append RowsDiffer slots (rows ++ own) (overlaid-differ (overlay_of spans writes).slots base differ) behind (all-both slots rows own across across_own)

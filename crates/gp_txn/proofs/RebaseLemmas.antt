@@ -22,22 +22,13 @@ use Rattle.gp_txn.specs.declared.overlay.Slot.{Slot}
 use Rattle.gp_txn.specs.declared.overlay.Slot.TheVariants.{Same, Put, Dropped}
 use Rattle.gp_txn.specs.declared.overlay.TableWrites.{TableWrites}
 use Rattle.gp_txn.specs.Bases.{base_after, base_of, carried_base, refreshed, table_view}
-use Rattle.gp_txn.specs.Overlay.{PlainRow, base_writes, carried_row, head_slot, is_carried, own_row, overlaid, rows_below, shown, slot_write, slot_writes, slotted, view_rows}
+use Rattle.gp_txn.specs.Overlay.{Overlay, PlainRow, base_writes, carried_row, head_slot, is_carried, own_row, overlaid, overlay_of, rows_below, shown, slot_write, slot_writes, slots_from, slotted, view_rows}
 use Rattle.gp_txn.specs.Rebasing.{IsMoved, carried_of, carried_over, or_writes, rebased, writes_over}
 use Rattle.gp_txn.specs.Transactions.{AreOthers, AreThere, KeepsOwn, has_span}
 use Rattle.gp_txn.proofs.BaseLemmas.{base-none, carried-none, written-uncarried}
 use Rattle.gp_txn.proofs.CommitLemmas.{carried-keeps, over-all}
 use Rattle.gp_txn.proofs.PairLemmas.{all-weaker}
-
--- ---- rows without slots
-
-overlaid-none : (rows : List PlainRow) → overlaid [] rows ≡ rows
-overlaid-none [] = refl
-overlaid-none (row ∷ rows) = ap (λ (others : List PlainRow). row ∷ others) (overlaid-none rows)
-
-writes-none : (rows : List PlainRow) → base_writes [] rows ≡ []
-writes-none [] = refl
-writes-none (row ∷ rows) = writes-none rows
+use Rattle.gp_txn.proofs.PlacedLemmas.{none-same, overlaid-same, writes-same}
 
 -- ---- the marked rows
 
@@ -63,7 +54,7 @@ marked-own (stored ∷ own) = ap (λ (rows : List PlainRow). own_row stored ∷ 
 marked-all : (carried : List Carried) (own : List Stored) → marked (filter_map carried_row carried ++ map own_row own) ≡ filter_map carried_row carried ++ map own_row own
 marked-all carried own = filter-append (λ (row : PlainRow). row.mark) (filter_map carried_row carried) (map own_row own) ∙ (λ i. marked-carried carried i ++ marked-own own i)
 
-pub view-nowhere : (table : TableWrites) (version : ℕ) → table_view table [] version ≡ filter_map carried_row table.carried ++ map own_row table.own
+pub view-nowhere : (table : Overlay) (version : ℕ) → table_view table [] version ≡ filter_map carried_row table.carried ++ map own_row table.own
 view-nowhere table version =
     elim (version == table.version) as (λ same. cond same (view_rows table []) (refreshed table [] []) ≡ filter_map carried_row table.carried ++ map own_row table.own) [
       | true ↦ refl
@@ -106,11 +97,15 @@ pub after-none : (new : ℕ) (some : Option ℕ) → base_after new false some �
 after-none new None = refl
 after-none new (Some b) = refl
 
-module _ (version : ℕ) (writes : TableWrites) (base : List PlainRow) where
+module _ (version : ℕ) (writes : Overlay) (base : List PlainRow) where
   carried-over : (id : Identity) → is_carried (carried_over writes base) id ≡ (is_written (slot_writes writes base) id || is_carried writes.carried id)
   carried-over id =
       list_any-append (λ (row : Carried). same_identity row.id id) (map (carried_of writes.version) (slot_writes writes base)) writes.carried
       ∙ ap (λ b. b || is_carried writes.carried id) (carried-moved writes.version (slot_writes writes base) id)
+
+  -- no row of the new version is written yet
+  abbrev no_slots : List Span → List Slot
+  no_slots spans = slots_from (carried_over writes base) version [] 0 spans
 
   -- a row of the new version has a slot where it was not written
   slotted-over : (rows : List PlainRow) → slotted (carried_over writes base) rows ≡ filter (λ row. is_none (base_of writes base row.identity)) rows
@@ -127,9 +122,9 @@ module _ (version : ℕ) (writes : TableWrites) (base : List PlainRow) where
       ∙ ap (λ (others : List PlainRow). marked slots ++ others) (sym (filter-append (λ (row : PlainRow). row.mark) rows own))
       ∙ sym (filter-append (λ (row : PlainRow). row.mark) slots (rows ++ own))
 
-  pub view-rebased : AreUnmarked base → (rows : List PlainRow) → view_rows (rebased version writes base) rows ≡ refreshed writes base rows
-  view-rebased unmarked rows =
-      (λ i. overlaid-none (slotted (carried_over writes base) rows) i ++ (filter_map carried_row (carried_over writes base) ++ map own_row writes.own))
+  pub view-rebased : AreUnmarked base → (spans : List Span) (rows : List PlainRow) → view_rows (overlay_of spans (rebased version writes base)) rows ≡ refreshed writes base rows
+  view-rebased unmarked spans rows =
+      (λ i. overlaid-same (no_slots spans) (slotted (carried_over writes base) rows) (none-same (carried_over writes base) version 0 spans) i ++ (filter_map carried_row (carried_over writes base) ++ map own_row writes.own))
       ∙ (λ i. slotted-over rows i ++ rows-over unmarked i)
 
   -- ---- bases
@@ -147,9 +142,9 @@ module _ (version : ℕ) (writes : TableWrites) (base : List PlainRow) where
   base-first false None none = refl
   base-first false (Some b) none = refl
 
-  pub base-rebased : (rows : List PlainRow) (id : Identity) → base_of (rebased version writes base) rows id ≡ base_of writes base id
-  base-rebased rows id =
-      ap (λ (list : List Write). base_after version (is_written list id) (carried_base (carried_over writes base) id)) (writes-none (slotted (carried_over writes base) rows))
+  pub base-rebased : (spans : List Span) (rows : List PlainRow) (id : Identity) → base_of (overlay_of spans (rebased version writes base)) rows id ≡ base_of writes base id
+  base-rebased spans rows id =
+      ap (λ (list : List Write). base_after version (is_written list id) (carried_base (carried_over writes base) id)) (writes-same (no_slots spans) (slotted (carried_over writes base) rows) (none-same (carried_over writes base) version 0 spans))
       ∙ after-none version (carried_base (carried_over writes base) id)
       ∙ base-moved (slot_writes writes base) id
       ∙ base-first (is_written (slot_writes writes base) id) (carried_base writes.carried id)
@@ -173,7 +168,7 @@ marked-twice : (rows : List PlainRow) → marked (marked rows) ≡ marked rows
 marked-twice [] = refl
 marked-twice (row ∷ rows) = twice-one row.mark row (marked rows) refl (marked-twice rows)
 
-pub marks-at : (table : TableWrites) (spans : List Span) (version : ℕ) → marked (table_view table spans version) ≡ marked (view_rows table (rows_below table spans))
+pub marks-at : (table : Overlay) (spans : List Span) (version : ℕ) → marked (table_view table spans version) ≡ marked (view_rows table (rows_below table spans))
 marks-at table spans version =
     let below = rows_below table spans in
     elim (version == table.version) as (λ same. (version == table.version) ≡ same → marked (cond same (view_rows table (rows_at plain version spans)) (refreshed table below (rows_at plain version spans))) ≡ marked (view_rows table below)) [
@@ -195,62 +190,65 @@ spans-there (span ∷ spans) = (rw (same-itself span.id) refl, there-more span s
 
 -- ---- the writes over a version
 
-module _ (version : ℕ) (writes : TableWrites) (spans : List Span) where
+module _ (version : ℕ) (stored : TableWrites) (spans : List Span) where
+  abbrev writes : Overlay
+  writes = overlay_of spans stored
+
   abbrev over : Bool → TableWrites
-  over same = cond same writes (rebased version writes (rows_below writes spans))
+  over same = cond same stored (rebased version writes (rows_below writes spans))
 
   abbrev view_by : Bool → List PlainRow
   view_by same = cond same (view_rows writes (rows_at plain version spans)) (refreshed writes (rows_below writes spans) (rows_at plain version spans))
 
-  view-by : (same : Bool) → view_by same ≡ view_rows (over same) (rows_at plain version spans)
+  view-by : (same : Bool) → view_by same ≡ view_rows (overlay_of spans (over same)) (rows_at plain version spans)
   view-by true = refl
-  view-by false = sym (view-rebased version writes (rows_below writes spans) (unmarked-spans (spans_at writes.version spans)) (rows_at plain version spans))
+  view-by false = sym (view-rebased version writes (rows_below writes spans) (unmarked-spans (spans_at writes.version spans)) spans (rows_at plain version spans))
 
   -- they show what the transaction sees there
-  pub view-over : table_view writes spans version ≡ view_rows (writes_over version spans writes) (rows_at plain version spans)
+  pub view-over : table_view writes spans version ≡ view_rows (overlay_of spans (writes_over version spans stored)) (rows_at plain version spans)
   view-over = view-by (version == writes.version)
 
-  base-by : (same : Bool) → (version == writes.version) ≡ same → (id : Identity) → base_of (over same) (rows_at plain version spans) id ≡ base_of writes (rows_below writes spans) id
+  base-by : (same : Bool) → (version == writes.version) ≡ same → (id : Identity) → base_of (overlay_of spans (over same)) (rows_at plain version spans) id ≡ base_of writes (rows_below writes spans) id
   base-by true is id = ap (λ v. base_of writes (rows_at plain v spans) id) (eqb-true version writes.version is)
-  base-by false is id = base-rebased version writes (rows_below writes spans) (rows_at plain version spans) id
+  base-by false is id = base-rebased version writes (rows_below writes spans) spans (rows_at plain version spans) id
 
-  pub base-over : (id : Identity) → base_of (writes_over version spans writes) (rows_at plain version spans) id ≡ base_of writes (rows_below writes spans) id
+  pub base-over : (id : Identity) → base_of (overlay_of spans (writes_over version spans stored)) (rows_at plain version spans) id ≡ base_of writes (rows_below writes spans) id
   base-over id = base-by (version == writes.version) refl id
 
   version-by : (same : Bool) → (version == writes.version) ≡ same → (over same).version ≡ version
   version-by true is = sym (eqb-true version writes.version is)
   version-by false is = refl
 
-  pub version-over : (writes_over version spans writes).version ≡ version
+  pub version-over : (writes_over version spans stored).version ≡ version
   version-over = version-by (version == writes.version) refl
 
   own-by : (same : Bool) → (over same).own ≡ writes.own
   own-by true = refl
   own-by false = refl
 
-  pub own-over : (writes_over version spans writes).own ≡ writes.own
+  pub own-over : (writes_over version spans stored).own ≡ writes.own
   own-over = own-by (version == writes.version)
 
-  keeps-by : (t last : ℕ) → NoOverlap spans → AreOthers t spans → KeepsOwn t last writes → (same : Bool) → KeepsOwn t last (over same)
+  keeps-by : (t last : ℕ) → NoOverlap spans → AreOthers t spans → KeepsOwn t last stored → (same : Bool) → KeepsOwn t last (over same)
   keeps-by t last apart others keeps true = keeps
-  keeps-by t last apart others keeps false = record { own = keeps.own; carried = carried-keeps writes spans t apart others keeps.carried }
+  keeps-by t last apart others keeps false = record { own = keeps.own; carried = carried-keeps stored spans t apart others keeps.carried }
 
-  pub keeps-over : (t last : ℕ) → NoOverlap spans → AreOthers t spans → KeepsOwn t last writes → KeepsOwn t last (writes_over version spans writes)
+  pub keeps-over : (t last : ℕ) → NoOverlap spans → AreOthers t spans → KeepsOwn t last stored → KeepsOwn t last (writes_over version spans stored)
   keeps-over t last apart others keeps = keeps-by t last apart others keeps (version == writes.version)
 
   there-by : AreThere spans writes.carried → (same : Bool) → AreThere spans (over same).carried
   there-by there true = there
   there-by there false = over-all (λ id. has_span spans id ≡ true) writes spans (spans-there spans) there
 
-  pub there-over : AreThere spans writes.carried → AreThere spans (writes_over version spans writes).carried
+  pub there-over : AreThere spans writes.carried → AreThere spans (writes_over version spans stored).carried
   there-over there = there-by there (version == writes.version)
 
   -- what is seen over what the code made for the version, if it made anything
-  pub view-moved : (moved : Option TableWrites) → IsMoved version spans writes moved → view_rows (or_writes moved writes) (rows_below (or_writes moved writes) spans) ≡ table_view writes spans version
+  pub view-moved : (moved : Option TableWrites) → IsMoved version spans stored moved → view_rows (overlay_of spans (or_writes moved stored)) (rows_below (overlay_of spans (or_writes moved stored)) spans) ≡ table_view writes spans version
   view-moved None is = rw is (ap (λ v. view_rows writes (rows_at plain v spans)) (sym (eqb-true version writes.version is)))
-  view-moved (Some moved) is = rw (is.1, is.0) (view-rebased version writes (rows_below writes spans) (unmarked-spans (spans_at writes.version spans)) (rows_at plain version spans))
+  view-moved (Some moved) is = rw (is.1, is.0) (view-rebased version writes (rows_below writes spans) (unmarked-spans (spans_at writes.version spans)) spans (rows_at plain version spans))
 
   -- what the code made for the version
-  pub moved-is : (moved : Option TableWrites) → IsMoved version spans writes moved → or_writes moved writes ≡ writes_over version spans writes
+  pub moved-is : (moved : Option TableWrites) → IsMoved version spans stored moved → or_writes moved stored ≡ writes_over version spans stored
   moved-is None is = rw is refl
   moved-is (Some moved) is = rw is.0 is.1

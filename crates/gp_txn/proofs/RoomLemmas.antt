@@ -13,16 +13,15 @@ use Rattle.gp_versions.specs.Spans.{row_of, rows_at, spans_at}
 use Rattle.gp_versions.proofs.ListedLemmas.{at-few}
 use Rattle.gp_txn.specs.declared.carried.Carried.{Carried}
 use Rattle.gp_txn.specs.declared.overlay.Slot.{Slot}
-use Rattle.gp_txn.specs.declared.overlay.TableWrites.{TableWrites}
 use Rattle.gp_txn.specs.Bases.{refreshed, table_view}
 use Rattle.gp_txn.specs.Inserting.{are_many}
-use Rattle.gp_txn.specs.Overlay.{PlainRow, carried_row, head_slot, is_carried, overlaid, own_row, rows_below, shown, slotted, view_rows}
-use Rattle.gp_txn.proofs.ViewLemmas.{length-shown, shown-few}
+use Rattle.gp_txn.specs.Overlay.{Overlay, PlainRow, carried_row, head_slot, is_carried, overlaid, own_row, rows_below, shown, slotted, view_rows}
+use Rattle.gp_txn.proofs.ViewLemmas.{length-shown}
 
 overlaid-few : (slots : List Slot) (rows : List PlainRow) → length (overlaid slots rows) ≤ length rows
 overlaid-few slots [] = omega arith
 overlaid-few slots (row ∷ rows) =
-    omega (arith, length-append (shown (head_slot slots) row) (overlaid (drop 1 slots) rows), length-shown (head_slot slots) row, shown-few (head_slot slots), overlaid-few (drop 1 slots) rows)
+    omega (arith, length-append (shown (head_slot slots) row) (overlaid (drop 1 slots) rows), length-shown (head_slot slots) row, overlaid-few (drop 1 slots) rows)
 
 filter-few : {X : Type 0} (p : X → Bool) (xs : List X) → length (filter p xs) ≤ length xs
 filter-few p [] = omega arith
@@ -37,7 +36,7 @@ carried-few (row ∷ rows) =
       | Some cells ↦ omega (arith, rest)
     ]
 
-view-few : (writes : TableWrites) (spans : List Span) → length (view_rows writes (rows_below writes spans)) ≤ length spans + length writes.carried + length writes.own
+view-few : (writes : Overlay) (spans : List Span) → length (view_rows writes (rows_below writes spans)) ≤ length spans + length writes.carried + length writes.own
 view-few writes spans =
     let base = rows_below writes spans in
     let seen = overlaid writes.slots (slotted writes.carried base) in
@@ -56,7 +55,7 @@ view-few writes spans =
     )
 
 -- a few rows more are not too many
-pub room-enough : (version : ℕ) (writes : TableWrites) (spans : List Span) (more : ℕ) → writes.version ≡ version → length spans + length writes.carried + length writes.own + more ≤ MAX_TABLE_ROWS
+pub room-enough : (version : ℕ) (writes : Overlay) (spans : List Span) (more : ℕ) → writes.version ≡ version → length spans + length writes.carried + length writes.own + more ≤ MAX_TABLE_ROWS
     → not (are_many (length (table_view writes spans version)) more) ≡ true
 room-enough version writes spans more same room =
     ap (λ b. not (are_many (length (cond b (view_rows writes (rows_at plain version spans)) (refreshed writes (rows_below writes spans) (rows_at plain version spans)))) more)) (eq-eqb version writes.version (sym same))

@@ -1,4 +1,4 @@
--- The rows of these spans that have a slot, span by span.
+-- The spans of the rows that have a slot.
 use Rattle.std.proofs.Common.{◌≡◌, ℕ, true, false, cond, not, List, ◌∷◌, map, ap, ◌∙◌}
 use Rattle.std.specs.List.{filter}
 use Rattle.gp_base.specs.Annotated.{plain}
@@ -8,21 +8,11 @@ use Rattle.gp_txn.specs.declared.carried.Carried.{Carried}
 use Rattle.gp_txn.specs.Overlay.{PlainRow, is_carried, slotted, slotted_spans}
 use Rattle.gp_base.proofs.SmallLemmas.{filter-map}
 
--- of the rows of a version, given its spans, those with a slot
-abbrev pub slotted_of : List Carried → List Span → List PlainRow
-slotted_of carried spans = slotted carried (map (row_of plain) spans)
-
--- their spans
+-- of the spans of a version, those of rows with a slot
 abbrev pub free_spans : List Carried → List Span → List Span
 free_spans carried spans = filter (λ (span : Span). not (is_carried carried span.id)) spans
 
 module _ (carried : List Carried) (span : Span) (spans list : List Span) (is : list ≡ span ∷ spans) where
-  pub rows-held : is_carried carried span.id ≡ false → slotted_of carried list ≡ row_of plain span ∷ slotted_of carried spans
-  rows-held free = ap (slotted_of carried) is ∙ ap (λ b. cond (not b) (row_of plain span ∷ slotted_of carried spans) (slotted_of carried spans)) free
-
-  pub rows-passed : is_carried carried span.id ≡ true → slotted_of carried list ≡ slotted_of carried spans
-  rows-passed passed = ap (slotted_of carried) is ∙ ap (λ b. cond (not b) (row_of plain span ∷ slotted_of carried spans) (slotted_of carried spans)) passed
-
   pub spans-held : is_carried carried span.id ≡ false → free_spans carried list ≡ span ∷ free_spans carried spans
   spans-held free = ap (free_spans carried) is ∙ ap (λ b. cond (not b) (span ∷ free_spans carried spans) (free_spans carried spans)) free
 

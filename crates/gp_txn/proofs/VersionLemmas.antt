@@ -24,8 +24,8 @@ use Rattle.gp_txn.specs.declared.overlay.TableWrites.{TableWrites}
 use Rattle.gp_txn.specs.Bases.{base_of}
 use Rattle.gp_txn.specs.Committing.{Commits, commit_of, spans_left, unmarked, view_below}
 use Rattle.gp_txn.specs.Conflicts.{IsFirstConflict, lates_at}
-use Rattle.gp_txn.specs.Overlay.{PlainRow, base_writes, carried_row, carried_write, head_slot, overlaid, own_row, own_write, rows_below, shown, slot_write, slot_writes, slotted, slotted_spans, table_writes, view_rows}
-use Rattle.gp_txn.specs.Transactions.{AreOthers, HoldsOthers, HoldsOwn, Writes, base_at, database_at, no_table, table_at, writes_at}
+use Rattle.gp_txn.specs.Overlay.{Overlay, PlainRow, base_writes, carried_row, carried_write, head_slot, overlaid, own_row, own_write, rows_below, shown, slot_write, slot_writes, slotted, slotted_spans, table_writes, view_rows}
+use Rattle.gp_txn.specs.Transactions.{AreOthers, HoldsOthers, HoldsOwn, Writes, base_at, database_at, no_table, overlay_at, table_at, writes_at}
 use Rattle.gp_txn.proofs.BaseLemmas.{base-none, table-written}
 use Rattle.gp_txn.proofs.CommitLemmas.{AreMadeBy, inserted-own, others-held}
 use Rattle.gp_txn.proofs.SlottedLemmas.{rows-spans}
@@ -63,11 +63,11 @@ live-carried : (carried : List Carried) → live_rows plain (map carried_write c
 live-carried [] = refl
 live-carried (row ∷ rows) = live-carried-one row row.row (map carried_write rows) (filter_map carried_row rows) refl (live-carried rows)
 
-live-slots : (writes : TableWrites) (spans : List Span) → live_rows plain (slot_writes writes (rows_below writes spans)) ≡ marked (overlaid writes.slots (slotted writes.carried (rows_below writes spans)))
+live-slots : (writes : Overlay) (spans : List Span) → live_rows plain (slot_writes writes (rows_below writes spans)) ≡ marked (overlaid writes.slots (slotted writes.carried (rows_below writes spans)))
 live-slots writes spans =
     subst (λ (rows : List PlainRow). live_rows plain (base_writes writes.slots rows) ≡ marked (overlaid writes.slots rows)) (sym (rows-spans writes.carried writes.version spans)) (live-base writes.slots (slotted_spans writes.carried writes.version spans))
 
-pub live-view : (writes : TableWrites) (spans : List Span) → live_rows plain (table_writes writes (rows_below writes spans)) ≡ marked (view_rows writes (rows_below writes spans))
+pub live-view : (writes : Overlay) (spans : List Span) → live_rows plain (table_writes writes (rows_below writes spans)) ≡ marked (view_rows writes (rows_below writes spans))
 live-view writes spans =
     let rows = filter_map carried_row writes.carried in
     let own = map own_row writes.own in
@@ -79,7 +79,7 @@ live-view writes spans =
 
 -- ---- the rows that are left are those that have no base
 
-module _ (writes : TableWrites) (base : List PlainRow) (t : ℕ) (made : AreMadeBy t writes.own) where
+module _ (writes : Overlay) (base : List PlainRow) (t : ℕ) (made : AreMadeBy t writes.own) where
   pub unwritten-none : (id : Identity) → transaction_of id ≢ t → not (is_written (table_writes writes base) id) ≡ is_none (base_of writes base id)
   unwritten-none id other = ap not (table-written writes base t id other made) ∙ sym (base-none writes base id)
 
@@ -118,7 +118,7 @@ module _ (version : ℕ) (writes : Writes) (old new : List Versions) (first : 1 
       ≡ map unmarked (filter (λ row. is_none (base_at writes.tables old place row.identity)) (database_at (version - 1) old place)
       ++ filter (λ row. row.mark) (view_below writes.tables old place))
   newest place low =
-      let table = writes_at place writes.tables in
+      let table = overlay_at place writes.tables old in
       let held = (table_at place old).spans in
       let base = rows_below table held in
       ap (rows_at plain version) (spans place low)

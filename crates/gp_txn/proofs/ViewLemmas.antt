@@ -1,6 +1,6 @@
 -- Loops that make the rows that a transaction sees, and that count them.
-use Rattle.std.proofs.Common.{◌≡◌, ℕ, ◌+◌, ◌<◌, true, false, List, [], ◌∷◌, ◌++◌, map, drop, length, get_or, refl, ap, sym, ◌∙◌, arith, add_assoc, Option, None}
-use Rattle.std.specs.List.{filter_map}
+use Rattle.std.proofs.Common.{◌≡◌, ℕ, ◌+◌, ◌≤◌, true, false, cond, List, [], ◌∷◌, ◌++◌, map, drop, length, get_or, refl, ap, sym, ◌∙◌, arith, add_assoc, Option, None}
+use Rattle.std.specs.List.{filter_map, flat_map}
 use Rattle.std.specs.Option.{option_to_list}
 use Rattle.std.proofs.lemmas.List.{map-append, drop-drop, append_assoc, length-append}
 use Rattle.std.proofs.lemmas.List.Elements.{filter-append}
@@ -9,16 +9,20 @@ use Rattle.gp_base.specs.Annotated.{plain}
 use Rattle.gp_expr.specs.Expressions.{Cond}
 use Rattle.gp_algebra.specs.Answers.{passes_where}
 use Rattle.gp_versions.specs.declared.span.Span.{Span}
-use Rattle.gp_versions.specs.Spans.{row_of}
+use Rattle.gp_versions.specs.Spans.{row_of, rows_at}
 use Rattle.gp_txn.specs.declared.carried.Carried.{Carried}
 use Rattle.gp_txn.specs.declared.overlay.Slot.{Slot}
 use Rattle.gp_txn.specs.declared.overlay.Slot.TheVariants.{Same, Put, Dropped}
-use Rattle.gp_txn.specs.declared.overlay.TableWrites.{TableWrites}
-use Rattle.gp_txn.specs.Overlay.{PlainRow, carried_row, head_slot, is_carried, shown, slotted, overlaid, own_row, stored_of, view_rows}
-use Rattle.gp_txn.specs.Slots.{shown_count}
+use Rattle.gp_txn.specs.Overlay.{Overlay, PlainRow, carried_row, head_slot, is_carried, shown, slots_from, slotted, slotted_spans, overlaid, own_row, stored_of, view_rows}
+use Rattle.gp_txn.specs.Slots.{dropped_count}
+use Rattle.gp_txn.specs.declared.overlay.Placed.{Placed}
+use Rattle.gp_txn.specs.Ascending.{IsAscending, place_of}
+use Rattle.gp_txn.specs.Enough.{IsEnough}
+use Rattle.gp_txn.specs.Passes.{of_entry, of_place, row_dropped, row_wanted}
 use Rattle.gp_txn.specs.Wanted.{wanted, wanted_own}
 use Rattle.gp_txn.proofs.OverlayLemmas.{filter_map-one}
-use Rattle.gp_txn.proofs.SlottedLemmas.{rows-held, rows-passed, slotted_of}
+use Rattle.gp_txn.proofs.PlacedLemmas.{anywhere, entries-made, made_of, places-made}
+use Rattle.gp_txn.proofs.SlottedLemmas.{rows-spans}
 use Rattle.gp_base.proofs.SmallLemmas.{filter-map, length-map}
 
 pub wanted-all : (rows : List PlainRow) → wanted None rows ≡ rows
@@ -28,17 +32,11 @@ wanted-all (row ∷ rows) = ap (λ (others : List PlainRow). row ∷ others) (wa
 wanted-append : (c : Option Cond) (xs ys : List PlainRow) → map stored_of (wanted c (xs ++ ys)) ≡ map stored_of (wanted c xs) ++ map stored_of (wanted c ys)
 wanted-append c xs ys = ap (λ (rows : List PlainRow). map stored_of rows) (filter-append (λ (row : PlainRow). passes_where c row.cells) xs ys) ∙ map-append stored_of (wanted c xs) (wanted c ys)
 
-pub seen-held : (c : Option Cond) (done : List Stored) (slots : List Slot) (carried : List Carried) (place : ℕ) (span : Span) (spans list : List Span) → list ≡ span ∷ spans → is_carried carried span.id ≡ false
-    → done ++ map stored_of (wanted c (overlaid (drop place slots) (slotted_of carried list))) ≡ (done ++ map stored_of (wanted c (shown (head_slot (drop place slots)) (row_of plain span)))) ++ map stored_of (wanted c (overlaid (drop (place + 1) slots) (slotted_of carried spans)))
-seen-held c done slots carried place span spans list is free =
-    ap (λ rows. done ++ map stored_of (wanted c (overlaid (drop place slots) rows))) (rows-held carried span spans list is free)
-    ∙ ap (λ others. done ++ map stored_of (wanted c (shown (head_slot (drop place slots)) (row_of plain span) ++ overlaid others (slotted_of carried spans)))) (drop-drop 1 place slots)
-    ∙ ap (λ (rows : List Stored). done ++ rows) (wanted-append c (shown (head_slot (drop place slots)) (row_of plain span)) (overlaid (drop (place + 1) slots) (slotted_of carried spans)))
-    ∙ sym (append_assoc done (map stored_of (wanted c (shown (head_slot (drop place slots)) (row_of plain span)))) (map stored_of (wanted c (overlaid (drop (place + 1) slots) (slotted_of carried spans)))))
-
-pub seen-passed : (c : Option Cond) (done : List Stored) (slots : List Slot) (carried : List Carried) (span : Span) (spans list : List Span) → list ≡ span ∷ spans → is_carried carried span.id ≡ true
-    → done ++ map stored_of (wanted c (overlaid slots (slotted_of carried list))) ≡ done ++ map stored_of (wanted c (overlaid slots (slotted_of carried spans)))
-seen-passed c done slots carried span spans list is passed = ap (λ rows. done ++ map stored_of (wanted c (overlaid slots rows))) (rows-passed carried span spans list is passed)
+pub wanted-made : (c : Option Cond) (slots : List Slot) (spans : List Span) → made_of (row_wanted c) slots spans ≡ map stored_of (wanted c (overlaid slots (map (row_of plain) spans)))
+wanted-made c slots [] = refl
+wanted-made c slots (span ∷ spans) =
+    ap (λ (rows : List Stored). map stored_of (wanted c (shown (head_slot slots) (row_of plain span))) ++ rows) (wanted-made c (drop 1 slots) spans)
+    ∙ sym (wanted-append c (shown (head_slot slots) (row_of plain span)) (overlaid (drop 1 slots) (map (row_of plain) spans)))
 
 own-stored : (own : List Stored) → map stored_of (map own_row own) ≡ own
 own-stored [] = refl
@@ -52,7 +50,7 @@ pub carried-wanted : (c : Option Cond) (carried : Carried) (others : List Carrie
 carried-wanted c carried others =
     ap (λ (rows : List PlainRow). map stored_of (wanted c rows)) (filter_map-one carried_row carried others) ∙ wanted-append c (option_to_list (carried_row carried)) (filter_map carried_row others)
 
-pub view-stored : (c : Option Cond) (writes : TableWrites) (base : List PlainRow)
+pub view-stored : (c : Option Cond) (writes : Overlay) (base : List PlainRow)
     → map stored_of (wanted c (view_rows writes base))
     ≡ (map stored_of (wanted c (overlaid writes.slots (slotted writes.carried base))) ++ map stored_of (wanted c (filter_map carried_row writes.carried))) ++ wanted_own c writes.own
 view-stored c writes base =
@@ -63,31 +61,49 @@ view-stored c writes base =
     ∙ sym (append_assoc (map stored_of (wanted c slots)) (map stored_of (wanted c rows)) (wanted_own c writes.own))
 
 -- how many rows it sees
-pub view-counted : (writes : TableWrites) (base : List PlainRow) → length (view_rows writes base) ≡ length (overlaid writes.slots (slotted writes.carried base)) + length (filter_map carried_row writes.carried) + length writes.own
+pub view-counted : (writes : Overlay) (base : List PlainRow) → length (view_rows writes base) ≡ length (overlaid writes.slots (slotted writes.carried base)) + length (filter_map carried_row writes.carried) + length writes.own
 view-counted writes base =
     let slots = overlaid writes.slots (slotted writes.carried base) in
     let rows = filter_map carried_row writes.carried in
     omega (arith, length-append slots (rows ++ map own_row writes.own), length-append rows (map own_row writes.own), length-map own_row writes.own)
 
-pub length-shown : (slot : Slot) (row : PlainRow) → length (shown slot row) ≡ shown_count slot
+pub length-shown : (slot : Slot) (row : PlainRow) → length (shown slot row) + dropped_count slot ≡ 1
 length-shown Same row = refl
 length-shown (Put cells) row = refl
 length-shown Dropped row = refl
 
-pub length-held : (count : ℕ) (slots : List Slot) (carried : List Carried) (place : ℕ) (span : Span) (spans list : List Span) → list ≡ span ∷ spans → is_carried carried span.id ≡ false
-    → count + length (overlaid (drop place slots) (slotted_of carried list)) ≡ (count + shown_count (head_slot (drop place slots))) + length (overlaid (drop (place + 1) slots) (slotted_of carried spans))
-length-held count slots carried place span spans list is free =
-    ap (λ rows. count + length (overlaid (drop place slots) rows)) (rows-held carried span spans list is free)
-    ∙ ap (λ others. count + length (shown (head_slot (drop place slots)) (row_of plain span) ++ overlaid others (slotted_of carried spans))) (drop-drop 1 place slots)
-    ∙ ap (λ n. count + n) (length-append (shown (head_slot (drop place slots)) (row_of plain span)) (overlaid (drop (place + 1) slots) (slotted_of carried spans)))
-    ∙ ap (λ n. count + (n + length (overlaid (drop (place + 1) slots) (slotted_of carried spans)))) (length-shown (head_slot (drop place slots)) (row_of plain span))
-    ∙ sym (add_assoc count (shown_count (head_slot (drop place slots))) (length (overlaid (drop (place + 1) slots) (slotted_of carried spans))))
+length-dropped : (slot : Slot) (span : Span) → length (row_dropped slot span) ≡ dropped_count slot
+length-dropped Same span = refl
+length-dropped (Put cells) span = refl
+length-dropped Dropped span = refl
 
-pub length-passed : (count : ℕ) (slots : List Slot) (carried : List Carried) (span : Span) (spans list : List Span) → list ≡ span ∷ spans → is_carried carried span.id ≡ true
-    → count + length (overlaid slots (slotted_of carried list)) ≡ count + length (overlaid slots (slotted_of carried spans))
-length-passed count slots carried span spans list is passed = ap (λ rows. count + length (overlaid slots rows)) (rows-passed carried span spans list is passed)
+-- the other rows are seen
+pub dropped-made : (slots : List Slot) (spans : List Span) → length (made_of row_dropped slots spans) + length (overlaid slots (map (row_of plain) spans)) ≡ length spans
+dropped-made slots [] = refl
+dropped-made slots (span ∷ spans) =
+    omega (
+      arith,
+      length-append (row_dropped (head_slot slots) span) (made_of row_dropped (drop 1 slots) spans),
+      length-append (shown (head_slot slots) (row_of plain span)) (overlaid (drop 1 slots) (map (row_of plain) spans)),
+      length-dropped (head_slot slots) span,
+      length-shown (head_slot slots) (row_of plain span),
+      dropped-made (drop 1 slots) spans,
+    )
 
-pub shown-few : (slot : Slot) → shown_count slot < 2
-shown-few Same = omega arith
-shown-few (Put cells) = omega arith
-shown-few Dropped = omega arith
+pub dropped-few : (slot : Slot) → dropped_count slot ≤ 1
+dropped-few Same = omega arith
+dropped-few (Put cells) = omega arith
+dropped-few Dropped = omega arith
+
+pub dropped-entries : (carried : List Carried) (v : ℕ) (spans : List Span) (placed : List Placed) → IsAscending (map place_of placed)
+    → length (flat_map (of_entry row_dropped carried v spans) placed) + length (overlaid (slots_from carried v placed 0 spans) (slotted carried (rows_at plain v spans))) ≡ length (slotted_spans carried v spans)
+dropped-entries carried v spans placed ascend =
+    (λ i. length (entries-made row_dropped carried v spans placed (λ span. refl) ascend i) + length (overlaid (slots_from carried v placed 0 spans) (rows-spans carried v spans i)))
+    ∙ dropped-made (slots_from carried v placed 0 spans) (slotted_spans carried v spans)
+
+pub wanted-places : (c : Option Cond) (carried : List Carried) (v : ℕ) (spans : List Span) (placed : List Placed) (places : List ℕ) → IsEnough (passes_where c) placed v spans places
+    → flat_map (of_place (anywhere (row_wanted c)) carried v placed spans) places ≡ map stored_of (wanted c (overlaid (slots_from carried v placed 0 spans) (slotted carried (rows_at plain v spans))))
+wanted-places c carried v spans placed places enough =
+    places-made (row_wanted c) carried v spans placed (passes_where c) places (λ span none. ap (λ b. map stored_of (cond b (row_of plain span ∷ []) [])) none) enough
+    ∙ wanted-made c (slots_from carried v placed 0 spans) (slotted_spans carried v spans)
+    ∙ ap (λ (rows : List PlainRow). map stored_of (wanted c (overlaid (slots_from carried v placed 0 spans) rows))) (sym (rows-spans carried v spans))

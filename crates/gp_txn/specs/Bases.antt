@@ -6,8 +6,7 @@ use Rattle.std.specs.Option.{is_none}
 use Rattle.gp_base.specs.Annotated.{plain}
 use Rattle.gp_base.specs.Identities.{Identity, same_identity}
 use Rattle.gp_txn.specs.declared.carried.Carried.{Carried}
-use Rattle.gp_txn.specs.declared.overlay.TableWrites.{TableWrites}
-use Rattle.gp_txn.specs.Overlay.{PlainRow, rows_below, slot_writes, view_rows}
+use Rattle.gp_txn.specs.Overlay.{Overlay, PlainRow, rows_below, slot_writes, view_rows}
 use Rattle.gp_versions.specs.declared.span.Span.{Span}
 use Rattle.gp_versions.specs.Commits.{is_written}
 use Rattle.gp_versions.specs.Spans.{rows_at}
@@ -25,16 +24,16 @@ base_after version wrote (Some base) = Some base
 base_after version wrote None = if wrote then Some version else None
 
 -- the base of a row of another transaction, if it has written the row
-abbrev pub base_of : TableWrites → List PlainRow → Identity → Option ℕ
+abbrev pub base_of : Overlay → List PlainRow → Identity → Option ℕ
 base_of writes base id = base_after writes.version (is_written (slot_writes writes base) id) (carried_base writes.carried id)
 
 -- ---- the view at a version
 
 -- the rows of a version that it has not written, in order, and then the rows that it wrote and sees
-abbrev pub refreshed : TableWrites → List PlainRow → List PlainRow → List PlainRow
+abbrev pub refreshed : Overlay → List PlainRow → List PlainRow → List PlainRow
 refreshed writes base rows = filter (λ row. is_none (base_of writes base row.identity)) rows ++ filter (λ row. row.mark) (view_rows writes base)
 
 -- what it sees of a table at a version: in the order of its writes where they lie over the version
-abbrev pub table_view : TableWrites → List Span → ℕ → List PlainRow
+abbrev pub table_view : Overlay → List Span → ℕ → List PlainRow
 table_view writes spans version =
     if version == writes.version then view_rows writes (rows_at plain version spans) else refreshed writes (rows_below writes spans) (rows_at plain version spans)

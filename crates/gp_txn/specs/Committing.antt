@@ -13,15 +13,15 @@ use Rattle.gp_txn.specs.declared.overlay.TableWrites.{TableWrites}
 use Rattle.gp_txn.specs.Conflicts.{IsFirstConflict, lates_at}
 use Rattle.gp_txn.specs.Counts.{spans_after}
 use Rattle.gp_txn.specs.Overlay.{PlainRow, table_writes, view_rows}
-use Rattle.gp_txn.specs.Transactions.{Writes, base_at, database_at, database_below, table_at, writes_at}
+use Rattle.gp_txn.specs.Transactions.{Writes, base_at, database_at, database_below, overlay_at, table_at}
 
 -- what a transaction with these writes commits to each table
 abbrev pub commit_of : List TableWrites → List Versions → ℕ → List Write
-commit_of tables versions place = table_writes (writes_at place tables) (database_below tables versions place)
+commit_of tables versions place = table_writes (overlay_at place tables versions) (database_below tables versions place)
 
 -- what it sees of each table at the version that its writes of the table lie over
 abbrev pub view_below : List TableWrites → List Versions → ℕ → List PlainRow
-view_below tables versions place = view_rows (writes_at place tables) (database_below tables versions place)
+view_below tables versions place = view_rows (overlay_at place tables versions) (database_below tables versions place)
 
 -- how many spans there are after it
 abbrev pub spans_left : List TableWrites → List Versions → ℕ

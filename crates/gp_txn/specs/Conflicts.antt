@@ -17,8 +17,8 @@ use Rattle.gp_txn.specs.declared.overlay.Slot.TheVariants.{Same, Put, Dropped}
 use Rattle.gp_txn.specs.declared.overlay.TableWrites.{TableWrites}
 use Rattle.gp_txn.specs.declared.conflict.Conflict.{Conflict}
 use Rattle.gp_txn.specs.declared.conflict.Late.{Late}
-use Rattle.gp_txn.specs.Overlay.{head_slot, slotted_spans}
-use Rattle.gp_txn.specs.Transactions.{base_at, table_at, writes_at}
+use Rattle.gp_txn.specs.Overlay.{Overlay, head_slot, slotted_spans}
+use Rattle.gp_txn.specs.Transactions.{base_at, overlay_at, table_at}
 
 -- ---- one table
 
@@ -41,7 +41,7 @@ abbrev pub carried_late : List Span → Carried → Option Late
 carried_late spans carried = option_map (λ version. record { id = carried.id; version = version }) (written_after carried.id carried.base spans)
 
 -- the rows that the transaction wrote and a later commit too
-abbrev pub lates : TableWrites → List Span → List Late
+abbrev pub lates : Overlay → List Span → List Late
 lates writes spans = slot_lates writes.slots (slotted_spans writes.carried writes.version spans) ++ filter_map (carried_late spans) writes.carried
 
 abbrev pub IsAmong : Late → List Late → Type 0
@@ -61,7 +61,7 @@ IsLeast others (Some late) = IsAmong late others × IsBeforeAll late others
 
 -- those of the table at a place
 abbrev pub lates_at : List TableWrites → List Versions → ℕ → List Late
-lates_at tables versions place = lates (writes_at place tables) (table_at place versions).spans
+lates_at tables versions place = lates (overlay_at place tables versions) (table_at place versions).spans
 
 -- the least row of the first table that has any, given the number of tables
 abbrev pub IsFirstConflict : ℕ → (ℕ → List Late) → Option Conflict → Type 0

@@ -1,22 +1,62 @@
--- Part of the statement: what a running transaction keeps of a table, over the rows of a version: a slot for each row that it had not written over
--- an earlier version, in order, the rows that it wrote over earlier versions, and the rows that it inserted.
-use Rattle.std.specs.Prelude.{ℕ, Bool, true, not, List, [], ◌∷◌, ◌++◌, map, filter, drop, Option, Some, None}
+-- Part of the statement: what a running transaction wrote of a table, over the rows of a version: a slot for each row that it had not written over
+-- an earlier version, in order, the rows that it wrote over earlier versions, and the rows that it inserted. It keeps only the slots of the rows that
+-- it wrote, each with the place of the row's span.
+use Rattle.std.specs.Prelude.{ℕ, suc, Bool, true, not, ◌&&◌, ◌==◌, List, [], ◌∷◌, ◌++◌, map, filter, drop, Option, Some, None, if◌then◌else◌}
 use Rattle.std.specs.List.{cons_option, filter_map, list_any}
 use Rattle.std.specs.Option.{option_map}
 use Rattle.gp_base.specs.declared.stored.Stored.{Stored}
 use Rattle.gp_base.specs.Annotated.{Annotated, plain}
 use Rattle.gp_base.specs.Identities.{Identity, same_identity}
 use Rattle.gp_txn.specs.declared.carried.Carried.{Carried}
+use Rattle.gp_txn.specs.declared.overlay.Placed.{Placed}
 use Rattle.gp_txn.specs.declared.overlay.Slot.{Slot}
 use Rattle.gp_txn.specs.declared.overlay.Slot.TheVariants.{Same, Put, Dropped}
 use Rattle.gp_txn.specs.declared.overlay.TableWrites.{TableWrites}
 use Rattle.gp_versions.specs.declared.span.Span.{Span}
 use Rattle.gp_versions.specs.declared.span.Write.{Write}
-use Rattle.gp_versions.specs.Spans.{rows_at, spans_at}
+use Rattle.gp_versions.specs.Spans.{holds_at, rows_at, spans_at}
 
 -- a row without annotation
 abbrev pub PlainRow : Type 0
 PlainRow = Annotated (Unit {0})
+
+-- what it wrote of a table, over the rows of the version: the slots of the rows that are not carried, in their order
+pub record Overlay : Type 0 where
+  pub version : ℕ
+  pub slots : List Slot
+  pub carried : List Carried
+  pub own : List Stored
+
+-- ---- what it keeps
+
+-- what it did to the row whose span is at a place, if the row has a slot
+abbrev pub slot_at : ℕ → List Placed → Slot
+slot_at place [] = Same
+slot_at place (placed ∷ others) = if placed.place == place then placed.slot else slot_at place others
+
+-- whether it wrote the row over an earlier version
+abbrev pub is_carried : List Carried → Identity → Bool
+is_carried carried id = list_any (λ (row : Carried). same_identity row.id id) carried
+
+-- whether the row of a span has a slot: it is a row of the version, and the transaction did not write it over an earlier version
+abbrev pub has_slot : List Carried → ℕ → Span → Bool
+has_slot carried version span = holds_at version span && not (is_carried carried span.id)
+
+-- the slots of the rows of a version, in their order, given the place of the first span
+abbrev pub slots_from : List Carried → ℕ → List Placed → ℕ → List Span → List Slot
+slots_from carried version placed place [] = []
+slots_from carried version placed place (span ∷ spans) =
+    if has_slot carried version span then slot_at place placed ∷ slots_from carried version placed (suc place) spans
+    else slots_from carried version placed (suc place) spans
+
+-- what it keeps of a table with these spans, as slots of all rows of the version
+abbrev pub overlay_of : List Span → TableWrites → Overlay
+overlay_of spans writes = record {
+  version = writes.version;
+  slots = slots_from writes.carried writes.version writes.slots 0 spans;
+  carried = writes.carried;
+  own = writes.own;
+}
 
 -- ---- what it sees
 
@@ -35,10 +75,6 @@ shown Dropped row = []
 abbrev pub overlaid : List Slot → List PlainRow → List PlainRow
 overlaid slots [] = []
 overlaid slots (row ∷ rows) = shown (head_slot slots) row ++ overlaid (drop 1 slots) rows
-
--- whether it wrote the row over an earlier version
-abbrev pub is_carried : List Carried → Identity → Bool
-is_carried carried id = list_any (λ (row : Carried). same_identity row.id id) carried
 
 -- the spans of a version whose rows have a slot: those that the transaction did not write over an earlier version
 abbrev pub slotted_spans : List Carried → ℕ → List Span → List Span
@@ -61,7 +97,7 @@ abbrev pub stored_of : PlainRow → Stored
 stored_of row = record { id = row.identity; row = row.cells }
 
 -- what it sees of a table, over the rows of the version that its writes lie over
-abbrev pub view_rows : TableWrites → List PlainRow → List PlainRow
+abbrev pub view_rows : Overlay → List PlainRow → List PlainRow
 view_rows writes base = overlaid writes.slots (slotted writes.carried base) ++ (filter_map carried_row writes.carried ++ map own_row writes.own)
 
 -- ---- what it wrote
@@ -77,7 +113,7 @@ base_writes slots [] = []
 base_writes slots (row ∷ rows) = cons_option (slot_write (head_slot slots) row) (base_writes (drop 1 slots) rows)
 
 -- what it wrote of the rows of the version below
-abbrev pub slot_writes : TableWrites → List PlainRow → List Write
+abbrev pub slot_writes : Overlay → List PlainRow → List Write
 slot_writes writes base = base_writes writes.slots (slotted writes.carried base)
 
 abbrev pub carried_write : Carried → Write
@@ -87,7 +123,7 @@ abbrev pub own_write : Stored → Write
 own_write stored = record { id = stored.id; row = Some stored.row }
 
 -- what it wrote of a table, but for the rows that it inserted and then deleted
-abbrev pub table_writes : TableWrites → List PlainRow → List Write
+abbrev pub table_writes : Overlay → List PlainRow → List Write
 table_writes writes base = slot_writes writes base ++ (map carried_write writes.carried ++ map own_write writes.own)
 
 -- no writes of a table, over a version
@@ -95,5 +131,5 @@ abbrev pub no_writes : ℕ → TableWrites
 no_writes version = record { version = version; slots = []; carried = []; own = [] }
 
 -- the rows of the version that its writes of a table lie over
-abbrev pub rows_below : TableWrites → List Span → List PlainRow
+abbrev pub rows_below : Overlay → List Span → List PlainRow
 rows_below writes spans = rows_at plain writes.version spans

@@ -1,17 +1,19 @@
 -- Machinery: the writes of a table after an UPDATE or a DELETE.
-use Rattle.std.specs.Prelude.{ℕ, Bool, false, List, [], ◌∷◌, ◌++◌, drop, map, slice_set, length, Option, Some, None, if◌then◌else◌}
+use Rattle.std.specs.Prelude.{ℕ, suc, Bool, false, List, [], ◌∷◌, ◌++◌, drop, map, slice_set, length, Option, Some, None, if◌then◌else◌}
 use Rattle.std.specs.List.{filter_map}
 use Rattle.gp_base.specs.declared.cell.Cell.{Cell}
 use Rattle.gp_base.specs.declared.stored.Stored.{Stored}
 use Rattle.gp_expr.specs.Values.{passes}
 use Rattle.gp_algebra.specs.Effects.{assigned}
 use Rattle.gp_txn.specs.declared.carried.Carried.{Carried}
+use Rattle.gp_txn.specs.declared.overlay.Placed.{Placed}
 use Rattle.gp_txn.specs.declared.overlay.Slot.{Slot}
 use Rattle.gp_txn.specs.declared.overlay.Slot.TheVariants.{Same, Put, Dropped}
 use Rattle.gp_txn.specs.declared.overlay.TableWrites.{TableWrites}
 use Rattle.gp_txn.specs.Changes.{Change, update, delete, cond_of, touched}
-use Rattle.gp_txn.specs.Overlay.{PlainRow, head_slot, slotted}
+use Rattle.gp_txn.specs.Overlay.{Overlay, PlainRow, has_slot, head_slot, slot_at, slotted}
 use Rattle.gp_txn.specs.Transactions.{Writes}
+use Rattle.gp_versions.specs.declared.span.Span.{Span}
 
 -- what the statement does to a row of these cells that passes its condition
 abbrev pub slot_for : Change → List Cell → Slot
@@ -28,11 +30,11 @@ seen Same cells = Some cells
 seen (Put now) cells = Some now
 seen Dropped cells = None
 
--- how many rows are seen of it
-abbrev pub shown_count : Slot → ℕ
-shown_count Same = 1
-shown_count (Put now) = 1
-shown_count Dropped = 0
+-- how many rows are no longer seen of it
+abbrev pub dropped_count : Slot → ℕ
+dropped_count Same = 0
+dropped_count (Put now) = 0
+dropped_count Dropped = 1
 
 -- how many rows a commit puts in its place
 abbrev pub put_count : Slot → ℕ
@@ -87,10 +89,32 @@ abbrev pub changed_carried : Change → List Carried → List Carried
 changed_carried change carried = map (carried_after change) carried
 
 -- the writes of a table after the statement, over the rows of the version below
-abbrev pub changed_table : Change → TableWrites → List PlainRow → TableWrites
-changed_table change writes base = record {
+abbrev pub changed_overlay : Change → Overlay → List PlainRow → Overlay
+changed_overlay change writes base = record {
   version = writes.version;
   slots = changed_slots change writes.slots (slotted writes.carried base);
+  carried = changed_carried change writes.carried;
+  own = changed_own change writes.own;
+}
+
+-- the slot of the row at a place, unless the row is as it was
+abbrev pub entry : ℕ → Slot → List Placed
+entry place Same = []
+entry place (Put cells) = record { place = place; slot = Put cells } ∷ []
+entry place Dropped = record { place = place; slot = Dropped } ∷ []
+
+-- the slots that are kept after the statement, given the place of the first span
+abbrev pub changed_from : Change → List Carried → ℕ → List Placed → ℕ → List Span → List Placed
+changed_from change carried version placed place [] = []
+changed_from change carried version placed place (span ∷ spans) =
+    (if has_slot carried version span then entry place (changed_slot change (slot_at place placed) span.row) else [])
+    ++ changed_from change carried version placed (suc place) spans
+
+-- what is kept of a table with these spans after the statement
+abbrev pub changed_table : Change → List Span → TableWrites → TableWrites
+changed_table change spans writes = record {
+  version = writes.version;
+  slots = changed_from change writes.carried writes.version writes.slots 0 spans;
   carried = changed_carried change writes.carried;
   own = changed_own change writes.own;
 }

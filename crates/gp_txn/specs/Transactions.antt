@@ -11,7 +11,7 @@ use Rattle.gp_algebra.specs.Effects.{Written, step, wrote}
 use Rattle.gp_txn.specs.declared.carried.Carried.{Carried}
 use Rattle.gp_txn.specs.declared.overlay.TableWrites.{TableWrites}
 use Rattle.gp_txn.specs.Bases.{base_after, base_of, table_view}
-use Rattle.gp_txn.specs.Overlay.{carried_write, no_writes, own_write, rows_below}
+use Rattle.gp_txn.specs.Overlay.{Overlay, carried_write, no_writes, overlay_of, own_write, rows_below}
 use Rattle.gp_versions.specs.declared.span.Span.{Span}
 use Rattle.gp_versions.specs.Commits.{AreDistinct}
 use Rattle.gp_versions.specs.Spans.{Versions, rows_at}
@@ -42,17 +42,21 @@ table_at place versions = slice_index_or versions place no_table
 abbrev pub database_at : ℕ → List Versions → Database (Unit {0})
 database_at version versions place = rows_at plain version (table_at place versions).spans
 
+-- its writes of a table, as slots of all rows of the version that they lie over
+abbrev pub overlay_at : ℕ → List TableWrites → List Versions → Overlay
+overlay_at place tables versions = overlay_of (table_at place versions).spans (writes_at place tables)
+
 -- the rows of the version that its writes of each table lie over
 abbrev pub database_below : List TableWrites → List Versions → Database (Unit {0})
-database_below tables versions place = rows_below (writes_at place tables) (table_at place versions).spans
+database_below tables versions place = rows_below (overlay_at place tables versions) (table_at place versions).spans
 
 -- what it sees at a version
 abbrev pub view_at : List TableWrites → List Versions → ℕ → Database (Unit {0})
-view_at tables versions version place = table_view (writes_at place tables) (table_at place versions).spans version
+view_at tables versions version place = table_view (overlay_at place tables versions) (table_at place versions).spans version
 
 -- the base of a row of another transaction, if it has written the row
 abbrev pub base_at : List TableWrites → List Versions → ℕ → Identity → Option ℕ
-base_at tables versions place id = base_of (writes_at place tables) (database_below tables versions place) id
+base_at tables versions place id = base_of (overlay_at place tables versions) (database_below tables versions place) id
 
 -- ---- whose rows it keeps
 

@@ -4,7 +4,7 @@ ghost use Rattle.std.specs.Prelude.{◌≡◌, ◌<◌, ◌≤◌, ◌++◌, ℕ
 ghost use Rattle.std.specs.Option.{option_map};
 ghost use Rattle.gp_base.specs.declared.catalog.TheConstants.{MAX_TABLES};
 ghost use Rattle.gp_txn.specs.Bases.{table_view};
-ghost use Rattle.gp_txn.specs.Overlay.{no_writes, stored_of};
+ghost use Rattle.gp_txn.specs.Overlay.{no_writes, overlay_of, stored_of};
 ghost use Rattle.gp_txn.specs.Rebasing.{writes_over};
 ghost use Rattle.gp_txn.specs.Slots.{put_table, with_own};
 ghost use Rattle.gp_txn.specs.Transactions.{AreOthers, AreOwn, HoldsOwn, IsUnwritten, KeepsOwn, snapshot_of, table_at, view_at, writes_at};
@@ -185,7 +185,8 @@ impl Active {
         requires { where_is_simple (option_map (λ c. cond_view c.now) cond) ≡ true }
         ensures { IfOk result (λ rows. rows
             ≡ map stored_of (wanted (option_map (λ c. cond_view c.now) cond.entry)
-            (table_view (writes_at table self.now.tables) spans.now version))) }
+            (table_view (overlay_of spans.now (writes_at table self.now.tables))
+            spans.now version))) }
     {
         let none = TableWrites::new(self.alloc, 0);
         let writes = self.writes_or(table, &none);

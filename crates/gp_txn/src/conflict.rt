@@ -1,14 +1,17 @@
 //! Rows that a transaction and a later commit wrote.
 
-ghost use Rattle.std.specs.Prelude.{◌≡◌, ◌≤◌, IfOk, None, Some, drop, length};
+ghost use Rattle.std.specs.Prelude.{◌≡◌, ◌≤◌, IfOk, None, Some, length, map};
 ghost use Rattle.std.specs.List.{filter_map};
 ghost use Rattle.gp_base.specs.declared.catalog.TheConstants.{MAX_TABLES};
 ghost use Rattle.gp_txn.specs.Conflicts.{IsFirstConflict, IsLeast, carried_late, late_of, late_version, lates, lates_at, slot_lates};
 ghost use Rattle.gp_txn.specs.LeastSoFar.{least_of, lesser};
-ghost use Rattle.gp_txn.specs.Overlay.{head_slot, slotted_spans};
+ghost use Rattle.gp_txn.specs.Overlay.{overlay_of, slots_from, slotted_spans};
+ghost use Rattle.gp_txn.specs.Ascending.{IsAscending, place_of};
+ghost use Rattle.gp_txn.specs.Passes.{of_entry, row_lates};
 
 use crate::carried::{Carried, CarriedRows};
-use crate::overlay::{Slot, TableWrites};
+use crate::overlay::{Placed, Slot, TableWrites};
+use crate::slots::slotted;
 use gp_base::{NoMemory, RowId};
 use gp_versions::{Span, SpanList, VersionTable};
 use std::cmp::Ordering;
@@ -31,11 +34,11 @@ pub struct Conflict {
     pub late: Late,
 }
 
-/// The version at which the span of the row with the slot at this place ended, if the transaction wrote the row.
-fn late_version(slots: &[Slot], place: usize, span: &Span) -> Option<u32>
-    ensures { result ≡ late_version (head_slot (drop place slots.now)) span.now }
+/// The version at which the span of a row with this slot ended, if the transaction wrote the row.
+fn late_version(slot: &Slot, span: &Span) -> Option<u32>
+    ensures { result ≡ late_version slot.now span.now }
 {
-    match slots.get(place)? {
+    match slot {
         Slot::Same => None,
         Slot::Put(_) | Slot::Dropped => span.to,
     }
@@ -55,43 +58,48 @@ fn lesser(found: Option<Late>, id: &RowId, version: u32) -> Result<Option<Late>,
     Ok(Some(Late { id, version }))
 }
 
-/// The lesser of what was found so far and the row with the slot at this place.
-fn lesser_slot(
-    found: Option<Late>,
-    slots: &[Slot],
-    place: usize,
-    span: &Span,
-) -> Result<Option<Late>, NoMemory>
-    ensures { IfOk result
-        (λ now. now ≡ lesser found (late_of (head_slot (drop place slots.now)) span.now)) }
+/// The lesser of what was found so far and a row with this slot.
+fn lesser_slot(found: Option<Late>, slot: &Slot, span: &Span) -> Result<Option<Late>, NoMemory>
+    ensures { IfOk result (λ now. now ≡ lesser found (late_of slot.now span.now)) }
 {
-    match late_version(slots, place, span) {
+    match late_version(slot, span) {
         None => Ok(found),
         Some(version) => lesser(found, &span.id, version),
     }
 }
 
-/// The least of the rows of version v that have a slot. Without slots, as in a transaction that only inserts, nothing passes
-/// over the spans.
-fn least_slot(
-    slots: &[Slot],
+/// The lesser of what was found so far and the row at the place of a slot, if the row has a slot.
+fn lesser_entry(
+    found: Option<Late>,
+    placed: &Placed,
     carried: &CarriedRows,
     spans: &SpanList<'_>,
     v: u32,
 ) -> Result<Option<Late>, NoMemory>
-    ensures { IfOk result (λ found. found
-        ≡ least_of None (slot_lates slots.now (slotted_spans carried.now v spans.now))) }
+    ensures { IfOk result (λ now. now
+        ≡ least_of found (of_entry row_lates carried.now v spans.now placed.now)) }
 {
-    if slots.is_empty() {
-        return Ok(None);
+    match slotted(spans, carried, v, placed.place) {
+        None => Ok(found),
+        Some(span) => lesser_slot(found, &placed.slot, span),
     }
+}
+
+/// The least of the rows of version v that have a slot.
+fn least_slot(
+    slots: &[Placed],
+    carried: &CarriedRows,
+    spans: &SpanList<'_>,
+    v: u32,
+) -> Result<Option<Late>, NoMemory>
+    requires { IsAscending (map place_of slots.now) }
+    ensures { IfOk result (λ found. found ≡ least_of None (slot_lates
+        (slots_from carried.now v slots.now 0 spans.now)
+        (slotted_spans carried.now v spans.now))) }
+{
     let mut found = None;
-    let mut place = 0usize;
-    for span in spans.as_of(v) {
-        if !carried.has(&span.id) {
-            found = lesser_slot(found, slots, place, span)?;
-            place += 1;
-        }
+    for placed in slots {
+        found = lesser_entry(found, placed, carried, spans, v)?;
     }
     Ok(found)
 }
@@ -128,7 +136,8 @@ fn least_carried(
 
 /// The least row of a table that the transaction wrote, and that a commit above its base wrote too.
 fn table_conflict(writes: &TableWrites, table: &VersionTable) -> Result<Option<Late>, NoMemory>
-    ensures { IfOk result (λ found. IsLeast (lates writes.now table.now.spans) found) }
+    ensures { IfOk result (λ found. IsLeast
+        (lates (overlay_of table.now.spans writes.now) table.now.spans) found) }
 {
     let carried = &writes.carried;
     let slots = writes.slots.as_slice();
@@ -138,8 +147,8 @@ fn table_conflict(writes: &TableWrites, table: &VersionTable) -> Result<Option<L
 }
 
 /// The conflict that a commit is lost by: the least row of the first table that has one, with the first version above its
-/// base that wrote it. For a row with a slot, a pass over the spans finds that version, as the span of a row ends at the
-/// next write of the row. A row that was written over an earlier version is looked up by its identity: its table has to have
+/// base that wrote it. For a row with a slot, its span tells that version, as the span of a row ends at the next write of the
+/// row. A row that was written over an earlier version is looked up by its identity: its table has to have
 /// entered its spans for that to be fast.
 pub fn first_conflict(
     tables: &[TableWrites],

@@ -2,7 +2,7 @@
 
 ghost use Rattle.std.specs.Prelude.{◌≡◌, ℕ, ◌<◌, ◌≤◌, IfOk, OnOk, length};
 ghost use Rattle.gp_txn.specs.Committing.{commit_of};
-ghost use Rattle.gp_txn.specs.Overlay.{rows_below, table_writes};
+ghost use Rattle.gp_txn.specs.Overlay.{overlay_of, rows_below, table_writes};
 ghost use Rattle.gp_txn.specs.Prepared.{AreWritesOf, IsReady, prepared_at};
 ghost use Rattle.gp_txn.specs.Transactions.{AreOthers, table_at, writes_at};
 ghost use Rattle.gp_versions.specs.Commits.{AreDistinct, after_commit};
@@ -24,7 +24,8 @@ fn prepare_one(
     requires own { AreWritesOf t writes.now }
     requires others { AreOthers t table.now.spans }
     ensures value { IfOk result
-        (λ list. list ≡ table_writes writes.now (rows_below writes.now table.now.spans)) }
+        (λ list. list ≡ table_writes (overlay_of table.now.spans writes.now)
+        (rows_below (overlay_of table.now.spans writes.now) table.now.spans)) }
     ensures distinct { IfOk result (λ list. AreDistinct list) }
 {
     let spans = table.as_list();
@@ -81,6 +82,17 @@ pub fn reserve_all(versions: &mut [VersionTable], prepared: &[Writes]) -> Result
     Ok(())
 }
 
+/// Makes the version of a table. A table that the commit does not write keeps its spans, and is not looked at.
+fn publish_one(table: &mut VersionTable, version: u32, writes: Writes)
+    requires { IsReady version table.old writes }
+    ensures { table.new.spans ≡ after_commit version writes table.old.spans }
+{
+    if writes.as_slice().is_empty() {
+        return;
+    }
+    table.append_commit(version, writes);
+}
+
 /// Makes the version of each table.
 pub fn publish(alloc: Global, versions: &mut [VersionTable], version: u32, prepared: &mut [Writes])
     requires same { length versions.old ≡ length prepared.old }
@@ -92,6 +104,6 @@ pub fn publish(alloc: Global, versions: &mut [VersionTable], version: u32, prepa
 {
     for place in 0..versions.len() {
         let writes = mem::replace(&mut prepared[place], Writes::new(alloc));
-        versions[place].append_commit(version, writes);
+        publish_one(&mut versions[place], version, writes);
     }
 }

@@ -2,13 +2,11 @@
 
 ghost use Rattle.std.specs.Prelude.{◌≡◌, ◌++◌, length, map, true, IfOk, OnErr, OnOk};
 ghost use Rattle.std.specs.Option.{option_map};
-ghost use Rattle.gp_base.specs.Annotated.{plain};
 ghost use Rattle.gp_expr.specs.Views.{cond_view};
 ghost use Rattle.gp_algebra.specs.Simple.{where_is_simple};
-ghost use Rattle.gp_versions.specs.Spans.{rows_at};
 ghost use Rattle.gp_txn.specs.Bases.{table_view};
 ghost use Rattle.gp_txn.specs.Changes.{change_is_simple, change_view};
-ghost use Rattle.gp_txn.specs.Overlay.{rows_below, stored_of, view_rows};
+ghost use Rattle.gp_txn.specs.Overlay.{overlay_of, rows_below, stored_of, view_rows};
 ghost use Rattle.gp_txn.specs.Rebasing.{IsMoved, carried_of, carried_over, or_writes, writes_over};
 ghost use Rattle.gp_txn.specs.Slots.{changed_table, count_touched, with_own};
 ghost use Rattle.gp_txn.specs.Wanted.{wanted};
@@ -16,6 +14,7 @@ ghost use Rattle.gp_txn.specs.Wanted.{wanted};
 use crate::carried::{Carried, CarriedRows};
 use crate::change::Change;
 use crate::overlay::TableWrites;
+use crate::slots::Slots;
 use crate::snapshot::{copied_row, count_rows, view_rows};
 use crate::update::{Counted, changed};
 use crate::writes::slot_writes;
@@ -80,7 +79,8 @@ fn carried_over(
     spans: &SpanList<'_>,
 ) -> Result<CarriedRows, NoMemory>
     ensures { IfOk result
-        (λ rows. rows ≡ carried_over writes.now (rows_below writes.now spans.now)) }
+        (λ rows. rows ≡ carried_over (overlay_of spans.now writes.now)
+        (rows_below (overlay_of spans.now writes.now) spans.now)) }
 {
     let list = slot_writes(alloc, writes, spans)?;
     let mut rows = carried_rows(alloc, writes.version, list)?;
@@ -100,7 +100,7 @@ fn copied_own(alloc: Global, own: &[Stored]) -> Result<Sequence<Stored>, NoMemor
 }
 
 /// The writes of a table over a version, if they lie over another one. What the transaction wrote over the rows of that one
-/// is carried over, and no row of the new one has a slot yet.
+/// is carried over, and no row of the new one is written yet.
 fn moved(
     alloc: Global,
     writes: &TableWrites,
@@ -116,14 +116,14 @@ fn moved(
     let own = copied_own(alloc, writes.own.as_slice())?;
     Ok(Some(TableWrites {
         version,
-        slots: Sequence::new(alloc),
+        slots: Slots::new(alloc),
         carried,
         own,
     }))
 }
 
 /// The writes of a table over a version, if they lie over another one. They show what the transaction sees there. It costs
-/// what the writes and a pass over the rows of their version cost, and not what was committed in between.
+/// what the writes cost, and not what was committed in between.
 pub fn writes_for(
     alloc: Global,
     writes: &TableWrites,
@@ -131,9 +131,10 @@ pub fn writes_for(
     version: u32,
 ) -> Result<Option<TableWrites>, NoMemory>
     ensures moved { IfOk result (λ moved. IsMoved version spans.now writes.now moved) }
-    ensures view { IfOk result (λ moved. view_rows (or_writes moved writes.now)
-        (rows_below (or_writes moved writes.now) spans.now)
-        ≡ table_view writes.now spans.now version) }
+    ensures view { IfOk result
+        (λ moved. view_rows (overlay_of spans.now (or_writes moved writes.now))
+        (rows_below (overlay_of spans.now (or_writes moved writes.now)) spans.now)
+        ≡ table_view (overlay_of spans.now writes.now) spans.now version) }
 {
     Ok(moved(alloc, writes, spans, version)?)
 }
@@ -149,7 +150,7 @@ pub fn view_at(
     requires { where_is_simple (option_map (λ c. cond_view c.now) cond) ≡ true }
     ensures { IfOk result (λ rows. rows
         ≡ map stored_of (wanted (option_map (λ c. cond_view c.now) cond.entry)
-        (table_view writes.now spans.now version))) }
+        (table_view (overlay_of spans.now writes.now) spans.now version))) }
 {
     match writes_for(alloc, writes, spans, version)? {
         None => view_rows(alloc, writes, spans, cond),
@@ -164,7 +165,8 @@ pub fn count_at(
     spans: &SpanList<'_>,
     version: u32,
 ) -> Result<usize, NoMemory>
-    ensures { IfOk result (λ count. count ≡ length (table_view writes.now spans.now version)) }
+    ensures { IfOk result (λ count. count
+        ≡ length (table_view (overlay_of spans.now writes.now) spans.now version)) }
 {
     match writes_for(alloc, writes, spans, version)? {
         None => Ok(count_rows(writes, spans)),
@@ -182,9 +184,9 @@ pub fn changed_at(
 ) -> Result<Counted<TableWrites>, NoMemory>
     requires { change_is_simple (change_view change.now) ≡ true }
     ensures exact { IfOk result (λ new. new.made ≡ changed_table (change_view change.now)
-        (writes_over version spans.now writes.now) (rows_at plain version spans.now)) }
+        spans.now (writes_over version spans.now writes.now)) }
     ensures count { IfOk result (λ new. new.count ≡ count_touched (change_view change.now)
-        (table_view writes.now spans.now version)) }
+        (table_view (overlay_of spans.now writes.now) spans.now version)) }
 {
     match writes_for(alloc, writes, spans, version)? {
         None => changed(alloc, writes, spans, change),

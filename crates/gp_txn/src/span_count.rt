@@ -1,47 +1,56 @@
 //! How many row versions a commit leaves. The writes are counted where they stand, so that a commit that is refused copies
 //! nothing.
 
-ghost use Rattle.std.specs.Prelude.{◌≡◌, ◌≤◌, drop, length, nat_lt, ◌<◌, ◌^◌};
+ghost use Rattle.std.specs.Prelude.{◌≡◌, ◌≤◌, length, map, nat_lt};
 ghost use Rattle.gp_base.specs.Annotated.{plain};
 ghost use Rattle.gp_txn.specs.Committing.{commit_of, spans_left};
-ghost use Rattle.gp_txn.specs.Overlay.{base_writes, head_slot, rows_below, slotted, table_writes};
+ghost use Rattle.gp_txn.specs.Ascending.{IsAscending, place_of};
+ghost use Rattle.gp_txn.specs.Passes.{of_entry, row_writes};
+ghost use Rattle.gp_txn.specs.Overlay.{base_writes, overlay_of, rows_below, slots_from, slotted, table_writes};
 ghost use Rattle.gp_txn.specs.Slots.{put_count};
 ghost use Rattle.gp_versions.specs.Commits.{live_rows};
 ghost use Rattle.gp_versions.specs.Spans.{rows_at};
 
 use crate::carried::CarriedRows;
-use crate::overlay::{Slot, TableWrites};
+use crate::overlay::{Placed, Slot, TableWrites};
+use crate::slots::slotted;
 use crate::snapshot::count_carried;
 use gp_base::MAX_SPANS;
 use gp_versions::{SpanList, VersionTable};
 
-/// How many rows a commit puts in place of the row with the slot at this place.
-fn count_put(slots: &[Slot], place: usize) -> usize
-    ensures { result ≡ put_count (head_slot (drop place slots.now)) }
+/// How many rows a commit puts in place of a row with this slot.
+fn count_put(slot: &Slot) -> usize
+    ensures { result ≡ put_count slot.now }
 {
-    match slots.get(place) {
-        Some(Slot::Put(_)) => 1,
-        None | Some(Slot::Same | Slot::Dropped) => 0,
+    match slot {
+        Slot::Put(_) => 1,
+        Slot::Same | Slot::Dropped => 0,
     }
 }
 
-/// How many rows a commit puts in place of the rows of version v that have a slot. Without slots, nothing passes over the
-/// spans.
-fn count_base(slots: &[Slot], carried: &CarriedRows, spans: &SpanList<'_>, v: u32) -> usize
+/// How many rows a commit puts in place of the row at the place of a slot, if the row has a slot.
+fn count_entry(placed: &Placed, carried: &CarriedRows, spans: &SpanList<'_>, v: u32) -> usize
     ensures count { result ≡ length
-        (live_rows plain (base_writes slots.now (slotted carried.now (rows_at plain v spans.now)))) }
-    ensures few { result < 2 ^ 60 }
+        (live_rows plain (of_entry row_writes carried.now v spans.now placed.now)) }
+    ensures few { result ≤ 1 }
 {
-    if slots.is_empty() {
-        return 0;
+    match slotted(spans, carried, v, placed.place) {
+        None => 0,
+        Some(_) => count_put(&placed.slot),
     }
+}
+
+/// How many rows a commit puts in place of the rows of version v that have a slot.
+fn count_base(slots: &[Placed], carried: &CarriedRows, spans: &SpanList<'_>, v: u32) -> usize
+    requires { IsAscending (map place_of slots.now) }
+    ensures count { result ≡ length (live_rows plain (base_writes
+        (slots_from carried.now v slots.now 0 spans.now)
+        (slotted carried.now (rows_at plain v spans.now)))) }
+    ensures few { result ≤ length slots.now }
+{
     let mut count = 0usize;
-    let mut place = 0usize;
-    for span in spans.as_of(v) {
-        if !carried.has(&span.id) {
-            count += count_put(slots, place);
-            place += 1;
-        }
+    for placed in slots {
+        count += count_entry(placed, carried, spans, v);
     }
     count
 }
@@ -49,7 +58,8 @@ fn count_base(slots: &[Slot], carried: &CarriedRows, spans: &SpanList<'_>, v: u3
 /// How many of the writes of a commit to a table have a row.
 fn count_live(writes: &TableWrites, spans: &SpanList<'_>) -> usize
     ensures { result ≡ length
-        (live_rows plain (table_writes writes.now (rows_below writes.now spans.now))) }
+        (live_rows plain (table_writes (overlay_of spans.now writes.now)
+        (rows_below (overlay_of spans.now writes.now) spans.now))) }
 {
     let carried = &writes.carried;
     let base = count_base(writes.slots.as_slice(), carried, spans, writes.version);

@@ -1,19 +1,24 @@
-//! UPDATE and DELETE over the writes of a transaction. Both pass over the rows of a table once.
+//! UPDATE and DELETE over the writes of a transaction. Both pass once over the rows of a table that may pass their condition.
 
-ghost use Rattle.std.specs.Prelude.{◌≡◌, ◌≤◌, ◌++◌, ◌∷◌, [], length, true, map, drop, IfOk, OnOk, ◌<◌, ◌^◌};
+ghost use Rattle.std.specs.Prelude.{◌≡◌, ◌≤◌, ◌++◌, ◌∷◌, [], length, true, map, IfOk, OnOk, ◌<◌, ◌^◌};
 ghost use Rattle.std.specs.Option.{option_map, option_to_list};
 ghost use Rattle.gp_base.specs.Annotated.{plain};
-ghost use Rattle.gp_expr.specs.Values as v;
+ghost use Rattle.gp_expr.specs.Values as values;
 ghost use Rattle.gp_versions.specs.Spans.{rows_at};
 ghost use Rattle.gp_txn.specs.Changes.{change_is_simple, change_view, cond_of};
 ghost use Rattle.std.specs.List.{filter_map};
-ghost use Rattle.gp_txn.specs.Overlay.{carried_row, head_slot, own_row, overlaid, rows_below, slotted, view_rows};
-ghost use Rattle.gp_txn.specs.Slots.{carried_after, cells_after, cells_for, changed_carried, changed_own, changed_slot, changed_slots, changed_table, count_touched, effect, is_touched, one_if, passes_seen, seen, slot_for, stored_after};
+ghost use Rattle.gp_txn.specs.Overlay.{carried_row, own_row, overlaid, overlay_of, rows_below, slots_from, slotted, view_rows};
+ghost use Rattle.gp_txn.specs.Ascending.{IsAscending, place_of};
+ghost use Rattle.gp_txn.specs.Enough.{IsEnough, first_at, slot_or, slotted_at};
+ghost use Rattle.gp_txn.specs.Passes.{of_row, row_entry, row_touched};
+ghost use Rattle.gp_txn.specs.Slots.{carried_after, cells_after, cells_for, changed_carried, changed_from, changed_own, changed_slot, changed_table, count_touched, effect, entry, is_touched, one_if, passes_seen, seen, slot_for, stored_after};
 
 use crate::assignment::assigned;
 use crate::carried::{Carried, CarriedRows};
 use crate::change::Change;
-use crate::overlay::{Slot, TableWrites};
+use crate::lookup::places_for;
+use crate::overlay::{Placed, Slot, TableWrites};
+use crate::slots::{Slots, first_at, seek, slotted};
 use crate::snapshot::{copied_row, seen};
 use gp_base::{NoMemory, Row, Sequence, Stored};
 use gp_expr::truth;
@@ -32,7 +37,7 @@ pub struct Counted<T> {
 /// Whether the statement writes a row of these cells.
 fn passes(change: &Change<'_>, row: &Row) -> bool
     requires { change_is_simple (change_view change.now) ≡ true }
-    ensures { result ≡ v.passes (cond_of (change_view change.now)) row.now }
+    ensures { result ≡ values.passes (cond_of (change_view change.now)) row.now }
 {
     match change {
         Change::Update(_, cond) | Change::Delete(cond) => truth(cond, row).holds(),
@@ -40,10 +45,10 @@ fn passes(change: &Change<'_>, row: &Row) -> bool
 }
 
 /// A copy of a slot.
-fn copied(slots: &[Slot], place: usize) -> Result<Slot, NoMemory>
-    ensures { IfOk result (λ slot. slot ≡ head_slot (drop place slots.now)) }
+fn copied(slot: Option<&Slot>) -> Result<Slot, NoMemory>
+    ensures { IfOk result (λ copy. copy ≡ slot_or (option_map (λ slot. slot.now) slot.entry)) }
 {
-    match slots.get(place) {
+    match slot {
         None | Some(Slot::Same) => Ok(Slot::Same),
         Some(Slot::Put(cells)) => Ok(Slot::Put(cells.clone()?)),
         Some(Slot::Dropped) => Ok(Slot::Dropped),
@@ -61,60 +66,126 @@ fn slot_for(alloc: Global, change: &Change<'_>, row: &Row) -> Result<Slot, NoMem
     }
 }
 
-/// The slot of a row after the statement.
+/// The slot of a row with this slot after the statement.
 fn changed_slot(
     alloc: Global,
     change: &Change<'_>,
-    slots: &[Slot],
-    place: usize,
+    slot: Option<&Slot>,
     row: &Row,
 ) -> Result<Counted<Slot>, NoMemory>
     requires { change_is_simple (change_view change.now) ≡ true }
-    ensures slot { IfOk result (λ new. new.made
-        ≡ changed_slot (change_view change.now) (head_slot (drop place slots.now)) row.now) }
-    ensures count { IfOk result (λ new. new.count
-        ≡ one_if (is_touched (change_view change.now) (head_slot (drop place slots.now)) row.now)) }
+    ensures slot { IfOk result (λ new. new.made ≡ changed_slot
+        (change_view change.now) (slot_or (option_map (λ slot. slot.now) slot.entry)) row.now) }
+    ensures count { IfOk result (λ new. new.count ≡ one_if (is_touched
+        (change_view change.now) (slot_or (option_map (λ slot. slot.now) slot.entry)) row.now)) }
 {
-    match seen(slots, place, row) {
+    match seen(slot, row) {
         Some(cells) if passes(change, cells) => Ok(Counted {
             made: slot_for(alloc, change, cells)?,
             count: 1,
         }),
         _ => Ok(Counted {
-            made: copied(slots, place)?,
+            made: copied(slot)?,
             count: 0,
         }),
     }
 }
 
-/// The slots of the rows of version v after the statement.
-fn changed_slots(
+/// Adds a slot, unless the row is as it was.
+fn push_entry(new: &mut Vec<Placed>, place: u32, slot: Slot) -> Result<(), NoMemory>
+    ensures { OnOk result (new.new.items ≡ new.old.items ++ entry place slot) }
+{
+    match slot {
+        Slot::Same => {}
+        Slot::Put(cells) => {
+            let slot = Slot::Put(cells);
+            new.push(Placed { place, slot })?;
+        }
+        Slot::Dropped => {
+            let slot = Slot::Dropped;
+            new.push(Placed { place, slot })?;
+        }
+    }
+    Ok(())
+}
+
+/// Adds the slot after the statement of a row with this slot, unless the row is as it was. Gives 1 if the statement writes
+/// it, else 0.
+fn push_slot(
     alloc: Global,
+    new: &mut Vec<Placed>,
     change: &Change<'_>,
-    slots: &[Slot],
+    place: u32,
+    slot: Option<&Slot>,
+    row: &Row,
+) -> Result<usize, NoMemory>
+    requires { change_is_simple (change_view change.now) ≡ true }
+    ensures slot { IfOk result (λ count. new.new.items ≡ new.old.items
+        ++ entry place (changed_slot (change_view change.now)
+        (slot_or (option_map (λ slot. slot.now) slot.entry)) row.now)) }
+    ensures count { IfOk result (λ count. count ≡ one_if (is_touched
+        (change_view change.now) (slot_or (option_map (λ slot. slot.now) slot.entry)) row.now)) }
+{
+    let after = changed_slot(alloc, change, slot, row)?;
+    let count = after.count;
+    push_entry(new, place, after.made)?;
+    Ok(count)
+}
+
+/// Adds the slot after the statement of the row at a place, if the row has a slot. The slots begin at the place, or behind
+/// it. Gives 1 if the statement writes the row, else 0.
+fn push_place(
+    alloc: Global,
+    new: &mut Vec<Placed>,
+    change: &Change<'_>,
+    ahead: &[Placed],
+    place: u32,
     carried: &CarriedRows,
     spans: &SpanList<'_>,
     v: u32,
-) -> Result<Counted<Sequence<Slot>>, NoMemory>
+) -> Result<usize, NoMemory>
     requires { change_is_simple (change_view change.now) ≡ true }
-    ensures slots { IfOk result (λ new. new.made
-        ≡ changed_slots (change_view change.now) slots.now
-        (slotted carried.now (rows_at plain v spans.now))) }
-    ensures count { IfOk result (λ new. new.count
-        ≡ count_touched (change_view change.now)
-        (overlaid slots.now (slotted carried.now (rows_at plain v spans.now)))) }
-    ensures few { IfOk result (λ new. new.count < 2 ^ 60) }
+    ensures slot { IfOk result (λ count. new.new.items ≡ new.old.items
+        ++ of_row (row_entry (change_view change.now) place)
+        (first_at place ahead.now) (slotted_at carried.now v spans.now place)) }
+    ensures count { IfOk result (λ count. count
+        ≡ length (of_row (row_touched (change_view change.now))
+        (first_at place ahead.now) (slotted_at carried.now v spans.now place))) }
+    ensures few { IfOk result (λ count. count ≤ 1) }
 {
-    let mut new = Sequence::new(alloc);
+    match slotted(spans, carried, v, place) {
+        None => Ok(0),
+        Some(span) => push_slot(alloc, new, change, place, first_at(ahead, place), &span.row),
+    }
+}
+
+/// The slots of the rows of version v after the statement. It changes no rows at other places than these.
+fn changed_slots(
+    alloc: Global,
+    change: &Change<'_>,
+    slots: &[Placed],
+    carried: &CarriedRows,
+    spans: &SpanList<'_>,
+    v: u32,
+    places: &[u32],
+) -> Result<Counted<Vec<Placed>>, NoMemory>
+    requires simple { change_is_simple (change_view change.now) ≡ true }
+    requires ascending { IsAscending (map place_of slots.now) }
+    requires enough { IsEnough (values.passes (cond_of (change_view change.now)))
+        slots.now v spans.now places.now }
+    ensures slots { IfOk result (λ new. new.made.items ≡ changed_from
+        (change_view change.now) carried.now v slots.now 0 spans.now) }
+    ensures count { IfOk result (λ new. new.count ≡ count_touched (change_view change.now)
+        (overlaid (slots_from carried.now v slots.now 0 spans.now)
+        (slotted carried.now (rows_at plain v spans.now)))) }
+    ensures few { IfOk result (λ new. new.count ≤ length places.now) }
+{
+    let mut new = Vec::new(alloc);
     let mut count = 0usize;
-    let mut place = 0usize;
-    for span in spans.as_of(v) {
-        if !carried.has(&span.id) {
-            let slot = changed_slot(alloc, change, slots, place, &span.row)?;
-            count += slot.count;
-            new.push(slot.made)?;
-            place += 1;
-        }
+    let mut ahead = slots;
+    for place in places {
+        ahead = seek(ahead, *place);
+        count += push_place(alloc, &mut new, change, ahead, *place, carried, spans, v)?;
     }
     Ok(Counted { made: new, count })
 }
@@ -232,7 +303,7 @@ fn push_changed(
     ensures row { IfOk result (λ count. new.new ≡ new.old
         ++ option_to_list (stored_after (effect (change_view change.now) stored.now.row) stored.now)) }
     ensures count { IfOk result (λ count. count
-        ≡ one_if (v.passes (cond_of (change_view change.now)) stored.now.row)) }
+        ≡ one_if (values.passes (cond_of (change_view change.now)) stored.now.row)) }
 {
     if !passes(change, &stored.row) {
         new.push(copied_row(stored)?)?;
@@ -272,12 +343,15 @@ pub fn changed(
     change: &Change<'_>,
 ) -> Result<Counted<TableWrites>, NoMemory>
     requires { change_is_simple (change_view change.now) ≡ true }
-    ensures exact { IfOk result (λ new. new.made ≡ changed_table (change_view change.now)
-        writes.now (rows_below writes.now spans.now)) }
+    ensures exact { IfOk result (λ new. new.made
+        ≡ changed_table (change_view change.now) spans.now writes.now) }
     ensures count { IfOk result (λ new. new.count ≡ count_touched (change_view change.now)
-        (view_rows writes.now (rows_below writes.now spans.now))) }
+        (view_rows (overlay_of spans.now writes.now)
+        (rows_below (overlay_of spans.now writes.now) spans.now))) }
 {
     let version = writes.version;
+    let cond = Some(change.cond());
+    let places = places_for(alloc, spans, &writes.slots, version, cond)?;
     let slots = changed_slots(
         alloc,
         change,
@@ -285,13 +359,14 @@ pub fn changed(
         &writes.carried,
         spans,
         version,
+        &places,
     )?;
     let carried = changed_carried(alloc, change, writes.carried.as_slice())?;
     let own = changed_own(alloc, change, writes.own.as_slice())?;
     Ok(Counted {
         made: TableWrites {
             version,
-            slots: slots.made,
+            slots: Slots::from_vec(slots.made),
             carried: CarriedRows::from_vec(alloc, carried.made)?,
             own: own.made,
         },

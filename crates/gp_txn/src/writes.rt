@@ -1,13 +1,16 @@
 //! The writes of a commit to one table.
 
-ghost use Rattle.std.specs.Prelude.{◌≡◌, ◌++◌, IfOk, OnOk, drop, map};
+ghost use Rattle.std.specs.Prelude.{◌≡◌, ◌++◌, IfOk, OnOk, map};
 ghost use Rattle.std.specs.Option.{option_to_list};
 ghost use Rattle.gp_base.specs.Annotated.{plain};
-ghost use Rattle.gp_txn.specs.Overlay.{base_writes, carried_write, head_slot, own_write, rows_below, slot_write, slot_writes, slotted, table_writes};
+ghost use Rattle.gp_txn.specs.Ascending.{IsAscending, place_of};
+ghost use Rattle.gp_txn.specs.Overlay.{base_writes, carried_write, overlay_of, own_write, rows_below, slot_write, slot_writes, slots_from, slotted, table_writes};
+ghost use Rattle.gp_txn.specs.Passes.{of_entry, row_writes};
 ghost use Rattle.gp_versions.specs.Spans.{row_of, rows_at};
 
 use crate::carried::{Carried, CarriedRows};
-use crate::overlay::{Slot, TableWrites};
+use crate::overlay::{Placed, Slot, TableWrites};
+use crate::slots::slotted;
 use gp_base::{NoMemory, Row, RowId, Stored};
 use gp_versions::{Span, SpanList, Write};
 use std::alloc::Global;
@@ -21,58 +24,64 @@ fn put(id: &RowId, cells: &Row) -> Result<Write, NoMemory>
     Ok(Write { id, row })
 }
 
-/// What a commit writes of the row with the slot at this place.
-fn slot_write(slots: &[Slot], place: usize, span: &Span) -> Result<Option<Write>, NoMemory>
-    ensures { IfOk result (λ write. write
-        ≡ slot_write (head_slot (drop place slots.now)) (row_of plain span.now)) }
+/// What a commit writes of a row with this slot.
+fn slot_write(slot: &Slot, span: &Span) -> Result<Option<Write>, NoMemory>
+    ensures { IfOk result (λ write. write ≡ slot_write slot.now (row_of plain span.now)) }
 {
-    match slots.get(place) {
-        None | Some(Slot::Same) => Ok(None),
-        Some(Slot::Put(cells)) => Ok(Some(put(&span.id, cells)?)),
-        Some(Slot::Dropped) => Ok(Some(Write {
+    match slot {
+        Slot::Same => Ok(None),
+        Slot::Put(cells) => Ok(Some(put(&span.id, cells)?)),
+        Slot::Dropped => Ok(Some(Write {
             id: span.id.clone()?,
             row: None,
         })),
     }
 }
 
-/// Adds what a commit writes of the row with the slot at this place.
-fn push_write(
-    writes: &mut Vec<Write>,
-    slots: &[Slot],
-    place: usize,
-    span: &Span,
-) -> Result<(), NoMemory>
-    ensures { OnOk result (writes.new.items ≡ writes.old.items ++ option_to_list
-        (slot_write (head_slot (drop place slots.now)) (row_of plain span.now))) }
+/// Adds what a commit writes of a row with this slot.
+fn push_write(writes: &mut Vec<Write>, slot: &Slot, span: &Span) -> Result<(), NoMemory>
+    ensures { OnOk result (writes.new.items ≡ writes.old.items
+        ++ option_to_list (slot_write slot.now (row_of plain span.now))) }
 {
-    if let Some(write) = slot_write(slots, place, span)? {
+    if let Some(write) = slot_write(slot, span)? {
         writes.push(write)?;
     }
     Ok(())
 }
 
-/// What a commit writes of the rows of version v that have a slot. Without slots, nothing passes over the spans.
+/// Adds what a commit writes of the row at the place of a slot, if the row has a slot.
+fn push_entry(
+    writes: &mut Vec<Write>,
+    placed: &Placed,
+    carried: &CarriedRows,
+    spans: &SpanList<'_>,
+    v: u32,
+) -> Result<(), NoMemory>
+    ensures { OnOk result (writes.new.items ≡ writes.old.items
+        ++ of_entry row_writes carried.now v spans.now placed.now) }
+{
+    if let Some(span) = slotted(spans, carried, v, placed.place) {
+        push_write(writes, &placed.slot, span)?;
+    }
+    Ok(())
+}
+
+/// What a commit writes of the rows of version v that have a slot.
 fn base_writes(
     alloc: Global,
-    slots: &[Slot],
+    slots: &[Placed],
     carried: &CarriedRows,
     spans: &SpanList<'_>,
     v: u32,
 ) -> Result<Vec<Write>, NoMemory>
-    ensures { IfOk result (λ writes. writes.items
-        ≡ base_writes slots.now (slotted carried.now (rows_at plain v spans.now))) }
+    requires { IsAscending (map place_of slots.now) }
+    ensures { IfOk result (λ writes. writes.items ≡ base_writes
+        (slots_from carried.now v slots.now 0 spans.now)
+        (slotted carried.now (rows_at plain v spans.now))) }
 {
-    if slots.is_empty() {
-        return Ok(Vec::new(alloc));
-    }
     let mut writes = Vec::new(alloc);
-    let mut place = 0usize;
-    for span in spans.as_of(v) {
-        if !carried.has(&span.id) {
-            push_write(&mut writes, slots, place, span)?;
-            place += 1;
-        }
+    for placed in slots {
+        push_entry(&mut writes, placed, carried, spans, v)?;
     }
     Ok(writes)
 }
@@ -83,8 +92,8 @@ pub fn slot_writes(
     writes: &TableWrites,
     spans: &SpanList<'_>,
 ) -> Result<Vec<Write>, NoMemory>
-    ensures { IfOk result
-        (λ list. list.items ≡ slot_writes writes.now (rows_below writes.now spans.now)) }
+    ensures { IfOk result (λ list. list.items ≡ slot_writes (overlay_of spans.now writes.now)
+        (rows_below (overlay_of spans.now writes.now) spans.now)) }
 {
     let slots = writes.slots.as_slice();
     base_writes(alloc, slots, &writes.carried, spans, writes.version)
@@ -130,8 +139,8 @@ pub fn table_writes(
     writes: &TableWrites,
     spans: &SpanList<'_>,
 ) -> Result<Vec<Write>, NoMemory>
-    ensures { IfOk result
-        (λ list. list.items ≡ table_writes writes.now (rows_below writes.now spans.now)) }
+    ensures { IfOk result (λ list. list.items ≡ table_writes (overlay_of spans.now writes.now)
+        (rows_below (overlay_of spans.now writes.now) spans.now)) }
 {
     let mut list = slot_writes(alloc, writes, spans)?;
     push_carried(&mut list, writes.carried.as_slice())?;

@@ -1,38 +1,16 @@
-use Rattle.std.proofs.Common.{None, ap, arith, drop, length, sym, ◌∙◌}
-use Rattle.std.proofs.lemmas.Bool.{eqb-true}
+use Rattle.std.proofs.Common.{None, ap, sym, ◌∙◌}
+use Rattle.std.specs.List.{flat_map}
+use Rattle.std.proofs.lemmas.List.{drop_all}
 use Rattle.gp_txn.specs.LeastSoFar.{least_of}
-use Rattle.gp_txn.specs.Overlay.{slotted_spans}
-use Rattle.gp_txn.proofs.ConflictLemmas.{lates-none, least-held, least-passed}
+use Rattle.gp_txn.specs.Passes.{of_entry, row_lates}
+use Rattle.gp_txn.proofs.ConflictLemmas.{lates-entries}
 use Rattle.gp_txn.proofs.conflict.least_slot.Goals as goal
 
-pub returns-then-is_empty : goal.returns-then-is_empty
-returns-then-is_empty c =
-    sym (ap (least_of None) (lates-none c.args.slots.now (slotted_spans c.args.carried.now c.args.v c.args.spans.now) (eqb-true _ _ (sym c.is_empty.ensures ∙ c.if-is_empty.true))))
-
-pub loop-span-preserved-then-not-has : goal.loop-span-preserved-then-not-has
-loop-span-preserved-then-not-has c =
+pub returns : goal.returns
+returns c =
     let slots = c.args.slots.now in
     let carried = c.args.carried.now in
-    let place = c.loop-span.place in
-    let span = c.in-Some.span.now in
-    let rest = c.next.new.self in
-    let is = c.in-Some.ensures.steps in
-    let free = sym c.has.ensures ∙ c.if-not-has.true in
-    record {
-      rest = rw c.in_ok-found.ensures (sym (least-held c.loop-span.found slots carried place span rest c.loop-span.span-iterator is free) ∙ c.loop-span.invariant.rest);
-      below = omega (arith, ap length is, c.loop-span.invariant.below);
-    }
-
-pub loop-span-preserved : goal.loop-span-preserved
-loop-span-preserved c =
-    let slots = c.args.slots.now in
-    let carried = c.args.carried.now in
-    let place = c.loop-span.place in
-    let span = c.in-Some.span.now in
-    let rest = c.next.new.self in
-    let is = c.in-Some.ensures.steps in
-    let passed = sym c.has.ensures ∙ c.if-not-has.false in
-    record {
-      rest = sym (least-passed c.loop-span.found (drop place slots) carried span rest c.loop-span.span-iterator is passed) ∙ c.loop-span.invariant.rest;
-      below = omega (arith, ap length is, c.loop-span.invariant.below);
-    }
+    let spans = c.args.spans.now in
+    ap (λ rest. least_of c.loop-placed.found (flat_map (of_entry row_lates carried c.args.v spans) rest)) (sym (drop_all c.loop-placed.placed-index slots c.loop-placed-test.false))
+    ∙ c.loop-placed.invariant
+    ∙ ap (least_of None) (lates-entries carried c.args.v spans slots c.requires)

@@ -1,15 +1,14 @@
-use Rattle.std.proofs.Common.{◌≡◌, ◌++◌, map, drop, ◌+◌, length, ◌<◌, ◌^◌}
+use Rattle.std.proofs.Common.{◌≡◌, ◌++◌, drop}
+use Rattle.std.specs.List.{flat_map}
 use Rattle.std.specs.Option.{option_map}
-use Rattle.gp_base.specs.Annotated.{plain}
 use Rattle.gp_expr.specs.Views.{cond_view}
-use Rattle.gp_versions.specs.Spans.{rows_at}
-use Rattle.gp_txn.specs.Overlay.{overlaid, slotted, stored_of}
-use Rattle.gp_txn.specs.Wanted.{wanted}
-use Rattle.gp_txn.proofs.SlottedLemmas.{slotted_of}
+use Rattle.gp_txn.specs.Passes.{of_place, row_wanted}
+use Rattle.gp_txn.proofs.PlacedLemmas.{IsAhead, anywhere}
 use Rattle.gp_txn.proofs.snapshot.seen_rows.Given as goal
 
-abbrev pub invariant-loop-span : goal.invariant-loop-span
-invariant-loop-span l = record {
-  rest : l.rows ++ map stored_of (wanted (option_map (λ c. cond_view c.now) l.cond) (overlaid (drop l.place l.slots) (slotted_of l.carried l.span-iterator))) ≡ map stored_of (wanted (option_map (λ c. cond_view c.now) l.cond) (overlaid l.slots (slotted l.carried (rows_at plain l.v l.spans))));
-  below : l.place + length l.span-iterator < 2 ^ 60;
+abbrev pub invariant-loop-place : goal.invariant-loop-place
+invariant-loop-place l = record {
+  rest : l.rows ++ flat_map (of_place (anywhere (row_wanted (option_map (λ c. cond_view c.now) l.cond))) l.carried l.v l.slots l.spans) (drop l.place-index l.places)
+      ≡ flat_map (of_place (anywhere (row_wanted (option_map (λ c. cond_view c.now) l.cond))) l.carried l.v l.slots l.spans) l.places;
+  ahead : IsAhead l.slots l.ahead (drop l.place-index l.places);
 }

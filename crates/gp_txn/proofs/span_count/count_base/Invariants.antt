@@ -1,14 +1,12 @@
-use Rattle.std.proofs.Common.{◌≡◌, ◌≤◌, ◌+◌, length, drop, ◌<◌, ◌^◌}
+use Rattle.std.proofs.Common.{◌≡◌, ◌+◌, ◌≤◌, drop, length}
+use Rattle.std.specs.List.{flat_map}
 use Rattle.gp_base.specs.Annotated.{plain}
 use Rattle.gp_versions.specs.Commits.{live_rows}
-use Rattle.gp_versions.specs.Spans.{rows_at}
-use Rattle.gp_txn.specs.Overlay.{base_writes, slotted}
-use Rattle.gp_txn.proofs.SlottedLemmas.{slotted_of}
+use Rattle.gp_txn.specs.Passes.{of_entry, row_writes}
 use Rattle.gp_txn.proofs.span_count.count_base.Given as goal
 
-abbrev pub invariant-loop-span : goal.invariant-loop-span
-invariant-loop-span l = record {
-  rest : l.count + length (live_rows plain (base_writes (drop l.place l.slots) (slotted_of l.carried l.span-iterator))) ≡ length (live_rows plain (base_writes l.slots (slotted l.carried (rows_at plain l.v l.spans))));
-  below : l.place + length l.span-iterator < 2 ^ 60;
-  few : l.count ≤ l.place;
+abbrev pub invariant-loop-placed : goal.invariant-loop-placed
+invariant-loop-placed l = record {
+  rest : l.count + length (live_rows plain (flat_map (of_entry row_writes l.carried l.v l.spans) (drop l.placed-index l.slots))) ≡ length (live_rows plain (flat_map (of_entry row_writes l.carried l.v l.spans) l.slots));
+  few : l.count ≤ l.placed-index;
 }

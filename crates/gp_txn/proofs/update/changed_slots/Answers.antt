@@ -1,41 +1,59 @@
-use Rattle.std.proofs.Common.{ap, arith, drop, length, sym, ◌∙◌}
+use Rattle.std.proofs.Common.{◌≡◌, ◌+◌, ◌∷◌, ◌++◌, arith, drop, get_or, length, refl, ap, sym, subst, ◌∙◌}
+use Rattle.std.specs.List.{flat_map}
+use Rattle.std.proofs.lemmas.List.{append-nil, drop_all, drop_more}
 use Rattle.gp_txn.specs.Changes.{change_view}
-use Rattle.gp_txn.specs.Overlay.{head_slot}
-use Rattle.gp_txn.specs.Slots.{is_touched}
-use Rattle.gp_txn.proofs.OverlayLemmas.{count-held, count-passed, one_if-few, turn-held, turn-passed}
+use Rattle.gp_txn.specs.Enough.{first_at, slotted_at}
+use Rattle.gp_txn.specs.Passes.{of_place, of_row, row_entry, row_touched}
+use Rattle.gp_txn.proofs.ChangedLemmas.{changed-places, touched-places}
+use Rattle.gp_txn.proofs.PlacedLemmas.{IsAhead, ahead-all, ahead-first, ahead-more, anywhere, pass-count, pass-more}
 use Rattle.gp_txn.proofs.update.changed_slots.Goals as goal
 
-pub loop-span-preserved-then-not-has : goal.loop-span-preserved-then-not-has
-loop-span-preserved-then-not-has c =
+pub loop-place-preserved : goal.loop-place-preserved
+loop-place-preserved c =
     let change = change_view c.args.change.now in
     let slots = c.args.slots.now in
     let carried = c.args.carried.now in
-    let place = c.loop-span.place in
-    let span = c.in-Some.span.now in
-    let rest = c.next.new.self in
-    let is = c.in-Some.ensures.steps in
-    let free = sym c.has.ensures ∙ c.if-not-has.true in
-    let few = one_if-few (is_touched change (head_slot (drop place slots)) span.row) in
+    let spans = c.args.spans.now in
+    let places = c.args.places.now in
+    let v = c.args.v in
+    let index = c.loop-place.place-index in
+    let place = get_or places index 0 in
+    let rest = drop (index + 1) places in
+    let is : drop index places ≡ place ∷ rest = drop_more places index 0 c.loop-place-test.true in
+    let held = c.loop-place.invariant.ahead in
+    let slot = ap (first_at place) c.seek-ahead.ensures ∙ ahead-first slots c.loop-place.ahead.now place rest (drop index places) is held in
     record {
-      rest = rw (c.in_ok-push.ensures.ok, c.in_ok-slot.ensures.slot) (sym (turn-held change c.loop-span.new slots carried place span rest c.loop-span.span-iterator is free) ∙ c.loop-span.invariant.rest);
-      count = rw c.in_ok-slot.ensures.count (sym (count-held change c.loop-span.count slots carried place span rest c.loop-span.span-iterator is free) ∙ c.loop-span.invariant.count);
-      below = omega (arith, ap length is, c.loop-span.invariant.below);
-      few = omega (arith, c.in_ok-slot.ensures.count, c.loop-span.invariant.few);
+      rest = rw c.in_ok-count.ensures.slot
+          (pass-more (of_place (row_entry change) carried v slots spans) place rest (drop index places) is c.loop-place.new.items _ (ap (λ s. of_row (row_entry change place) s (slotted_at carried v spans place)) slot)
+          ∙ c.loop-place.invariant.rest);
+      count = pass-count (of_place (anywhere (row_touched change)) carried v slots spans) place rest (drop index places) is c.loop-place.count c.in_ok-count.field-0
+          (c.in_ok-count.ensures.count ∙ ap (λ s. length (of_row (row_touched change) s (slotted_at carried v spans place))) slot)
+          ∙ c.loop-place.invariant.count;
+      few = omega (arith, c.in_ok-count.ensures.few, c.loop-place.invariant.few);
+      ahead = subst (λ ahead. IsAhead slots ahead rest) (sym c.seek-ahead.ensures) (ahead-more slots c.loop-place.ahead.now place rest (drop index places) is held);
     }
 
-pub loop-span-preserved : goal.loop-span-preserved
-loop-span-preserved c =
+pub loop-place-init : goal.loop-place-init
+loop-place-init c = record { rest = rw c.new-new.ensures.items refl; count = omega arith; few = omega arith; ahead = ahead-all c.args.slots.now c.args.places.now c.requires.ascending c.requires.enough.ascending }
+
+pub returns-clause-slots : goal.returns-clause-slots
+returns-clause-slots c =
     let change = change_view c.args.change.now in
     let slots = c.args.slots.now in
     let carried = c.args.carried.now in
-    let place = c.loop-span.place in
-    let span = c.in-Some.span.now in
-    let rest = c.next.new.self in
-    let is = c.in-Some.ensures.steps in
-    let passed = sym c.has.ensures ∙ c.if-not-has.false in
-    record {
-      rest = sym (turn-passed change c.loop-span.new (drop place slots) carried span rest c.loop-span.span-iterator is passed) ∙ c.loop-span.invariant.rest;
-      count = sym (count-passed change c.loop-span.count (drop place slots) carried span rest c.loop-span.span-iterator is passed) ∙ c.loop-span.invariant.count;
-      below = omega (arith, ap length is, c.loop-span.invariant.below);
-      few = c.loop-span.invariant.few;
-    }
+    let spans = c.args.spans.now in
+    let places = c.args.places.now in
+    sym (append-nil c.loop-place.new.items)
+    ∙ ap (λ rest. c.loop-place.new.items ++ flat_map (of_place (row_entry change) carried c.args.v slots spans) rest) (sym (drop_all c.loop-place.place-index places c.loop-place-test.false))
+    ∙ c.loop-place.invariant.rest
+    ∙ changed-places change carried c.args.v spans slots places c.requires.enough
+
+pub returns-clause-count : goal.returns-clause-count
+returns-clause-count c =
+    let change = change_view c.args.change.now in
+    let slots = c.args.slots.now in
+    let carried = c.args.carried.now in
+    let spans = c.args.spans.now in
+    let places = c.args.places.now in
+    let none = ap (λ rest. length (flat_map (of_place (anywhere (row_touched change)) carried c.args.v slots spans) rest)) (drop_all c.loop-place.place-index places c.loop-place-test.false) in
+    omega (arith, none, touched-places change carried c.args.v spans slots places c.requires.enough, c.loop-place.invariant.count)

@@ -1,39 +1,16 @@
-use Rattle.std.proofs.Common.{ap, arith, drop, length, sym, ◌∙◌}
-use Rattle.std.proofs.lemmas.Bool.{eqb-true}
-use Rattle.gp_base.specs.Annotated.{plain}
-use Rattle.gp_versions.specs.Spans.{rows_at}
-use Rattle.gp_txn.specs.Overlay.{slotted}
-use Rattle.gp_txn.proofs.CommitLemmas.{write-held, write-passed, writes-none}
+use Rattle.std.proofs.Common.{◌++◌, ap, sym, ◌∙◌}
+use Rattle.std.specs.List.{flat_map}
+use Rattle.std.proofs.lemmas.List.{append-nil, drop_all}
+use Rattle.gp_txn.specs.Passes.{of_entry, row_writes}
+use Rattle.gp_txn.proofs.PutLemmas.{writes-entries}
 use Rattle.gp_txn.proofs.writes.base_writes.Goals as goal
 
-pub returns-then-is_empty : goal.returns-then-is_empty
-returns-then-is_empty c =
-    c.new.ensures.items ∙ sym (writes-none c.args.slots.now (slotted c.args.carried.now (rows_at plain c.args.v c.args.spans.now)) (eqb-true _ _ (sym c.is_empty.ensures ∙ c.if-is_empty.true)))
-
-pub loop-span-preserved-then-not-has : goal.loop-span-preserved-then-not-has
-loop-span-preserved-then-not-has c =
+pub returns : goal.returns
+returns c =
     let slots = c.args.slots.now in
     let carried = c.args.carried.now in
-    let place = c.loop-span.place in
-    let span = c.in-Some.span.now in
-    let rest = c.next.new.self in
-    let is = c.in-Some.ensures.steps in
-    let free = sym c.has.ensures ∙ c.if-not-has.true in
-    record {
-      rest = rw c.in_ok-push_write.ensures (sym (write-held c.loop-span.writes.items slots carried place span rest c.loop-span.span-iterator is free) ∙ c.loop-span.invariant.rest);
-      below = omega (arith, ap length is, c.loop-span.invariant.below);
-    }
-
-pub loop-span-preserved : goal.loop-span-preserved
-loop-span-preserved c =
-    let slots = c.args.slots.now in
-    let carried = c.args.carried.now in
-    let place = c.loop-span.place in
-    let span = c.in-Some.span.now in
-    let rest = c.next.new.self in
-    let is = c.in-Some.ensures.steps in
-    let passed = sym c.has.ensures ∙ c.if-not-has.false in
-    record {
-      rest = sym (write-passed c.loop-span.writes.items (drop place slots) carried span rest c.loop-span.span-iterator is passed) ∙ c.loop-span.invariant.rest;
-      below = omega (arith, ap length is, c.loop-span.invariant.below);
-    }
+    let spans = c.args.spans.now in
+    sym (append-nil c.loop-placed.writes.items)
+    ∙ ap (λ rest. c.loop-placed.writes.items ++ flat_map (of_entry row_writes carried c.args.v spans) rest) (sym (drop_all c.loop-placed.placed-index slots c.loop-placed-test.false))
+    ∙ c.loop-placed.invariant
+    ∙ writes-entries carried c.args.v spans slots c.requires

@@ -1,12 +1,8 @@
-use Rattle.std.proofs.Common.{◌≡◌, ◌++◌, drop, ◌+◌, length, ◌<◌, ◌^◌}
-use Rattle.gp_base.specs.Annotated.{plain}
-use Rattle.gp_versions.specs.Spans.{rows_at}
-use Rattle.gp_txn.specs.Overlay.{base_writes, slotted}
-use Rattle.gp_txn.proofs.SlottedLemmas.{slotted_of}
+use Rattle.std.proofs.Common.{◌≡◌, ◌++◌, drop}
+use Rattle.std.specs.List.{flat_map}
+use Rattle.gp_txn.specs.Passes.{of_entry, row_writes}
 use Rattle.gp_txn.proofs.writes.base_writes.Given as goal
 
-abbrev pub invariant-loop-span : goal.invariant-loop-span
-invariant-loop-span l = record {
-  rest : l.writes.items ++ base_writes (drop l.place l.slots) (slotted_of l.carried l.span-iterator) ≡ base_writes l.slots (slotted l.carried (rows_at plain l.v l.spans));
-  below : l.place + length l.span-iterator < 2 ^ 60;
-}
+abbrev pub invariant-loop-placed : goal.invariant-loop-placed
+invariant-loop-placed l =
+    l.writes.items ++ flat_map (of_entry row_writes l.carried l.v l.spans) (drop l.placed-index l.slots) ≡ flat_map (of_entry row_writes l.carried l.v l.spans) l.slots

@@ -1,6 +1,4 @@
 use Rattle.std.proofs.Common.{◌≡◌, arith, ◌∙◌}
-use Rattle.gp_base.specs.Annotated.{plain}
-use Rattle.gp_versions.specs.Spans.{rows_at}
 use Rattle.gp_txn.specs.Changes.{change_view}
 use Rattle.gp_txn.specs.Rebasing.{writes_over}
 use Rattle.gp_txn.specs.Slots.{count_touched}
@@ -17,7 +15,7 @@ put-requires-clause-own c =
     let spans = (table_at c.args.table c.args.versions.now).spans in
     let own = rw c.writes-writes.ensures.writes at c.writes-writes.ensures.own in
     rw (c.in_ok-new.ensures.exact, c.writes-writes.ensures.writes, c.spans_of-spans.ensures.spans)
-    (keeps-changed old.t old.last c.args.k (change_view c.args.change.now) (writes_over c.args.version spans writes) (rows_at plain c.args.version spans) (omega (arith, c.requires.later))
+    (keeps-changed old.t old.last c.args.k (change_view c.args.change.now) spans (writes_over c.args.version spans writes) (omega (arith, c.requires.later))
     (keeps-over c.args.version writes spans old.t old.last c.spans_of-spans.ensures.apart (c.requires.others c.args.table) own))
 
 pub returns : goal.returns
@@ -25,7 +23,8 @@ returns c =
     let table = rw (c.writes-writes.ensures.writes, c.spans_of-spans.ensures.spans) at c.in_ok-new.ensures.exact in
     let count = rw (c.writes-writes.ensures.writes, c.spans_of-spans.ensures.spans) at c.in_ok-new.ensures.count in
     let own = rw c.writes-writes.ensures.writes at c.writes-writes.ensures.own in
-    let number : c.in_ok-count.count ≡ count_touched (change_view c.args.change.now) (view_at c.args.self.now.tables c.args.versions.now c.args.version c.args.table) = c.in_ok-count.ensures ∙ count in
+    let number : c.in_ok-count.count ≡ count_touched (change_view c.args.change.now) (view_at c.args.self.now.tables c.args.versions.now c.args.version c.args.table) =
+    ◌∙◌ {c = count_touched (change_view c.args.change.now) (view_at c.args.self.now.tables c.args.versions.now c.args.version c.args.table)} c.in_ok-count.ensures count in
     rw (c.put.ensures.new, table)
     (change-wrote c.args.k c.args.version c.args.table (change_view c.args.change.now) c.args.versions.now c.args.self.now c.in_ok-count.count (omega (arith, c.requires.table, c.put.ensures.tables)) own
     number)
