@@ -1,6 +1,6 @@
 -- What the code tells of a statement, and of results.
 use Rattle.std.proofs.Common.{◌≡◌, List, refl}
-use Rattle.std.specs.Prelude.{Result, Ok, Err, IfOk}
+use Rattle.std.specs.Prelude.{Result, Ok, Err, IfErr, IfOk}
 use Rattle.gp_algebra.specs.Views.{statement_view}
 use Rattle.gp_algebra.specs.declared.statement.Select as code
 use Rattle.gp_algebra.specs.declared.statement.Stmt.{Stmt}
@@ -20,3 +20,8 @@ not-read tables (variant.Read select) other = other select refl
 pub ok-map : {A E : Type 0} (P Q : A → Type 0) (result : Result A E) → ((a : A) → P a → Q a) → IfOk result P → IfOk result Q
 ok-map P Q (Ok a) f p = f a p
 ok-map P Q (Err e) f p = p
+
+-- what holds of its error, where it is none
+pub err-map : {A E : Type 0} (P Q : E → Type 0) (result : Result A E) → ((e : E) → P e → Q e) → IfErr result P → IfErr result Q
+err-map P Q (Ok a) f p = p
+err-map P Q (Err e) f p = f e p

@@ -16,6 +16,8 @@ use Rattle.gp_grammar.specs.Syntax.{Command}
 use Rattle.gp_versions.specs.Commits.{after_commit}
 use Rattle.gp_versions.specs.Spans.{Versions}
 use Rattle.gp_versions.specs.TableSpans.{AreWhole, NoOverlap}
+use Rattle.gp_versions.specs.declared.span.Span.{Span}
+use Rattle.gp_txn.proofs.UnwrittenLemmas.{unwritten-base, unwritten-view}
 use Rattle.gp_txn.specs.Counts.{count_spans}
 use Rattle.gp_txn.specs.Transactions.{no_table, snapshot_of, table_at, view_at, writes_at}
 use Rattle.gp_machine.specs.declared.reply.Reply.{Reply}
@@ -40,19 +42,19 @@ use Rattle.gp_log.specs.Parameters.{parameters}
 use Rattle.gp_engine.specs.Methods as method
 use Rattle.gp_engine.specs.Methods.{DoesAt, Keeps, loses, meaning_of, overflows, publishes, refusal_at}
 use Rattle.gp_engine.proofs.ConflictLemmas.{found, shown_none, shown_some}
-use Rattle.gp_engine.proofs.OverlayLemmas.{base_same, new_base, new_view, view_same}
-use Rattle.gp_engine.proofs.PublishLemmas.{count_published, has_room, is_full, published, spans_published, writes_of}
+use Rattle.gp_engine.proofs.OverlayLemmas.{base_same, view_same}
+use Rattle.gp_engine.proofs.PublishLemmas.{count_published, has_room, is_full, overlays_stay, published, spans_published, writes_of}
 
 -- ---- what is kept of a changed engine
 
 -- another transaction of one session
-sessions-put : (sessions : List (Option Running)) (place : ℕ) (running : Option Running) → place < length sessions → (session : ℕ)
-    → option_map overlay_of (session_at session (slice_set sessions place running)) ≡ with_value (suc place) (option_map overlay_of running) (λ n. option_map overlay_of (session_at n sessions)) session
-sessions-put sessions place running within zero = rw (ne_eqb 0 (suc place) (λ e. omega (arith, e))) refl
-sessions-put sessions place running within (suc other) =
+sessions-put : (spans : ℕ → List Span) (sessions : List (Option Running)) (place : ℕ) (running : Option Running) → place < length sessions → (session : ℕ)
+    → option_map (overlay_of spans) (session_at session (slice_set sessions place running)) ≡ with_value (suc place) (option_map (overlay_of spans) running) (λ n. option_map (overlay_of spans) (session_at n sessions)) session
+sessions-put spans sessions place running within zero = rw (ne_eqb 0 (suc place) (λ e. omega (arith, e))) refl
+sessions-put spans sessions place running within (suc other) =
     elim (cases_eq other place) [
-      | inl same ↦ rw same (rw (eq-eqb (suc place) (suc place) refl) (ap (option_map overlay_of) (get_or-set_same sessions place running None within)))
-      | inr differ ↦ rw (ne_eqb (suc other) (suc place) (λ e. differ (ap pred e))) (ap (option_map overlay_of) (get_or-set_other sessions place other running None differ))
+      | inl same ↦ rw same (rw (eq-eqb (suc place) (suc place) refl) (ap (option_map (overlay_of spans)) (get_or-set_same sessions place running None within)))
+      | inr differ ↦ rw (ne_eqb (suc other) (suc place) (λ e. differ (ap pred e))) (ap (option_map (overlay_of spans)) (get_or-set_other sessions place other running None differ))
     ]
 
 -- one more table, without spans
@@ -83,7 +85,11 @@ kept-as engine entries versions sessions keeps = λ i. kept_by (keeps.log_is i) 
 kept-respanned : (entries : List Entry) (versions others : List Versions) (sessions : List (Option Running)) → ((place : ℕ) → spans_of others place ≡ spans_of versions place)
     → kept_by entries others sessions ≡ kept_by entries versions sessions
 kept-respanned entries versions others sessions same =
-    λ i. record (kept_by entries versions sessions) { spans = λ place. same place i; rows = count-alike others versions same (length (tables_in entries)) i }
+    λ i. record (kept_by entries versions sessions) {
+      spans = λ place. same place i;
+      sessions = λ session. option_map (overlay_of (λ place. same place i)) (session_at session sessions);
+      rows = count-alike others versions same (length (tables_in entries)) i;
+    }
 
 -- an engine that keeps the same, but for the room of its log and row versions
 pub kept-unchanged : (old new : Engine) → IsUnchanged old new → kept_of new ≡ kept_of old
@@ -121,9 +127,13 @@ module _ (old new : Engine) (answer : Reply) (state : State (Unit {0})) (engine 
   reached : IsReached plain parameters state
   reached = subst (IsReached plain parameters) (sym engine.reached) (reached_after parameters engine.lines)
 
+  -- the writes of a transaction before it
+  abbrev seen : Running → Overlay
+  seen = overlay_of (spans_of old.versions)
+
   -- the sessions, where the one at the place has another transaction, or none
-  put : (running : Option Running) (n : ℕ) → option_map overlay_of (session_at n (slice_set old.sessions place running)) ≡ with_value session (option_map overlay_of running) (λ m. option_map overlay_of (session_at m old.sessions)) n
-  put running n = sessions-put old.sessions place running within n
+  put : (running : Option Running) (n : ℕ) → option_map seen (session_at n (slice_set old.sessions place running)) ≡ with_value session (option_map seen running) (λ m. option_map seen (session_at m old.sessions)) n
+  put running n = sessions-put (spans_of old.versions) old.sessions place running within n
 
   refuses : (refusal : Refusal) → method.Refuses old new answer refusal → line.Refuses parameters kept number session next answer refusal
   refuses refusal r = (kept-unchanged old new r.0, r.1)
@@ -138,6 +148,7 @@ module _ (old new : Engine) (answer : Reply) (state : State (Unit {0})) (engine 
         catalogue = tables_of old ++ table ∷ [];
         entries = later;
         spans = λ at. spans-added old.versions r.added r.empty at i;
+        sessions = λ s. option_map (overlay_of (λ at. spans-added old.versions r.added r.empty at i)) (session_at s old.sessions);
         rows = rows-added (tables_of old) table old.versions r.added sound.tables r.empty i;
       }) in
       (kept-as new later (old.versions ++ r.added ∷ []) old.sessions r.keeps ∙ same, r.says)
@@ -148,16 +159,16 @@ module _ (old new : Engine) (answer : Reply) (state : State (Unit {0})) (engine 
       let begun = suc (transactions_of old) in
       let later = Began number session begun kind ∷ entries_of old in
       let running : Running = record { active = starts.active; statements = 0 } in
-      let same : kept_by later old.versions (slice_set old.sessions place (Some running)) ≡ record kept { entries = later; transactions = begun; sessions = with_value session (Some (overlay_of running)) kept.sessions } =
+      let same : kept_by later old.versions (slice_set old.sessions place (Some running)) ≡ record kept { entries = later; transactions = begun; sessions = with_value session (Some (seen running)) kept.sessions } =
       (λ i. record kept { entries = later; transactions = begun; sessions = λ s. put (Some running) s i }) in (
-        overlay_of running,
+        seen running,
         record {
           version = λ at. let low = (starts.tables at).below in omega (arith, low, starts.begin);
           statements = refl;
           view = λ at.
               view_same old.versions running starts.active.begin at
-              ∙ new_view (newest_of old) starts.active.begin (writes_at at starts.active.tables) (table_at at old.versions).spans (starts.tables at);
-          base = λ at id other. new_base (newest_of old) (writes_at at starts.active.tables) _ id (starts.tables at);
+              ∙ unwritten-view (newest_of old) starts.active.begin (writes_at at starts.active.tables) (table_at at old.versions).spans (starts.tables at);
+          base = λ at id other. unwritten-base (newest_of old) (writes_at at starts.active.tables) (spans_of old.versions at) _ id (starts.tables at);
         },
         starts.t,
         starts.kind,
@@ -168,7 +179,7 @@ module _ (old new : Engine) (answer : Reply) (state : State (Unit {0})) (engine 
 
   -- the end of a transaction, where only the memory of the row versions has changed before
   ends : (left : Engine) → IsUnchanged old left → (running : Running) (end : End) (expected : Reply) → method.Clears left new place (Ended number session end running.active.t) → answer ≡ expected
-      → line.Ends parameters kept number session next answer (overlay_of running) end expected
+      → line.Ends parameters kept number session next answer (seen running) end expected
   ends left same running end expected clears says =
       let added = Ended number session end running.active.t in
       let cleared : kept_by (added ∷ entries_of left) left.versions (slice_set left.sessions place None) ≡ kept_by (added ∷ entries_of old) left.versions (slice_set old.sessions place None) =
@@ -189,7 +200,7 @@ module _ (old new : Engine) (answer : Reply) (state : State (Unit {0})) (engine 
     abbrev now : ℕ
     now = snapshot_of running.active (newest_of old)
 
-    start-same : machine_view.view_at (spans_of old.versions) (overlay_of running) now ≡ view_at running.active.tables old.versions now
+    start-same : machine_view.view_at (spans_of old.versions) (seen running) now ≡ view_at running.active.tables old.versions now
     start-same = λ i table. view_same old.versions running now table i
 
     over : (version was : ℕ) → (version ≡ was) ⊎ (version ≡ now) → was ≤ now → version ≤ now
@@ -197,15 +208,15 @@ module _ (old new : Engine) (answer : Reply) (state : State (Unit {0})) (engine 
     over version was (inr here) low = omega (arith, here)
 
     records : (statement : Statement) (refusal : Option Refusal) → method.RunsChecked old new answer number place running command statement refusal
-        → line.Applies parameters kept number session next answer (overlay_of running) command statement refusal
+        → line.Applies parameters kept number session next answer (seen running) command statement refusal
     records statement (Some refusal) r = refuses refusal r
     records statement None r =
         let later = Ran number session command running.active.t statement ∷ entries_of old in
         let accepts = r.accepts in
         let ran = suc (statements_of old) in
-        let same : kept_by later old.versions (slice_set old.sessions place (Some r.after)) ≡ record kept { entries = later; statements = ran; sessions = with_value session (Some (overlay_of r.after)) kept.sessions } =
+        let same : kept_by later old.versions (slice_set old.sessions place (Some r.after)) ≡ record kept { entries = later; statements = ran; sessions = with_value session (Some (seen r.after)) kept.sessions } =
         (λ i. record kept { entries = later; statements = ran; sessions = λ s. put (Some r.after) s i }) in (
-          overlay_of r.after,
+          seen r.after,
           record {
             transaction = accepts.t;
             read_committed = accepts.read_committed;
@@ -219,19 +230,19 @@ module _ (old new : Engine) (answer : Reply) (state : State (Unit {0})) (engine 
             base = λ table id other.
                 accepts.base table id other
                 ∙ base_same now table id (wrote plain running.active.t (suc running.statements) statement (view_at running.active.tables old.versions now)) _
-                ∙ ap (λ db. machine_view.base_after now table id (wrote plain running.active.t (suc running.statements) statement db) (machine_view.base_in (spans_of old.versions) (overlay_of running) table id)) (sym start-same);
+                ∙ ap (λ db. machine_view.base_after now table id (wrote plain running.active.t (suc running.statements) statement db) (machine_view.base_in (spans_of old.versions) (seen running) table id)) (sym start-same);
           },
           kept-as new later old.versions (slice_set old.sessions place (Some r.after)) r.keeps ∙ same,
           accepts.says ∙ ap (reply_of plain running.active.t (suc running.statements) statement) (sym start-same),
         )
 
     runs : (refusal : Option Refusal) (meaning : Result Statement Refusal) → method.RunsAs old new answer number place running command (meaning_of refusal meaning)
-        → line.RunsStatement parameters kept number session next answer (overlay_of running) command refusal meaning
+        → line.RunsStatement parameters kept number session next answer (seen running) command refusal meaning
     runs (Some refusal) meaning r = refuses refusal r
     runs None (Err refusal) r = refuses refusal r
     runs None (Ok statement) r =
-        subst (line.Applies parameters kept number session next answer (overlay_of running) command statement) (ap (refusal_of plain parameters (tables_of old) running.active.t (suc running.statements) statement) (sym start-same))
-        (records statement (refusal_at old new answer number place running command statement) r)
+        subst (line.Applies parameters kept number session next answer (seen running) command statement) (ap (refusal_of plain parameters (tables_of old) running.active.t (suc running.statements) statement) (sym start-same))
+        (records statement (refusal_at old running statement) r)
 
   -- ---- the line
 
@@ -255,19 +266,19 @@ module _ (old new : Engine) (answer : Reply) (state : State (Unit {0})) (engine 
   whole : (table : ℕ) → AreWhole (spans_of old.versions table)
   whole table = subst AreWhole (sym (engine.kept.spans table)) (spans_whole (versions_in state.entries) state.committed state.written table)
 
-  commits : (running : Running) (at : get_or old.sessions place None ≡ Some running) → method.Commits old new answer number place running → Leads (Some (overlay_of running)) Commit
+  commits : (running : Running) (at : get_or old.sessions place None ≡ Some running) → method.Commits old new answer number place running → Leads (Some (seen running)) Commit
   commits running at (loses conflict left own first same clears says) =
       let lost : machine.Conflict = record { pair = record { table = conflict.place; identity = conflict.late.id }; version = conflict.late.version } in
       let other = committer_of conflict.late.version (entries_of old) in
       record {
         conflict = λ o. Some lost;
-        finds = found state kept session (overlay_of running) (Some lost) engine.kept reached (ap (option_map overlay_of) at) (shown_some running old conflict own apart whole first);
+        finds = found state kept session (seen running) (Some lost) engine.kept reached (ap (option_map seen) at) (shown_some running old conflict own apart whole first);
         does = ends left same running Lost (reply.Refused (E11 running.active.t other (name_at conflict.place (tables_of old)) conflict.late.id)) clears says;
       }
   commits running at (overflows own first many same says) = record {
     conflict = λ o. None;
-    finds = found state kept session (overlay_of running) None engine.kept reached (ap (option_map overlay_of) at) (shown_none running old own apart whole first);
-    does = subst (λ full. line.Commits parameters kept number session next answer (overlay_of running) None full) (sym (is_full old running sound.tables many)) (kept-unchanged old new same, says);
+    finds = found state kept session (seen running) None engine.kept reached (ap (option_map seen) at) (shown_none running old own apart whole first);
+    does = subst (λ full. line.Commits parameters kept number session next answer (seen running) None full) (sym (is_full old running sound.tables many)) (kept-unchanged old new same, says);
   }
   commits running at (publishes own long made keeps says) =
       let later = Committed number session running.active.t ∷ entries_of old in
@@ -279,19 +290,19 @@ module _ (old new : Engine) (answer : Reply) (state : State (Unit {0})) (engine 
         spans = λ table. after_commit version (published old running table) (spans_of old.versions table);
         sessions = with_value session None kept.sessions;
         versions = version;
-        rows = rows_after kept (overlay_of running);
+        rows = rows_after kept (seen running);
       } =
       (λ i. record kept {
         entries = later;
         spans = λ table. spans_published old running new.versions version long made.spans table i;
-        sessions = λ s. put None s i;
+        sessions = λ s. (overlays_stay (entries_of old) old.versions old.sessions number place running new.versions sound at own within long made s ∙ put None s) i;
         versions = version;
         rows = count_published old running sound.tables new.versions version made.spans i;
       }) in
       record {
         conflict = λ o. None;
-        finds = found state kept session (overlay_of running) None engine.kept reached (ap (option_map overlay_of) at) (shown_none running old own apart whole made.first);
-        does = subst (λ full. line.Commits parameters kept number session next answer (overlay_of running) None full) (sym (has_room old running sound.tables made.few)) (
+        finds = found state kept session (seen running) None engine.kept reached (ap (option_map seen) at) (shown_none running old own apart whole made.first);
+        does = subst (λ full. line.Commits parameters kept number session next answer (seen running) None full) (sym (has_room old running sound.tables made.few)) (
           published old running,
           writes_of old running own (sound.each session running at).there nothing,
           kept-as new later new.versions (slice_set old.sessions place None) keeps ∙ same,
@@ -299,19 +310,19 @@ module _ (old new : Engine) (answer : Reply) (state : State (Unit {0})) (engine 
         );
       }
 
-  leads : (found : Option Running) → get_or old.sessions place None ≡ found → (action : Action) → DoesAt old new answer number place found action → Leads (option_map overlay_of found) action
+  leads : (found : Option Running) → get_or old.sessions place None ≡ found → (action : Action) → DoesAt old new answer number place found action → Leads (option_map seen found) action
   leads None at (Create table) r = quiet None (Create table) (creates table (creation_refusal parameters (tables_of old) table) r)
   leads None at (Begin kind) r = quiet None (Begin kind) (begins kind (nat_le parameters.transactions (transactions_of old)) r)
   leads None at Commit r = quiet None Commit (refuses E10 r)
   leads None at Rollback r = quiet None Rollback (refuses E10 r)
   leads None at (Run command) r = quiet None (Run command) (refuses E10 r)
-  leads (Some running) at (Create table) r = quiet (Some (overlay_of running)) (Create table) (refuses E09 r)
-  leads (Some running) at (Begin kind) r = quiet (Some (overlay_of running)) (Begin kind) (refuses E09 r)
+  leads (Some running) at (Create table) r = quiet (Some (seen running)) (Create table) (refuses E09 r)
+  leads (Some running) at (Begin kind) r = quiet (Some (seen running)) (Begin kind) (refuses E09 r)
   leads (Some running) at Commit r = commits running at r
   leads (Some running) at Rollback r =
-      quiet (Some (overlay_of running)) Rollback (ends old (unchanged old) running RolledBack (reply.RolledBack running.active.t) r.0 r.1)
+      quiet (Some (seen running)) Rollback (ends old (unchanged old) running RolledBack (reply.RolledBack running.active.t) r.0 r.1)
   leads (Some running) at (Run command) r =
-      quiet (Some (overlay_of running)) (Run command) (runs running at command (count_refusal parameters running.statements (statements_of old)) (checked (tables_of old) command) r)
+      quiet (Some (seen running)) (Run command) (runs running at command (count_refusal parameters running.statements (statements_of old)) (checked (tables_of old) command) r)
 
   -- the engine represents the state of the event, and its answer is the reply
   pub follows_at : (command : Command) → DoesAt old new answer number place (get_or old.sessions place None) (action_of command)

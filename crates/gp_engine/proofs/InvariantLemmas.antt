@@ -22,10 +22,11 @@ use Rattle.gp_versions.specs.declared.span.Span.{Span}
 use Rattle.gp_versions.specs.Commits.{AreBelow}
 use Rattle.gp_versions.specs.Spans.{Versions, rows_at}
 use Rattle.gp_txn.specs.Bases.{table_view}
-use Rattle.gp_txn.specs.Overlay.{PlainRow}
+use Rattle.gp_txn.specs.Overlay.{PlainRow, overlay_of}
 use Rattle.gp_txn.specs.Transactions.{AreOthers, AreThere, HoldsOthers, IsUnwritten, Writes, no_table, snapshot_of, table_at, view_at, writes_at}
 use Rattle.gp_txn.proofs.AfterLemmas.{view-beyond}
 use Rattle.gp_txn.proofs.PairLemmas.{all-weaker}
+use Rattle.gp_txn.proofs.UnwrittenLemmas.{unwritten-view}
 use Rattle.gp_machine.specs.declared.reply.Reply.{Reply}
 use Rattle.gp_machine.specs.Actions.{Action, Create, Begin, Commit, Rollback, Run, action_of}
 use Rattle.gp_machine.specs.Entries.{End, Entry, RolledBack, Lost, Created, Began, Ran, Committed, Ended, statement_count, transactions_in, versions_in}
@@ -41,7 +42,7 @@ use Rattle.gp_engine.specs.declared.running.Running.{Running}
 use Rattle.gp_engine.specs.Engine.{Engine, IsEngine, IsSession, IsSound, IsUnchanged, count_running, entries_of, newest_of, session_at, spans_of, statements_of, tables_of, transactions_of}
 use Rattle.gp_log.specs.Parameters.{parameters}
 use Rattle.gp_engine.specs.Methods.{Begins, Clears, Commits, Creates, DoesAt, HasPlace, Keeps, Records, Refuses, RunsAs, RunsChecked, is_read, loses, meaning_of, overflows, publishes, refusal_at}
-use Rattle.gp_engine.proofs.OverlayLemmas.{new_view, snapshot_first, snapshot_later}
+use Rattle.gp_engine.proofs.OverlayLemmas.{snapshot_first, snapshot_later}
 use Rattle.gp_engine.proofs.PublishLemmas.{committed_sound, session_left}
 use Rattle.gp_engine.proofs.SessionLemmas.{count-cleared, count-replaced, count-taken}
 use Rattle.std.proofs.lemmas.Option.{same_Some}
@@ -117,7 +118,7 @@ session-stays entries later versions others running spans tables committed begun
   others = λ place. subst (AreOthers running.active.t) (sym (spans place)) (was.others place);
   below = λ place. let before = was.below place in let now = snapshot_later running.active (versions_in entries) (versions_in later) committed in omega (arith, before, now);
   there = λ place. subst (λ held. AreThere held (writes_at place running.active.tables).carried) (sym (spans place)) (was.there place);
-  beyond = λ place high. subst (λ held. table_view (writes_at place running.active.tables) held running.active.begin ≡ []) (sym (spans place)) (was.beyond place (omega (arith, high, tables)));
+  beyond = λ place high. subst (λ held. table_view (overlay_of held (writes_at place running.active.tables)) held running.active.begin ≡ []) (sym (spans place)) (was.beyond place (omega (arith, high, tables)));
 }
 
 -- other row versions of the same spans
@@ -227,7 +228,7 @@ module _ (entries later : List Entry) (versions : List Versions) (sessions : Lis
 -- what has no writes reads nothing beyond the last table
 nothing-written : (active : Writes) (versions : List Versions) (begin place : ℕ) → IsUnwritten begin (writes_at place active.tables) → length versions ≤ place → view_at active.tables versions active.begin place ≡ []
 nothing-written active versions begin place none high =
-    new_view begin active.begin (writes_at place active.tables) (table_at place versions).spans none ∙ (λ i. rows_at plain active.begin (get_or-eq_default versions no_table high i).spans)
+    unwritten-view begin active.begin (writes_at place active.tables) (table_at place versions).spans none ∙ (λ i. rows_at plain active.begin (get_or-eq_default versions no_table high i).spans)
 
 began_sound : (entries : List Entry) (versions : List Versions) (sessions : List (Option Running)) (line place : ℕ) (kind : Bool) (active : Writes) → IsSound entries versions sessions → place < length sessions
     → get_or sessions place None ≡ None → transactions_in entries < MAX_TRANSACTIONS → active.t ≡ suc (transactions_in entries) → active.begin ≡ versions_in entries → active.last ≡ 0
@@ -438,7 +439,7 @@ module _ (old new : Engine) (answer : Reply) (line place : ℕ) (kept : IsEngine
     counted-engine command (Some refusal) checked is runs = refused-engine refusal runs
     counted-engine command None (Err refusal) is runs = refused-engine refusal runs
     counted-engine command None (Ok statement) is runs =
-        checked-engine command statement (refusal_at old new answer line place running command statement)
+        checked-engine command statement (refusal_at old running statement)
         (leb-false MAX_STATEMENTS (statements_of old) (all-below (nat_le parameters.steps running.statements) (nat_le MAX_STATEMENTS (statements_of old)) _ _ is)) runs
 
   action-engine : (session : Option Running) (action : Action) → get_or old.sessions place None ≡ session → ((table : Table) → action ≡ Create table → is_valid (y.create table) ≡ true)

@@ -89,7 +89,7 @@ module _ (old new : Engine) (answer : Reply) (line place : ℕ) where
   runs-unchanged : (running : Running) (command : Command) (meaning : Result Statement Refusal) → RunsAs old new answer line place running command meaning → is_recorded (Run command) answer ≡ false
       → IsUnchanged old new
   runs-unchanged running command (Err refusal) r denied = r.0
-  runs-unchanged running command (Ok statement) r denied = checked-unchanged running command statement (refusal_at old new answer line place running command statement) r denied
+  runs-unchanged running command (Ok statement) r denied = checked-unchanged running command statement (refusal_at old running statement) r denied
 
   does-unchanged : (found : Option Running) (action : Action) → DoesAt old new answer line place found action → is_recorded action answer ≡ false → IsUnchanged old new
   does-unchanged None action does denied = outside-unchanged action does denied

@@ -1,34 +1,31 @@
--- The writes of a transaction, as the history machine sees them: what they show in a version, the bases of their rows, and what there is of them where
--- nothing is written yet.
-use Rattle.std.proofs.Common.{◌≡◌, ℕ, ◌≤◌, Bool, true, false, cond, List, [], ◌∷◌, ◌++◌, map, Option, Some, None, refl, ap, sym, ◌∙◌, arith}
+-- The writes of a transaction, as the history machine sees them: what they show in a version, the bases of their rows, and that the commit of another
+-- transaction leaves them as they are.
+use Rattle.std.proofs.Common.{◌≡◌, ℕ, ◌<◌, ◌≤◌, true, false, cond, List, length, Option, Some, None, refl, ap, sym, arith}
 use Rattle.std.specs.Prelude.{◌==◌}
-use Rattle.std.specs.List.{filter}
-use Rattle.std.specs.Option.{is_none}
+use Rattle.std.proofs.lemmas.Bool.{eqb-true}
 use Rattle.gp_algebra.specs.Effects.{Written}
 use Rattle.gp_base.specs.Annotated.{plain}
 use Rattle.gp_base.specs.Identities.{Identity}
 use Rattle.gp_machine.specs.Represents as machine
-use Rattle.gp_txn.specs.Bases.{base_after, base_of, refreshed, table_view}
-use Rattle.gp_txn.specs.Overlay.{PlainRow, base_writes, no_writes, rows_below, view_rows}
-use Rattle.gp_txn.specs.Transactions.{IsUnwritten, Writes, has_written, snapshot_of, table_at, view_at, writes_at}
-use Rattle.gp_txn.specs.declared.overlay.TableWrites.{TableWrites}
-use Rattle.gp_versions.specs.Commits.{is_written}
-use Rattle.gp_versions.specs.Spans.{Versions, row_of, rows_at, spans_at}
-use Rattle.gp_versions.specs.declared.span.Span.{Span}
+use Rattle.gp_txn.proofs.AfterLemmas.{overlay-kept}
+use Rattle.gp_txn.specs.Bases.{base_after, base_of, refreshed}
+use Rattle.gp_txn.specs.Committing.{Commits}
+use Rattle.gp_txn.specs.Overlay.{rows_below, view_rows}
+use Rattle.gp_txn.specs.Transactions.{Writes, has_written, overlay_at, snapshot_of, table_at, view_at, writes_at}
+use Rattle.gp_versions.specs.Spans.{Versions, rows_at}
 use Rattle.gp_engine.specs.Engine.{overlay_of, spans_of}
 use Rattle.gp_engine.specs.declared.running.Running.{Running}
-use Rattle.std.proofs.lemmas.Bool.{eqb-true}
 
 -- what they show in a version
 pub view_same : (versions : List Versions) (running : Running) (version place : ℕ)
-    → machine.view_at (spans_of versions) (overlay_of running) version place ≡ view_at running.active.tables versions version place
+    → machine.view_at (spans_of versions) (overlay_of (spans_of versions) running) version place ≡ view_at running.active.tables versions version place
 view_same versions running version place =
     elim (version == (writes_at place running.active.tables).version) as (λ b. (version == (writes_at place running.active.tables).version) ≡ b
-    → cond b (view_rows (writes_at place running.active.tables) (rows_below (writes_at place running.active.tables) (table_at place versions).spans))
-    (refreshed (writes_at place running.active.tables) (rows_below (writes_at place running.active.tables) (table_at place versions).spans) (rows_at plain version (table_at place versions).spans))
-    ≡ cond b (view_rows (writes_at place running.active.tables) (rows_at plain version (table_at place versions).spans))
-    (refreshed (writes_at place running.active.tables) (rows_below (writes_at place running.active.tables) (table_at place versions).spans) (rows_at plain version (table_at place versions).spans))) [
-      | true ↦ λ is. ap (λ v. view_rows (writes_at place running.active.tables) (rows_at plain v (table_at place versions).spans)) (sym (eqb-true version (writes_at place running.active.tables).version is))
+    → cond b (view_rows (overlay_at place running.active.tables versions) (rows_below (overlay_at place running.active.tables versions) (table_at place versions).spans))
+    (refreshed (overlay_at place running.active.tables versions) (rows_below (overlay_at place running.active.tables versions) (table_at place versions).spans) (rows_at plain version (table_at place versions).spans))
+    ≡ cond b (view_rows (overlay_at place running.active.tables versions) (rows_at plain version (table_at place versions).spans))
+    (refreshed (overlay_at place running.active.tables versions) (rows_below (overlay_at place running.active.tables versions) (table_at place versions).spans) (rows_at plain version (table_at place versions).spans))) [
+      | true ↦ λ is. ap (λ v. view_rows (overlay_at place running.active.tables versions) (rows_at plain v (table_at place versions).spans)) (sym (eqb-true version (writes_at place running.active.tables).version is))
       | false ↦ λ is. refl
     ] refl
 
@@ -52,49 +49,15 @@ pub snapshot_first : (writes : Writes) (newest : ℕ) → writes.begin ≤ newes
 snapshot_first writes newest l =
     elim writes.read_committed as (λ b. writes.begin ≤ cond b newest writes.begin) [ true ↦ l | false ↦ omega arith ]
 
--- ---- nothing is written
+-- it does not go beyond the newest version
+pub snapshot_newest : (writes : Writes) (newest : ℕ) → writes.begin ≤ newest → snapshot_of writes newest ≤ newest
+snapshot_newest writes newest l =
+    elim writes.read_committed as (λ b. cond b newest writes.begin ≤ newest) [ true ↦ omega arith | false ↦ l ]
 
-no-base-writes : (rows : List PlainRow) → base_writes [] rows ≡ []
-no-base-writes [] = refl
-no-base-writes (row ∷ rows) = no-base-writes rows
-
-no-overlay : (version : ℕ) (rows : List PlainRow) → view_rows (no_writes version) rows ≡ rows
-no-overlay version [] = refl
-no-overlay version (row ∷ rows) = ap (λ (others : List PlainRow). row ∷ others) (no-overlay version rows)
-
-no-slots : (rows : List PlainRow) (id : Identity) (version : ℕ) → base_of (no_writes version) rows id ≡ None
-no-slots [] id version = refl
-no-slots (row ∷ rows) id version = no-slots rows id version
-
-all-rows : (rows : List PlainRow) → filter (λ (row : PlainRow). true) rows ≡ rows
-all-rows [] = refl
-all-rows (row ∷ rows) = ap (λ (others : List PlainRow). row ∷ others) (all-rows rows)
-
-no-marks : (spans : List Span) → filter (λ (row : PlainRow). row.mark) (map (row_of plain) spans) ≡ []
-no-marks [] = refl
-no-marks (span ∷ spans) = no-marks spans
-
-and-none : (rows : List PlainRow) → rows ++ [] ≡ rows
-and-none [] = refl
-and-none (row ∷ rows) = ap (λ (others : List PlainRow). row ∷ others) (and-none rows)
-
-new-table : (begin version : ℕ) (spans : List Span) → table_view (no_writes begin) spans version ≡ rows_at plain version spans
-new-table begin version spans =
-    elim (version == begin) as (λ b. cond b (view_rows (no_writes begin) (rows_at plain version spans)) (refreshed (no_writes begin) (rows_at plain begin spans) (rows_at plain version spans)) ≡ rows_at plain version spans) [
-      | true ↦ no-overlay begin (rows_at plain version spans)
-      | false ↦
-          (λ i. filter (λ (row : PlainRow). is_none (no-slots (rows_at plain begin spans) row.identity begin i)) (rows_at plain version spans)
-          ++ filter (λ (row : PlainRow). row.mark) (no-overlay begin (rows_at plain begin spans) i))
-          ∙ (λ i. all-rows (rows_at plain version spans) i ++ no-marks (spans_at begin spans) i)
-          ∙ and-none (rows_at plain version spans)
-    ]
-
-unwritten-is : (version : ℕ) (table : TableWrites) → IsUnwritten version table → table ≡ no_writes table.version
-unwritten-is version table is = λ i. record { version = table.version; slots = is.slots i; carried = is.carried i; own = is.own i }
-
--- then it shows the rows of each version, and no row has a base
-pub new_view : (begin version : ℕ) (table : TableWrites) (spans : List Span) → IsUnwritten begin table → table_view table spans version ≡ rows_at plain version spans
-new_view begin version table spans is = ap (λ writes. table_view writes spans version) (unwritten-is begin table is) ∙ new-table table.version version spans
-
-pub new_base : (begin : ℕ) (table : TableWrites) (rows : List PlainRow) (id : Identity) → IsUnwritten begin table → base_of table rows id ≡ None
-new_base begin table rows id is = ap (λ writes. base_of writes rows id) (unwritten-is begin table is) ∙ no-slots rows id table.version
+-- writes that lie over earlier versions are the same after a commit
+pub overlay_stays : (version : ℕ) (writes : Writes) (old new : List Versions) → length new ≡ length old → Commits version writes old new → (running : Running)
+    → ((place : ℕ) → (writes_at place running.active.tables).version < version) → overlay_of (spans_of new) running ≡ overlay_of (spans_of old) running
+overlay_stays version writes old new same commits running earlier = λ i. record (overlay_of (spans_of old) running) {
+  shown = λ rows place. view_rows (overlay-kept version writes old new same commits running.active.tables place (earlier place) i) (rows place);
+  base = λ rows place id. base_of (overlay-kept version writes old new same commits running.active.tables place (earlier place) i) (rows place) id;
+}

@@ -8,7 +8,6 @@ use Rattle.std.proofs.lemmas.List.{get_or-set_other, get_or-set_same, length-set
 use Rattle.std.proofs.Math.ListN.{get_or-eq_default}
 use Rattle.gp_base.specs.declared.cell.Cell.{Cell}
 use Rattle.gp_base.specs.declared.stored.Stored.{Stored}
-use Rattle.gp_base.specs.Annotated.{plain}
 use Rattle.gp_base.specs.Identities.{Identity, same_identity}
 use Rattle.gp_base.specs.IdentityParts.{transaction_of}
 use Rattle.gp_versions.specs.declared.span.Span.{Span}
@@ -24,8 +23,9 @@ use Rattle.gp_txn.specs.Committing as txn
 use Rattle.gp_txn.specs.Committing.{commit_of, spans_left}
 use Rattle.gp_txn.specs.Counts.{count_rows, count_spans}
 use Rattle.gp_txn.specs.Bases.{table_view}
+use Rattle.gp_txn.specs.Overlay as txn_overlay
 use Rattle.gp_txn.specs.Overlay.{carried_write, own_write, rows_below, slot_writes}
-use Rattle.gp_txn.specs.Transactions.{AreThere, HoldsOwn, HoldsThere, has_span, no_table, table_at, view_at, writes_at}
+use Rattle.gp_txn.specs.Transactions.{AreThere, HoldsOwn, HoldsThere, has_span, no_table, overlay_at, table_at, view_at, writes_at}
 use Rattle.gp_txn.proofs.AfterLemmas.{commit-bases, commit-count, commit-none, commit-rows, others-after, there-after}
 use Rattle.gp_txn.proofs.CommitLemmas.{inserted-own, slots-all}
 use Rattle.gp_txn.proofs.CountLemmas.{count-after}
@@ -36,7 +36,7 @@ use Rattle.gp_machine.specs.Represents as machine
 use Rattle.gp_machine.specs.Represents.{AreWritesOf}
 use Rattle.gp_engine.specs.declared.running.Running.{Running}
 use Rattle.gp_engine.specs.Engine.{Engine, IsSession, IsSound, kept_of, overlay_of, session_at, spans_of, tables_of}
-use Rattle.gp_engine.proofs.OverlayLemmas.{snapshot_later}
+use Rattle.gp_engine.proofs.OverlayLemmas.{overlay_stays, snapshot_later, snapshot_newest}
 use Rattle.gp_engine.proofs.SessionLemmas.{count-cleared}
 use Rattle.gp_base.proofs.SmallLemmas.{each_append}
 
@@ -68,9 +68,9 @@ module _ (engine : Engine) (running : Running) where
 
   -- these are the writes that the history machine asks for
   pub writes_of : HoldsOwn running.active → HoldsThere running.active.tables engine.versions → ReadsNothingBeyond engine running → (place : ℕ)
-      → AreWritesOf (spans_of engine.versions) (overlay_of running) place (published engine running place)
+      → AreWritesOf (spans_of engine.versions) (overlay_of (spans_of engine.versions) running) place (published engine running place)
   writes_of own there nothing place =
-      subst (AreWritesOf (spans_of engine.versions) (overlay_of running) place) (sym (published-is there nothing place)) (record {
+      subst (AreWritesOf (spans_of engine.versions) (overlay_of (spans_of engine.versions) running) place) (sym (published-is there nothing place)) (record {
         names = commit-bases running.active engine.versions own place;
         rows = commit-rows running.active engine.versions place;
       })
@@ -96,28 +96,28 @@ module _ (engine : Engine) (running : Running) where
   -- the writes leave the marked rows of what the transaction reads
   pub rows_published : (count : ℕ)
       → count_rows (commit_of running.active.tables engine.versions) count
-      ≡ marked_rows (machine.view_of (spans_of engine.versions) (overlay_of running)) count
+      ≡ marked_rows (machine.view_of (spans_of engine.versions) (overlay_of (spans_of engine.versions) running)) count
   rows_published count =
-      commit-count running.active engine.versions (marked_rows (machine.view_of (spans_of engine.versions) (overlay_of running))) refl (λ place. refl) count
+      commit-count running.active engine.versions (marked_rows (machine.view_of (spans_of engine.versions) (overlay_of (spans_of engine.versions) running))) refl (λ place. refl) count
 
   module _ (tables : length engine.versions ≡ length (tables_of engine)) where
-    pub left_published : spans_left running.active.tables engine.versions ≡ rows_after (kept_of engine) (overlay_of running)
+    pub left_published : spans_left running.active.tables engine.versions ≡ rows_after (kept_of engine) (overlay_of (spans_of engine.versions) running)
     left_published =
         ap (λ n. count_spans engine.versions (length engine.versions) + n) (rows_published (length engine.versions))
-        ∙ ap (λ n. count_spans engine.versions n + marked_rows (machine.view_of (spans_of engine.versions) (overlay_of running)) n) tables
+        ∙ ap (λ n. count_spans engine.versions n + marked_rows (machine.view_of (spans_of engine.versions) (overlay_of (spans_of engine.versions) running)) n) tables
 
     -- too many
-    pub is_full : MAX_SPANS < spans_left running.active.tables engine.versions → nat_lt MAX_SPANS (rows_after (kept_of engine) (overlay_of running)) ≡ true
-    is_full many = lt-ltb MAX_SPANS (rows_after (kept_of engine) (overlay_of running)) (subst (λ n. MAX_SPANS < n) left_published many)
+    pub is_full : MAX_SPANS < spans_left running.active.tables engine.versions → nat_lt MAX_SPANS (rows_after (kept_of engine) (overlay_of (spans_of engine.versions) running)) ≡ true
+    is_full many = lt-ltb MAX_SPANS (rows_after (kept_of engine) (overlay_of (spans_of engine.versions) running)) (subst (λ n. MAX_SPANS < n) left_published many)
 
     -- not too many
-    pub has_room : spans_left running.active.tables engine.versions ≤ MAX_SPANS → nat_lt MAX_SPANS (rows_after (kept_of engine) (overlay_of running)) ≡ false
-    has_room few = le-ltb MAX_SPANS (rows_after (kept_of engine) (overlay_of running)) (subst (λ n. n ≤ MAX_SPANS) left_published few)
+    pub has_room : spans_left running.active.tables engine.versions ≤ MAX_SPANS → nat_lt MAX_SPANS (rows_after (kept_of engine) (overlay_of (spans_of engine.versions) running)) ≡ false
+    has_room few = le-ltb MAX_SPANS (rows_after (kept_of engine) (overlay_of (spans_of engine.versions) running)) (subst (λ n. n ≤ MAX_SPANS) left_published few)
 
     -- the number of spans afterwards
-    pub count_published : (new : List Versions) (version : ℕ) → HasCommitted engine running new version → count_spans new (length (tables_of engine)) ≡ rows_after (kept_of engine) (overlay_of running)
+    pub count_published : (new : List Versions) (version : ℕ) → HasCommitted engine running new version → count_spans new (length (tables_of engine)) ≡ rows_after (kept_of engine) (overlay_of (spans_of engine.versions) running)
     count_published new version spans =
-        subst (λ n. count_spans new n ≡ rows_after (kept_of engine) (overlay_of running)) tables
+        subst (λ n. count_spans new n ≡ rows_after (kept_of engine) (overlay_of (spans_of engine.versions) running)) tables
         (count-after version (commit_of running.active.tables engine.versions) engine.versions new (length engine.versions) spans ∙ left_published)
 
 -- ---- whose rows they are
@@ -156,7 +156,7 @@ module _ (P : Identity → Type 0) where
       → AreThere (table_at place versions).spans (writes_at place tables).carried → AllByRecursion (λ (stored : Stored). P stored.id) (writes_at place tables).own
       → AllByRecursion (λ (write : Write). P write.id) (commit_of tables versions place)
   ids_written tables versions place held there own =
-      let table = writes_at place tables in
+      let table = overlay_at place tables versions in
       let spans = (table_at place versions).spans in
       each_append (λ (write : Write). P write.id) (slot_writes table (rows_below table spans)) (map carried_write table.carried ++ map own_write table.own) (slots-all P table spans held)
       (each_append (λ (write : Write). P write.id) (map carried_write table.carried) (map own_write table.own)
@@ -212,7 +212,7 @@ module _ (entries : List Entry) (held : List Versions) (sessions : List (Option 
       → view_at other.active.tables versions other.active.begin table ≡ []
   nothing-beyond other nothing table high =
       let high-before : length held ≤ table = subst (λ n. n ≤ table) same high in
-      subst (λ spans. table_view (writes_at table other.active.tables) spans other.active.begin ≡ []) (no-spans held table high-before ∙ sym (no-spans versions table high))
+      subst (λ spans. table_view (txn_overlay.overlay_of spans (writes_at table other.active.tables)) spans other.active.begin ≡ []) (no-spans held table high-before ∙ sym (no-spans versions table high))
       (nothing table high-before)
 
   others-stay : (session : ℕ) (other : Running) → session_at session (slice_set sessions place None) ≡ Some other → IsSession later versions other
@@ -232,6 +232,18 @@ module _ (entries : List Entry) (held : List Versions) (sessions : List (Option 
         there = there-after other.active.tables (suc (versions_in entries)) running.active held versions same commits was.there;
         beyond = nothing-beyond other was.beyond;
       }
+
+  -- the others' writes are the same
+  pub overlays_stay : (session : ℕ) → option_map (overlay_of (spans_of versions)) (session_at session (slice_set sessions place None))
+      ≡ option_map (overlay_of (spans_of held)) (session_at session (slice_set sessions place None))
+  overlays_stay session = by (session_at session (slice_set sessions place None)) refl
+    where
+      by : (found : Option Running) → session_at session (slice_set sessions place None) ≡ found → option_map (overlay_of (spans_of versions)) found ≡ option_map (overlay_of (spans_of held)) found
+      by None is = refl
+      by (Some other) is =
+          let was = kept.each session other (session_left sessions place within session other is).1 in
+          let newest = snapshot_newest other.active (versions_in entries) was.begin in
+          ap Some (overlay_stays (suc (versions_in entries)) running.active held versions same commits other (λ table. let below = was.below table in omega (arith, below, newest)))
 
   next : suc (versions_in entries) + 1 ≡ suc (versions_in later)
   next = omega arith

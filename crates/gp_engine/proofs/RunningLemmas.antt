@@ -1,5 +1,5 @@
 -- A statement of a running transaction, from what its writes say of it.
-use Rattle.std.proofs.Common.{◌≡◌, ℕ, suc, ◌≤◌, ◌<◌, Bool, true, false, List, length, Some, None, refl, ap, sym, subst, arith, inr}
+use Rattle.std.proofs.Common.{◌≡◌, ℕ, suc, ◌≤◌, ◌<◌, Bool, true, false, List, length, Some, None, refl, ap, subst, arith, inr}
 use Rattle.std.specs.Prelude.{if◌then◌else◌, nat_lt}
 use Rattle.std.proofs.lemmas.Bool.{and_parts, ltb-true}
 use Rattle.gp_base.specs.Annotated.{plain}
@@ -9,11 +9,10 @@ use Rattle.gp_algebra.specs.Statements.{Statement, insert, insert_select, update
 use Rattle.gp_versions.specs.Spans.{Versions}
 use Rattle.gp_txn.specs.Applying.{Wrote, is_applicable}
 use Rattle.gp_txn.specs.Transactions.{snapshot_of, view_at}
-use Rattle.gp_machine.specs.declared.reply.Reply.{Reply}
 use Rattle.gp_machine.specs.declared.reply.Reply.TheVariants as reply
 use Rattle.gp_machine.specs.Event.{is_over_answer, reply_of, target_of}
 use Rattle.gp_log.specs.Parameters.{parameters}
-use Rattle.gp_engine.specs.Methods.{Applies, refusal_in}
+use Rattle.gp_engine.specs.Methods.{Accepts}
 use Rattle.gp_engine.specs.declared.running.Running.{Running}
 
 -- no limit is passed
@@ -38,36 +37,36 @@ module _ (tables : List Table) (versions : List Versions) (newest : ℕ) (old ne
   abbrev k : ℕ
   k = suc old.statements
 
-  -- it was applied, and the reply is this number of rows
-  abbrev AppliesWrite : Statement → Type 0
-  AppliesWrite statement = Applies tables versions newest old new (reply.Wrote count) statement (refusal_in tables versions newest old new (reply.Wrote count) statement)
+  -- it passes no limit, and the reply is this number of rows
+  abbrev AcceptsWrite : Statement → Type 0
+  AcceptsWrite statement = Accepts tables versions newest old new (reply.Wrote count) statement
 
   -- where the reply is the number of the rows that it wrote, and it gives no answer
   accepts-write : (statement : Statement) → is_applicable (length versions) statement ≡ true
       → is_over_answer plain parameters.answer statement (view_at old.active.tables versions now) ≡ false
       → reply.Wrote count ≡ reply_of plain old.active.t k statement (view_at old.active.tables versions now)
-      → Wrote k now statement versions old.active new.active count → AppliesWrite statement
-  accepts-write statement applicable few says wrote =
-      subst (Applies tables versions newest old new (reply.Wrote count) statement) (sym (no-limit _ _ _ _ _ _ wrote.few_rows wrote.few_nodes few)) (record {
-        t = wrote.applied.t;
-        read_committed = wrote.applied.read_committed;
-        begin = wrote.applied.begin;
-        last = let is = wrote.applied.last in omega (arith, is);
-        there = inr (there (length versions) statement applicable);
-        statements = counted;
-        view = wrote.applied.view;
-        base = wrote.applied.base;
-        below = wrote.applied.below;
-        holds = wrote.applied.there;
-        says = says;
-      })
+      → Wrote k now statement versions old.active new.active count → AcceptsWrite statement
+  accepts-write statement applicable few says wrote = record {
+    unrefused = no-limit _ _ _ _ _ _ wrote.few_rows wrote.few_nodes few;
+    t = wrote.applied.t;
+    read_committed = wrote.applied.read_committed;
+    begin = wrote.applied.begin;
+    last = let is = wrote.applied.last in omega (arith, is);
+    there = inr (there (length versions) statement applicable);
+    statements = counted;
+    view = wrote.applied.view;
+    base = wrote.applied.base;
+    below = wrote.applied.below;
+    holds = wrote.applied.there;
+    says = says;
+  }
 
-  pub wrote_applies : (number version : ℕ) → number ≡ k → version ≡ now → (statement : Statement) → is_applicable (length versions) statement ≡ true
-      → Wrote number version statement versions old.active new.active count → AppliesWrite statement
-  wrote_applies number version same is statement applicable wrote =
+  pub wrote_accepted : (number version : ℕ) → number ≡ k → version ≡ now → (statement : Statement) → is_applicable (length versions) statement ≡ true
+      → Wrote number version statement versions old.active new.active count → AcceptsWrite statement
+  wrote_accepted number version same is statement applicable wrote =
       by statement applicable (subst (λ (at : ℕ × ℕ). Wrote at.0 at.1 statement versions old.active new.active count) (λ i. (same i, is i)) wrote)
     where
-      by : (statement : Statement) → is_applicable (length versions) statement ≡ true → Wrote k now statement versions old.active new.active count → AppliesWrite statement
+      by : (statement : Statement) → is_applicable (length versions) statement ≡ true → Wrote k now statement versions old.active new.active count → AcceptsWrite statement
       by (insert table rows) applicable wrote = accepts-write (insert table rows) applicable refl (ap reply.Wrote wrote.number) wrote
       by (insert_select table select) applicable wrote = accepts-write (insert_select table select) applicable refl (ap reply.Wrote wrote.number) wrote
       by (update table sets c) applicable wrote = accepts-write (update table sets c) applicable refl (ap reply.Wrote wrote.number) wrote

@@ -29,7 +29,7 @@ new_engine engine entries versions sessions = record {
     statements = λ i. statements_in (log_view (entries i));
     rows = λ i. count_spans (versions i) (length (tables_in (log_view (entries i))));
     spans = λ place. ap (λ vs. spans_of vs place) versions;
-    sessions = λ session. subst (λ (r : Option Running). RepresentsSession (spans_of engine.versions) [] (option_map overlay_of r) None) (sym (no-session engine.sessions sessions session)) tt;
+    sessions = λ session. subst (λ (r : Option Running). RepresentsSession (spans_of engine.versions) [] (option_map (overlay_of (spans_of engine.versions)) r) None) (sym (no-session engine.sessions sessions session)) tt;
   };
 }
 

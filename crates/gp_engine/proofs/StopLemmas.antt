@@ -1,13 +1,11 @@
 -- Why a commit is stopped.
 use Rattle.std.proofs.Common.{ℕ, List, length, ◌∙◌}
-use Rattle.std.specs.Prelude.{Result, Ok, Err, IfErr, OnOk}
-use Rattle.gp_versions.specs.Commits.{AreBelow}
 use Rattle.gp_versions.specs.Spans.{Versions}
 use Rattle.gp_txn.specs.declared.error.CommitStop.{CommitStop}
 use Rattle.gp_txn.specs.declared.error.CommitStop.TheVariants as variant
 use Rattle.gp_txn.specs.Committing.{HasCause, spans_left}
 use Rattle.gp_txn.specs.Conflicts.{lates_at}
-use Rattle.gp_txn.specs.Transactions.{HoldsOwn, table_at}
+use Rattle.gp_txn.specs.Transactions.{HoldsOwn}
 use Rattle.gp_base.specs.declared.refusal.Refusal.TheVariants.{E11}
 use Rattle.gp_machine.specs.declared.reply.Reply.{Reply}
 use Rattle.gp_machine.specs.declared.reply.Reply.TheVariants as reply
@@ -16,25 +14,16 @@ use Rattle.gp_machine.specs.Event.{name_at}
 use Rattle.gp_log.specs.LogFacts.{tables_in}
 use Rattle.gp_log.specs.Logs.{log_view}
 use Rattle.gp_engine.specs.Engine.{Engine, IsUnchanged}
-use Rattle.gp_engine.specs.Methods.{Commits, IsConflictBelow, Stops, loses, overflows}
+use Rattle.gp_engine.specs.Methods.{Commits, IsConflictIn, Stops, loses, overflows}
 use Rattle.gp_engine.specs.declared.running.Running.{Running}
-use Rattle.gp_engine.proofs.ConflictLemmas.{late_bounds}
+use Rattle.gp_engine.proofs.ConflictLemmas.{late_there}
 
-pub on-ok-map : {A E : Type 0} (P Q : Type 0) (result : Result A E) → (P → Q) → OnOk result P → OnOk result Q
-on-ok-map P Q (Ok a) f p = f p
-on-ok-map P Q (Err e) f p = p
-
-pub err-map : {A E : Type 0} (P Q : E → Type 0) (result : Result A E) → ((e : E) → P e → Q e) → IfErr result P → IfErr result Q
-err-map P Q (Ok a) f p = p
-err-map P Q (Err e) f p = f e p
-
-pub cause-below : (running : Running) (versions : List Versions) (version : ℕ) → ((table : ℕ) → AreBelow version (table_at table versions).spans)
-    → (stop : CommitStop) → HasCause stop (length versions) (lates_at running.active.tables versions) (spans_left running.active.tables versions) → IsConflictBelow version (length versions) stop
-cause-below running versions version above (variant.Conflict late table id) cause =
-    let bounds = late_bounds versions running (record { place = table; late = record { id = id; version = late } }) version above cause in
-    (bounds.1.0, (bounds.1.1, bounds.0))
-cause-below running versions version above variant.Full cause = tt
-cause-below running versions version above variant.NoMemory cause = tt
+-- a conflict is in one of the tables
+pub cause-in : (running : Running) (versions : List Versions) (stop : CommitStop)
+    → HasCause stop (length versions) (lates_at running.active.tables versions) (spans_left running.active.tables versions) → IsConflictIn (length versions) stop
+cause-in running versions (variant.Conflict version table id) cause = late_there versions running (record { place = table; late = record { id = id; version = version } }) cause
+cause-in running versions variant.Full cause = tt
+cause-in running versions variant.NoMemory cause = tt
 
 -- nothing has changed after two steps, neither of which has changed anything
 pub unchanged-twice : (old kept new : Engine) → IsUnchanged old kept → IsUnchanged kept new → IsUnchanged old new

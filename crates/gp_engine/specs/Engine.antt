@@ -13,6 +13,7 @@ use Rattle.gp_versions.specs.declared.span.Span.{Span}
 use Rattle.gp_versions.specs.Spans.{Versions}
 use Rattle.gp_versions.specs.Commits.{AreBelow}
 use Rattle.gp_txn.specs.Bases.{base_of}
+use Rattle.gp_txn.specs.Overlay as txn
 use Rattle.gp_txn.specs.Overlay.{view_rows}
 use Rattle.gp_txn.specs.Transactions.{HoldsOthers, HoldsThere, snapshot_of, table_at, view_at, writes_at}
 use Rattle.gp_txn.specs.Counts.{count_spans}
@@ -71,20 +72,21 @@ count_running [] = zero
 count_running (None ∷ sessions) = count_running sessions
 count_running (Some running ∷ sessions) = suc (count_running sessions)
 
--- the writes of a transaction
-abbrev pub overlay_of : Running → Overlay
-overlay_of running = record {
+-- the spans of each table
+abbrev pub spans_of : List Versions → ℕ → List Span
+spans_of versions place = (table_at place versions).spans
+
+-- the writes of a transaction, over these spans
+abbrev pub overlay_of : (ℕ → List Span) → Running → Overlay
+overlay_of spans running = record {
   transaction = running.active.t;
   read_committed = running.active.read_committed;
   begin = running.active.begin;
   version = λ place. (writes_at place running.active.tables).version;
   statements = running.statements;
-  shown = λ rows place. view_rows (writes_at place running.active.tables) (rows place);
-  base = λ rows place id. base_of (writes_at place running.active.tables) (rows place) id;
+  shown = λ rows place. view_rows (txn.overlay_of (spans place) (writes_at place running.active.tables)) (rows place);
+  base = λ rows place id. base_of (txn.overlay_of (spans place) (writes_at place running.active.tables)) (rows place) id;
 }
-
-abbrev pub spans_of : List Versions → ℕ → List Span
-spans_of versions place = (table_at place versions).spans
 
 -- what these entries, row versions and sessions are to the history machine
 abbrev pub kept_by : List Entry → List Versions → List (Option Running) → Kept
@@ -92,7 +94,7 @@ kept_by entries versions sessions = record {
   catalogue = tables_in entries;
   entries = entries;
   spans = spans_of versions;
-  sessions = λ session. option_map overlay_of (session_at session sessions);
+  sessions = λ session. option_map (overlay_of (spans_of versions)) (session_at session sessions);
   versions = versions_in entries;
   transactions = transactions_in entries;
   statements = statements_in entries;

@@ -33,6 +33,8 @@ use Rattle.gp_log.specs.Parameters.{parameters}
 use Rattle.gp_log.specs.LogCounts.{open_in}
 use Rattle.gp_log.specs.Logs.{Logged, log_view}
 use Rattle.gp_engine.specs.declared.running.Running.{Running}
+use Rattle.gp_engine.specs.declared.running.RunStop.{RunStop}
+use Rattle.gp_engine.specs.declared.running.RunStop.TheVariants as run
 use Rattle.gp_engine.specs.Engine.{Engine, IsUnchanged, entries_of, newest_of, statements_of, tables_of, transactions_of}
 
 -- ---- a statement of a running transaction
@@ -42,7 +44,7 @@ abbrev pub is_read : Statement → Bool
 is_read (s.read select) = true
 is_read _ = false
 
-module _ (tables : List Table) (versions : List Versions) (newest : ℕ) (old new : Running) (answer : Reply) where
+module _ (tables : List Table) (versions : List Versions) (newest : ℕ) (old : Running) where
   -- the version that it reads, where this is the newest one
   abbrev pub now : ℕ
   now = snapshot_of old.active newest
@@ -51,12 +53,13 @@ module _ (tables : List Table) (versions : List Versions) (newest : ℕ) (old ne
   abbrev pub start : Database (Unit {0})
   start = view_at old.active.tables versions now
 
-  -- nothing changes
-  abbrev pub Declines : Refusal → Type 0
-  Declines refusal = (new ≡ old) × (answer ≡ reply.Refused refusal)
+  -- what refuses a statement that was checked
+  abbrev pub refusal_in : Statement → Option Refusal
+  refusal_in statement = refusal_of plain parameters tables old.active.t (suc old.statements) statement start
 
   -- a statement that passes no limit
-  pub record Accepts (statement : Statement) : Type 0 where
+  pub record Accepts (new : Running) (answer : Reply) (statement : Statement) : Type 0 where
+    pub unrefused : refusal_in statement ≡ None
     pub t : new.active.t ≡ old.active.t
     pub read_committed : new.active.read_committed ≡ old.active.read_committed
     pub begin : new.active.begin ≡ old.active.begin
@@ -72,14 +75,15 @@ module _ (tables : List Table) (versions : List Versions) (newest : ℕ) (old ne
     pub holds : HoldsThere old.active.tables versions → HoldsThere new.active.tables versions
     pub says : answer ≡ reply_of plain old.active.t (suc old.statements) statement start
 
-  -- a statement that was checked, by its refusal
-  abbrev pub Applies : Statement → Option Refusal → Type 0
-  Applies statement (Some refusal) = Declines refusal
-  Applies statement None = Accepts statement
+-- a statement does not run as this refuses it, or memory ran out, which may come in any
+abbrev pub StopsBy : RunStop → Option Refusal → Type 0
+StopsBy (run.Refused refusal) found = found ≡ Some refusal
+StopsBy run.NoMemory found = Unit {0}
 
-  -- what refuses it
-  abbrev pub refusal_in : Statement → Option Refusal
-  refusal_in statement = refusal_of plain parameters tables old.active.t (suc old.statements) statement start
+-- this is the answer to its line; there is none where memory ran out
+abbrev pub Answers : RunStop → Reply → Type 0
+Answers (run.Refused refusal) answer = answer ≡ reply.Refused refusal
+Answers run.NoMemory answer = ⊥
 
 -- ---- the engine
 
@@ -113,11 +117,15 @@ pub record HasRun (engine : Engine) (place : ℕ) : Type 0 where
   pub at : running_at engine place ≡ Some running
   pub count : running.statements ≡ suc (statement_count running.active.t (entries_of engine))
 
--- a conflict is with a version below this one, in one of so many tables
-abbrev pub IsConflictBelow : ℕ → ℕ → CommitStop → Type 0
-IsConflictBelow above count (stop.Conflict version table id) = (1 ≤ version) × ((version < above) × (table < count))
-IsConflictBelow above count stop.Full = Unit {0}
-IsConflictBelow above count stop.NoMemory = Unit {0}
+-- a conflict is in one of so many tables
+abbrev pub IsConflictIn : ℕ → CommitStop → Type 0
+IsConflictIn count (stop.Conflict version table id) = table < count
+IsConflictIn count stop.Full = Unit {0}
+IsConflictIn count stop.NoMemory = Unit {0}
+
+-- what refuses a statement of it that was checked
+abbrev pub refusal_at : Engine → Running → Statement → Option Refusal
+refusal_at engine running statement = refusal_in (tables_of engine) engine.versions (newest_of engine) running statement
 
 -- one more entry
 abbrev pub Appends : Engine → Engine → Entry → Type 0
@@ -168,16 +176,15 @@ module _ (old new : Engine) (answer : Reply) where
   Stops line place t stop.Full = Refuses (E14 limit.Versions)
   Stops line place t stop.NoMemory = ⊥
 
-  -- a statement that was checked, which is not in the log yet
-  pub record AppliesAt (place : ℕ) (running : Running) (statement : Statement) : Type 0 where
+  -- a statement that passes no limit, which is not in the log yet
+  pub record AcceptsAt (place : ℕ) (running : Running) (statement : Statement) : Type 0 where
     pub after : Running
-    pub applies : Applies (tables_of old) old.versions (newest_of old) running after answer statement
-        (refusal_in (tables_of old) old.versions (newest_of old) running after answer statement)
+    pub accepts : Accepts (tables_of old) old.versions (newest_of old) running after answer statement
     pub entries : new.log.entries ≡ old.log.entries
     pub versions : new.versions ≡ old.versions
     pub sessions : new.sessions ≡ slice_set old.sessions place (Some after)
 
-  -- a statement that passes no limit
+  -- one that is in the log
   pub record Records (line place : ℕ) (running : Running) (command : Command) (statement : Statement) : Type 0 where
     pub after : Running
     pub accepts : Accepts (tables_of old) old.versions (newest_of old) running after answer statement
@@ -189,15 +196,9 @@ module _ (old new : Engine) (answer : Reply) where
     RunsChecked statement (Some refusal) = Refuses refusal
     RunsChecked statement None = Records line place running command statement
 
-    -- what refuses it
-    abbrev pub refusal_at : Statement → Option Refusal
-    refusal_at statement =
-        refusal_of plain parameters (tables_of old) running.active.t (suc running.statements) statement
-        (view_at running.active.tables old.versions (snapshot_of running.active (newest_of old)))
-
     abbrev pub RunsAs : Result Statement Refusal → Type 0
     RunsAs (Err refusal) = Refuses refusal
-    RunsAs (Ok statement) = RunsChecked statement (refusal_at statement)
+    RunsAs (Ok statement) = RunsChecked statement (refusal_at old running statement)
 
     -- a statement, by the counts and by the check
     abbrev pub Runs : Type 0

@@ -11,8 +11,8 @@ ghost use Rattle.gp_machine.specs.Entries.{RolledBack, Lost, Ended, committer_of
 ghost use Rattle.gp_machine.specs.Event.{name_at};
 ghost use Rattle.gp_txn.specs.Transactions.{HoldsOthers, HoldsOwn, table_at};
 ghost use Rattle.gp_versions.specs.Commits.{AreBelow};
-ghost use Rattle.gp_engine.specs.Engine.{IsEngine, IsUnchanged, entries_of, newest_of, tables_of};
-ghost use Rattle.gp_engine.specs.Methods.{Clears, Commits, HasPlace, IsConflictBelow, Stops, IfRuns};
+ghost use Rattle.gp_engine.specs.Engine.{IsEngine, IsUnchanged, entries_of, tables_of};
+ghost use Rattle.gp_engine.specs.Methods.{Clears, Commits, HasPlace, IsConflictIn, Stops, IfRuns};
 
 use crate::running::Running;
 use crate::state::State;
@@ -33,7 +33,7 @@ fn commit(running: &Running, versions: &mut [VersionTable], version: u32) -> Res
     ensures cause { IfErr result (λ stop. HasCause stop (length versions.old)
         (lates_at running.now.active.tables versions.old)
         (spans_left running.now.active.tables versions.old)) }
-    ensures bounds { IfErr result (IsConflictBelow version (length versions.old)) }
+    ensures bounds { IfErr result (IsConflictIn (length versions.old)) }
     ensures unchanged { OnErr result ((table : ℕ)
         → (table_at table versions.new).spans ≡ (table_at table versions.old).spans) }
 {
@@ -81,27 +81,13 @@ impl State {
         Reply::RolledBack { t }
     }
 
-    /// The transaction that made a version.
-    fn maker(&self, version: u32) -> u32
-        requires first { 1 ≤ version }
-        requires made { version ≤ newest_of self.now }
-        ensures { result ≡ committer_of version (entries_of self.now) }
-    {
-        match self.log.committer(version) {
-            Some(t) => t,
-            None => unreachable!(),
-        }
-    }
-
     /// The refusal of a commit that is lost to a version.
     fn lost(&self, t: u32, version: u32, table: u32, id: RowId) -> Result<Refusal, NoMemory>
-        requires version { 1 ≤ version }
-        requires made { version ≤ newest_of self.now }
-        requires table { table < length (tables_of self.now) }
+        requires { table < length (tables_of self.now) }
         ensures { IfOk result (λ refusal. refusal ≡ Refusal.E11
             t (committer_of version (entries_of self.now)) (name_at table (tables_of self.now)) id) }
     {
-        let other = self.maker(version);
+        let other = self.log.maker(version);
         let table = self.log.catalog().table(table).name.clone()?;
         Ok(Refusal::E11 {
             t,
@@ -123,8 +109,6 @@ impl State {
     ) -> Result<Reply, NoMemory>
         requires place { place < 64 }
         requires room { HasPlace self.old.log }
-        requires first { 1 ≤ version }
-        requires made { version ≤ newest_of self.old }
         requires table { table < length (tables_of self.old) }
         ensures ended { OnOk result (Clears self.old self.new place (Ended line (suc place) Lost t)) }
         ensures reply { IfOk result (λ reply. reply ≡ Reply.Refused (Refusal.E11 t
@@ -150,7 +134,7 @@ impl State {
             (λ running. HasCause stop (length self.old.versions)
             (lates_at running.active.tables self.old.versions)
             (spans_left running.active.tables self.old.versions))) }
-        ensures bounds { IfErr result (IsConflictBelow version (length self.old.versions)) }
+        ensures bounds { IfErr result (IsConflictIn (length self.old.versions)) }
         ensures unchanged { OnErr result (IsUnchanged self.old self.new) }
         ensures log { self.new.log ≡ self.old.log }
         ensures sessions { self.new.sessions ≡ self.old.sessions }
@@ -170,8 +154,7 @@ impl State {
     fn stop(&mut self, line: u32, place: usize, t: u32, stop: CommitStop) -> Result<Reply, NoMemory>
         requires place { place < 64 }
         requires room { HasPlace self.old.log }
-        requires conflict { IsConflictBelow
-            (suc (newest_of self.old)) (length (tables_of self.old)) stop }
+        requires conflict { IsConflictIn (length (tables_of self.old)) stop }
         ensures ok { IfOk result (λ reply. Stops self.old self.new reply line place t stop) }
         ensures err { OnErr result (self.new ≡ self.old) }
     {

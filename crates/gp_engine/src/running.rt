@@ -1,6 +1,6 @@
 //! The transaction of a session.
 
-ghost use Rattle.std.specs.Prelude.{◌≡◌, ◌<◌, ◌≤◌, true, IfOk, OnErr, List, length};
+ghost use Rattle.std.specs.Prelude.{◌≡◌, ◌<◌, ◌≤◌, true, IfErr, IfOk, OnErr, List, Some, length};
 ghost use Rattle.gp_base.specs.declared.table.Table.{Table};
 ghost use Rattle.gp_base.specs.declared.catalog.TheConstants.{MAX_TABLES};
 ghost use Rattle.gp_algebra.specs.Statements as s;
@@ -15,7 +15,7 @@ ghost use Rattle.gp_syntax.specs.Views.{command_view};
 ghost use Rattle.gp_txn.specs.Applying.{is_applicable, is_readable};
 ghost use Rattle.gp_txn.specs.Transactions.{HoldsOthers};
 ghost use Rattle.gp_log.specs.Parameters.{parameters};
-ghost use Rattle.gp_engine.specs.Methods.{Applies, meaning_of, refusal_in};
+ghost use Rattle.gp_engine.specs.Methods.{Accepts, StopsBy, meaning_of, refusal_in};
 ghost use Rattle.gp_log.specs.declared.limit.TheConstants.{MAX_STATEMENTS, MAX_STEPS};
 
 use gp_algebra::{Select, Stmt};
@@ -39,6 +39,26 @@ pub struct Running {
     pub statements: u32,
 }
 
+/// Why a statement that was checked does not run.
+#[derive(Drop)]
+pub enum RunStop {
+    /// It is refused.
+    Refused(Refusal),
+    /// Memory ran out, which says nothing of the statement.
+    NoMemory,
+}
+
+impl From<NoMemory> for RunStop {
+    ghost use Rattle.std.specs.Prelude.{◌≡◌};
+    ghost use Rattle.gp_engine.specs.declared.running.RunStop.TheVariants as stop;
+
+    ghost from_gives = { λ _ e. e ≡ stop.NoMemory };
+
+    fn from(_error: NoMemory) -> RunStop {
+        RunStop::NoMemory
+    }
+}
+
 /// The refusal of one more statement, if its transaction has this many and the script that many.
 fn count_refusal(own: u32, all: u32) -> Option<Refusal>
     ensures { result ≡ count_refusal parameters own all }
@@ -56,15 +76,17 @@ fn count_refusal(own: u32, all: u32) -> Option<Refusal>
     None
 }
 
-/// The refusal of an INSERT that would leave too many rows.
-fn too_many_rows(catalog: &Catalog, stmt: &Stmt) -> Result<Reply, NoMemory>
+/// The stop of an INSERT that would leave too many rows.
+fn too_many_rows(catalog: &Catalog, stmt: &Stmt) -> RunStop
     requires { target_of (statement_view stmt.now) < length catalog.now }
-    ensures { IfOk result (λ reply. reply ≡ Reply.Refused (Refusal.E12
+    ensures { StopsBy result (Some (Refusal.E12
         (name_at (target_of (statement_view stmt.now)) catalog.now))) }
 {
     let place = stmt.target().unwrap_or(0);
-    let table = catalog.table(place).name.clone()?;
-    Ok(Reply::Refused(Refusal::E12 { table }))
+    match catalog.table(place).name.clone() {
+        Ok(table) => RunStop::Refused(Refusal::E12 { table }),
+        Err(_) => RunStop::NoMemory,
+    }
 }
 
 impl Running {
@@ -75,18 +97,18 @@ impl Running {
         catalog: &Catalog,
         versions: &[VersionTable],
         newest: u32,
-    ) -> Result<Reply, NoMemory>
+    ) -> Result<Reply, RunStop>
         requires few { length versions.now ≤ MAX_TABLES }
         requires tables { length versions.now ≡ length catalog.now }
         requires writes { is_applicable (length versions.now) (statement_view stmt.now) ≡ true }
         requires count { self.old.statements < MAX_STEPS }
         requires last { self.old.active.last ≤ self.old.statements }
         requires others { HoldsOthers self.old.active.t versions.now }
-        ensures ok { IfOk result (λ reply.
-            Applies catalog.now versions.now newest self.old self.new reply (statement_view stmt.now)
-            (refusal_in catalog.now versions.now newest self.old self.new reply
-            (statement_view stmt.now))) }
-        ensures err { OnErr result (self.new ≡ self.old) }
+        ensures accepted { IfOk result (λ reply.
+            Accepts catalog.now versions.now newest self.old self.new reply (statement_view stmt.now)) }
+        ensures stop { IfErr result (λ stop. StopsBy stop
+            (refusal_in catalog.now versions.now newest self.old (statement_view stmt.now))) }
+        ensures unchanged { OnErr result (self.new ≡ self.old) }
     {
         let k = self.statements + 1;
         let version = self.active.snapshot(newest);
@@ -95,9 +117,9 @@ impl Running {
                 self.statements = k;
                 Ok(Reply::Wrote { rows })
             }
-            Err(StmtStop::Rows) => too_many_rows(catalog, stmt),
-            Err(StmtStop::Ancestry) => Ok(Reply::Refused(Refusal::E13)),
-            Err(StmtStop::NoMemory) => Err(NoMemory),
+            Err(StmtStop::Rows) => Err(too_many_rows(catalog, stmt)),
+            Err(StmtStop::Ancestry) => Err(RunStop::Refused(Refusal::E13)),
+            Err(StmtStop::NoMemory) => Err(RunStop::NoMemory),
         }
     }
 
@@ -108,16 +130,16 @@ impl Running {
         select: &Select,
         versions: &[VersionTable],
         newest: u32,
-    ) -> Result<Reply, NoMemory>
+    ) -> Result<Reply, RunStop>
         requires few { length versions.now ≤ MAX_TABLES }
         requires readable { is_readable (length versions.now) (select_view select.now) ≡ true }
         requires count { self.old.statements < MAX_STEPS }
         requires last { self.old.active.last ≤ self.old.statements }
-        ensures ok { IfOk result (λ reply. (tables : List Table) →
-            Applies tables versions.now newest self.old self.new reply (s.read (select_view select.now))
-            (refusal_in tables versions.now newest self.old self.new reply
-            (s.read (select_view select.now)))) }
-        ensures err { OnErr result (self.new ≡ self.old) }
+        ensures accepted { IfOk result (λ reply. (tables : List Table) →
+            Accepts tables versions.now newest self.old self.new reply (s.read (select_view select.now))) }
+        ensures stop { IfErr result (λ stop. (tables : List Table) → StopsBy stop
+            (refusal_in tables versions.now newest self.old (s.read (select_view select.now)))) }
+        ensures unchanged { OnErr result (self.new ≡ self.old) }
     {
         let version = self.active.snapshot(newest);
         match self.active.select(select, version, versions) {
@@ -125,30 +147,30 @@ impl Running {
                 self.statements += 1;
                 Ok(Reply::Rows(rows))
             }
-            Err(ChooseStop::TooMany) => Ok(Reply::Refused(Refusal::E27)),
-            Err(ChooseStop::NoMemory) => Err(NoMemory),
+            Err(ChooseStop::TooMany) => Err(RunStop::Refused(Refusal::E27)),
+            Err(ChooseStop::NoMemory) => Err(RunStop::NoMemory),
         }
     }
 
-    /// A statement that was checked, where this is the newest version.
+    /// Runs a statement that was checked, where this is the newest version. One that is refused changes nothing.
     pub fn apply(
         &mut self,
         stmt: &Stmt,
         catalog: &Catalog,
         versions: &[VersionTable],
         newest: u32,
-    ) -> Result<Reply, NoMemory>
+    ) -> Result<Reply, RunStop>
         requires few { length versions.now ≤ MAX_TABLES }
         requires tables { length versions.now ≡ length catalog.now }
         requires fits { statement_fits catalog.now (statement_view stmt.now) ≡ true }
         requires count { self.old.statements < MAX_STEPS }
         requires last { self.old.active.last ≤ self.old.statements }
         requires others { HoldsOthers self.old.active.t versions.now }
-        ensures ok { IfOk result (λ reply.
-            Applies catalog.now versions.now newest self.old self.new reply (statement_view stmt.now)
-            (refusal_in catalog.now versions.now newest self.old self.new reply
-            (statement_view stmt.now))) }
-        ensures err { OnErr result (self.new ≡ self.old) }
+        ensures accepted { IfOk result (λ reply.
+            Accepts catalog.now versions.now newest self.old self.new reply (statement_view stmt.now)) }
+        ensures stop { IfErr result (λ stop. StopsBy stop
+            (refusal_in catalog.now versions.now newest self.old (statement_view stmt.now))) }
+        ensures unchanged { OnErr result (self.new ≡ self.old) }
     {
         match stmt {
             Stmt::Read { select } => self.select(select, versions, newest),

@@ -1,6 +1,6 @@
 //! The statement of a line.
 
-ghost use Rattle.std.specs.Prelude.{◌≡◌, ℕ, ◌<◌, ◌-◌, ◌^◌, suc, true, false, IfErr, IfOk, OnErr, OnOk, IsSome, Some, None, length};
+ghost use Rattle.std.specs.Prelude.{◌≡◌, ◌<◌, ◌-◌, ◌^◌, suc, true, IfErr, IfOk, OnErr, OnOk, IsSome, length};
 ghost use Rattle.gp_algebra.specs.Fitting.{statement_fits};
 ghost use Rattle.gp_algebra.specs.Views.{statement_view};
 ghost use Rattle.gp_check.specs.Checking.{checked};
@@ -8,15 +8,14 @@ ghost use Rattle.gp_check.specs.Valid.{is_valid};
 ghost use Rattle.gp_check.specs.Views.{Checks};
 ghost use Rattle.gp_machine.specs.Entries as m;
 ghost use Rattle.gp_machine.specs.Event.{count_refusal};
-ghost use Rattle.gp_machine.specs.Replies.{is_refusal};
-ghost use Rattle.gp_grammar.specs.Syntax as y;
 ghost use Rattle.gp_grammar.specs.Syntax.{is_statement};
 ghost use Rattle.gp_syntax.specs.Views.{command_view};
 ghost use Rattle.gp_log.specs.Parameters.{parameters};
 ghost use Rattle.gp_log.specs.declared.limit.TheConstants.{MAX_STEPS};
 ghost use Rattle.gp_engine.specs.Engine.{IsEngine, IsUnchanged, statements_of, tables_of};
-ghost use Rattle.gp_engine.specs.Methods.{Appends, AppliesAt, HasRun, Runs, RunsChecked, meaning_of, refusal_at, IfRuns, running_at};
+ghost use Rattle.gp_engine.specs.Methods.{AcceptsAt, Answers, Appends, HasRun, IfRuns, Runs, RunsChecked, StopsBy, meaning_of, refusal_at, running_at};
 
+use crate::running::RunStop;
 use crate::state::State;
 use gp_algebra::Stmt;
 use gp_base::{NoMemory, Refusal};
@@ -24,6 +23,17 @@ use gp_check::CheckStop;
 use gp_log::What;
 use gp_machine::Reply;
 use gp_syntax::Command;
+use gp_txn::index_for;
+
+/// The answer to a statement that does not run.
+fn answer(stop: RunStop) -> Result<Reply, NoMemory>
+    ensures { IfOk result (λ reply. Answers stop reply) }
+{
+    match stop {
+        RunStop::Refused(refusal) => Ok(Reply::Refused(refusal)),
+        RunStop::NoMemory => Err(NoMemory),
+    }
+}
 
 impl State {
     /// Checks a statement of the session at a place.
@@ -50,40 +60,38 @@ impl State {
         }
     }
 
-    /// Applies a statement in the session at a place.
-    fn apply_at(&mut self, place: usize, stmt: &Stmt) -> Result<Reply, NoMemory>
-        requires place { place < 64 }
-        requires fits { statement_fits (tables_of self.old) (statement_view stmt.now) ≡ true }
-        requires engine { IsEngine self.old }
-        requires count { IfRuns self.old place (λ running. running.statements < MAX_STEPS) }
-        ensures ok { IfOk result (λ reply. IfRuns self.old place
-            (λ running. AppliesAt self.old self.new reply place running
-            (statement_view stmt.now))) }
-        ensures log { self.new.log ≡ self.old.log }
-        ensures err { OnErr result (self.new ≡ self.old) }
+    /// Has the log keep a place for a statement, and an index find its rows.
+    fn prepare(&mut self, stmt: &Stmt) -> Result<(), NoMemory>
+        ensures ready { OnOk result (self.new.log.ready ≡ true) }
+        ensures log { self.new.log.entries ≡ self.old.log.entries }
+        ensures versions { self.new.versions ≡ self.old.versions }
+        ensures sessions { self.new.sessions ≡ self.old.sessions }
     {
-        let newest = self.log.commits();
-        match &mut self.sessions[place] {
-            None => Ok(Reply::Refused(Refusal::E10)),
-            Some(running) => running.apply(stmt, self.log.catalog(), &self.versions, newest),
-        }
+        self.log.reserve()?;
+        index_for(stmt, &mut self.versions)
     }
 
-    /// Applies a statement in the session at a place, once the log has a place for it.
-    fn apply_reserved(&mut self, place: usize, stmt: &Stmt) -> Result<Reply, NoMemory>
+    /// Runs a statement in the session at a place, once the log has a place for it.
+    fn apply_at(&mut self, place: usize, stmt: &Stmt) -> Result<Reply, RunStop>
         requires place { place < 64 }
         requires fits { statement_fits (tables_of self.old) (statement_view stmt.now) ≡ true }
         requires engine { IsEngine self.old }
         requires count { IfRuns self.old place (λ running. running.statements < MAX_STEPS) }
-        ensures ok { IfOk result (λ reply. IfRuns self.old place
-            (λ running. AppliesAt self.old self.new reply place running
+        ensures accepted { IfOk result (λ reply. IfRuns self.old place
+            (λ running. AcceptsAt self.old self.new reply place running
             (statement_view stmt.now))) }
         ensures ready { OnOk result (self.new.log.ready ≡ true) }
         ensures log { self.new.log.entries ≡ self.old.log.entries }
-        ensures err { OnErr result (IsUnchanged self.old self.new) }
+        ensures stop { IfErr result (λ stop. IfRuns self.old place
+            (λ running. StopsBy stop (refusal_at self.old running (statement_view stmt.now)))) }
+        ensures unchanged { OnErr result (IsUnchanged self.old self.new) }
     {
-        self.log.reserve()?;
-        self.apply_at(place, stmt)
+        self.prepare(stmt)?;
+        let newest = self.log.commits();
+        match &mut self.sessions[place] {
+            None => Err(RunStop::Refused(Refusal::E10)),
+            Some(running) => running.apply(stmt, self.log.catalog(), &self.versions, newest),
+        }
     }
 
     /// The number of statements of the transaction at a place.
@@ -115,37 +123,6 @@ impl State {
         }
     }
 
-    /// Applies a statement in the session at a place. Where it is refused or memory runs out, gives the answer to the line.
-    fn accept(&mut self, place: usize, stmt: &Stmt) -> Result<Reply, Result<Reply, NoMemory>>
-        requires place { place < 64 }
-        requires fits { statement_fits (tables_of self.old) (statement_view stmt.now) ≡ true }
-        requires engine { IsEngine self.old }
-        requires count { IfRuns self.old place (λ running. running.statements < MAX_STEPS) }
-        ensures applied { IfOk result (λ reply. IfRuns self.old place
-            (λ running. AppliesAt self.old self.new reply place running
-            (statement_view stmt.now))) }
-        ensures accepted { IfOk result (λ reply. is_refusal reply ≡ false) }
-        ensures ready { OnOk result (self.new.log.ready ≡ true) }
-        ensures log { self.new.log.entries ≡ self.old.log.entries }
-        ensures refused { IfErr result (λ answer. IfOk answer
-            (λ reply. (line : ℕ) (command : y.Command) → IfRuns self.old place
-            (λ running. RunsChecked self.old self.new reply line place running command
-            (statement_view stmt.now) (refusal_at self.old self.new reply line place running command
-            (statement_view stmt.now))))) }
-        ensures err { IfErr result (λ answer. OnErr answer (IsUnchanged self.old self.new)) }
-    {
-        match self.apply_reserved(place, stmt) {
-            Ok(reply) => {
-                if reply.is_refusal() {
-                    Err(Ok(reply))
-                } else {
-                    Ok(reply)
-                }
-            }
-            Err(error) => Err(Err(error)),
-        }
-    }
-
     /// Runs a statement that was checked in the session at a place.
     fn run(
         &mut self,
@@ -162,17 +139,16 @@ impl State {
         ensures ok { IfOk result (λ reply. IfRuns self.old place
             (λ running. RunsChecked self.old self.new reply line place running
             (command_view command) (statement_view stmt)
-            (refusal_at self.old self.new reply line place running (command_view command)
-            (statement_view stmt)))) }
+            (refusal_at self.old running (statement_view stmt)))) }
         ensures err { OnErr result (IsUnchanged self.old self.new) }
     {
         // A command and a statement have many parts, and each way out that owns them lets them all go: so there is one.
-        match self.accept(place, &stmt) {
+        match self.apply_at(place, &stmt) {
             Ok(reply) => {
                 self.keep(line, place, command, stmt);
                 Ok(reply)
             }
-            Err(answer) => answer,
+            Err(stop) => answer(stop),
         }
     }
 

@@ -13,7 +13,8 @@ use Rattle.gp_machine.specs.Entries.{Entry, Log, committer_of, log_of, statement
 use Rattle.gp_machine.specs.HistorySpans.{span_from, spans_upto}
 use Rattle.gp_machine.specs.CheckedTargets.{HasTarget}
 use Rattle.gp_machine.specs.Publishing.{publish, was_written}
-use Rattle.gp_machine.specs.Reading.{Seen, seen_by, start_by, started}
+use Rattle.gp_machine.specs.Reading.{Seen, started}
+use Rattle.gp_machine.specs.ReadBy.{seen_by, start_by}
 use Rattle.gp_machine.specs.Replaying.{replayed, rerun}
 use Rattle.gp_machine.specs.ReplayForms.{upto_version, replayed_spans}
 use Rattle.gp_machine.specs.Runs.{refreshed, run, run_before, stepped}

@@ -132,7 +132,7 @@ module _ (entries : List Entry) (ok : IsReplayable entries) (u : ℕ) (within : 
 
   module _ (writes : Writes) (ran : HasRun entries u versions n writes) (own : HoldsOwn writes) where
     abbrev overlay : Overlay
-    overlay = overlay_of writes n
+    overlay = overlay_of (spans_of versions) writes n
 
     abbrev active : Active (Unit {0})
     active = active_at entries ok u within versions made writes.read_committed n

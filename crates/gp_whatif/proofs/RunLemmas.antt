@@ -1,8 +1,7 @@
 -- A transaction that runs again sees what it has read, and has written what the history machine says.
-use Rattle.std.proofs.Common.{◌≡◌, ℕ, zero, suc, ◌+◌, ◌<◌, ◌≤◌, Bool, true, false, cond, List, [], ◌∷◌, ◌++◌, length, map, Option, Some, None, refl, sym, ap, ◌∙◌, subst, arith, ⊎_elim, inl}
+use Rattle.std.proofs.Common.{◌≡◌, ℕ, zero, suc, ◌+◌, ◌<◌, ◌≤◌, Bool, true, false, cond, List, length, Option, Some, None, refl, sym, ap, ◌∙◌, subst, arith, ⊎_elim, inl}
 use Rattle.std.specs.Prelude.{◌==◌}
-use Rattle.std.specs.List.{filter}
-use Rattle.std.specs.Option.{is_none, option_or}
+use Rattle.std.specs.Option.{option_or}
 use Rattle.gp_base.specs.Annotated.{Database, plain}
 use Rattle.gp_base.specs.declared.row_id.TheConstants.{MAX_NODES}
 use Rattle.gp_base.specs.Identities.{Identity}
@@ -10,13 +9,15 @@ use Rattle.gp_algebra.specs.Effects.{Written, step, wrote, is_over_rows, is_over
 use Rattle.gp_algebra.specs.Statements.{Select, Statement, read}
 use Rattle.gp_base.specs.declared.limit.TheConstants.{MAX_TABLE_ROWS}
 use Rattle.gp_versions.specs.Commits.{AreBelow}
-use Rattle.gp_versions.specs.Spans.{Versions, row_of, rows_at, spans_at}
+use Rattle.gp_versions.specs.Spans.{Versions, rows_at}
 use Rattle.gp_versions.specs.TableSpans.{AreWhole, NoOverlap}
 use Rattle.gp_versions.specs.declared.span.Span.{Span}
 use Rattle.gp_txn.specs.Applying.{Wrote, has_too_many_nodes, has_too_many_rows}
-use Rattle.gp_txn.specs.Bases.{base_after, base_of, refreshed, table_view}
-use Rattle.gp_txn.specs.Overlay.{PlainRow, base_writes, no_writes, rows_below, view_rows}
-use Rattle.gp_txn.specs.Transactions.{AreOthers, AreThere, HoldsOthers, IsUnwritten, Writes, base_at, database_below, has_written, table_at, view_at, writes_at}
+use Rattle.gp_txn.specs.Bases.{base_after, base_of, refreshed}
+use Rattle.gp_txn.proofs.UnwrittenLemmas.{unwritten-base, unwritten-is, unwritten-view}
+use Rattle.gp_txn.specs.Overlay as txn
+use Rattle.gp_txn.specs.Overlay.{rows_below, view_rows}
+use Rattle.gp_txn.specs.Transactions.{AreOthers, AreThere, HoldsOthers, IsUnwritten, Writes, base_at, database_below, has_written, overlay_at, table_at, view_at, writes_at}
 use Rattle.gp_txn.specs.declared.overlay.TableWrites.{TableWrites}
 use Rattle.gp_machine.proofs.ActiveLemmas.{IsOver}
 use Rattle.gp_machine.proofs.BaseLemmas.{base_more}
@@ -28,7 +29,8 @@ use Rattle.gp_machine.specs.Bases.{with_bases}
 use Rattle.gp_machine.specs.Entries.{Entry, Log, committer_of, log_of, statement_at, statement_count, statement_version, versions_in}
 use Rattle.gp_machine.specs.Histories.{IsHistory}
 use Rattle.gp_machine.specs.Points.{OverNodes, OverRows, RunStop, run_stop, statement_stop}
-use Rattle.gp_machine.specs.Reading.{start_by, wrote_by}
+use Rattle.gp_machine.specs.Reading.{wrote_by}
+use Rattle.gp_machine.specs.ReadBy.{start_by}
 use Rattle.gp_machine.specs.Replaying.{Replay}
 use Rattle.gp_machine.specs.ReplayForms.{CommitsInOrder, upto_version}
 use Rattle.gp_machine.specs.Represents as machine
@@ -47,26 +49,26 @@ use Rattle.std.proofs.lemmas.Bool.{eqb-true}
 abbrev pub spans_of : List Versions → ℕ → List Span
 spans_of versions place = (table_at place versions).spans
 
-abbrev pub overlay_of : Writes → ℕ → Overlay
-overlay_of writes k = record {
+abbrev pub overlay_of : (ℕ → List Span) → Writes → ℕ → Overlay
+overlay_of spans writes k = record {
   transaction = writes.t;
   read_committed = writes.read_committed;
   begin = writes.begin;
   version = λ place. (writes_at place writes.tables).version;
   statements = k;
-  shown = λ rows place. view_rows (writes_at place writes.tables) (rows place);
-  base = λ rows place id. base_of (writes_at place writes.tables) (rows place) id;
+  shown = λ rows place. view_rows (txn.overlay_of (spans place) (writes_at place writes.tables)) (rows place);
+  base = λ rows place id. base_of (txn.overlay_of (spans place) (writes_at place writes.tables)) (rows place) id;
 }
 
 -- what they show in a version
-pub view_same : (versions : List Versions) (writes : Writes) (k version place : ℕ) → machine.view_at (spans_of versions) (overlay_of writes k) version place ≡ view_at writes.tables versions version place
+pub view_same : (versions : List Versions) (writes : Writes) (k version place : ℕ) → machine.view_at (spans_of versions) (overlay_of (spans_of versions) writes k) version place ≡ view_at writes.tables versions version place
 view_same versions writes k version place =
     elim (version == (writes_at place writes.tables).version) as (λ b. (version == (writes_at place writes.tables).version) ≡ b
-    → cond b (view_rows (writes_at place writes.tables) (rows_below (writes_at place writes.tables) (table_at place versions).spans))
-    (refreshed (writes_at place writes.tables) (rows_below (writes_at place writes.tables) (table_at place versions).spans) (rows_at plain version (table_at place versions).spans))
-    ≡ cond b (view_rows (writes_at place writes.tables) (rows_at plain version (table_at place versions).spans))
-    (refreshed (writes_at place writes.tables) (rows_below (writes_at place writes.tables) (table_at place versions).spans) (rows_at plain version (table_at place versions).spans))) [
-      | true ↦ λ is. ap (λ v. view_rows (writes_at place writes.tables) (rows_at plain v (table_at place versions).spans)) (sym (eqb-true version (writes_at place writes.tables).version is))
+    → cond b (view_rows (overlay_at place writes.tables versions) (rows_below (overlay_at place writes.tables versions) (table_at place versions).spans))
+    (refreshed (overlay_at place writes.tables versions) (rows_below (overlay_at place writes.tables versions) (table_at place versions).spans) (rows_at plain version (table_at place versions).spans))
+    ≡ cond b (view_rows (overlay_at place writes.tables versions) (rows_at plain version (table_at place versions).spans))
+    (refreshed (overlay_at place writes.tables versions) (rows_below (overlay_at place writes.tables versions) (table_at place versions).spans) (rows_at plain version (table_at place versions).spans))) [
+      | true ↦ λ is. ap (λ v. view_rows (overlay_at place writes.tables versions) (rows_at plain v (table_at place versions).spans)) (sym (eqb-true version (writes_at place writes.tables).version is))
       | false ↦ λ is. refl
     ] refl
 
@@ -74,52 +76,6 @@ view_same versions writes k version place =
 base_same : (now place : ℕ) (id : Identity) (all : List Written) (base : Option ℕ) → base_after now (has_written all place id) base ≡ machine.base_after now place id all base
 base_same now place id all None = refl
 base_same now place id all (Some version) = refl
-
--- ---- nothing is written
-
-no-base-writes : (rows : List PlainRow) → base_writes [] rows ≡ []
-no-base-writes [] = refl
-no-base-writes (row ∷ rows) = no-base-writes rows
-
-no-overlay : (version : ℕ) (rows : List PlainRow) → view_rows (no_writes version) rows ≡ rows
-no-overlay version [] = refl
-no-overlay version (row ∷ rows) = ap (λ (others : List PlainRow). row ∷ others) (no-overlay version rows)
-
-no-slots : (rows : List PlainRow) (id : Identity) (version : ℕ) → base_of (no_writes version) rows id ≡ None
-no-slots [] id version = refl
-no-slots (row ∷ rows) id version = no-slots rows id version
-
-all-rows : (rows : List PlainRow) → filter (λ (row : PlainRow). true) rows ≡ rows
-all-rows [] = refl
-all-rows (row ∷ rows) = ap (λ (others : List PlainRow). row ∷ others) (all-rows rows)
-
-no-marks : (spans : List Span) → filter (λ (row : PlainRow). row.mark) (map (row_of plain) spans) ≡ []
-no-marks [] = refl
-no-marks (span ∷ spans) = no-marks spans
-
-and-none : (rows : List PlainRow) → rows ++ [] ≡ rows
-and-none [] = refl
-and-none (row ∷ rows) = ap (λ (others : List PlainRow). row ∷ others) (and-none rows)
-
-new-table : (begin version : ℕ) (spans : List Span) → table_view (no_writes begin) spans version ≡ rows_at plain version spans
-new-table begin version spans =
-    elim (version == begin) as (λ b. cond b (view_rows (no_writes begin) (rows_at plain version spans)) (refreshed (no_writes begin) (rows_at plain begin spans) (rows_at plain version spans)) ≡ rows_at plain version spans) [
-      | true ↦ no-overlay begin (rows_at plain version spans)
-      | false ↦
-          (λ i. filter (λ (row : PlainRow). is_none (no-slots (rows_at plain begin spans) row.identity begin i)) (rows_at plain version spans)
-          ++ filter (λ (row : PlainRow). row.mark) (no-overlay begin (rows_at plain begin spans) i))
-          ∙ (λ i. all-rows (rows_at plain version spans) i ++ no-marks (spans_at begin spans) i)
-          ∙ and-none (rows_at plain version spans)
-    ]
-
-unwritten-is : (version : ℕ) (table : TableWrites) → IsUnwritten version table → table ≡ no_writes table.version
-unwritten-is version table is = λ i. record { version = table.version; slots = is.slots i; carried = is.carried i; own = is.own i }
-
-new-view : (begin version : ℕ) (table : TableWrites) (spans : List Span) → IsUnwritten begin table → table_view table spans version ≡ rows_at plain version spans
-new-view begin version table spans is = ap (λ writes. table_view writes spans version) (unwritten-is begin table is) ∙ new-table table.version version spans
-
-new-base : (begin : ℕ) (table : TableWrites) (rows : List PlainRow) (id : Identity) → IsUnwritten begin table → base_of table rows id ≡ None
-new-base begin table rows id is = ap (λ writes. base_of writes rows id) (unwritten-is begin table is) ∙ no-slots rows id table.version
 
 -- ---- one statement
 
@@ -206,7 +162,7 @@ module _ (entries : List Entry) (ok : IsReplayable entries) (u : ℕ) (within : 
   whole place = subst AreWhole (sym (made.spans place)) (spans_whole u replay.committed replay.written place)
 
   -- its writes represent it
-  pub represents : (k : ℕ) (writes : Writes) → HasRun entries u versions k writes → RepresentsActive (spans_of versions) writes.begin (overlay_of writes k) (active_at writes.read_committed k)
+  pub represents : (k : ℕ) (writes : Writes) → HasRun entries u versions k writes → RepresentsActive (spans_of versions) writes.begin (overlay_of (spans_of versions) writes k) (active_at writes.read_committed k)
   represents k writes ran = record {
     transaction = ran.t_is;
     read_committed = refl;
@@ -223,9 +179,9 @@ module _ (entries : List Entry) (ok : IsReplayable entries) (u : ℕ) (within : 
     t_is = same;
     last = omega arith;
     below = λ place. (none place).below;
-    view = λ place. new-view (statement_version t zero entries) (statement_version t zero entries) (writes_at place writes.tables) (table_at place versions).spans (none place)
+    view = λ place. unwritten-view (statement_version t zero entries) (statement_version t zero entries) (writes_at place writes.tables) (table_at place versions).spans (none place)
         ∙ held (statement_version t zero entries) place (reads zero (omega arith));
-    base = λ place id other. new-base (statement_version t zero entries) (writes_at place writes.tables) (database_below writes.tables versions place) id (none place);
+    base = λ place id other. unwritten-base (statement_version t zero entries) (writes_at place writes.tables) (spans_of versions place) (database_below writes.tables versions place) id (none place);
     there = λ place. subst (λ (table : TableWrites). AreThere (table_at place versions).spans table.carried)
         (sym (unwritten-is (statement_version t zero entries) (writes_at place writes.tables) (none place))) tt;
     unstopped = refl;
@@ -244,7 +200,7 @@ module _ (entries : List Entry) (ok : IsReplayable entries) (u : ℕ) (within : 
     seen_before : view_at old.tables versions now ≡ start
     seen_before = λ i place. (
         sym (view_same versions old k now place)
-        ∙ shown_at cut replay.committed replay.written history (active_at old.read_committed k) (over_at old.read_committed k (omega arith)) (spans_of versions) old.begin (overlay_of old k) (represents k old ran)
+        ∙ shown_at cut replay.committed replay.written history (active_at old.read_committed k) (over_at old.read_committed k (omega arith)) (spans_of versions) old.begin (overlay_of (spans_of versions) old k) (represents k old ran)
         now (order.later u k within more) (reads (suc k) more) (λ place. held now place (reads (suc k) more)) place) i
 
     stop_is : run_stop plain parameters log t (suc k) replay.committed ≡ statement_stop plain parameters t (suc k) (Some statement) start

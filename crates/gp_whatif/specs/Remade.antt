@@ -11,7 +11,8 @@ use Rattle.gp_txn.specs.Bases.{base_after}
 use Rattle.gp_txn.specs.Transactions.{HoldsThere, Writes, base_at, has_written, view_at, writes_at}
 use Rattle.gp_machine.specs.Entries.{Entry, committer_of, log_of, statement_version}
 use Rattle.gp_machine.specs.Points.{run_stop}
-use Rattle.gp_machine.specs.Reading.{Seen, seen_by}
+use Rattle.gp_machine.specs.Reading.{Seen}
+use Rattle.gp_machine.specs.ReadBy.{seen_by}
 use Rattle.gp_machine.specs.Replaying.{Replay, replayed}
 use Rattle.gp_machine.specs.ReplayForms.{upto_version}
 use Rattle.gp_machine.specs.Represents.{base_among}

@@ -96,7 +96,7 @@ fn check_steps(log: &Log, t: u32) -> Result<(), Refusal>
 // ---- places
 
 /// Whether an entry is statement k of a transaction.
-pub(crate) fn is_own(entry: &Entry, t: u32, k: u32) -> bool
+fn is_own(entry: &Entry, t: u32, k: u32) -> bool
     ensures { result ≡ is_own t k entry.now }
 {
     match entry.what {

@@ -1,24 +1,19 @@
 //! The commits of a log, made again.
 
-ghost use Rattle.std.specs.Prelude.{◌≡◌, ◌<◌, ◌≤◌, ◌+◌, ◌^◌, [], suc, true, IfErr, IfOk, OnOk, Some, length, ℕ};
-ghost use Rattle.std.specs.Option.{option_map};
+ghost use Rattle.std.specs.Prelude.{◌≡◌, ◌<◌, ◌≤◌, ◌+◌, ◌^◌, [], suc, true, IfErr, IfOk, OnOk, length, ℕ};
 ghost use Rattle.gp_base.specs.declared.catalog.TheConstants.{MAX_TABLES};
-ghost use Rattle.gp_algebra.specs.Statements.{Statement};
 ghost use Rattle.gp_algebra.specs.Views.{statement_view};
 ghost use Rattle.gp_txn.specs.Transactions.{HoldsOthers, table_at};
-ghost use Rattle.gp_machine.specs.Entries as m;
-ghost use Rattle.gp_machine.specs.Entries.{begin_version, committer_of, statement_at, statement_count, statement_version, transactions_in, versions_in};
+ghost use Rattle.gp_machine.specs.Entries.{begin_version, committer_of, statement_count, transactions_in, versions_in};
 ghost use Rattle.gp_whatif.specs.Remade.{HasRun, Ran, StopsAt, can_run};
 ghost use Rattle.gp_whatif.specs.Replays.{IsMade, IsReplayable, Stops, stop_upto};
 ghost use Rattle.gp_log.specs.Contents.{entries};
-ghost use Rattle.gp_log.specs.Logs.{entry_view};
 
-use crate::changing::is_own;
 use crate::error::ReplayStop;
 use gp_algebra::Stmt;
 use gp_base::NoMemory;
-use gp_log::{Entry, Log, What};
-use gp_txn::{Active, CommitStop, StmtStop};
+use gp_log::Log;
+use gp_txn::{Active, CommitStop, StmtStop, index_for};
 use gp_versions::VersionTable;
 use std::alloc::Global;
 
@@ -28,61 +23,30 @@ fn run_statement(
     k: u32,
     version: u32,
     stmt: &Stmt,
-    versions: &[VersionTable],
+    versions: &mut [VersionTable],
 ) -> Result<(), ReplayStop>
-    requires few { length versions.now ≤ MAX_TABLES }
-    requires applicable { can_run (length versions.now) (statement_view stmt.now) ≡ true }
+    requires few { length versions.old ≤ MAX_TABLES }
+    requires applicable { can_run (length versions.old) (statement_view stmt.now) ≡ true }
     requires later { active.old.last < k }
-    requires others { HoldsOthers active.old.t versions.now }
+    requires others { HoldsOthers active.old.t versions.old }
+    ensures unchanged { versions.new ≡ versions.old }
     ensures ran { OnOk result
-        (Ran k version (statement_view stmt.now) versions.now active.old active.new) }
+        (Ran k version (statement_view stmt.now) versions.old active.old active.new) }
     ensures stop { IfErr result (λ stop.
-        StopsAt stop k version (statement_view stmt.now) versions.now active.old) }
+        StopsAt stop k version (statement_view stmt.now) versions.old active.old) }
 {
     let t = active.t();
     match stmt {
         Stmt::Read { .. } => Ok(()),
-        _ => match active.apply(k, version, stmt, versions) {
-            Ok(_) => Ok(()),
-            Err(StmtStop::Rows) => Err(ReplayStop::Rows { t, k }),
-            Err(StmtStop::Ancestry) => Err(ReplayStop::Ancestry { t, k }),
-            Err(StmtStop::NoMemory) => Err(ReplayStop::NoMemory),
-        },
-    }
-}
-
-/// The statement of an entry, if it is one.
-fn statement_of(entry: &Entry) -> Option<&Stmt>
-    ensures { option_map (λ s. statement_view s.now) result ≡ m.statement_of (entry_view entry.now) }
-{
-    match &entry.what {
-        What::Statement { stmt, .. } => Some(stmt),
-        _ => None,
-    }
-}
-
-/// Statement k of a transaction. It is looked for from the first one on, since a pass over all the log for each statement of a replay
-/// would be slow.
-fn statement(log: &Log, t: u32, k: u32) -> Option<&Stmt>
-    ensures { option_map (λ s. statement_view s.now) result ≡ statement_at t k (entries log.now) }
-{
-    for place in log.first_statement(t)..log.len() {
-        let entry = log.entry(place);
-        if is_own(entry, t, k) {
-            return statement_of(entry);
+        _ => {
+            index_for(stmt, versions)?;
+            match active.apply(k, version, stmt, versions) {
+                Ok(_) => Ok(()),
+                Err(StmtStop::Rows) => Err(ReplayStop::Rows { t, k }),
+                Err(StmtStop::Ancestry) => Err(ReplayStop::Ancestry { t, k }),
+                Err(StmtStop::NoMemory) => Err(ReplayStop::NoMemory),
+            }
         }
-    }
-    log.statement(t, k)
-}
-
-/// The version that a statement of the transaction read.
-fn version_read(log: &Log, t: u32, k: u32) -> u32
-    ensures { (statement : Statement) → statement_at t k (entries log.now) ≡ Some statement
-        → result ≡ statement_version t k (entries log.now) }
-{
-    match log.statement_version(t, k) {
-        Some(version) => version,
-        None => 0,
     }
 }
 
@@ -92,36 +56,25 @@ fn run_next(
     log: &Log,
     before: u32,
     ran: u32,
-    versions: &[VersionTable],
+    versions: &mut [VersionTable],
 ) -> Result<(), ReplayStop>
-    requires few { length versions.now ≤ MAX_TABLES }
+    requires few { length versions.old ≤ MAX_TABLES }
     requires replayable { IsReplayable (entries log.now) }
     requires within { before < versions_in (entries log.now) }
-    requires made { IsMade (entries log.now) before versions.now }
+    requires made { IsMade (entries log.now) before versions.old }
     requires more { ran < statement_count
         (committer_of (suc before) (entries log.now)) (entries log.now) }
     requires few_statements { ran + 1 < 2 ^ 32 }
-    requires ran { HasRun (entries log.now) before versions.now ran active.old }
-    ensures ran { OnOk result (HasRun (entries log.now) before versions.now (suc ran) active.new) }
+    requires ran { HasRun (entries log.now) before versions.old ran active.old }
+    ensures unchanged { versions.new ≡ versions.old }
+    ensures ran { OnOk result (HasRun (entries log.now) before versions.old (suc ran) active.new) }
     ensures stop { IfErr result (λ stop. Stops stop (stop_upto (entries log.now) (suc before))) }
 {
     let t = active.t();
     let k = ran + 1;
-    match statement(log, t, k) {
-        Some(stmt) => run_statement(active, k, version_read(log, t, k), stmt, versions),
+    match log.statement(t, k) {
+        Some(stmt) => run_statement(active, k, log.version_read_by(t, k), stmt, versions),
         None => Ok(()),
-    }
-}
-
-/// The transaction that made a version.
-fn maker(log: &Log, version: u32) -> u32
-    requires first { 1 ≤ version }
-    requires within { version ≤ versions_in (entries log.now) }
-    ensures { result ≡ committer_of version (entries log.now) }
-{
-    match log.committer(version) {
-        Some(t) => t,
-        None => unreachable!(),
     }
 }
 
@@ -142,18 +95,19 @@ fn run_again(
     alloc: Global,
     log: &Log,
     before: u32,
-    versions: &[VersionTable],
+    versions: &mut [VersionTable],
 ) -> Result<Active, ReplayStop>
-    requires few { length versions.now ≤ MAX_TABLES }
+    requires few { length versions.old ≤ MAX_TABLES }
     requires replayable { IsReplayable (entries log.now) }
     requires within { before < versions_in (entries log.now) }
     requires few_versions { before + 1 < 2 ^ 32 }
-    requires made { IsMade (entries log.now) before versions.now }
-    ensures ran { IfOk result (λ active. HasRun (entries log.now) before versions.now
+    requires made { IsMade (entries log.now) before versions.old }
+    ensures unchanged { versions.new ≡ versions.old }
+    ensures ran { IfOk result (λ active. HasRun (entries log.now) before versions.old
         (statement_count (committer_of (suc before) (entries log.now)) (entries log.now)) active) }
     ensures stop { IfErr result (λ stop. Stops stop (stop_upto (entries log.now) (suc before))) }
 {
-    let t = maker(log, before + 1);
+    let t = log.maker(before + 1);
     // The log tells which version each statement reads, so the kind of the transaction is not asked for.
     let mut active = Active::begin(alloc, t, begin(log, t), false);
     for ran in 0..log.statement_count(t) {

@@ -35,9 +35,10 @@ returns-in-Some c =
     let same : c.t-t.result ≡ committer_of (suc c.args.before) entries = c.t-t.ensures.t ∙ c.requires.ran.t_is in
     let here : statement_at (committer_of (suc c.args.before) entries) (suc c.args.ran) entries ≡ Some statement =
     (λ i. statement_at (sym same i) (sym next i) entries) ∙ sym c.in-Some.ensures in
-    let version : c.version_read.result ≡ statement_version (committer_of (suc c.args.before) entries) (suc c.args.ran) entries =
-    c.version_read.ensures statement (sym c.in-Some.ensures) ∙ (λ i. statement_version (same i) (next i) entries) in
+    let version : c.version_read_by.result ≡ statement_version (committer_of (suc c.args.before) entries) (suc c.args.ran) entries =
+    c.version_read_by.ensures ∙ (λ i. statement_version (same i) (next i) entries) in
     record {
+      unchanged = c.run_statement.ensures.unchanged;
       ran = on_ok_weaker c.run_statement.result
           (λ r. next_ran entries c.requires.replayable c.args.before c.requires.within c.args.versions.now c.requires.made c.args.ran c.requires.more statement here c.args.active.now c.requires.ran c.run_statement.new.active
           (subst (λ (x : ℕ × ℕ). Ran x.0 x.1 statement c.args.versions.now c.args.active.now c.run_statement.new.active) (λ i. (next i, version i)) r))

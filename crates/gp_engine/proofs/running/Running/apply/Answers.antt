@@ -1,6 +1,6 @@
 use Rattle.gp_algebra.specs.Views.{select_view, statement_view}
 use Rattle.gp_txn.proofs.FitLemmas.{select-readable, statement-applicable}
-use Rattle.gp_engine.proofs.FitLemmas.{not-read, ok-map}
+use Rattle.gp_engine.proofs.FitLemmas.{err-map, not-read, ok-map}
 use Rattle.gp_engine.proofs.running.Running.apply.Goals as goal
 
 pub select-requires-clause-readable : goal.select-requires-clause-readable
@@ -16,5 +16,8 @@ write-requires c = record {
   others = c.requires.others;
 }
 
-pub returns-in-Read-clause-ok : goal.returns-in-Read-clause-ok
-returns-in-Read-clause-ok c = rw c.in-Read.is (ok-map _ _ c.select.result (λ answer f. f c.args.catalog.now) c.select.ensures.ok)
+pub returns-in-Read-clause-accepted : goal.returns-in-Read-clause-accepted
+returns-in-Read-clause-accepted c = rw c.in-Read.is (ok-map _ _ c.select.result (λ answer f. f c.args.catalog.now) c.select.ensures.accepted)
+
+pub returns-in-Read-clause-stop : goal.returns-in-Read-clause-stop
+returns-in-Read-clause-stop c = rw c.in-Read.is (err-map _ _ c.select.result (λ stop f. f c.args.catalog.now) c.select.ensures.stop)

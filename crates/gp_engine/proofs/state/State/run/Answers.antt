@@ -1,22 +1,25 @@
 use Rattle.gp_algebra.specs.Views.{statement_view}
 use Rattle.gp_syntax.specs.Views.{command_view}
+use Rattle.gp_engine.specs.Methods.{refusal_at}
 use Rattle.gp_engine.proofs.FitLemmas.{ok-map}
 use Rattle.gp_engine.proofs.InvariantLemmas.{few-entries, within-sessions}
-use Rattle.gp_engine.proofs.StatementLemmas.{applied-recorded, has-run}
+use Rattle.gp_engine.proofs.StatementLemmas.{accepted-recorded, checked-refused, has-run}
 use Rattle.gp_engine.proofs.state.State.run.Goals as goal
 
 pub keep-requires-clause-few : goal.keep-requires-clause-few
-keep-requires-clause-few c = rw c.in-Ok.ensures.log (few-entries c.args.self.now c.requires.engine)
+keep-requires-clause-few c = rw c.apply_at.ensures.log (few-entries c.args.self.now c.requires.engine)
 
 pub keep-requires-clause-ran : goal.keep-requires-clause-ran
 keep-requires-clause-ran c =
-    has-run c.args.self.now c.accept.new.self c.in-Ok.reply c.args.place (statement_view c.args.stmt) c.requires.engine
-    (within-sessions c.args.self.now c.args.place c.requires.engine c.requires.place) c.requires.there c.in-Ok.ensures.applied c.in-Ok.ensures.accepted
+    has-run c.args.self.now c.apply_at.new.self c.in-Ok.reply c.args.place (statement_view c.args.stmt) c.requires.engine
+    (within-sessions c.args.self.now c.args.place c.requires.engine c.requires.place) c.requires.there c.in-Ok.ensures.accepted
 
 pub returns-in-Ok-clause-ok : goal.returns-in-Ok-clause-ok
 returns-in-Ok-clause-ok c running at =
-    applied-recorded c.args.self.now c.accept.new.self c.keep.new.self c.in-Ok.reply c.args.line c.args.place running (command_view c.args.command) (statement_view c.args.stmt)
-    (within-sessions c.args.self.now c.args.place c.requires.engine c.requires.place) (c.in-Ok.ensures.applied running at) c.in-Ok.ensures.accepted c.keep.ensures
+    accepted-recorded c.args.self.now c.apply_at.new.self c.keep.new.self c.in-Ok.reply c.args.line c.args.place running (command_view c.args.command) (statement_view c.args.stmt)
+    (within-sessions c.args.self.now c.args.place c.requires.engine c.requires.place) (c.in-Ok.ensures.accepted running at) c.keep.ensures
 
 pub returns-in-Err-clause-ok : goal.returns-in-Err-clause-ok
-returns-in-Err-clause-ok c = ok-map _ _ c.in-Err.answer (λ reply refused running at. refused c.args.line (command_view c.args.command) running at) c.in-Err.ensures.refused
+returns-in-Err-clause-ok c = ok-map _ _ c.answer.result (λ reply says running at.
+    checked-refused c.args.self.now c.apply_at.new.self reply c.args.line c.args.place running (command_view c.args.command) (statement_view c.args.stmt)
+    (refusal_at c.args.self.now running (statement_view c.args.stmt)) c.in-Err.stop (c.in-Err.ensures.stop running at) c.in-Err.ensures.unchanged says) c.answer.ensures
