@@ -41,7 +41,8 @@ use Rattle.gp_versions.specs.declared.span.Span.{Span}
 use Rattle.gp_versions.specs.Spans.{Versions}
 use Rattle.gp_dump.specs.Views.{tables_view}
 use Rattle.gp_ask.specs.declared.answered.Answered.TheVariants.{Changes, Refused}
-use Rattle.gp_ask.specs.Changes.{by_identity, changed_text, changed_texts, changes_of, changes_to, commit_changes_to, dump_changes, if_any, next_of, of_changes, span_texts, spans_texts, tables_texts, unless, version_changes}
+use Rattle.gp_ask.specs.Changes.{by_identity, changed_text, changed_texts, changes_of, changes_to, commit_changes_to, dump_changes, if_any, next_of, of_changes, span_texts, spans_texts, tables_texts, version_changes}
+use Rattle.gp_ask.specs.Values.{unless_refused}
 use Rattle.gp_ask.specs.Asking.{spans_at}
 use Rattle.gp_ask.specs.Keyed.{as_identity, cells_of, identity_of, keyed_from, keyed_if, keyed_lines, sets_are_simple, shown_texts}
 
@@ -287,7 +288,7 @@ pub changes-by : (dump : Dump) (t k number statement : ℕ) → changes_refusal 
     → if_any (dump_changes dump number (statement - 1)) (statement_at number statement dump.entries) ≡ changes_to dump t k
 changes-by dump t k number statement none first second =
     (λ i. if_any (dump_changes dump (first i) (second i - 1)) (statement_at (first i) (second i) dump.entries))
-    ∙ ap (λ (refusal : Option Refusal). unless refusal (if_any (dump_changes dump t (k - 1)) (statement_at t k dump.entries))) (sym none)
+    ∙ ap (λ (refusal : Option Refusal). unless_refused refusal (if_any (dump_changes dump t (k - 1)) (statement_at t k dump.entries))) (sym none)
 
 -- a transaction that made a version
 made-by : (t : ℕ) (entries : List Entry) (b : Bool) → is_known t entries ≡ b → cond (not b) (Some (E20 t)) (cond (is_none (version_of t entries)) (Some (E21 t (fate_of t entries))) None) ≡ None
@@ -300,4 +301,4 @@ known-committed t entries none = made-by t entries (is_known t entries) refl non
 
 pub commit-changes-by : (dump : Dump) (t number : ℕ) → transaction_refusal t dump.entries ≡ None → number ≡ t → version_changes dump (version_of number dump.entries) ≡ commit_changes_to dump t
 commit-changes-by dump t number none is =
-    ap (λ n. version_changes dump (version_of n dump.entries)) is ∙ ap (λ (refusal : Option Refusal). unless refusal (version_changes dump (version_of t dump.entries))) (sym none)
+    ap (λ n. version_changes dump (version_of n dump.entries)) is ∙ ap (λ (refusal : Option Refusal). unless_refused refusal (version_changes dump (version_of t dump.entries))) (sym none)

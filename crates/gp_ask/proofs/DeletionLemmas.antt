@@ -20,7 +20,8 @@ use Rattle.gp_reenact.specs.declared.error.ReenactStop.TheVariants as stop
 use Rattle.gp_semiring.specs.Elements.{greatest}
 use Rattle.gp_semiring.specs.Sums.{plus_up_to, times_up_to}
 use Rattle.gp_semiring.specs.declared.rules.Rule.{Rule}
-use Rattle.gp_history.specs.ValueAnswers.{history_refusal, value_answer}
+use Rattle.gp_history.specs.ValueAnswers.{history_refusal}
+use Rattle.gp_history.specs.ValueForms.{value_answer}
 use Rattle.gp_versions.specs.declared.span.Span.{Span}
 use Rattle.gp_dump.specs.Dumps.{Dump}
 use Rattle.gp_ask.specs.declared.answered.Answered.TheVariants.{Refused}

@@ -2,7 +2,7 @@
 use Rattle.std.proofs.Common.{◌≡◌, Result, Ok, Err, IfOk}
 use Rattle.gp_ask.specs.declared.format.Format.{Format}
 use Rattle.gp_ask.specs.declared.format.Format.TheVariants.{Text, Csv}
-use Rattle.gp_ask.specs.Formats.{ExplainsIn}
+use Rattle.gp_ask.specs.QuestionFiles.{ExplainsIn}
 
 pub explains-in : (format : Format) (says : Type 0) → says → ExplainsIn format says
 explains-in Text says it = it

@@ -24,7 +24,8 @@ use Rattle.gp_machine.specs.Annotating.{annotated_versions}
 use Rattle.gp_machine.specs.Entries.{version_of}
 use Rattle.gp_machine.specs.HistorySpans.{state_spans}
 use Rattle.gp_machine.specs.Points.{at_point, at_version, held_at}
-use Rattle.gp_machine.specs.Questions.{AreAlike, annotated_answer, given, held_answer, log_refusal, rows_answer}
+use Rattle.gp_machine.specs.Questions.{annotated_answer, given, held_answer, log_refusal, rows_answer}
+use Rattle.gp_machine.specs.QuestionForms.{AreAlike}
 use Rattle.gp_machine.specs.State.{State}
 use Rattle.gp_machine.specs.StateReannotation.{state_reannotated}
 use Rattle.gp_semiring.specs.Witnesses.{sets_text}
@@ -38,8 +39,9 @@ use Rattle.gp_ask.specs.declared.answered.Answered.{Answered}
 use Rattle.gp_ask.specs.declared.answered.Answered.TheVariants.{Checked, Listed, Refused, Rows}
 use Rattle.gp_replay.specs.Differences.{difference}
 use Rattle.gp_ask.specs.Answers.{answer_to, held_to}
-use Rattle.gp_ask.specs.Asking.{ask_to, dump_minimal, dump_provenance, dump_query, dump_remaining, dump_rows, dump_valued, dump_values, held_ask, held_minimal, held_provenance, held_remaining, held_rows, held_valued, held_values, of_elements, query_answer, spans_at, with_monomials}
-use Rattle.gp_ask.specs.Hypothetical.{what_if_answer, what_if_held}
+use Rattle.gp_ask.specs.Asking.{ask_to, dump_provenance, dump_query, dump_remaining, dump_rows, held_ask, held_provenance, held_remaining, held_rows, of_elements, query_answer, spans_at, with_monomials}
+use Rattle.gp_ask.specs.ValueForms.{dump_minimal, dump_valued, dump_values, held_minimal, held_valued, held_values}
+use Rattle.gp_ask.specs.Hypothetical.{what_if_held}
 use Rattle.gp_ask.specs.Remaining.{has_left_out, is_left_out, pattern_of, remaining_answer}
 use Rattle.gp_ask.specs.Values.{evaluated, rules_of, semiring_of, with_values}
 use Rattle.gp_ask.specs.Witnesses.{minimal_of}
@@ -211,19 +213,18 @@ module _ (state : State Monomial) (spans-kept : (table : ℕ) → state_spans (f
   pub held : ((t k : ℕ) (query : y.Query) → answer_to (dump_of (forgetting state)) (y.saw t k query) ≡ held_to state (y.saw t k query))
       → ((t k : ℕ) → answer_to (dump_of (forgetting state)) (y.changes t k) ≡ held_to state (y.changes t k))
       → ((how : y.How) (point : y.State) (query : y.Query) → answer_to (dump_of (forgetting state)) (y.ask how point query) ≡ held_to state (y.ask how point query))
-      → ((change : y.LogChange) (how : y.How) (point : y.State) (query : y.Query) → what_if_answer state.entries change how point query ≡ what_if_held state.entries change how point query)
       → difference (dump_of (forgetting state)) ≡ None
       → (question : y.Question) → answer_to (dump_of (forgetting state)) question ≡ held_to state question
-  held sees alters asks changes same y.transactions = refl
-  held sees alters asks changes same (y.log t) = refl
-  held sees alters asks changes same (y.versions name) = ap (λ (dump : Dump). answer_to dump (y.versions name)) dump-same
-  held sees alters asks changes same (y.saw t k query) = sees t k query
-  held sees alters asks changes same (y.changes t k) = alters t k
-  held sees alters asks changes same (y.commit_changes t) = ap (λ (dump : Dump). answer_to dump (y.commit_changes t)) dump-same
-  held sees alters asks changes same y.check = ap Checked same
-  held sees alters asks changes same (y.diff first second query) =
-      diff-same (ask_to (dump_of (forgetting state))) (held_ask state) (what_if_answer state.entries) (what_if_held state.entries) asks changes first second query
-  held sees alters asks changes same (y.causes kept query) =
-      causes-same (ask_to (dump_of (forgetting state))) (held_ask state) (what_if_answer state.entries) (what_if_held state.entries) asks changes state.entries kept query
-  held sees alters asks changes same (y.ask how point query) = asks how point query
-  held sees alters asks changes same (y.what_if change how point query) = changes change how point query
+  held sees alters asks same y.transactions = refl
+  held sees alters asks same (y.log t) = refl
+  held sees alters asks same (y.versions name) = ap (λ (dump : Dump). answer_to dump (y.versions name)) dump-same
+  held sees alters asks same (y.saw t k query) = sees t k query
+  held sees alters asks same (y.changes t k) = alters t k
+  held sees alters asks same (y.commit_changes t) = ap (λ (dump : Dump). answer_to dump (y.commit_changes t)) dump-same
+  held sees alters asks same y.check = ap Checked same
+  held sees alters asks same (y.diff first second query) =
+      diff-same (ask_to (dump_of (forgetting state))) (held_ask state) (what_if_held state.entries) (what_if_held state.entries) asks (λ change how point query. refl) first second query
+  held sees alters asks same (y.causes kept query) =
+      causes-same (ask_to (dump_of (forgetting state))) (held_ask state) (what_if_held state.entries) (what_if_held state.entries) asks (λ change how point query. refl) state.entries kept query
+  held sees alters asks same (y.ask how point query) = asks how point query
+  held sees alters asks same (y.what_if change how point query) = refl

@@ -14,9 +14,11 @@ use Rattle.gp_machine.specs.ReplayForms.{replayed_spans}
 use Rattle.gp_whatif.specs.Replays.{stop_upto}
 use Rattle.gp_dump.specs.Dumps.{Dump}
 use Rattle.gp_ask.specs.declared.answered.Answered.{Answered}
-use Rattle.gp_ask.specs.Answers.{answer_to, remade_to}
+use Rattle.gp_ask.specs.Answers.{answer_to}
+use Rattle.gp_ask.specs.Computed.{computed_answer, what_if_answer}
 use Rattle.gp_ask.specs.Asking.{ask_to, held_ask, spans_at}
-use Rattle.gp_ask.specs.Hypothetical.{asking_refusal, changed_answer, remade_answer, remaking_refusal, replay_refusal, replayed_dump, unless_refused, what_if_answer, what_if_held}
+use Rattle.gp_ask.specs.Hypothetical.{asking_refusal, changed_answer, remade_answer, remaking_refusal, replay_refusal, replayed_dump, what_if_held}
+use Rattle.gp_ask.specs.Values.{unless_refused}
 use Rattle.gp_ask.specs.Replays.{dump_in}
 use Rattle.gp_ask.proofs.DifferenceLemmas.{causes-same, diff-same}
 use Rattle.gp_ask.proofs.SpanLemmas.{dumped}
@@ -82,7 +84,7 @@ changed-same (Ok entries) how point query same = same entries refl
 -- questions without a change are answered from the dump itself
 pub remade-same : (dump : Dump)
     → ((change : y.LogChange) (how : y.How) (point : y.State) (query : y.Query) → what_if_answer dump.entries change how point query ≡ what_if_held dump.entries change how point query)
-    → (question : y.Question) → answer_to dump question ≡ remade_to dump question
+    → (question : y.Question) → computed_answer dump question ≡ answer_to dump question
 remade-same dump changes y.transactions = refl
 remade-same dump changes (y.log t) = refl
 remade-same dump changes (y.versions name) = refl

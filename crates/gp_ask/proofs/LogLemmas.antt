@@ -5,11 +5,11 @@ use Rattle.std.proofs.lemmas.List.{map-append, reverse-append, reverse-reverse, 
 use Rattle.std.proofs.lemmas.List.Elements.{filter-append}
 use Rattle.std.proofs.lemmas.Option.{get_or_from_slice_get, slice_get_within}
 use Rattle.gp_log.specs.declared.entry.Entry.{Entry}
-use Rattle.gp_machine.specs.Entries.{transaction_of}
+use Rattle.gp_machine.specs.Entries.{is_of}
 use Rattle.gp_log.specs.Logs.{entry_view, log_view}
 use Rattle.gp_machine.specs.Entries as m
 use Rattle.gp_dumpline.specs.Texts.{entry_text}
-use Rattle.gp_ask.specs.Answers.{entries_of, is_transaction}
+use Rattle.gp_ask.specs.Answers.{entries_of}
 use Rattle.gp_ask.specs.Lines.{lines_of}
 
 map-reversed : {A B : Type 0} (f : A → B) (xs : List A) → map f (reverse xs) ≡ reverse (map f xs)
@@ -24,14 +24,14 @@ oldest-first entries = ap reverse (map-reversed entry_view entries) ∙ reverse-
 
 module _ (t : ℕ) where
   pub all-lines : (entries : List Entry) → lines_of t entries ≡ map entry_text (entries_of t (log_view entries))
-  all-lines entries = ap (λ (es : List m.Entry). map entry_text (filter (λ (entry : m.Entry). is_transaction t (transaction_of entry)) es)) (sym (oldest-first entries))
+  all-lines entries = ap (λ (es : List m.Entry). map entry_text (filter (is_of t) es)) (sym (oldest-first entries))
 
   more : (entries others : List Entry) → lines_of t (entries ++ others) ≡ lines_of t entries ++ lines_of t others
   more entries others =
-      ap (λ (es : List m.Entry). map entry_text (filter (λ (entry : m.Entry). is_transaction t (transaction_of entry)) es)) (map-append entry_view entries others)
-      ∙ ap (map entry_text) (filter-append (λ (entry : m.Entry). is_transaction t (transaction_of entry)) (map entry_view entries) (map entry_view others))
-      ∙ map-append entry_text (filter (λ (entry : m.Entry). is_transaction t (transaction_of entry)) (map entry_view entries))
-      (filter (λ (entry : m.Entry). is_transaction t (transaction_of entry)) (map entry_view others))
+      ap (λ (es : List m.Entry). map entry_text (filter (is_of t) es)) (map-append entry_view entries others)
+      ∙ ap (map entry_text) (filter-append (is_of t) (map entry_view entries) (map entry_view others))
+      ∙ map-append entry_text (filter (is_of t) (map entry_view entries))
+      (filter (is_of t) (map entry_view others))
 
   pub one-more : (entries : List Entry) (place : ℕ) (entry : Entry) → slice_get entries place ≡ Some entry
       → lines_of t (take (place + 1) entries) ≡ lines_of t (take place entries) ++ lines_of t (entry ∷ [])

@@ -1,5 +1,5 @@
 -- What any transaction of a history saw and changed, whatever became of it, as the dump of the history answers it.
-use Rattle.std.proofs.Common.{◌≡◌, ℕ, zero, suc, ◌-◌, ◌<◌, ◌≤◌, nat_le, nat_lt, Bool, true, false, cond, List, length, map, Option, Some, None, Ok, refl, ap, ◌∙◌, subst, arith}
+use Rattle.std.proofs.Common.{◌≡◌, ℕ, zero, suc, ◌-◌, ◌<◌, ◌≤◌, nat_le, nat_lt, Bool, true, false, cond, List, length, map, Option, Some, None, Ok, refl, sym, ap, ◌∙◌, subst, arith}
 use Rattle.std.specs.Prelude.{◌&&◌}
 use Rattle.std.specs.Option.{option_map, option_or}
 use Rattle.std.proofs.lemmas.Bool.{and_parts, leb-true, ltb-true}
@@ -31,7 +31,7 @@ use Rattle.gp_machine.specs.HistorySpans.{as_of, state_spans}
 use Rattle.gp_machine.specs.Points.{RunStop, run_stop}
 use Rattle.gp_machine.specs.Questions.{given, is_known, statement_refusal, stop_refusal}
 use Rattle.gp_machine.specs.Reached.{IsReached}
-use Rattle.gp_machine.specs.Reading.{start_by}
+use Rattle.gp_machine.specs.ReadBy.{start_by}
 use Rattle.gp_machine.specs.Runs.{run, run_before, stepped}
 use Rattle.gp_machine.specs.SeenRows.{HaveDifferentIdentities}
 use Rattle.gp_machine.specs.State.{State}
@@ -41,7 +41,8 @@ use Rattle.gp_ask.specs.declared.answered.Answered.{Answered}
 use Rattle.gp_ask.specs.declared.answered.Answered.TheVariants.{Changes, Rows}
 use Rattle.gp_ask.specs.Answers.{answer_to, held_to}
 use Rattle.gp_ask.specs.Asking.{of_elements, query_answer, spans_at}
-use Rattle.gp_ask.specs.Changes.{changes_of, dump_changes, held_changes, if_any, unless}
+use Rattle.gp_ask.specs.Changes.{changes_of, dump_changes, held_changes, if_any}
+use Rattle.gp_ask.specs.Values.{unless_refused}
 use Rattle.gp_ask.specs.Seeing.{dump_saw, held_saw}
 use Rattle.gp_ask.proofs.ChangedLines.{changed-different, changed-reannotated, changed-same, texts-same}
 use Rattle.gp_ask.proofs.HeldLemmas.{forgetting, same-rows}
@@ -139,7 +140,7 @@ module _ (state : State Monomial) (reached : IsReached monomials parameters stat
 
   module _ (t k : ℕ) (is : IsTransaction t state.entries) (within : k < statement_count t state.entries) (statement : Statement) (here : statement_at t (suc k) state.entries ≡ Some statement) where
     abbrev before : Database Monomial
-    before = start_by monomials (log_of state.entries) t k state.committed
+    before = run_before monomials (log_of state.entries) t k state.committed
 
     abbrev changed : List (Annotated Monomial)
     changed = changed_rows monomials t (suc k) statement before
@@ -150,21 +151,23 @@ module _ (state : State Monomial) (reached : IsReached monomials parameters stat
     -- the rows are those that the statement changed, in another order
     moved-rows : SameBag found-rows (map (reannotated forgotten) changed)
     moved-rows =
-        let bound = reads-within monomials state reached.history once t (version_of t state.entries) refl in
         let run-rows : Database (Unit {0}) = run_before plain (log_of state.entries) t k (forgetting state).committed in
         let same = before_reannotated monomials plain forgotten (forgotten_keeps monomials) state.committed (forgetting state).committed (λ version table. refl) (log_of state.entries) t k in
         through
         (changed-same plain t (suc k) statement (run_before plain (log_of state.entries) t k (as_of plain spans)) run-rows (started parameters (forgetting state) plainly spans are t is.some is.known (rises t) once k within))
-        (same_from _ _
-        (changed-reannotated monomials plain forgotten (forgotten_keeps monomials) t (suc k) (run_before monomials (log_of state.entries) t k state.committed) run-rows same statement
-        ∙ ap (λ (db : Database Monomial). map (reannotated forgotten) (changed_rows monomials t (suc k) statement db)) (own-starts monomials parameters state reached t bound.0 (rises t) bound.1 k within)))
+        (same_from _ _ (changed-reannotated monomials plain forgotten (forgotten_keeps monomials) t (suc k) before run-rows same statement))
 
     different-rows : HaveDifferentIdentities changed
     different-rows =
         let bound = reads-within monomials state reached.history once t (version_of t state.entries) refl in
-        changed-different monomials t (suc k) statement before (different-before monomials parameters state reached t bound.0 (rises t) bound.1 k within)
+        let read : Database Monomial = start_by monomials (log_of state.entries) t k state.committed in
+        let same : read ≡ before = sym (own-starts monomials parameters state reached t bound.0 (rises t) bound.1 k within) in
+        changed-different monomials t (suc k) statement before
+        (λ table. subst (λ (db : Database Monomial). HaveDifferentIdentities (db table)) same (different-before monomials parameters state reached t bound.0 (rises t) bound.1 k within table))
         (λ table.
-        subst (λ (own : Option Statement). HaveDifferentIdentities (stepped monomials t (suc k) own before table)) here (different-after monomials parameters state reached t bound.0 (rises t) bound.1 (suc k) (omega arith) table))
+        subst (λ (db : Database Monomial). HaveDifferentIdentities (stepped monomials t (suc k) (Some statement) db table)) same
+        (subst (λ (own : Option Statement). HaveDifferentIdentities (stepped monomials t (suc k) own read table)) here
+        (different-after monomials parameters state reached t bound.0 (rises t) bound.1 (suc k) (omega arith) table)))
 
     changes-are : (catalogue : List Table) (place : Option ℕ) → changes_of catalogue place statement (Ok found-rows) ≡ changes_of catalogue place statement (Ok changed)
     changes-are catalogue None = refl
@@ -193,6 +196,6 @@ module _ (state : State Monomial) (reached : IsReached monomials parameters stat
           changes-same t (k - 1) is (omega arith) statement (subst (λ n. statement_at t n state.entries ≡ Some statement) next here)
 
       by : (refusal : Option Refusal) → changes_refusal t k state.entries ≡ refusal
-          → unless refusal (if_any (dump_changes dump t (k - 1)) (statement_at t k state.entries)) ≡ unless refusal (if_any (held_changes state t (k - 1)) (statement_at t k state.entries))
+          → unless_refused refusal (if_any (dump_changes dump t (k - 1)) (statement_at t k state.entries)) ≡ unless_refused refusal (if_any (held_changes state t (k - 1)) (statement_at t k state.entries))
       by None none = any none (statement_at t k state.entries) refl
       by (Some refusal) is = refl

@@ -28,7 +28,7 @@ use Rattle.gp_machine.specs.Parameters.{Parameters}
 use Rattle.gp_machine.specs.Points.{run_stop}
 use Rattle.gp_machine.specs.Publishing.{holds, publish, was_written}
 use Rattle.gp_machine.specs.Reached.{IsReached}
-use Rattle.gp_machine.specs.Reading.{seen_by, start_by}
+use Rattle.gp_machine.specs.ReadBy.{seen_by, start_by}
 use Rattle.gp_machine.specs.ReplayForms.{upto_version}
 use Rattle.gp_machine.specs.Runs.{refreshed, run, run_before}
 use Rattle.gp_machine.specs.SeenRows.{HaveDifferentIdentities, same_row}

@@ -27,7 +27,7 @@ use Rattle.gp_dump.specs.Views.{tables_view}
 use Rattle.gp_semiring.specs.declared.rules.Rule.{Rule}
 use Rattle.gp_semiring.specs.Rules.{number_by}
 use Rattle.gp_semiring.specs.Values.{token_value, value_by}
-use Rattle.gp_history.specs.ValueAnswers.{held_value_answer, value_answer}
+use Rattle.gp_history.specs.ValueForms.{held_value_answer, value_answer}
 use Rattle.gp_ask.specs.declared.answered.Answered.TheVariants.{Refused, Values}
 use Rattle.gp_ask.specs.Asking.{spans_at}
 use Rattle.gp_ask.specs.Values.{Semiring, semiring_of, value_of, valued, with_values}

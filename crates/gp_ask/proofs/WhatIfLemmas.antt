@@ -3,6 +3,7 @@ use Rattle.std.proofs.Common.{◌≡◌, ℕ, List, length, Option, Some, None, 
 use Rattle.std.specs.List.Sorted.{IsPermutation}
 use Rattle.std.proofs.lemmas.List.Sorted.{IsPermutation-refl}
 use Rattle.std.specs.Option.{option_map, option_or}
+use Rattle.std.specs.Result.{result_err}
 use Rattle.gp_base.specs.declared.refusal.Refusal.{Refusal}
 use Rattle.gp_algebra.specs.Statements.{Select}
 use Rattle.gp_base.specs.Annotated.{plain}
@@ -23,19 +24,20 @@ use Rattle.gp_whatif.specs.Changed.{changed}
 use Rattle.gp_whatif.specs.Replays.{IsMade, IsReplayable, stop_upto}
 use Rattle.gp_dump.specs.Views.{tables_view}
 use Rattle.gp_ask.specs.declared.answered.Answered.{Answered}
-use Rattle.gp_ask.specs.Answers.{answer_to}
+use Rattle.gp_ask.specs.Computed.{computed_answer, what_if_answer}
 use Rattle.gp_ask.specs.Asking.{ask_to, asked, spans_at}
 use Rattle.gp_ask.specs.Explained.{ExplainsChanged, ExplainsQuestion}
-use Rattle.gp_ask.specs.Hypothetical.{changed_answer, check_refusal, remaking_refusal, replay_refusal, replayed_dump, unless_refused, what_if_answer}
+use Rattle.gp_ask.specs.Hypothetical.{changed_answer, remaking_refusal, replay_refusal, replayed_dump}
+use Rattle.gp_ask.specs.Values.{unless_refused}
 use Rattle.gp_ask.specs.Replays.{dump_in}
 use Rattle.gp_ask.proofs.FittingReplays.{replay_spans}
 use Rattle.gp_ask.proofs.StopLemmas.{IsLost, lost_is}
 
 -- the refusal of a query that was checked, after that of its state
 pub asked_refusal : (first : Option Refusal) (checked : Result Select Refusal) (own : Option Refusal) (expected : Result Select Refusal) → asked first checked ≡ expected
-    → option_or first (option_or (check_refusal checked) own) ≡ option_or (check_refusal expected) own
-asked_refusal (Some refusal) checked own expected is = ap (λ found. option_or (check_refusal found) own) is
-asked_refusal None checked own expected is = ap (λ found. option_or (check_refusal found) own) is
+    → option_or first (option_or (result_err checked) own) ≡ option_or (result_err expected) own
+asked_refusal (Some refusal) checked own expected is = ap (λ found. option_or (result_err found) own) is
+asked_refusal None checked own expected is = ap (λ found. option_or (result_err found) own) is
 
 module _ (entries : List Entry) (is : IsReplayable entries) (version other table : ℕ) (id : Identity)
     (stops : stop_upto entries (versions_in entries) ≡ Some (Loses version (record { pair = record { table = table; identity = id }; version = other })))
@@ -57,7 +59,7 @@ one_refused refusal own answered is = ap (λ (r : Option Refusal). unless_refuse
 module _ (entries : List Entry) (is : IsReplayable entries) (versions : List Versions) (made : IsMade entries (versions_in entries) versions)
     (any : (own : List Entry) → IsReplayable own → stop_upto own (versions_in own) ≡ None → (tables : List (List Span))
     → ((place : ℕ) → IsPermutation (spans_at tables place) (replayed_spans plain (log_of own) (length (tables_in own)) (versions_in own) place))
-    → (how : y.How) (point : y.State) (query : y.Query) → answer_to (dump_in own tables) (y.ask how point query) ≡ answer_to (replayed_dump own) (y.ask how point query)) where
+    → (how : y.How) (point : y.State) (query : y.Query) → computed_answer (dump_in own tables) (y.ask how point query) ≡ computed_answer (replayed_dump own) (y.ask how point query)) where
   pub replayed_is : (how : y.How) (point : y.State) (query : y.Query)
       → ask_to (dump_in entries (tables_view versions)) how point query ≡ unless_refused (remaking_refusal entries) (ask_to (replayed_dump entries) how point query)
   replayed_is how point query =

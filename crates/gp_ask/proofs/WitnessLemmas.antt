@@ -28,8 +28,9 @@ use Rattle.gp_history.proofs.ValueLemmas.{values_moved}
 use Rattle.gp_kexec.specs.CountForms.{HasCounts, itself}
 use Rattle.gp_kexec.proofs.WitnessValueLemmas.{witness_value}
 use Rattle.gp_dump.specs.Dumps.{Dump}
-use Rattle.gp_ask.specs.Answers.{answer_to}
-use Rattle.gp_ask.specs.Asking.{dump_minimal, dump_query, dump_valued, dump_values, spans_at}
+use Rattle.gp_ask.specs.Computed.{computed_answer}
+use Rattle.gp_ask.specs.Asking.{dump_query, spans_at}
+use Rattle.gp_ask.specs.ValueForms.{dump_minimal, dump_valued, dump_values}
 use Rattle.gp_ask.specs.Values.{rules_of, semiring_of, witness, with_values}
 use Rattle.gp_ask.specs.Witnesses.{minimal_of}
 use Rattle.gp_ask.proofs.CountedLemmas.{EachCounts, answers_count}
@@ -82,7 +83,7 @@ valued_is named.Witness (rule ∷ rules) None dump point select = refl
 valued_is named.Witness (rule ∷ rules) (Some n) dump point select = refl
 
 pub asked_values : (name : SemiringName) (rules : List y.Rule) (other : Option ℕ) (dump : Dump) (point : y.State) (query : y.Query)
-    → dump_query dump (dump_values (semiring_of name) name (rules_of rules other) dump point) point query ≡ answer_to dump (y.ask (y.value name rules other) point query)
+    → dump_query dump (dump_values (semiring_of name) name (rules_of rules other) dump point) point query ≡ computed_answer dump (y.ask (y.value name rules other) point query)
 asked_values name rules other dump point query =
     query-same (dump_values (semiring_of name) name (rules_of rules other) dump point) (dump_valued name rules other dump point) (valued_is name rules other dump point)
     (log_refusal dump.entries point) (checked_query (tables_in dump.entries) query)

@@ -1,12 +1,12 @@
--- Part of the statement: the answer to a question, from a dump alone, and the answer that the history of a script held. A question about what would be with
--- a change has in both the answer of a history that would have been: from a dump, over the dump of that history. The dump of a history is one of a history.
-use Rattle.std.specs.Prelude.{ℕ, Bool, false, List, map, filter, reverse, Option, Some, None, if◌then◌else◌, ◌==◌}
+-- Part of the statement: the answer to a question, from a dump alone, and the answer that a history held. A question about what would be with a change has in
+-- both the answer that the history held that would have been. The dump of a history is one of a history.
+use Rattle.std.specs.Prelude.{ℕ, List, map, filter, reverse, Option, Some, None, if◌then◌else◌}
 use Rattle.gp_base.specs.declared.refusal.Refusal.TheVariants.{E04, E20}
 use Rattle.gp_base.specs.Catalogs.{place_of}
 use Rattle.gp_base.specs.Tokens.{Monomial}
 use Rattle.gp_grammar.specs.Syntax as y
 use Rattle.gp_versions.specs.declared.span.Span.{Span}
-use Rattle.gp_machine.specs.Entries.{Entry, transaction_of}
+use Rattle.gp_machine.specs.Entries.{Entry, is_of}
 use Rattle.gp_machine.specs.Questions.{is_known}
 use Rattle.gp_machine.specs.State.{State}
 use Rattle.gp_log.specs.LogFacts.{tables_in}
@@ -17,20 +17,16 @@ use Rattle.gp_ask.specs.declared.answered.Answered.TheVariants.{Checked, Log, Ve
 use Rattle.gp_ask.specs.Asking.{ask_to, held_ask, spans_at}
 use Rattle.gp_ask.specs.Changes.{changes_held, changes_to, commit_changes_to}
 use Rattle.gp_ask.specs.Differences.{causes_answer, diff_answer}
-use Rattle.gp_ask.specs.Hypothetical.{what_if_answer, what_if_held}
+use Rattle.gp_ask.specs.Hypothetical.{what_if_held}
 use Rattle.gp_ask.specs.Seeing.{saw_held, saw_to}
 use Rattle.gp_ask.specs.Transactions.{transactions_answer}
 use Rattle.gp_replay.specs.Differences.{difference}
 
 -- ---- the log of a transaction
 
-abbrev pub is_transaction : ℕ → Option ℕ → Bool
-is_transaction t None = false
-is_transaction t (Some other) = other == t
-
 -- the entries of a transaction, the oldest first
 abbrev pub entries_of : ℕ → List Entry → List Entry
-entries_of t entries = filter (λ entry. is_transaction t (transaction_of entry)) (reverse entries)
+entries_of t entries = filter (is_of t) (reverse entries)
 
 abbrev pub log_answer : ℕ → List Entry → Answered
 log_answer t entries = if is_known t entries then Log (map entry_text (entries_of t entries)) else Refused (E20 t)
@@ -43,6 +39,7 @@ versions_answer name tables (Some place) = Versions (map span_text (spans_at tab
 
 -- ---- the answer to a question
 
+-- from a dump, whether a history made it or not: what would be with a change is what the history held that the commits of the changed log, made again, lead to
 abbrev pub answer_to : Dump → y.Question → Answered
 answer_to dump (y.log t) = log_answer t dump.entries
 answer_to dump (y.versions name) = versions_answer name dump.tables (place_of name (tables_in dump.entries))
@@ -51,30 +48,17 @@ answer_to dump (y.saw t k query) = saw_to dump t k query
 answer_to dump (y.changes t k) = changes_to dump t k
 answer_to dump (y.commit_changes t) = commit_changes_to dump t
 answer_to dump y.check = Checked (difference dump)
-answer_to dump (y.diff first second query) = diff_answer (ask_to dump) (what_if_answer dump.entries) first second query
-answer_to dump (y.causes kept query) = causes_answer (ask_to dump) (what_if_answer dump.entries) dump.entries kept query
+answer_to dump (y.diff first second query) = diff_answer (ask_to dump) (what_if_held dump.entries) first second query
+answer_to dump (y.causes kept query) = causes_answer (ask_to dump) (what_if_held dump.entries) dump.entries kept query
 answer_to dump (y.ask how point query) = ask_to dump how point query
-answer_to dump (y.what_if change how point query) = what_if_answer dump.entries change how point query
+answer_to dump (y.what_if change how point query) = what_if_held dump.entries change how point query
 
--- ---- the answer that a history held
-
--- the log and the row versions are those of the history's dump; what would be with a change is what another history would have held
+-- as a history held it: what is asked of the log and the row versions alone is asked of the history's dump
 abbrev pub held_to : State Monomial → y.Question → Answered
-held_to state (y.log t) = answer_to (dump_of state) (y.log t)
-held_to state (y.versions name) = answer_to (dump_of state) (y.versions name)
-held_to state y.transactions = answer_to (dump_of state) y.transactions
 held_to state (y.saw t k query) = saw_held state t k query
 held_to state (y.changes t k) = changes_held state t k
-held_to state (y.commit_changes t) = answer_to (dump_of state) (y.commit_changes t)
 held_to state y.check = Checked None
 held_to state (y.diff first second query) = diff_answer (held_ask state) (what_if_held state.entries) first second query
 held_to state (y.causes kept query) = causes_answer (held_ask state) (what_if_held state.entries) state.entries kept query
 held_to state (y.ask how point query) = held_ask state how point query
-held_to state (y.what_if change how point query) = what_if_held state.entries change how point query
-
--- from a dump, whether a history made it or not: what would be with a change is what the history held that the commits of the changed log, made again, lead to
-abbrev pub remade_to : Dump → y.Question → Answered
-remade_to dump (y.what_if change how point query) = what_if_held dump.entries change how point query
-remade_to dump (y.diff first second query) = diff_answer (ask_to dump) (what_if_held dump.entries) first second query
-remade_to dump (y.causes kept query) = causes_answer (ask_to dump) (what_if_held dump.entries) dump.entries kept query
-remade_to dump question = answer_to dump question
+held_to state question = answer_to (dump_of state) question

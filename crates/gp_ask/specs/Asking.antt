@@ -23,7 +23,7 @@ use Rattle.gp_log.specs.LogFacts.{tables_in}
 use Rattle.gp_dump.specs.Dumps.{Dump, dump_of}
 use Rattle.gp_semiring.specs.declared.rules.Rule.{Rule}
 use Rattle.gp_semiring.specs.Witnesses.{sets_text}
-use Rattle.gp_history.specs.ValueAnswers.{all_elements, held_value_answer, history_refusal, limited, value_answer}
+use Rattle.gp_history.specs.ValueAnswers.{all_elements, history_refusal, limited, values_of}
 use Rattle.gp_history.specs.Agreement.{agree, occurrence}
 use Rattle.gp_semiring.specs.Listing.{listed}
 use Rattle.gp_ask.specs.declared.answered.Answered.{Answered}
@@ -62,6 +62,20 @@ asked None checked = checked
 abbrev pub query_answer : (Select → Answered) → Option Refusal → Result Select Refusal → Answered
 query_answer answer refusal checked = checked_answer answer (asked refusal checked)
 
+-- the minimal witnesses of the rows, by the monomials of the elements; distinct rows are counted
+abbrev pub minimal_answer : Result (List (Element Monomial)) Refusal → Answered
+minimal_answer elements = with_values sets_text (limited parameters.answer minimal_of elements)
+
+-- their values in a semiring, by the same monomials
+abbrev pub values_answer : Semiring → SemiringName → List Rule × Option ℕ → Result (List (Element Monomial)) Refusal → Answered
+values_answer semiring name rules elements =
+    evaluated semiring rules name (limited parameters.answer (values_of semiring.plus_of semiring.zero_of semiring.one_of semiring.times_of (value_of semiring rules)) elements)
+
+-- values by rules; those in witnesses without rules are the minimal witnesses
+abbrev pub valued_answer : SemiringName → List y.Rule → Option ℕ → Result (List (Element Monomial)) Refusal → Answered
+valued_answer named.Witness [] None elements = minimal_answer elements
+valued_answer name rules other elements = values_answer (semiring_of name) name (rules_of rules other) elements
+
 -- ---- the answer from a dump
 
 -- rows are those of the dump's own versions; their provenance is that of the versions as the log's transactions annotate them
@@ -72,21 +86,9 @@ abbrev pub dump_provenance : Dump → y.State → Select → Answered
 dump_provenance dump point select =
     with_monomials (annotated_answer monomials parameters agree (tables_in dump.entries) dump.entries (spans_at dump.tables) point select)
 
--- the values of the rows, by the monomials of that provenance; distinct rows are counted
-abbrev pub dump_values : Semiring → SemiringName → List Rule × Option ℕ → Dump → y.State → Select → Answered
-dump_values semiring name rules dump point select =
-    evaluated semiring rules name
-    (value_answer parameters semiring.plus_of semiring.zero_of semiring.one_of semiring.times_of (value_of semiring rules) agree (tables_in dump.entries) dump.entries (spans_at dump.tables) point select)
-
--- the minimal witnesses of the rows, by the same monomials
-abbrev pub dump_minimal : Dump → y.State → Select → Answered
-dump_minimal dump point select =
-    with_values sets_text (limited parameters.answer minimal_of (all_elements monomials parameters agree (tables_in dump.entries) dump.entries (spans_at dump.tables) point select))
-
--- values by rules; those in witnesses without rules are the minimal witnesses
-abbrev pub dump_valued : SemiringName → List y.Rule → Option ℕ → Dump → y.State → Select → Answered
-dump_valued named.Witness [] None dump point select = dump_minimal dump point select
-dump_valued name rules other dump point select = dump_values (semiring_of name) name (rules_of rules other) dump point select
+-- the elements of the answer over the annotated versions, however many they are
+abbrev pub dump_elements : Dump → y.State → Select → Result (List (Element Monomial)) Refusal
+dump_elements dump point select = all_elements monomials parameters agree (tables_in dump.entries) dump.entries (spans_at dump.tables) point select
 
 -- the rows over the annotated database without those that the patterns leave out
 abbrev pub dump_remaining : List Rule → Dump → y.State → Select → Answered
@@ -107,29 +109,21 @@ abbrev pub ask_to : Dump → y.How → y.State → y.Query → Answered
 ask_to dump y.rows point query = dump_query dump (dump_rows dump point) point query
 ask_to dump y.provenance point query = dump_query dump (dump_provenance dump point) point query
 ask_to dump (y.explain prov) point query = dump_query dump (dump_program dump prov point) point query
-ask_to dump (y.value name rules other) point query = dump_query dump (dump_valued name rules other dump point) point query
+ask_to dump (y.value name rules other) point query = dump_query dump (λ select. valued_answer name rules other (dump_elements dump point select)) point query
 ask_to dump (y.without patterns) point query = dump_query dump (dump_remaining (map pattern_of patterns) dump point) point query
 
 -- ---- the answer that a history held
 
--- the rows that a commit published, or that a transaction saw after one of its statements, their provenance, their values, and the rows that the query
--- gives over the same database without some of its rows
+-- the rows that a commit published, or that a transaction saw after one of its statements, their provenance, the elements by which they have values, and
+-- the rows that the query gives over the same database without some of its rows
 abbrev pub held_rows : State Monomial → y.State → Select → Answered
 held_rows state point select = of_elements (held_answer monomials parameters state point select)
 
 abbrev pub held_provenance : State Monomial → y.State → Select → Answered
 held_provenance state point select = with_monomials (held_answer monomials parameters state point select)
 
-abbrev pub held_values : Semiring → SemiringName → List Rule × Option ℕ → State Monomial → y.State → Select → Answered
-held_values semiring name rules state point select =
-    evaluated semiring rules name (held_value_answer parameters semiring.plus_of semiring.zero_of semiring.one_of semiring.times_of (value_of semiring rules) state point select)
-
-abbrev pub held_minimal : State Monomial → y.State → Select → Answered
-held_minimal state point select = with_values sets_text (limited parameters.answer minimal_of (given (log_refusal state.entries point) (answer monomials select (held_at state point))))
-
-abbrev pub held_valued : SemiringName → List y.Rule → Option ℕ → State Monomial → y.State → Select → Answered
-held_valued named.Witness [] None state point select = held_minimal state point select
-held_valued name rules other state point select = held_values (semiring_of name) name (rules_of rules other) state point select
+abbrev pub held_elements : State Monomial → y.State → Select → Result (List (Element Monomial)) Refusal
+held_elements state point select = given (log_refusal state.entries point) (answer monomials select (held_at state point))
 
 abbrev pub held_remaining : List Rule → State Monomial → y.State → Select → Answered
 held_remaining patterns state point select = of_elements (remaining_answer (has_left_out patterns) select (held_at state point) (log_refusal state.entries point))
@@ -142,5 +136,5 @@ abbrev pub held_ask : State Monomial → y.How → y.State → y.Query → Answe
 held_ask state y.rows point query = held_query state (held_rows state point) point query
 held_ask state y.provenance point query = held_query state (held_provenance state point) point query
 held_ask state (y.explain prov) point query = ask_to (dump_of state) (y.explain prov) point query
-held_ask state (y.value name rules other) point query = held_query state (held_valued name rules other state point) point query
+held_ask state (y.value name rules other) point query = held_query state (λ select. valued_answer name rules other (held_elements state point select)) point query
 held_ask state (y.without patterns) point query = held_query state (held_remaining (map pattern_of patterns) state point) point query

@@ -22,7 +22,6 @@ use Rattle.gp_machine.specs.Entries.{log_of, statement_at, version_of}
 use Rattle.gp_machine.specs.Event.{name_at}
 use Rattle.gp_machine.specs.HistorySpans.{as_of}
 use Rattle.gp_machine.specs.Questions.{given, transaction_refusal}
-use Rattle.gp_machine.specs.Reading.{start_by}
 use Rattle.gp_machine.specs.Runs.{run_before}
 use Rattle.gp_machine.specs.State.{State}
 use Rattle.gp_reenact.specs.Looking.{looked_refusal}
@@ -30,6 +29,7 @@ use Rattle.gp_versions.specs.declared.span.Span.{Span}
 use Rattle.gp_ask.specs.declared.answered.Answered.{Answered}
 use Rattle.gp_ask.specs.declared.answered.Answered.TheVariants.{Changes, Refused}
 use Rattle.gp_ask.specs.Asking.{spans_at}
+use Rattle.gp_ask.specs.Values.{unless_refused}
 
 -- ---- texts
 
@@ -79,10 +79,6 @@ abbrev pub if_any : (Statement → Answered) → Option Statement → Answered
 if_any answer None = Changes []
 if_any answer (Some statement) = answer statement
 
-abbrev pub unless : Option Refusal → Answered → Answered
-unless None answered = answered
-unless (Some refusal) answered = Refused refusal
-
 -- From a dump: what the logged statement k + 1 gives over the stored versions, where the statements before it ran.
 abbrev pub dump_changes : Dump → ℕ → ℕ → Statement → Answered
 dump_changes dump t k statement =
@@ -91,16 +87,17 @@ dump_changes dump t k statement =
     (changed_rows plain t (suc k) statement (run_before plain (log_of dump.entries) t k (as_of plain (spans_at dump.tables)))))
 
 abbrev pub changes_to : Dump → ℕ → ℕ → Answered
-changes_to dump t k = unless (changes_refusal t k dump.entries) (if_any (dump_changes dump t (k - 1)) (statement_at t k dump.entries))
+changes_to dump t k = unless_refused (changes_refusal t k dump.entries) (if_any (dump_changes dump t (k - 1)) (statement_at t k dump.entries))
 
--- As the history held it: what the statement did to what its transaction read then. No statement of a history stops.
+-- As the history held it: what the statement did to what its transaction read then, over the versions that the history held. No statement of a history
+-- stops.
 abbrev pub held_changes : State Monomial → ℕ → ℕ → Statement → Answered
 held_changes state t k statement =
     changes_of state.catalogue (target statement) statement
-    (Ok (changed_rows monomials t (suc k) statement (start_by monomials (log_of state.entries) t k state.committed)))
+    (Ok (changed_rows monomials t (suc k) statement (run_before monomials (log_of state.entries) t k state.committed)))
 
 abbrev pub changes_held : State Monomial → ℕ → ℕ → Answered
-changes_held state t k = unless (changes_refusal t k state.entries) (if_any (held_changes state t (k - 1)) (statement_at t k state.entries))
+changes_held state t k = unless_refused (changes_refusal t k state.entries) (if_any (held_changes state t (k - 1)) (statement_at t k state.entries))
 
 -- ---- a commit
 
@@ -143,4 +140,4 @@ version_changes dump (Some version) = Changes (tables_texts version (tables_in d
 
 -- by table, in the order of creation, and then by identity; the versions are those of the dump, and so are those of a history
 abbrev pub commit_changes_to : Dump → ℕ → Answered
-commit_changes_to dump t = unless (transaction_refusal t dump.entries) (version_changes dump (version_of t dump.entries))
+commit_changes_to dump t = unless_refused (transaction_refusal t dump.entries) (version_changes dump (version_of t dump.entries))

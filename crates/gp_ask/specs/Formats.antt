@@ -34,8 +34,3 @@ exported_records number answered = refusal_records number E30
 abbrev pub text_in : Format → ℕ → Answered → List ℕ
 text_in Text number answered = answer_text number answered
 text_in Csv number answered = csv_text (exported_records number answered)
-
--- what is said of explained questions is said of text: none is exported
-abbrev pub ExplainsIn : Format → Type 0 → Type 0
-ExplainsIn Text says = says
-ExplainsIn Csv says = Unit {0}

@@ -2,15 +2,14 @@
 -- added, and the commits of the changed log are made again. Such a question is refused by the first that applies: the change; then, on the changed log, what
 -- refuses the question whatever the rows are: its version, transaction or statement is not in the log, the check of its query, a number of its rules that is not
 -- in the semiring; then, unless the query is explained, the first commit that cannot be made again; then the number of its rows.
-use Rattle.std.specs.Prelude.{ℕ, List, [], length, Option, Some, None, Result, Ok, Err}
+use Rattle.std.specs.Prelude.{List, [], length, Option, None, Result, Ok, Err}
 use Rattle.std.specs.Option.{option_map, option_or}
+use Rattle.std.specs.Result.{result_err}
 use Rattle.gp_base.specs.declared.limit.Limit.TheVariants as limit
 use Rattle.gp_base.specs.declared.refusal.Refusal.{Refusal}
-use Rattle.gp_base.specs.declared.refusal.Refusal.TheVariants.{E14, E28, E31}
+use Rattle.gp_base.specs.declared.refusal.Refusal.TheVariants.{E14, E31}
 use Rattle.gp_base.specs.Annotated.{monomials, plain}
-use Rattle.gp_grammar.specs.declared.semiring_name.SemiringName.{SemiringName}
 use Rattle.gp_grammar.specs.Syntax as y
-use Rattle.gp_algebra.specs.Statements.{Select}
 use Rattle.gp_check.specs.Checking.{checked_query}
 use Rattle.gp_log.specs.Parameters.{parameters}
 use Rattle.gp_log.specs.LogFacts.{tables_in}
@@ -26,7 +25,7 @@ use Rattle.gp_ask.specs.declared.answered.Answered.{Answered}
 use Rattle.gp_ask.specs.declared.answered.Answered.TheVariants.{Refused}
 use Rattle.gp_ask.specs.Asking.{ask_to, held_ask}
 use Rattle.gp_ask.specs.Replays.{dump_in}
-use Rattle.gp_ask.specs.Values.{name_text, rules_of, semiring_of}
+use Rattle.gp_ask.specs.Values.{outside_refusal, rules_of, semiring_of, unless_refused}
 
 -- the dump of the history that the commits of a log, made again, lead to
 abbrev pub replayed_dump : List Entry → Dump
@@ -34,27 +33,15 @@ replayed_dump entries = dump_of (replayed_state plain (tables_in entries) entrie
 
 -- ---- refusals
 
--- the first number of rules that stands for no element of the semiring
-abbrev pub outside_refusal : SemiringName → Option ℕ → Option Refusal
-outside_refusal name number = option_map (λ n. E28 n (name_text name)) number
-
 abbrev pub rules_refusal : y.How → Option Refusal
 rules_refusal (y.value name rules other) =
     outside_refusal name (first_outside (semiring_of name).number_of (rules_of rules other).0 (rules_of rules other).1)
 rules_refusal how = None
 
-abbrev pub check_refusal : Result Select Refusal → Option Refusal
-check_refusal (Ok select) = None
-check_refusal (Err refusal) = Some refusal
-
 -- what refuses a question on a log, whatever the rows are
 abbrev pub asking_refusal : List Entry → y.How → y.State → y.Query → Option Refusal
 asking_refusal entries how point query =
-    option_or (log_refusal entries point) (option_or (check_refusal (checked_query (tables_in entries) query)) (rules_refusal how))
-
-abbrev pub unless_refused : Option Refusal → Answered → Answered
-unless_refused (Some refusal) answered = Refused refusal
-unless_refused None answered = answered
+    option_or (log_refusal entries point) (option_or (result_err (checked_query (tables_in entries) query)) (rules_refusal how))
 
 -- why a commit of a log cannot be made again; one that is lost, by its transaction, the one that it would lose to, the table and the identity
 abbrev pub replay_refusal : List Entry → made.ReplayStop → Refusal
@@ -79,10 +66,6 @@ abbrev pub changed_answer : (List Entry → y.How → y.State → y.Query → An
 changed_answer answers (Err refusal) how point query = Refused refusal
 changed_answer answers (Ok entries) how point query = remade_answer (answers entries) entries how point query
 
--- from the log of a dump: the answer over the dump of the history that would have been
-abbrev pub what_if_answer : List Entry → y.LogChange → y.How → y.State → y.Query → Answered
-what_if_answer entries change how point query = changed_answer (λ own. ask_to (replayed_dump own)) (changed parameters entries change) how point query
-
--- what that history held: its rows, and their provenance
+-- from the log of a dump: what the history held that would have been, its rows and their provenance
 abbrev pub what_if_held : List Entry → y.LogChange → y.How → y.State → y.Query → Answered
 what_if_held entries change how point query = changed_answer (λ own. held_ask (replayed_state monomials (tables_in own) own)) (changed parameters entries change) how point query

@@ -4,6 +4,7 @@ pub mod Asking
 pub mod Backends
 pub mod Begins
 pub mod Changes
+pub mod Computed
 pub mod Counted
 pub mod Deltas
 pub mod Differences
@@ -23,6 +24,7 @@ pub mod Seeing
 pub mod ShownWrites
 pub mod Texts
 pub mod Transactions
+pub mod ValueForms
 pub mod Values
 pub mod Witnesses
 pub mod Writes

@@ -7,6 +7,7 @@ use Rattle.gp_machine.specs.Entries.{Entry}
 use Rattle.gp_syntax.specs.Lines.{script_lines}
 use Rattle.gp_ask.specs.declared.answered.Answered.{Answered}
 use Rattle.gp_ask.specs.declared.format.Format.{Format}
+use Rattle.gp_ask.specs.declared.format.Format.TheVariants.{Text, Csv}
 use Rattle.gp_ask.specs.Explained.{ExplainsRead}
 use Rattle.gp_ask.specs.Formats.{answers_in, text_in}
 use Rattle.gp_ask.specs.Questions.{ReadQuestion, answered, is_refused}
@@ -40,3 +41,8 @@ module _ (entries : List Entry) where
   -- each line of a file of questions
   abbrev pub ExplainsQuestions : List ℕ → Type 0
   ExplainsQuestions questions = AllByRecursion (λ (line : ℕ × List ℕ). ExplainsRead entries (question_of line.1)) (script_lines questions)
+
+-- what is said of explained questions is said of text: none is exported
+abbrev pub ExplainsIn : Format → Type 0 → Type 0
+ExplainsIn Text says = says
+ExplainsIn Csv says = Unit {0}

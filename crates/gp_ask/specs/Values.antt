@@ -2,6 +2,7 @@
 -- (Green, Karvounarakis and Tannen 2007).
 use Rattle.std.specs.Prelude.{ℕ, min, max, ◌||◌, ◌&&◌, Bool, true, false, List, [], ◌∷◌, map, codes, Option, Some, None, Result, Ok, Err}
 use Rattle.std.specs.Fmt.{decimal}
+use Rattle.std.specs.Option.{option_map}
 use Rattle.gp_base.specs.declared.cell.Cell.{Cell}
 use Rattle.gp_base.specs.declared.refusal.Refusal.{Refusal}
 use Rattle.gp_base.specs.declared.refusal.Refusal.TheVariants.{E28}
@@ -156,10 +157,14 @@ abbrev pub with_values : {K : Type 0} → (K → List ℕ) → Result (List (Lis
 with_values text_of (Ok rows) = Values (map (valued text_of) rows)
 with_values text_of (Err refusal) = Refused refusal
 
--- a number that stands for no element is refused, whatever the rows are
-abbrev pub unless_outside : SemiringName → Option ℕ → Answered → Answered
-unless_outside name None answered = answered
-unless_outside name (Some number) answered = Refused (E28 number (name_text name))
+-- an answer, unless something refuses it
+abbrev pub unless_refused : Option Refusal → Answered → Answered
+unless_refused (Some refusal) answered = Refused refusal
+unless_refused None answered = answered
+
+-- the first number of rules that stands for no element is refused, whatever the rows are
+abbrev pub outside_refusal : SemiringName → Option ℕ → Option Refusal
+outside_refusal name number = option_map (λ n. E28 n (name_text name)) number
 
 module _ (semiring : Semiring) (rules : List Rule × Option ℕ) where
   -- the value of a token by the rules
@@ -167,4 +172,4 @@ module _ (semiring : Semiring) (rules : List Rule × Option ℕ) where
   value_of = token_value semiring.one_of semiring.number_of semiring.itself_of rules
 
   abbrev pub evaluated : SemiringName → Result (List (List Cell × semiring.Element)) Refusal → Answered
-  evaluated name rows = unless_outside name (first_outside semiring.number_of rules.0 rules.1) (with_values semiring.text_of rows)
+  evaluated name rows = unless_refused (outside_refusal name (first_outside semiring.number_of rules.0 rules.1)) (with_values semiring.text_of rows)

@@ -16,7 +16,7 @@ use Rattle.gp_ask.specs.declared.causes.Asked.{Asked}
 use Rattle.gp_ask.specs.declared.causes.Write.{Write}
 use Rattle.gp_ask.specs.Answerable.{has_few_items}
 use Rattle.gp_ask.specs.Differences.{cause_of, rows_in, without_in}
-use Rattle.gp_ask.specs.Hypothetical.{what_if_answer}
+use Rattle.gp_ask.specs.Computed.{what_if_answer}
 
 abbrev pub write_view : Write → ℕ × ℕ
 write_view own = (own.t, own.k)

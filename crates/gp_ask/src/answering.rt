@@ -8,7 +8,7 @@ ghost use Rattle.gp_log.specs.LogFacts.{tables_in};
 ghost use Rattle.gp_dump.specs.Dumps.{IsDump};
 ghost use Rattle.gp_dump.specs.Views.{dump_view};
 ghost use Rattle.gp_ask.specs.Answerable.{IsAnswerable, has_few_items, question_is_valid};
-ghost use Rattle.gp_ask.specs.Answers.{answer_to};
+ghost use Rattle.gp_ask.specs.Computed.{computed_answer};
 ghost use Rattle.gp_ask.specs.Backends.{AnswersBy};
 ghost use Rattle.gp_ask.specs.Explained.{ExplainsQuestion};
 ghost use Rattle.gp_ask.specs.Formats.{asks_rows};
@@ -63,7 +63,7 @@ pub fn answer(alloc: Global, dump: &Dump, question: &Question) -> Result<Answere
     requires valid { tables_are_valid (tables_in (dump_view dump.now).entries) ≡ true }
     requires question { question_is_valid (question_view question.now) ≡ true }
     ensures answered { IfOk result (λ answered. answered
-        ≡ answer_to (dump_view dump.now) (question_view question.now)) }
+        ≡ computed_answer (dump_view dump.now) (question_view question.now)) }
     ensures explained { IfOk result (λ answered.
         ExplainsQuestion (dump_view dump.now).entries (question_view question.now)) }
 {
@@ -84,7 +84,7 @@ pub fn answer_from(
     requires kept { AreKept dump.now kept.old }
     ensures kept { AreKept dump.now kept.new }
     ensures answered { IfOk result (λ answered. answered
-        ≡ answer_to (dump_view dump.now) (question_view question.now)) }
+        ≡ computed_answer (dump_view dump.now) (question_view question.now)) }
     ensures explained { IfOk result (λ answered.
         ExplainsQuestion (dump_view dump.now).entries (question_view question.now)) }
 {

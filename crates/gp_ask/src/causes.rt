@@ -17,7 +17,7 @@ ghost use Rattle.gp_whatif.specs.Replays.{IsMade};
 ghost use Rattle.gp_ask.specs.Answerable.{has_few_items};
 ghost use Rattle.gp_ask.specs.Asking.{ask_to};
 ghost use Rattle.gp_ask.specs.Differences as d;
-ghost use Rattle.gp_ask.specs.Hypothetical as h;
+ghost use Rattle.gp_ask.specs.Computed.{what_if_answer};
 ghost use Rattle.gp_ask.specs.Keeping.{AreKept};
 ghost use Rattle.gp_ask.specs.Writes.{ArePut, AreWrites, IsAsked, IsLine, committed_write, listed_line, write_of, write_view};
 
@@ -200,7 +200,7 @@ fn answer_without(
     requires version { version_of own.t (dump_view asked.now.dump.now).entries ≡ Some (suc before) }
     requires made { IsMade (dump_view asked.now.dump.now).entries before versions.now }
     ensures { IfOk result (λ answered. answered ≡ d.without_in
-        (h.what_if_answer (dump_view asked.now.dump.now).entries) (kept_view asked.now.kept.now)
+        (what_if_answer (dump_view asked.now.dump.now).entries) (kept_view asked.now.kept.now)
         (query_view asked.now.query.now) (write_view own)) }
 {
     // Earlier versions are kept. The call does nothing.
@@ -387,7 +387,7 @@ fn all_lines(alloc: Global, found: Vec<Option<Text>>) -> Result<Sequence<Text>, 
 fn cause_lines(alloc: Global, asked: &Asked<'_>) -> Result<Sequence<Text>, NoMemory>
     requires asked { IsAsked asked.now }
     ensures { IfOk result (λ lines. lines ≡ d.lines_of (d.without_in
-        (h.what_if_answer (dump_view asked.now.dump.now).entries) (kept_view asked.now.kept.now)
+        (what_if_answer (dump_view asked.now.dump.now).entries) (kept_view asked.now.kept.now)
         (query_view asked.now.query.now))
         (d.committed_writes (dump_view asked.now.dump.now).entries) asked.now.rows.now) }
 {
@@ -413,7 +413,7 @@ pub fn causes_answer(
     requires kept { AreKept dump.now kept.old }
     ensures kept { AreKept dump.now kept.new }
     ensures answered { IfOk result (λ answered. answered ≡ d.causes_answer
-        (ask_to (dump_view dump.now)) (h.what_if_answer (dump_view dump.now).entries)
+        (ask_to (dump_view dump.now)) (what_if_answer (dump_view dump.now).entries)
         (dump_view dump.now).entries (kept_view own.now) (query_view query.now)) }
 {
     let answered = ask_answer(alloc, dump, &own.how, own.state, query, kept)?;

@@ -11,7 +11,7 @@ ghost use Rattle.gp_kexec.specs.Rows.{pair_view};
 ghost use Rattle.gp_log.specs.LogFacts.{tables_in};
 ghost use Rattle.gp_syntax.specs.Views.{query_view, rule_view, state_view};
 ghost use Rattle.gp_ask.specs.Answerable.{IsAnswerable, has_few_items};
-ghost use Rattle.gp_ask.specs.Answers.{answer_to};
+ghost use Rattle.gp_ask.specs.Computed.{computed_answer};
 ghost use Rattle.gp_ask.specs.Asking.{dump_remaining};
 ghost use Rattle.gp_ask.specs.Counted.{counted_answer};
 ghost use Rattle.gp_ask.specs.Keeping.{MayBeKeptBy, elements_by};
@@ -88,7 +88,7 @@ pub fn remaining_answer(
     requires few { has_few_items (query_view query.now) ≡ true }
     requires kept { MayBeKeptBy (elements_by count) dump.now slot.old }
     ensures kept { MayBeKeptBy (elements_by count) dump.now slot.new }
-    ensures answered { IfOk result (λ answered. answered ≡ answer_to (dump_view dump.now) (y.ask
+    ensures answered { IfOk result (λ answered. answered ≡ computed_answer (dump_view dump.now) (y.ask
         (y.without (map rule_view rules.now)) (state_view state) (query_view query.now))) }
 {
     match asked(alloc, &dump.log, state, query) {

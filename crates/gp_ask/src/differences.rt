@@ -12,7 +12,7 @@ ghost use Rattle.gp_ask.specs.Answerable.{has_few_items};
 ghost use Rattle.gp_ask.specs.Asking.{ask_to};
 ghost use Rattle.gp_ask.specs.Deltas.{delta};
 ghost use Rattle.gp_ask.specs.Differences as d;
-ghost use Rattle.gp_ask.specs.Hypothetical as h;
+ghost use Rattle.gp_ask.specs.Computed.{what_if_answer};
 ghost use Rattle.gp_ask.specs.Keeping.{AreKept};
 
 use crate::answered::Answered;
@@ -53,7 +53,7 @@ fn side_answer(
     requires kept { AreKept dump.now kept.old }
     ensures kept { AreKept dump.now kept.new }
     ensures answered { IfOk result (λ answered. answered ≡ d.side_answer
-        (ask_to (dump_view dump.now)) (h.what_if_answer (dump_view dump.now).entries)
+        (ask_to (dump_view dump.now)) (what_if_answer (dump_view dump.now).entries)
         (side_view side.now) (query_view query.now)) }
 {
     match side {
@@ -120,7 +120,7 @@ pub fn diff_answer(
     requires kept { AreKept dump.now kept.old }
     ensures kept { AreKept dump.now kept.new }
     ensures answered { IfOk result (λ answered. answered ≡ d.diff_answer
-        (ask_to (dump_view dump.now)) (h.what_if_answer (dump_view dump.now).entries)
+        (ask_to (dump_view dump.now)) (what_if_answer (dump_view dump.now).entries)
         (side_view first.now) (side_view second.now) (query_view query.now)) }
 {
     let first = rows_in(alloc, side_answer(alloc, dump, first, query, kept)?);

@@ -10,9 +10,10 @@ ghost use Rattle.gp_dump.specs.Dumps.{IsDump};
 ghost use Rattle.gp_dump.specs.Views.{dump_view};
 ghost use Rattle.gp_log.specs.LogFacts.{tables_in};
 ghost use Rattle.gp_ask.specs.Answerable.{question_is_valid};
-ghost use Rattle.gp_ask.specs.Answers.{answer_to};
+ghost use Rattle.gp_ask.specs.Computed.{computed_answer};
 ghost use Rattle.gp_ask.specs.Explained.{ExplainsQuestion, ExplainsRead};
-ghost use Rattle.gp_ask.specs.Formats.{ExplainsIn, answers_in, asks_rows, exported, exported_records, text_in};
+ghost use Rattle.gp_ask.specs.Formats.{answers_in, asks_rows, exported, exported_records, text_in};
+ghost use Rattle.gp_ask.specs.QuestionFiles.{ExplainsIn};
 ghost use Rattle.gp_ask.specs.Keeping.{AreKept};
 ghost use Rattle.gp_ask.specs.Questions.{answered};
 
@@ -66,7 +67,7 @@ fn exported(alloc: Global, dump: &Dump, question: &Question) -> Result<Answered,
     requires valid { tables_are_valid (tables_in (dump_view dump.now).entries) ≡ true }
     requires question { question_is_valid (question_view question.now) ≡ true }
     ensures { IfOk result (λ found. found
-        ≡ exported (answer_to (dump_view dump.now)) (question_view question.now)) }
+        ≡ exported (computed_answer (dump_view dump.now)) (question_view question.now)) }
 {
     if asks_rows(question) {
         answer(alloc, dump, question)
@@ -91,7 +92,7 @@ fn answer_in(
     requires kept { AreKept dump.now kept.old }
     ensures kept { AreKept dump.now kept.new }
     ensures answered { IfOk result (λ found. found
-        ≡ answers_in format (answer_to (dump_view dump.now)) (question_view question.now)) }
+        ≡ answers_in format (computed_answer (dump_view dump.now)) (question_view question.now)) }
     ensures explained { IfOk result (λ found.
         ExplainsIn format (ExplainsQuestion (dump_view dump.now).entries (question_view question.now))) }
 {
@@ -118,7 +119,7 @@ pub fn answer_line_in(
     requires kept { AreKept dump.now kept.old }
     ensures kept { AreKept dump.now kept.new }
     ensures answered { IfOk result (λ found. found
-        ≡ answered (answers_in format (answer_to (dump_view dump.now))) (question_of line.now)) }
+        ≡ answered (answers_in format (computed_answer (dump_view dump.now))) (question_of line.now)) }
     ensures explained { IfOk result (λ found.
         ExplainsIn format (ExplainsRead (dump_view dump.now).entries (question_of line.now))) }
 {
@@ -139,7 +140,7 @@ pub fn answer_line(alloc: Global, dump: &Dump, line: &[u8]) -> Result<Answered, 
     requires rules { IsDump (dump_view dump.now) }
     requires valid { tables_are_valid (tables_in (dump_view dump.now).entries) ≡ true }
     ensures answered { IfOk result (λ found. found
-        ≡ answered (answer_to (dump_view dump.now)) (question_of line.now)) }
+        ≡ answered (computed_answer (dump_view dump.now)) (question_of line.now)) }
     ensures explained { IfOk result (λ found.
         ExplainsRead (dump_view dump.now).entries (question_of line.now)) }
 {

@@ -16,11 +16,12 @@ ghost use Rattle.gp_syntax.specs.Views.{change_view, how_view, query_view, state
 ghost use Rattle.gp_whatif.specs.Changed.{changed};
 ghost use Rattle.gp_whatif.specs.Replays.{IsMade, IsReplayable, Stops, stop_upto};
 ghost use Rattle.gp_ask.specs.Answerable.{has_few_items};
-ghost use Rattle.gp_ask.specs.Answers.{answer_to};
+ghost use Rattle.gp_ask.specs.Computed.{computed_answer};
 ghost use Rattle.gp_ask.specs.Asking.{ask_to};
 ghost use Rattle.gp_ask.specs.Explained.{ExplainsQuestion};
 ghost use Rattle.gp_ask.specs.Hypothetical as h;
 ghost use Rattle.gp_ask.specs.Hypothetical.{replayed_dump};
+ghost use Rattle.gp_ask.specs.Values.{unless_refused};
 
 use crate::answered::Answered;
 use crate::keeping::KeptAnnotations;
@@ -62,31 +63,15 @@ fn asking_refusal(
     }
 }
 
-/// The transaction that made a version.
-fn maker(log: &Log, version: u32) -> u32
-    requires first { 0 < version }
-    requires within { version ≤ versions_in (entries log.now) }
-    ensures { result ≡ committer_of version (entries log.now) }
-{
-    match log.committer(version) {
-        Some(t) => t,
-        None => unreachable!(),
-    }
-}
-
 /// The refusal of a commit that would be lost to another one.
 fn lost(log: &Log, version: u32, other: u32, table: u32, id: RowId) -> Result<Refusal, NoMemory>
-    requires first { 0 < version }
-    requires within { version ≤ versions_in (entries log.now) }
-    requires other_first { 0 < other }
-    requires other_within { other ≤ versions_in (entries log.now) }
-    requires table { table < length (tables log.now) }
+    requires { table < length (tables log.now) }
     ensures { IfOk result (λ refusal. refusal ≡ E31 (committer_of version (entries log.now))
         (committer_of other (entries log.now)) (name_at table (tables log.now)) id) }
 {
     Ok(Refusal::E31 {
-        t: maker(log, version),
-        other: maker(log, other),
+        t: log.maker(version),
+        other: log.maker(other),
         table: log.catalog().table(table).name.clone()?,
         id,
     })
@@ -134,7 +119,7 @@ fn replayed_answer(
     requires query { query_is_valid (query_view query.now) ≡ true }
     requires few { has_few_items (query_view query.now) ≡ true }
     ensures { IfOk result (λ answered. answered
-        ≡ h.unless_refused (h.remaking_refusal (entries log)) (ask_to (replayed_dump (entries log))
+        ≡ unless_refused (h.remaking_refusal (entries log)) (ask_to (replayed_dump (entries log))
         (how_view how.now) (state_view state) (query_view query.now))) }
 {
     // The order of the row versions changes no answer. The call does nothing.
@@ -165,9 +150,9 @@ fn remade_rows(
     requires valid { tables_are_valid (tables log) ≡ true }
     requires query { query_is_valid (query_view query.now) ≡ true }
     requires few { has_few_items (query_view query.now) ≡ true }
-    ensures { IfOk result (λ answered. answered ≡ h.unless_refused (h.asking_refusal (entries log)
+    ensures { IfOk result (λ answered. answered ≡ unless_refused (h.asking_refusal (entries log)
         (how_view how.now) (state_view state) (query_view query.now))
-        (h.unless_refused (h.remaking_refusal (entries log)) (ask_to (replayed_dump (entries log))
+        (unless_refused (h.remaking_refusal (entries log)) (ask_to (replayed_dump (entries log))
         (how_view how.now) (state_view state) (query_view query.now)))) }
 {
     match asking_refusal(alloc, &log, how, state, query)? {
@@ -223,7 +208,7 @@ pub fn what_if_from(
     requires made { (new : List Entry)
         → changed parameters (dump_view dump.now).entries (change_view change.now) ≡ Ok new
         → (made.count ≤ versions_in new) × IsMade new made.count made.versions.items }
-    ensures answered { IfOk result (λ answered. answered ≡ answer_to (dump_view dump.now) (y.what_if
+    ensures answered { IfOk result (λ answered. answered ≡ computed_answer (dump_view dump.now) (y.what_if
         (change_view change.now) (how_view how.now) (state_view state) (query_view query.now))) }
     ensures explained { IfOk result (λ answered. ExplainsQuestion (dump_view dump.now).entries
         (y.what_if (change_view change.now) (how_view how.now) (state_view state)
@@ -259,7 +244,7 @@ pub fn what_if_answer(
     requires change { change_is_valid (change_view change.now) ≡ true }
     requires query { query_is_valid (query_view query.now) ≡ true }
     requires few { has_few_items (query_view query.now) ≡ true }
-    ensures answered { IfOk result (λ answered. answered ≡ answer_to (dump_view dump.now) (y.what_if
+    ensures answered { IfOk result (λ answered. answered ≡ computed_answer (dump_view dump.now) (y.what_if
         (change_view change.now) (how_view how.now) (state_view state) (query_view query.now))) }
     ensures explained { IfOk result (λ answered. ExplainsQuestion (dump_view dump.now).entries
         (y.what_if (change_view change.now) (how_view how.now) (state_view state)

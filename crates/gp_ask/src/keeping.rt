@@ -7,7 +7,7 @@ ghost use Rattle.gp_base.specs.Annotated.{Annotations};
 ghost use Rattle.gp_dump.specs.Views.{dump_view};
 ghost use Rattle.gp_dump.specs.declared.dump.Dump as d;
 ghost use Rattle.gp_history.specs.Agreement.{agree};
-ghost use Rattle.gp_history.specs.ValueAnswers.{value_answer};
+ghost use Rattle.gp_history.specs.ValueForms.{value_answer};
 ghost use Rattle.gp_history.specs.Values.{Gives, HasFewItems};
 ghost use Rattle.gp_kexec.specs.Rows.{pair_view};
 ghost use Rattle.gp_kexec.specs.Valuing.{values_by};

@@ -24,17 +24,18 @@ ghost use Rattle.gp_machine.specs.Unstopped.{IsUnstopped};
 ghost use Rattle.gp_dump.specs.Dumps.{Dump, IsDump, dump_of};
 ghost use Rattle.gp_semiring.specs.declared.rules.Rule.{Rule};
 ghost use Rattle.gp_semiring.specs.Values.{token_value};
-ghost use Rattle.gp_history.specs.ValueAnswers.{held_value_answer, value_answer};
+ghost use Rattle.gp_history.specs.ValueForms.{held_value_answer, value_answer};
 ghost use Rattle.gp_versions.specs.declared.span.Span.{Span};
 ghost use Rattle.gp_versions.specs.Spans.{span_cmp};
 ghost use Rattle.gp_whatif.specs.Replays.{IsCoherent, IsReplayable, stop_upto};
 ghost use Rattle.gp_ask.specs.Answerable.{question_is_valid};
-ghost use Rattle.gp_ask.specs.Answers.{answer_to, held_to, remade_to};
+ghost use Rattle.gp_ask.specs.Answers.{answer_to, held_to};
+ghost use Rattle.gp_ask.specs.Computed.{computed_answer, what_if_answer};
 ghost use Rattle.gp_ask.specs.Asking.{spans_at};
 ghost use Rattle.gp_ask.specs.Changes.{spans_texts};
 ghost use Rattle.gp_ask.specs.Deltas.{delta};
 ghost use Rattle.gp_ask.specs.DeltaForms.{added_rows, removed_rows, row_of};
-ghost use Rattle.gp_ask.specs.Hypothetical.{replayed_dump, what_if_answer, what_if_held};
+ghost use Rattle.gp_ask.specs.Hypothetical.{replayed_dump, what_if_held};
 ghost use Rattle.gp_ask.specs.Replays.{dump_in};
 ghost use Rattle.gp_ask.specs.ShownWrites.{ShowsWrites};
 
@@ -194,7 +195,7 @@ pub fn changed_histories_answer_their_questions()
 /// held it that would have been: the commits of the changed log, made again, lead to it.
 pub fn dumps_answer_as_changed_histories()
     ensures { (dump : Dump) → IsDump dump → (question : y.Question)
-        → answer_to dump question ≡ remade_to dump question }
+        → computed_answer dump question ≡ answer_to dump question }
 {
     changed_histories_answer_their_questions();
     changed_logs_are_coherent()

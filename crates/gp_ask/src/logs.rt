@@ -4,9 +4,9 @@ ghost use Rattle.std.specs.Prelude.{◌≡◌, ◌∷◌, ◌++◌, [], map, IfO
 ghost use Rattle.gp_machine.specs.Questions.{is_known};
 ghost use Rattle.gp_log.specs.Contents.{entries};
 ghost use Rattle.gp_log.specs.Logs.{entry_view};
-ghost use Rattle.gp_machine.specs.Entries.{transaction_of};
+ghost use Rattle.gp_machine.specs.Entries.{is_of};
 ghost use Rattle.gp_dumpline.specs.Texts.{entry_text};
-ghost use Rattle.gp_ask.specs.Answers.{entries_of, is_transaction};
+ghost use Rattle.gp_ask.specs.Answers.{entries_of};
 ghost use Rattle.gp_ask.specs.Answers as a;
 ghost use Rattle.gp_ask.specs.Lines.{lines_of};
 
@@ -25,7 +25,7 @@ fn is_known(log: &Log, t: u64) -> bool
 
 /// Whether the entry is of the transaction. CREATE TABLE is of none.
 fn is_of(entry: &Entry, t: u64) -> bool
-    ensures { result ≡ is_transaction t (transaction_of (entry_view entry.now)) }
+    ensures { result ≡ is_of t (entry_view entry.now) }
 {
     match entry.what {
         What::Create(_) => false,

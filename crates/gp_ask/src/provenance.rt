@@ -14,7 +14,7 @@ ghost use Rattle.gp_log.specs.Parameters.{parameters};
 ghost use Rattle.gp_machine.specs.Questions.{annotated_answer};
 ghost use Rattle.gp_syntax.specs.Views.{query_view, state_view};
 ghost use Rattle.gp_ask.specs.Answerable.{IsAnswerable};
-ghost use Rattle.gp_ask.specs.Answers.{answer_to};
+ghost use Rattle.gp_ask.specs.Computed.{computed_answer};
 ghost use Rattle.gp_ask.specs.Asking.{dump_provenance, spans_at};
 ghost use Rattle.gp_ask.specs.Keeping.{MayBeKeptOf};
 
@@ -96,7 +96,7 @@ pub fn provenance_answer(
     requires query { query_is_valid (query_view query.now) ≡ true }
     requires kept { MayBeKeptOf monomials dump.now kept.old }
     ensures kept { MayBeKeptOf monomials dump.now kept.new }
-    ensures answered { IfOk result (λ answered. answered ≡ answer_to (dump_view dump.now)
+    ensures answered { IfOk result (λ answered. answered ≡ computed_answer (dump_view dump.now)
         (y.ask y.provenance (state_view state) (query_view query.now))) }
 {
     match asked(alloc, &dump.log, state, query) {

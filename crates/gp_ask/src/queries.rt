@@ -18,7 +18,7 @@ ghost use Rattle.gp_dump.specs.Views.{dump_view};
 ghost use Rattle.gp_ask.specs.declared.answered.Answered.TheVariants.{Rows};
 ghost use Rattle.gp_ask.specs.Answerable.{IsAnswerable};
 ghost use Rattle.gp_ask.specs.Asking as a;
-ghost use Rattle.gp_ask.specs.Answers.{answer_to};
+ghost use Rattle.gp_ask.specs.Computed.{computed_answer};
 ghost use Rattle.gp_ask.specs.Backends.{AnswersBy, AnswersChecked, IsAnswered, past_of};
 
 use crate::answered::Answered;
@@ -145,7 +145,7 @@ pub fn query_answer(
     requires valid { tables_are_valid (tables_in (dump_view dump.now).entries) ≡ true }
     requires query { query_is_valid (query_view query.now) ≡ true }
     ensures { IfOk result (λ answered. answered
-        ≡ answer_to (dump_view dump.now) (y.ask y.rows (state_view state) (query_view query.now))) }
+        ≡ computed_answer (dump_view dump.now) (y.ask y.rows (state_view state) (query_view query.now))) }
 {
     query_answer_by(alloc, dump, state, query, &Plain)
 }

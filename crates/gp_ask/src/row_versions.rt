@@ -5,7 +5,7 @@ ghost use Rattle.gp_base.specs.Catalogs.{place_of};
 ghost use Rattle.gp_grammar.specs.Syntax as y;
 ghost use Rattle.gp_dump.specs.Views.{dump_view};
 ghost use Rattle.gp_dumpline.specs.Texts.{span_text};
-ghost use Rattle.gp_ask.specs.Answers.{answer_to};
+ghost use Rattle.gp_ask.specs.Computed.{computed_answer};
 ghost use Rattle.gp_ask.specs.Asking.{spans_at};
 
 use crate::answered::Answered;
@@ -48,7 +48,7 @@ fn spans_of(dump: &Dump, table: u32) -> &[Span]
 /// The row versions of a table, in the order of the dump. E04 if no table has the name.
 pub fn versions_answer(alloc: Global, dump: &Dump, name: &Name) -> Result<Answered, NoMemory>
     ensures { IfOk result (λ answered. answered
-        ≡ answer_to (dump_view dump.now) (y.versions name.now)) }
+        ≡ computed_answer (dump_view dump.now) (y.versions name.now)) }
 {
     match dump.log.catalog().find(name) {
         Some(table) => Ok(Answered::Versions(span_lines(alloc, spans_of(dump, table))?)),

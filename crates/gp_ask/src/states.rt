@@ -7,7 +7,7 @@ ghost use Rattle.gp_check.specs.Valid.{query_is_valid, tables_are_valid};
 ghost use Rattle.gp_log.specs.LogFacts.{tables_in};
 ghost use Rattle.gp_dump.specs.Views.{dump_view};
 ghost use Rattle.gp_ask.specs.Answerable.{IsAnswerable, has_few_items};
-ghost use Rattle.gp_ask.specs.Answers.{answer_to};
+ghost use Rattle.gp_ask.specs.Computed.{computed_answer};
 ghost use Rattle.gp_ask.specs.Explained.{ExplainsQuestion};
 ghost use Rattle.gp_ask.specs.Keeping.{AreKept};
 
@@ -38,7 +38,7 @@ pub fn ask_answer(
     requires few { has_few_items (query_view query.now) ≡ true }
     requires kept { AreKept dump.now kept.old }
     ensures kept { AreKept dump.now kept.new }
-    ensures answered { IfOk result (λ answered. answered ≡ answer_to (dump_view dump.now)
+    ensures answered { IfOk result (λ answered. answered ≡ computed_answer (dump_view dump.now)
         (y.ask (how_view how.now) (state_view state) (query_view query.now))) }
     ensures explained { IfOk result (λ answered. ExplainsQuestion (dump_view dump.now).entries
         (y.ask (how_view how.now) (state_view state) (query_view query.now))) }

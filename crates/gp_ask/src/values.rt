@@ -15,9 +15,10 @@ ghost use Rattle.gp_log.specs.LogFacts.{tables_in};
 ghost use Rattle.gp_syntax.specs.Views.{how_view, query_view, rule_view, state_view};
 ghost use Rattle.gp_semiring.specs.Rules as r;
 ghost use Rattle.gp_semiring.specs.Values.{token_value};
-ghost use Rattle.gp_history.specs.ValueAnswers as a;
+ghost use Rattle.gp_history.specs.ValueForms as a;
 ghost use Rattle.gp_ask.specs.Answerable.{IsAnswerable, has_few_items};
-ghost use Rattle.gp_ask.specs.Asking.{dump_query, dump_values, spans_at};
+ghost use Rattle.gp_ask.specs.Asking.{dump_query, spans_at};
+ghost use Rattle.gp_ask.specs.ValueForms.{dump_values};
 ghost use Rattle.gp_ask.specs.Hypothetical as h;
 ghost use Rattle.gp_ask.specs.Keeping.{AreKept, MayBeKeptBy};
 ghost use Rattle.gp_ask.specs.Operations.{semiring_with};
@@ -85,7 +86,7 @@ fn outside_refusal(
     name: SemiringName,
     rules: &Rules,
 ) -> Result<Option<Refusal>, NoMemory>
-    ensures { IfOk result (λ refusal. refusal ≡ h.outside_refusal name (r.first_outside
+    ensures { IfOk result (λ refusal. refusal ≡ v.outside_refusal name (r.first_outside
         (v.semiring_of name).number_of rules.now.rules rules.now.other)) }
 {
     match first_outside_in(alloc, name, rules)? {

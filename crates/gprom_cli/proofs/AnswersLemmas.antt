@@ -15,11 +15,10 @@ use Rattle.gp_ask.specs.declared.answered.Answered.TheVariants.{Refused}
 use Rattle.gp_ask.specs.declared.format.Format.{Format}
 use Rattle.gp_ask.specs.declared.format.Format.TheVariants.{Text, Csv}
 use Rattle.gp_ask.specs.Explained.{ExplainsRead}
-use Rattle.gp_ask.specs.QuestionFiles.{ExplainsQuestions}
-use Rattle.gp_ask.specs.Formats.{ExplainsIn, answers_in, asks_rows, text_in}
+use Rattle.gp_ask.specs.QuestionFiles.{ExplainsIn, ExplainsQuestions, answers_text, has_refused, line_answer_in, line_answer_text}
+use Rattle.gp_ask.specs.Formats.{answers_in, asks_rows, text_in}
 use Rattle.gp_machine.specs.Entries.{Entry}
 use Rattle.gp_ask.specs.Questions.{answered, is_refused}
-use Rattle.gp_ask.specs.QuestionFiles.{answers_text, has_refused, line_answer_in, line_answer_text}
 use Rattle.gprom_cli.specs.declared.status.Status.TheVariants as exit
 use Rattle.gprom_cli.specs.Call.{AreLines, IsAnswered, WritesOutput, all_written, some_written, write_failed}
 use Rattle.gprom_cli.specs.Steps.{WritesAnswers, stop_status}

@@ -11,11 +11,12 @@ use Rattle.gp_dump.specs.Verdicts.{Verdict, Holds, verdict_on, fault_in}
 use Rattle.gp_dump.proofs.FaultLemmas.{fault-is}
 use Rattle.gp_csv.specs.Faults.{Fault}
 use Rattle.gp_load.specs.Loading.{LoadsText, loaded_of}
+use Rattle.gp_ask.specs.declared.format.Format.{Format}
+use Rattle.gp_ask.specs.declared.format.Format.TheVariants.{Text, Csv}
 use Rattle.gp_ask.specs.Answers.{answer_to}
 use Rattle.gp_ask.specs.Explained.{ExplainsLines}
-use Rattle.gp_ask.specs.Formats.{ExplainsIn}
+use Rattle.gp_ask.specs.QuestionFiles.{ExplainsIn, questions_as_read}
 use Rattle.gp_ask.specs.Questions.{AreQuestions, ReadQuestion, refuses_some}
-use Rattle.gp_ask.specs.QuestionFiles.{questions_as_read}
 use Rattle.gp_ask.proofs.ReadAnswers.{one-file}
 use Rattle.gprom_cli.specs.declared.load.TheConstants.{MAX_SHEET_LENGTH}
 use Rattle.gprom_cli.specs.declared.status.Status.{Status}
@@ -23,7 +24,7 @@ use Rattle.gprom_cli.specs.declared.status.Status.TheVariants as exit
 use Rattle.gprom_cli.specs.Args.{Command, Run, Ask, Generate, Load}
 use Rattle.gprom_cli.specs.Call as c
 use Rattle.gprom_cli.specs.Call.{ComesTo, HasRead, IsAnswered, IsReadBy, answered_status, history_dump, read_of}
-use Rattle.gprom_cli.specs.Promises.{AllDone, FollowsSteps, IsLast, reads, replaces}
+use Rattle.gprom_cli.specs.Consequences.{AllDone, FollowsSteps, IsLast, reads, replaces}
 use Rattle.gprom_cli.specs.Steps.{script_dump}
 use Rattle.gprom_cli.proofs.OutcomeLemmas.{dump-read}
 use Rattle.gprom_cli.proofs.ToldLemmas.{ReadsWellFormed}
@@ -239,6 +240,10 @@ AskFollows ended (Some (Ask format dump questions)) events = (first second bytes
     → IsAnswered ended → ExplainsIn format (ExplainsLines contents.entries lines)
 AskFollows ended command events = Unit {0}
 
+in-format : (format : Format) (says : Type 0) → (format ≡ Text → says) → ExplainsIn format says
+in-format Text says explains = explains refl
+in-format Csv says explains = tt
+
 holds-one : (v : Verdict) (one other : Dump) → v ≡ Holds one → v ≡ Holds other → one ≡ other
 holds-one v one other is also =
     let same : Holds one ≡ Holds other = sym is ∙ also in
@@ -283,7 +288,8 @@ module _ (law : ReadsWellFormed) (ended : Status) where
       let again : file ≡ asked = ap (λ (events : List Event). bytes_in (rest_of events)) is in
       let one : held ≡ contents = holds-one (verdict_on bytes) held contents (law bytes held (subst (λ (b : List ℕ). WellFormed b held) same formed)) (law bytes contents well) in
       let all : told ≡ lines = one-file file told are ∙ ap questions_as_read again ∙ sym (one-file asked lines also) in
-      subst (λ (d : Dump). ExplainsIn format (ExplainsLines d.entries lines)) one (subst (λ (ls : List ReadQuestion). ExplainsIn format (ExplainsLines held.entries ls)) all (explains done))
+      subst (λ (d : Dump). ExplainsIn format (ExplainsLines d.entries lines)) one
+      (subst (λ (ls : List ReadQuestion). ExplainsIn format (ExplainsLines held.entries ls)) all (in-format format (ExplainsLines held.entries told) (explains done)))
   ask-follows _ _ _ _ (c.summarized rounds summary made) = tt
   ask-follows _ _ _ _ (c.faulty_sheet csv table script read number record_number fits fault) = tt
   ask-follows _ _ _ _ (c.lost_script csv table script read text rows fits loads) = tt

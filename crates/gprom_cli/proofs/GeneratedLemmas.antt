@@ -8,7 +8,8 @@ use Rattle.std.proofs.lemmas.List.Concat.{flat_map-append}
 use Rattle.std.proofs.lemmas.List.Sums.{sum_by-cons}
 use Rattle.gp_script.specs.declared.script.TheConstants.{MAX_SCRIPT_LENGTH}
 use Rattle.gprom_cli.specs.declared.generated.TheConstants.{MAX_ROUNDS}
-use Rattle.gprom_cli.specs.Generated.{Pieces, amount, closing_lines, destination, generated_lines, generated_script, line_feed, line_text, lines_text, opening_lines, question_lines, replay_line, round_lines, rounds_lines, source}
+use Rattle.gp_base.specs.Numbered.{newline}
+use Rattle.gprom_cli.specs.Generated.{Pieces, amount, closing_lines, destination, generated_lines, generated_script, line_text, lines_text, opening_lines, question_lines, replay_line, round_lines, rounds_lines, source}
 
 -- ---- lines as pieces
 
@@ -17,7 +18,7 @@ concat-append [] others = refl
 concat-append (piece ∷ pieces) others = ap (λ (rest : List ℕ). piece ++ rest) (concat-append pieces others) ∙ sym (append_assoc piece (concat pieces) (concat others))
 
 abbrev pub ended : Pieces → Pieces
-ended line = line ++ line_feed ∷ []
+ended line = line ++ newline ∷ []
 
 -- the pieces of all lines, one after another
 pub lines-pieces : (lines : List Pieces) → lines_text lines ≡ concat (flat_map ended lines)

@@ -2,7 +2,7 @@
 use Rattle.std.proofs.Common.{◌≡◌, ℕ, inl, inr, Option, Some, None, List, [], ◌∷◌, ◌++◌, length, map, refl, sym, ap, ◌∙◌, subst, append_assoc, append-nil, codes}
 use Rattle.std.specs.Fmt.{decimal}
 use Rattle.std.specs.List.{flat_map}
-use Rattle.gp_base.specs.Numbered.{numbered, refused_text, row_line, rows_text}
+use Rattle.gp_base.specs.Numbered.{newline, numbered, refused_text, row_line, rows_text}
 use Rattle.gp_base.specs.Order.{sorted_by, row_cmp}
 use Rattle.gp_base.specs.Refusals.{refusal_text}
 use Rattle.gp_base.specs.Texts as cells
@@ -17,7 +17,7 @@ use Rattle.gp_ask.specs.declared.format.Format.TheVariants.{Text, Csv}
 use Rattle.gp_ask.specs.Formats.{exported_records, text_in}
 use Rattle.gp_ask.specs.QuestionFiles.{line_answer_in, line_answer_text}
 use Rattle.gp_ask.specs.Texts.{answer_text, checked_text, listed_line, listed_text, provenance_text, value_text}
-use Rattle.gprom_cli.specs.Call.{AreLines, newline}
+use Rattle.gprom_cli.specs.Call.{AreLines}
 
 -- the text ends with the end of a line
 abbrev EndsLine : List ℕ → Type 0

@@ -23,10 +23,10 @@ use Rattle.gp_ask.specs.declared.answered.Answered.{Answered}
 use Rattle.gp_ask.specs.declared.format.Format.{Format}
 use Rattle.gp_ask.specs.declared.format.Format.TheVariants.{Text, Csv}
 use Rattle.gp_ask.specs.Answers.{answer_to, held_to}
+use Rattle.gp_ask.specs.Computed.{computed_answer}
 use Rattle.gp_ask.specs.Explained.{ExplainsLines}
-use Rattle.gp_ask.specs.Formats.{ExplainsIn}
+use Rattle.gp_ask.specs.QuestionFiles.{ExplainsIn, ExplainsQuestions, answers_text, has_refused, questions_as_read}
 use Rattle.gp_ask.specs.Questions.{ReadQuestion, answer_texts, answered, refuses_some}
-use Rattle.gp_ask.specs.QuestionFiles.{ExplainsQuestions, answers_text, has_refused, questions_as_read}
 use Rattle.gp_ask.proofs.ReadAnswers.{are-questions, explains-read, one-file, refusals-read, texts-read}
 use Rattle.gprom_cli.specs.declared.load.TheConstants.{MAX_SHEET_LENGTH}
 use Rattle.gprom_cli.specs.declared.status.Status.{Status}
@@ -225,11 +225,14 @@ module _ (csv table script bytes : List ℕ) (short : length bytes ≤ MAX_SHEET
 -- ---- the end of `ask` where the questions are answered
 
 pub answered-read : (format : Format) (bytes asked : List ℕ) (contents : Dump) (sink sink' : SinkState) (s : Status) → WellFormed bytes contents
-    → WritesOutput (answers_text format (answer_to contents) asked) (answered_status (has_refused format (answer_to contents) asked)) sink sink' s
+    → ((own : Format) → answers_text own (computed_answer contents) asked ≡ answers_text own (answer_to contents) asked)
+    → ((own : Format) → has_refused own (computed_answer contents) asked ≡ has_refused own (answer_to contents) asked)
+    → WritesOutput (answers_text format (computed_answer contents) asked) (answered_status (has_refused format (computed_answer contents) asked)) sink sink' s
     → (IsAnswered s → ExplainsIn format (ExplainsQuestions contents.entries asked)) → Answers format bytes asked sink sink' s
-answered-read format bytes asked contents sink sink' s formed writes explains =
+answered-read format bytes asked contents sink sink' s formed texts refusals writes explains =
     let lines = questions_as_read asked in
     let due : WritesOutput (answer_texts format (answer_to contents) lines) (answered_status (refuses_some format (answer_to contents) lines)) sink sink' s =
-    subst (λ (t : List ℕ). WritesOutput t (answered_status (refuses_some format (answer_to contents) lines)) sink sink' s) (sym (texts-read format (answer_to contents) asked))
-    (subst (λ (e : Status). WritesOutput (answers_text format (answer_to contents) asked) e sink sink' s) (sym (ap answered_status (refusals-read format (answer_to contents) asked))) writes) in
+    subst (λ (t : List ℕ). WritesOutput t (answered_status (refuses_some format (answer_to contents) lines)) sink sink' s) (texts format ∙ sym (texts-read format (answer_to contents) asked))
+    (subst (λ (e : Status). WritesOutput (answers_text format (computed_answer contents) asked) e sink sink' s)
+    (ap answered_status (refusals format ∙ sym (refusals-read format (answer_to contents) asked))) writes) in
     is_answered contents lines formed (are-questions asked) (λ is. explains-in format contents asked (explains is)) due

@@ -15,7 +15,7 @@ use Rattle.gp_csv.specs.Faults.{Fault}
 use Rattle.gp_load.specs.Loading.{loaded_of}
 use Rattle.gp_ask.specs.declared.format.Format.{Format}
 use Rattle.gp_ask.specs.declared.format.Format.TheVariants.{Text}
-use Rattle.gp_ask.specs.Answers.{held_to, remade_to}
+use Rattle.gp_ask.specs.Answers.{answer_to, held_to}
 use Rattle.gp_ask.specs.Explained.{ExplainsLines}
 use Rattle.gp_ask.specs.Questions.{AreQuestions, ReadQuestion, answer_texts, refuses_some}
 use Rattle.gprom_cli.specs.declared.load.TheConstants.{MAX_SHEET_LENGTH}
@@ -25,7 +25,8 @@ use Rattle.gprom_cli.specs.Args.{Command, Run, Ask, Generate, Load}
 use Rattle.gprom_cli.specs.Call as c
 use Rattle.gprom_cli.specs.Call.{Call, ComesTo, HasOutcome, HasRead, IsAnswered, IsReadBy, RunsScript, WritesOutput, answered_status, history_dump, loaded_message, read_of, sheet_message}
 use Rattle.gprom_cli.specs.OverFiles.{Becomes, LeavesOthers, LoadsFile, NoFault, OthersHaveSame, OverFiles}
-use Rattle.gprom_cli.specs.Promises.{AllDone, IsReplacedAfter, LoadsSheet, Promises}
+use Rattle.gprom_cli.specs.Consequences.{AllDone, Consequences, IsReplacedAfter, LoadsSheet}
+use Rattle.gprom_cli.specs.Promises.{Promises}
 use Rattle.gprom_cli.specs.Steps.{script_dump}
 use Rattle.gprom_cli.proofs.EventLemmas.{dump-of, long-clash}
 use Rattle.gprom_cli.proofs.WritesLemmas.{nothing-written}
@@ -379,7 +380,7 @@ module _ (old : Contents) where
 
 -- ---- every promise
 
-module _ (call : Call) (old new : Contents) (promises : Promises call) (leads : Leads old call.events new) where
+module _ (call : Call) (old new : Contents) (promises : Promises call) (follows : Consequences call) (leads : Leads old call.events new) where
   shape-of : HasOutcome call → HasShape call.command call.events
   shape-of (c.comes_to text status comes writes) = end-shape call.status call.command call.events text status comes
   shape-of (c.out_of_memory reads quiet memory) = read-shape call.command call.events reads
@@ -417,7 +418,7 @@ module _ (call : Call) (old new : Contents) (promises : Promises call) (leads : 
       let early = early-as (Some (Run name dump)) run (λ full. subst (IsFull (Some (Run name dump))) nothing full) in
       (early-written (replies_text (replies_to lines)) (answered_status (has_refusal (replies_to lines))) early, inr (early.1, leads-as [] nothing)))
       (λ (read : (made : List Event) × (call.events ≡ read_of name MAX_SCRIPT_LENGTH script ∷ made) × AllDone made).
-      let all = promises.replied name dump script read.0 lines run read.1 read.2 runs small in
+      let all = follows.replied name dump script read.0 lines run read.1 read.2 runs small in
       (all.0, becomes name MAX_SCRIPT_LENGTH script dump (history_dump lines) all.1))
       (opened old new name MAX_SCRIPT_LENGTH dump script call.events (shape-as (Some (Run name dump)) run) leads none has runs.short)
 
@@ -436,7 +437,7 @@ module _ (call : Call) (old new : Contents) (promises : Promises call) (leads : 
         (λ (nothing : call.events ≡ []).
         early-loads (loaded_of table bytes) (early-as (Some (Load name table script)) load (λ full. subst (IsFull (Some (Load name table script))) nothing full)) (leads-as [] nothing))
         (λ (read : (made : List Event) × (call.events ≡ read_of name MAX_SHEET_LENGTH bytes ∷ made) × AllDone made).
-        loads-file (loaded_of table bytes) (promises.loaded name table script bytes read.0 load read.1 read.2 short))
+        loads-file (loaded_of table bytes) (follows.loaded name table script bytes read.0 load read.1 read.2 short))
         (opened old new name MAX_SHEET_LENGTH script bytes call.events (shape-as (Some (Load name table script)) load) leads none has short)
 
   -- both files of `ask` were read, or memory ran out
@@ -453,7 +454,7 @@ module _ (call : Call) (old new : Contents) (promises : Promises call) (leads : 
       call.sink call.sink_after call.status
   held format dump name script asked lines questions ask none runs has few also short are =
       ⊎_elim (λ early. early-written (answer_texts format (held_to (last_state monomials lines)) questions) (answered_status (refuses_some format (held_to (last_state monomials lines)) questions)) early)
-      (λ is. promises.held format dump name script asked lines questions ask is runs few short are)
+      (λ is. follows.held format dump name script asked lines questions ask is runs few short are)
       (asked-of format dump name (history_dump lines) asked ask none has few also short)
 
   explained : (dump name bytes asked : List ℕ) (contents : Dump) (questions : List ReadQuestion) → call.command ≡ Some (Ask Text dump name) → NoFault call.events
@@ -461,15 +462,15 @@ module _ (call : Call) (old new : Contents) (promises : Promises call) (leads : 
       → IsAnswered call.status → ExplainsLines contents.entries questions
   explained dump name bytes asked contents questions ask none has few formed also short are done =
       ⊎_elim (λ (early : IsEarly). absurd (let no : IsAnswered exit.OutOfMemory = subst IsAnswered early.1 done in no))
-      (λ is. promises.explained dump name bytes asked contents questions ask is short formed are done)
+      (λ is. follows.explained dump name bytes asked contents questions ask is short formed are done)
       (asked-of Text dump name bytes asked ask none has few also short)
 
   hypothetical : (format : Format) (dump name bytes asked : List ℕ) (contents : Dump) (questions : List ReadQuestion) → call.command ≡ Some (Ask format dump name) → NoFault call.events
       → old dump ≡ Some bytes → length bytes ≤ MAX_DUMP_LENGTH → WellFormed bytes contents → old name ≡ Some asked → length asked ≤ MAX_SCRIPT_LENGTH → AreQuestions asked questions
-      → WritesOutput (answer_texts format (remade_to contents) questions) (answered_status (refuses_some format (remade_to contents) questions)) call.sink call.sink_after call.status
+      → WritesOutput (answer_texts format (answer_to contents) questions) (answered_status (refuses_some format (answer_to contents) questions)) call.sink call.sink_after call.status
   hypothetical format dump name bytes asked contents questions ask none has few formed also short are =
-      ⊎_elim (λ early. early-written (answer_texts format (remade_to contents) questions) (answered_status (refuses_some format (remade_to contents) questions)) early)
-      (λ is. promises.hypothetical format dump name bytes asked contents questions ask is few short formed are)
+      ⊎_elim (λ early. early-written (answer_texts format (answer_to contents) questions) (answered_status (refuses_some format (answer_to contents) questions)) early)
+      (λ is. follows.answered format dump name bytes asked contents questions ask is few short formed are)
       (asked-of format dump name bytes asked ask none has few also short)
 
   determined-by : HasOutcome call → NoFault call.events → (ended : Status) (events : List Event) (after : Contents) (text : List ℕ) (status : Status) → Leads old events after → NoFault events
@@ -479,7 +480,7 @@ module _ (call : Call) (old new : Contents) (promises : Promises call) (leads : 
       let same : events ≡ call.events =
       sym (same-events old new after call.command call.events events (end-shape call.status call.command call.events mine own came) (end-shape ended call.command events text status comes)
       (end-full call.status call.command call.events mine own came) (end-full ended call.command events text status comes) leads leads' none none') in
-      promises.determined ended text status (subst (λ (es : List Event). ComesTo ended call.command es text status) same comes)
+      follows.determined ended text status (subst (λ (es : List Event). ComesTo ended call.command es text status) same comes)
 
   pub over_files : OverFiles call old new
   over_files = record {

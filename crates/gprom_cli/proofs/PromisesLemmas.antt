@@ -1,5 +1,5 @@
--- Each promise follows from the outcome of a call.
-use Rattle.std.proofs.Common.{◌≡◌, ℕ, ◌≤◌, ◌⊎◌, inl, inr, Bool, List, [], ◌∷◌, length, Option, Some, None, Result, Ok, Err, refl, sym, ap, ◌∙◌, subst, ⊎_elim}
+-- The promises of a call by its outcome and by laws, and what follows from them.
+use Rattle.std.proofs.Common.{◌≡◌, ℕ, ◌≤◌, ◌⊎◌, inl, inr, List, [], ◌∷◌, length, Option, Some, None, Result, Ok, Err, refl, sym, ap, ◌∙◌, subst, ⊎_elim}
 use Rattle.gp_base.specs.Annotated.{monomials, plain}
 use Rattle.gp_base.specs.Tokens.{Monomial}
 use Rattle.gp_grammar.specs.Syntax as y
@@ -13,70 +13,37 @@ use Rattle.gp_replay.specs.Differences.{IsOfHistory, difference}
 use Rattle.gp_replay.specs.FirstDifferences.{DiffersFirst}
 use Rattle.gp_syntax.specs.Lines.{script_lines}
 use Rattle.gp_script.specs.History.{IsScript, ReadLine, has_refusal, last_state, replies_text, replies_to}
-use Rattle.gp_script.specs.Scripts.{final_state, lines_as_read, replies_of}
+use Rattle.gp_script.specs.Scripts.{final_state, lines_as_read, lines_read}
 use Rattle.gp_script.specs.declared.script.TheConstants.{MAX_SCRIPT_LENGTH}
 use Rattle.gp_dump.specs.declared.dump.TheConstants.{MAX_DUMP_LENGTH}
-use Rattle.gp_dump.specs.Dumps.{Dump, IsDump, WellFormed, dump_of}
-use Rattle.gp_dump.proofs.LawLemmas.{written-well-formed}
-use Rattle.gp_script.proofs.ReadHistory.{one-script, replies-read, state-read}
+use Rattle.gp_dump.specs.Dumps.{Dump, dump_of, IsDump, WellFormed, written_text}
+use Rattle.gp_dump.proofs.LawLemmas as dumps
+use Rattle.gp_script.proofs.ReadHistory.{one-script, state-read}
 use Rattle.gp_csv.specs.Faults.{Fault}
 use Rattle.gp_load.specs.Loading.{LoadsText, loaded_of}
 use Rattle.gp_ask.specs.declared.format.Format.{Format}
 use Rattle.gp_ask.specs.declared.format.Format.TheVariants.{Text}
-use Rattle.gp_ask.specs.Answers.{answer_to, held_to, remade_to}
+use Rattle.gp_ask.specs.Answers.{answer_to, held_to}
 use Rattle.gp_ask.specs.declared.answered.Answered as reply
 use Rattle.gp_ask.specs.Explained.{ExplainsLines}
 use Rattle.gp_ask.specs.Hypothetical.{remaking_refusal, replayed_dump}
 use Rattle.gp_ask.specs.Questions.{AreQuestions, ReadQuestion, answer_texts, refuses_some}
-use Rattle.gp_ask.specs.QuestionFiles.{answers_text, has_refused, questions_as_read}
-use Rattle.gp_ask.proofs.ReadAnswers.{one-file, refusals-read, texts-read}
 use Rattle.gprom_cli.specs.declared.load.TheConstants.{MAX_SHEET_LENGTH}
 use Rattle.gprom_cli.specs.declared.status.Status.{Status}
 use Rattle.gprom_cli.specs.declared.status.Status.TheVariants as exit
 use Rattle.gprom_cli.specs.Args.{Command, Run, Ask, Generate, Load}
-use Rattle.gprom_cli.specs.Status.{number_of, status_of}
 use Rattle.gprom_cli.specs.declared.summary.Summary.{Summary}
 use Rattle.gprom_cli.specs.Call as c
-use Rattle.gprom_cli.specs.Call.{Call, ComesTo, HasFailed, HasOutcome, IsAnswered, IsOrFails, RunsScript, WritesOutput, answered_status, history_dump, loaded_message, read_of, sheet_message, usage_text}
+use Rattle.gprom_cli.specs.Call.{answered_status, Call, ComesTo, HasOutcome, history_dump, IsAnswered, loaded_message, read_of, RunsScript, sheet_message, usage_text, WritesOutput}
 use Rattle.gprom_cli.specs.Steps.{script_dump}
 use Rattle.gprom_cli.specs.Summary.{IsSummary, summary_text}
 use Rattle.gprom_cli.specs.Summaries.{summary_of}
-use Rattle.gprom_cli.specs.Promises.{AllDone, FollowsSteps, IsClean, IsLast, IsReplacedAfter, LoadsSheet, Promises}
+use Rattle.gprom_cli.specs.Promises.{Promises}
+use Rattle.gprom_cli.specs.Consequences.{AllDone, Consequences, FollowsSteps, HasFailed, IsClean, IsLast, IsOrFails, IsReplacedAfter, LoadsSheet}
 use Rattle.gprom_cli.proofs.WritesLemmas.{IsWritten, expected-is, no-new-failure, nothing-written, or-failed, or-fails}
 use Rattle.gprom_cli.proofs.OutcomeLemmas.{dump-read, one-summary}
-use Rattle.gprom_cli.proofs.ToldLemmas.{ReadsWellFormed, WritesTold, told, told-is, writes-told}
+use Rattle.gprom_cli.proofs.ToldLemmas.{told, told-is, writes-told, WritesTold}
 use Rattle.gprom_cli.proofs.EventLemmas.{AskFollows, Cause, LoadFollows, NothingFollows, RunFollows, SheetFollows, ask-follows, cause, end-follows, load-follows, nothing-follows, read-follows, run-follows}
-
--- a status has one number
-pub status_of-number_of : (s : Status) → status_of (number_of s) ≡ s
-status_of-number_of exit.Done = refl
-status_of-number_of exit.Refused = refl
-status_of-number_of exit.Usage = refl
-status_of-number_of exit.Absent = refl
-status_of-number_of exit.Unreadable = refl
-status_of-number_of exit.Unwritten = refl
-status_of-number_of exit.TooLong = refl
-status_of-number_of exit.Damaged = refl
-status_of-number_of exit.OutOfMemory = refl
-status_of-number_of exit.SheetRefused = refl
-
--- ---- what the dumps of scripts are
-
-pub record DumpLaws : Type 0 where
-  pub reads : ReadsWellFormed
-  pub formed : (script : List ℕ) → length script ≤ MAX_SCRIPT_LENGTH → IsDump (dump_of (final_state plain script))
-  pub texts : (format : Format) (script questions : List ℕ) → answers_text format (answer_to (dump_of (final_state plain script))) questions ≡ answers_text format (held_to (final_state monomials script)) questions
-  pub refusals : (format : Format) (script questions : List ℕ) → has_refused format (answer_to (dump_of (final_state plain script))) questions ≡ has_refused format (held_to (final_state monomials script)) questions
-  pub remade_texts : (format : Format) (dump : Dump) (questions : List ℕ) → IsDump dump → answers_text format (answer_to dump) questions ≡ answers_text format (remade_to dump) questions
-  pub remade_refusals : (format : Format) (dump : Dump) (questions : List ℕ) → IsDump dump → has_refused format (answer_to dump) questions ≡ has_refused format (remade_to dump) questions
-  pub checked : (dump : Dump) → IsDump dump → difference dump ≡ None → IsOfHistory dump
-  pub first : (dump : Dump) (line : ℕ) → IsDump dump → difference dump ≡ Some line → DiffersFirst dump line
-  pub line_texts : (format : Format) (lines : List Line) (questions : List ℕ)
-      → answers_text format (answer_to (dump_of (after plain parameters start lines))) questions ≡ answers_text format (held_to (after monomials parameters start lines)) questions
-  pub line_refusals : (format : Format) (lines : List Line) (questions : List ℕ)
-      → has_refused format (answer_to (dump_of (after plain parameters start lines))) questions ≡ has_refused format (held_to (after monomials parameters start lines)) questions
-  pub unchanged : (script : List ℕ) → length script ≤ MAX_SCRIPT_LENGTH
-      → (remaking_refusal (final_state plain script).entries ≡ None) × (replayed_dump (final_state plain script).entries ≡ dump_of (final_state plain script))
 
 -- ---- a status and its cause
 
@@ -128,32 +95,47 @@ module _ (script : List ℕ) (lines : List ReadLine) (are : IsScript script line
   same-held : last_state monomials lines ≡ final_state monomials script
   same-held = ap (last_state monomials) same-lines ∙ state-read monomials script
 
-  same-replies : replies_of script ≡ replies_to lines
-  same-replies = sym (ap replies_to same-lines ∙ replies-read script)
+-- ---- the promises
 
-module _ (asked : List ℕ) (questions : List ReadQuestion) (are : AreQuestions asked questions) where
-  same-questions : questions_as_read asked ≡ questions
-  same-questions = sym (one-file asked questions are)
+-- what laws say of the dumps of scripts, and of histories
+pub record DumpLaws : Type 0 where
+  pub formed : (script : List ℕ) → length script ≤ MAX_SCRIPT_LENGTH → IsDump (dump_of (final_state plain script))
+  pub unchanged : (script : List ℕ) → length script ≤ MAX_SCRIPT_LENGTH
+      → (remaking_refusal (final_state plain script).entries ≡ None) × (replayed_dump (final_state plain script).entries ≡ dump_of (final_state plain script))
+  pub held : (lines : List Line) (question : y.Question) → answer_to (dump_of (after plain parameters start lines)) question ≡ held_to (after monomials parameters start lines) question
+  pub checked : (dump : Dump) → IsDump dump → difference dump ≡ None → IsOfHistory dump
+  pub first : (dump : Dump) (line : ℕ) → IsDump dump → difference dump ≡ Some line → DiffersFirst dump line
 
-  pub same-texts : (format : Format) (answers : y.Question → reply.Answered) → answers_text format answers asked ≡ answer_texts format answers questions
-  same-texts format answers = sym (texts-read format answers asked) ∙ ap (answer_texts format answers) same-questions
+-- of a state of a script, by its lines
+by-lines : (P : State (Unit {0}) → Type 0) (script : List ℕ) (lines : List ReadLine) → IsScript script lines → P (final_state plain script) → P (last_state plain lines)
+by-lines P script lines are is = subst P (sym (same-plain script lines are)) is
 
-  same-refusals : (format : Format) (answers : y.Question → reply.Answered) → has_refused format answers asked ≡ refuses_some format answers questions
-  same-refusals format answers = sym (refusals-read format answers asked) ∙ ap (refuses_some format answers) same-questions
+pub promised : DumpLaws → (call : Call) → HasOutcome call → Promises call
+promised laws call has = record {
+  outcome = has;
+  scripts = λ script. scripts-once (script_lines script);
+  questions = λ file. questions-once (script_lines file);
+  formed = λ script lines short are.
+      by-lines (λ (state : State (Unit {0})). WellFormed (written_text (dump_of state)) (dump_of state)) script lines are
+      (dumps.written-well-formed (dump_of (final_state plain script)) (laws.formed script short));
+  unchanged = λ script lines short are.
+      by-lines (λ (state : State (Unit {0})). (remaking_refusal state.entries ≡ None) × (replayed_dump state.entries ≡ dump_of state)) script lines are (laws.unchanged script short);
+  held = laws.held;
+  checked = λ contents rules. (laws.checked contents rules, λ line is. laws.first contents line rules is);
+}
 
-module _ (laws : DumpLaws) (script : List ℕ) (lines : List ReadLine) (are : IsScript script lines) where
-  unchanged-lines : length script ≤ MAX_SCRIPT_LENGTH
-      → (remaking_refusal (last_state plain lines).entries ≡ None) × (replayed_dump (last_state plain lines).entries ≡ dump_of (last_state plain lines))
-  unchanged-lines short =
-      subst (λ (state : State (Unit {0})). (remaking_refusal state.entries ≡ None) × (replayed_dump state.entries ≡ dump_of state)) (sym (same-plain script lines are)) (laws.unchanged script short)
+-- ---- what follows
 
 generated-told : (call : Call) (rounds : ℕ) (events : List Event) → WritesTold call (told (Some (Generate rounds)) events) → WritesOutput (summary_text (summary_of rounds)) exit.Done call.sink call.sink_after call.status
 generated-told call rounds [] due = due
 generated-told call rounds (event ∷ events) due = due
 
--- ---- every promise
+-- the state of a script is that of its lines, as the history machine takes them
+pub record ScriptLaws : Type 0 where
+  pub plainly : (script : List ℕ) → final_state plain script ≡ after plain parameters start (lines_read (script_lines script))
+  pub annotated : (script : List ℕ) → final_state monomials script ≡ after monomials parameters start (lines_read (script_lines script))
 
-module _ (laws : DumpLaws) (call : Call) where
+module _ (laws : ScriptLaws) (call : Call) (promises : Promises call) where
   steps-of : HasOutcome call → FollowsSteps call.command call.events
   steps-of (c.comes_to text status comes writes) = end-follows call.status call.command call.events text status comes
   steps-of (c.out_of_memory reads quiet memory) = read-follows call.command call.events reads
@@ -181,10 +163,10 @@ module _ (laws : DumpLaws) (call : Call) where
         (clean-cause call.status call.command call.events is (cause-at call.status has refl written), no-failures has written)
 
     writes : WritesTold call (told call.command call.events)
-    writes = writes-told laws.reads call has
+    writes = writes-told dumps.read call has
 
     determined : (ended : Status) (text : List ℕ) (status : Status) → ComesTo ended call.command call.events text status → WritesOutput text status call.sink call.sink_after call.status
-    determined ended text status comes = subst (WritesTold call) (told-is laws.reads ended call.command call.events text status comes) writes
+    determined ended text status comes = subst (WritesTold call) (told-is dumps.read ended call.command call.events text status comes) writes
 
     -- what such a command comes to, after such events
     determined-as : (command : Option Command) (events : List Event) → call.command ≡ command → call.events ≡ events → (ended : Status) (text : List ℕ) (status : Status) → ComesTo ended command events text status
@@ -284,13 +266,6 @@ module _ (laws : DumpLaws) (call : Call) where
 
     -- ---- `ask`
 
-    -- the same text, and the same refusals, by other answers
-    writes-same : (text other : List ℕ) (refused also : Bool) → text ≡ other → refused ≡ also → WritesOutput text (answered_status refused) call.sink call.sink_after call.status
-        → WritesOutput other (answered_status also) call.sink call.sink_after call.status
-    writes-same text other refused also same both due =
-        subst (λ (t : List ℕ). WritesOutput t (answered_status also) call.sink call.sink_after call.status) same
-        (subst (λ (r : Bool). WritesOutput text (answered_status r) call.sink call.sink_after call.status) both due)
-
     module _ (format : Format) (dump name bytes asked : List ℕ) (contents : Dump) (questions : List ReadQuestion) (ask : call.command ≡ Some (Ask format dump name))
         (is : call.events ≡ read_of dump MAX_DUMP_LENGTH bytes ∷ read_of name MAX_SCRIPT_LENGTH asked ∷ []) (few : length bytes ≤ MAX_DUMP_LENGTH) (short : length asked ≤ MAX_SCRIPT_LENGTH)
         (formed : WellFormed bytes contents) (are : AreQuestions asked questions) where
@@ -301,23 +276,12 @@ module _ (laws : DumpLaws) (call : Call) where
           (answer_texts format (answer_to contents) questions) (answered_status (refuses_some format (answer_to contents) questions))
           (c.answered format dump name bytes asked contents questions few short formed are (λ done. absurd (not-answered done)))
 
-      -- by other answers that give the same
-      answers-by : (answers : y.Question → reply.Answered) → answers_text format (answer_to contents) asked ≡ answers_text format answers asked
-          → has_refused format (answer_to contents) asked ≡ has_refused format answers asked
+      -- by other answers that are the same
+      answers-by : (answers : y.Question → reply.Answered) → ((question : y.Question) → answer_to contents question ≡ answers question)
           → WritesOutput (answer_texts format answers questions) (answered_status (refuses_some format answers questions)) call.sink call.sink_after call.status
-      answers-by answers texts refusals =
-          writes-same (answer_texts format (answer_to contents) questions) (answer_texts format answers questions) (refuses_some format (answer_to contents) questions) (refuses_some format answers questions)
-          (sym (same-texts asked questions are format (answer_to contents)) ∙ texts ∙ same-texts asked questions are format answers)
-          (sym (same-refusals asked questions are format (answer_to contents)) ∙ refusals ∙ same-refusals asked questions are format answers)
-          answers-from
-
-    hypothetical : (format : Format) (dump name bytes asked : List ℕ) (contents : Dump) (questions : List ReadQuestion) → call.command ≡ Some (Ask format dump name)
-        → call.events ≡ read_of dump MAX_DUMP_LENGTH bytes ∷ read_of name MAX_SCRIPT_LENGTH asked ∷ [] → length bytes ≤ MAX_DUMP_LENGTH → length asked ≤ MAX_SCRIPT_LENGTH
-        → WellFormed bytes contents → AreQuestions asked questions
-        → WritesOutput (answer_texts format (remade_to contents) questions) (answered_status (refuses_some format (remade_to contents) questions)) call.sink call.sink_after call.status
-    hypothetical format dump name bytes asked contents questions ask is few short formed are =
-        answers-by format dump name bytes asked contents questions ask is few short formed are (remade_to contents)
-        (laws.remade_texts format contents asked formed.rules) (laws.remade_refusals format contents asked formed.rules)
+      answers-by answers same =
+          subst (λ (given : y.Question → reply.Answered). WritesOutput (answer_texts format given questions) (answered_status (refuses_some format given questions)) call.sink call.sink_after call.status)
+          (λ i question. same question i) answers-from
 
     recorded : (format : Format) (dump name bytes asked : List ℕ) (contents : Dump) (lines : List Line) (questions : List ReadQuestion) → call.command ≡ Some (Ask format dump name)
         → call.events ≡ read_of dump MAX_DUMP_LENGTH bytes ∷ read_of name MAX_SCRIPT_LENGTH asked ∷ [] → length bytes ≤ MAX_DUMP_LENGTH → length asked ≤ MAX_SCRIPT_LENGTH
@@ -327,8 +291,7 @@ module _ (laws : DumpLaws) (call : Call) where
     recorded format dump name bytes asked contents lines questions ask is few short formed made are =
         let state : State Monomial = after monomials parameters start lines in
         answers-by format dump name bytes asked contents questions ask is few short formed are (held_to state)
-        (subst (λ (own : Dump). answers_text format (answer_to own) asked ≡ answers_text format (held_to state) asked) (sym made) (laws.line_texts format lines asked))
-        (subst (λ (own : Dump). has_refused format (answer_to own) asked ≡ has_refused format (held_to state) asked) (sym made) (laws.line_refusals format lines asked))
+        (λ question. ap (λ (own : Dump). answer_to own question) made ∙ promises.held lines question)
 
     held : (format : Format) (dump name script asked : List ℕ) (lines : List ReadLine) (questions : List ReadQuestion) → call.command ≡ Some (Ask format dump name)
         → call.events ≡ read_of dump MAX_DUMP_LENGTH (history_dump lines) ∷ read_of name MAX_SCRIPT_LENGTH asked ∷ [] → RunsScript script lines
@@ -336,37 +299,32 @@ module _ (laws : DumpLaws) (call : Call) where
         → WritesOutput (answer_texts format (held_to (last_state monomials lines)) questions) (answered_status (refuses_some format (held_to (last_state monomials lines)) questions))
         call.sink call.sink_after call.status
     held format dump name script asked lines questions ask is runs few short are =
-        let contents = dump_of (final_state plain script) in
-        let same = same-dump script lines runs.are in
-        let formed : WellFormed (history_dump lines) contents = subst (λ (text : List ℕ). WellFormed text contents) (sym same) (written-well-formed contents (laws.formed script runs.short)) in
-        subst (λ (state : State Monomial). WritesOutput (answer_texts format (held_to state) questions) (answered_status (refuses_some format (held_to state) questions)) call.sink call.sink_after call.status)
-        (sym (same-held script lines runs.are))
-        (answers-by format dump name (history_dump lines) asked contents questions ask is few short formed are (held_to (final_state monomials script))
-        (laws.texts format script asked) (laws.refusals format script asked))
+        let own : List Line = lines_read (script_lines script) in
+        let plainly : last_state plain lines ≡ after plain parameters start own = same-plain script lines runs.are ∙ laws.plainly script in
+        let annotated : last_state monomials lines ≡ after monomials parameters start own = same-held script lines runs.are ∙ laws.annotated script in
+        answers-by format dump name (history_dump lines) asked (dump_of (last_state plain lines)) questions ask is few short (promises.formed script lines runs.short runs.are) are
+        (held_to (last_state monomials lines))
+        (λ question.
+        ap (λ (state : State (Unit {0})). answer_to (dump_of state) question) plainly ∙ promises.held own question ∙ ap (λ (state : State Monomial). held_to state question) (sym annotated))
 
     explained-by : HasOutcome call → (dump name bytes asked : List ℕ) (contents : Dump) (questions : List ReadQuestion) → call.command ≡ Some (Ask Text dump name)
         → call.events ≡ read_of dump MAX_DUMP_LENGTH bytes ∷ read_of name MAX_SCRIPT_LENGTH asked ∷ [] → length asked ≤ MAX_SCRIPT_LENGTH
         → WellFormed bytes contents → AreQuestions asked questions → IsAnswered call.status → ExplainsLines contents.entries questions
     explained-by (c.comes_to text status comes _) dump name bytes asked contents questions ask is short formed are done =
         let follows : AskFollows call.status (Some (Ask Text dump name)) call.events =
-        subst (λ (o : Option Command). AskFollows call.status o call.events) ask (ask-follows laws.reads call.status call.command call.events text status comes) in
+        subst (λ (o : Option Command). AskFollows call.status o call.events) ask (ask-follows dumps.read call.status call.command call.events text status comes) in
         follows dump name bytes asked contents questions is short formed are done
     explained-by (c.out_of_memory reads quiet memory) dump name bytes asked contents questions ask is short formed are done = absurd (not-answered (subst IsAnswered memory done))
 
-    pub promised : Promises call
-    promised = record {
-      outcome = has;
+    all-follow : Consequences call
+    all-follow = record {
       steps = steps-of has;
       determined = determined;
-      scripts = λ script. scripts-once (script_lines script);
-      questions = λ file. questions-once (script_lines file);
       replied = λ name dump script made lines run is all runs small. replied-by name dump script made lines run is runs small has all;
       held = held;
+      answered = answers-from;
       explained = explained-by has;
-      hypothetical = hypothetical;
-      checked = λ bytes contents formed. (laws.checked contents formed.rules, λ line is. laws.first contents line formed.rules is);
       recorded = recorded;
-      unchanged = λ script lines short are. unchanged-lines laws script lines are short;
       generated = generated;
       loaded = λ name table script bytes made load is all short. loaded-by name table script bytes made load is short has all;
       usage = λ at. (cause-at exit.Usage has at usage-written).0;
@@ -376,3 +334,6 @@ module _ (laws : DumpLaws) (call : Call) where
       unwritten = unwritten has;
       clean = clean;
     }
+
+  pub consequences : Consequences call
+  consequences = all-follow promises.outcome

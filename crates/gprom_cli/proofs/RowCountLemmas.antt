@@ -44,24 +44,27 @@ use Rattle.gp_semiring.specs.Witnesses.{sets_text}
 use Rattle.gp_semiring.specs.declared.rules.Rule.{Rule}
 use Rattle.gp_semiring.specs.Rules.{first_outside}
 use Rattle.gp_history.specs.DistinctRows.{distinct_rows}
-use Rattle.gp_history.specs.ValueAnswers.{all_elements, history_refusal, limited, value_answer, values_of}
+use Rattle.gp_history.specs.ValueAnswers.{all_elements, history_refusal, limited, values_of}
+use Rattle.gp_history.specs.ValueForms.{value_answer}
 use Rattle.gp_history.specs.Agreement.{agree}
 use Rattle.gp_ask.specs.declared.answered.Answered.{Answered}
 use Rattle.gp_ask.specs.declared.answered.Answered.TheVariants.{Diff, Refused}
-use Rattle.gp_ask.specs.Changes.{changes_of, dump_changes, if_any, unless, version_changes}
+use Rattle.gp_ask.specs.Changes.{changes_of, dump_changes, if_any, version_changes}
 use Rattle.gp_ask.specs.Seeing.{dump_saw}
 use Rattle.gp_compose.specs.Seen.{changes_refusal, saw_refusal}
 use Rattle.gp_reenact.specs.Looking.{saw_answer}
-use Rattle.gp_ask.specs.Answers.{answer_to, versions_answer}
-use Rattle.gp_ask.specs.Asking.{ask_to, dump_minimal, dump_program, dump_provenance, dump_remaining, dump_rows, dump_valued, dump_values, of_elements, query_answer, spans_at, with_monomials}
+use Rattle.gp_ask.specs.Answers.{versions_answer}
+use Rattle.gp_ask.specs.Computed.{computed_answer, what_if_answer}
+use Rattle.gp_ask.specs.Asking.{ask_to, dump_program, dump_provenance, dump_remaining, dump_rows, of_elements, query_answer, spans_at, with_monomials}
+use Rattle.gp_ask.specs.ValueForms.{dump_minimal, dump_valued, dump_values}
 use Rattle.gp_ask.specs.Deltas.{Signed, delta, signed_text}
 use Rattle.gp_ask.specs.Differences as answers
 use Rattle.gp_ask.specs.Differences.{causes_of, committed_writes, diff_of, side_answer, without_in}
-use Rattle.gp_ask.specs.Hypothetical.{asking_refusal, changed_answer, remaking_refusal, replayed_dump, unless_refused, what_if_answer}
+use Rattle.gp_ask.specs.Hypothetical.{asking_refusal, changed_answer, remaking_refusal, replayed_dump}
+use Rattle.gp_ask.specs.Values.{outside_refusal, rules_of, semiring_of, unless_refused, value_of, valued, with_values}
 use Rattle.gp_ask.specs.Questions.{answered}
 use Rattle.gp_ask.specs.Remaining.{are_too_many, has_left_out, pattern_of, remaining, remaining_answer}
 use Rattle.gp_ask.specs.Replays.{dump_in}
-use Rattle.gp_ask.specs.Values.{value_of, rules_of, semiring_of, unless_outside, valued, with_values}
 use Rattle.gp_ask.specs.Witnesses.{minimal_of}
 use Rattle.gprom_cli.specs.Summary.{row_count}
 use Rattle.gprom_cli.specs.Summaries.{line_rows, rows_in}
@@ -128,9 +131,9 @@ few-limited : {M K : Type 0} (values : List (Element M) → List (List Cell × K
 few-limited values (Err refusal) = tt
 few-limited values (Ok elements) = limit (values elements)
 
-few-inside : (name : SemiringName) (outside : Option ℕ) (inside : Answered) → HasFew inside → HasFew (unless_outside name outside inside)
-few-inside name None inside few = few
-few-inside name (Some number) inside few = omega arith
+few-unless : (refusal : Option Refusal) (answered : Answered) → HasFew answered → HasFew (unless_refused refusal answered)
+few-unless (Some refusal) answered few = omega arith
+few-unless None answered few = few
 
 -- ---- the answers of the history machine
 
@@ -178,7 +181,7 @@ module _ (dump : Dump) (point : y.State) (select : Select) where
       let semiring = semiring_of name in
       let value = value_of semiring rules in
       let rows = value_answer parameters semiring.plus_of semiring.zero_of semiring.one_of semiring.times_of value agree (tables_in dump.entries) dump.entries (spans_at dump.tables) point select in
-      few-inside name (first_outside semiring.number_of rules.0 rules.1) (with_values semiring.text_of rows)
+      few-unless (outside_refusal name (first_outside semiring.number_of rules.0 rules.1)) (with_values semiring.text_of rows)
       (few-values semiring.text_of rows (few-valued dump.entries (spans_at dump.tables) point select semiring.plus_of semiring.zero_of semiring.one_of semiring.times_of value (tables_in dump.entries)))
 
   few-minimal : HasFew (dump_minimal dump point select)
@@ -224,10 +227,6 @@ few-ask dump (y.without patterns) point query =
 
 -- ---- questions about changes
 
-few-unless : (refusal : Option Refusal) (answered : Answered) → HasFew answered → HasFew (unless_refused refusal answered)
-few-unless (Some refusal) answered few = omega arith
-few-unless None answered few = few
-
 few-remade : (entries : List Entry) (how : y.How) (point : y.State) (query : y.Query)
     → HasFew (unless_refused (asking_refusal entries how point query) (unless_refused (remaking_refusal entries) (ask_to (replayed_dump entries) how point query)))
 few-remade entries how point query =
@@ -249,10 +248,6 @@ few-saw entries spans t k query =
     behind elements (saw_refusal t k entries) (option_or stop over) (behind elements stop over (limit elements))
 
 -- ---- changes have no rows
-
-few-unless-changed : (refusal : Option Refusal) (answered : Answered) → HasFew answered → HasFew (unless refusal answered)
-few-unless-changed (Some refusal) answered few = omega arith
-few-unless-changed None answered few = few
 
 few-changes : {M : Type 0} (tables : List Table) (own : Option ℕ) (statement : Statement) (rows : Result (List (Annotated M)) Refusal) → HasFew (changes_of tables own statement rows)
 few-changes tables None statement rows = omega arith
@@ -282,15 +277,15 @@ few-causes : (without : ℕ × ℕ → Answered) (statements : List (ℕ × ℕ)
 few-causes without statements (Err refusal) = omega arith
 few-causes without statements (Ok rows) = omega arith
 
-few-answer : (dump : Dump) (question : y.Question) → HasFew (answer_to dump question)
+few-answer : (dump : Dump) (question : y.Question) → HasFew (computed_answer dump question)
 few-answer dump (y.log t) = few-log (is_known t dump.entries) _ _ refl refl
 few-answer dump (y.versions name) = few-versions name dump.tables (place_of name (tables_in dump.entries))
 few-answer dump y.transactions = omega arith
 few-answer dump (y.saw t k query) =
     few-checked (dump_saw dump t k) (saw_refusal t k dump.entries) (checked_query (tables_in dump.entries) query)
     (λ select. few-elements (saw_answer parameters dump.entries (spans_at dump.tables) t k select) (few-saw dump.entries (spans_at dump.tables) t k select))
-few-answer dump (y.changes t k) = few-unless-changed (changes_refusal t k dump.entries) _ (few-any dump t (k - 1) (statement_at t k dump.entries))
-few-answer dump (y.commit_changes t) = few-unless-changed (transaction_refusal t dump.entries) _ (few-version dump (version_of t dump.entries))
+few-answer dump (y.changes t k) = few-unless (changes_refusal t k dump.entries) _ (few-any dump t (k - 1) (statement_at t k dump.entries))
+few-answer dump (y.commit_changes t) = few-unless (transaction_refusal t dump.entries) _ (few-version dump (version_of t dump.entries))
 few-answer dump y.check = omega arith
 few-answer dump (y.diff first second query) =
     few-diff (answers.rows_in (side_answer (ask_to dump) (what_if_answer dump.entries) first query)) (answers.rows_in (side_answer (ask_to dump) (what_if_answer dump.entries) second query))
@@ -298,11 +293,11 @@ few-answer dump (y.causes kept query) = few-causes (without_in (what_if_answer d
 few-answer dump (y.ask how point query) = few-ask dump how point query
 few-answer dump (y.what_if change how point query) = few-changed (changed parameters dump.entries change) how point query
 
-few-read : (dump : Dump) (read : Result y.Question Fault) → HasFew (answered (answer_to dump) read)
+few-read : (dump : Dump) (read : Result y.Question Fault) → HasFew (answered (computed_answer dump) read)
 few-read dump (Err fault) = omega arith
 few-read dump (Ok question) = few-answer dump question
 
-pub few-rows : (dump : Dump) (line : ℕ × List ℕ) → line_rows (answer_to dump) line ≤ MAX_ANSWER_ROWS
+pub few-rows : (dump : Dump) (line : ℕ × List ℕ) → line_rows (computed_answer dump) line ≤ MAX_ANSWER_ROWS
 few-rows dump line = few-read dump (question_of line.1)
 
 -- ---- answers with as many rows

@@ -6,6 +6,8 @@ use Rattle.gp_script.specs.declared.script.TheConstants.{MAX_SCRIPT_LENGTH}
 use Rattle.gp_dump.specs.declared.dump.TheConstants.{MAX_DUMP_LENGTH}
 use Rattle.gp_ask.specs.declared.format.Format.{Format}
 use Rattle.gp_ask.specs.Answers.{answer_to}
+use Rattle.gp_ask.specs.Explained.{ExplainsLines}
+use Rattle.gp_ask.specs.QuestionFiles.{ExplainsIn}
 use Rattle.gp_ask.specs.Questions.{answer_texts, refuses_some}
 use Rattle.gprom_cli.specs.declared.status.Status.{Status}
 use Rattle.gprom_cli.specs.declared.status.Status.TheVariants as exit
@@ -74,7 +76,8 @@ ask-answered format dump questions bytes asked start before after sink sink' s t
   events = read_of dump MAX_DUMP_LENGTH bytes ∷ read_of questions MAX_SCRIPT_LENGTH asked ∷ [];
   grown = grows-twice start before after (read_of dump MAX_DUMP_LENGTH bytes) (read_of questions MAX_SCRIPT_LENGTH asked) there grown;
   outcome = c.comes_to (answer_texts format (answer_to contents) lines) (answered_status (refuses_some format (answer_to contents) lines))
-      (c.answered format dump questions bytes asked contents lines few short formed are explains) writes;
+      (c.answered format dump questions bytes asked contents lines few short formed are
+      (λ done text. subst (λ (own : Format). ExplainsIn own (ExplainsLines contents.entries lines)) text (explains done))) writes;
 }
 ask-answered format dump questions bytes asked start before after sink sink' s there grown few short (no_answer quiet memory) = record {
   events = read_of dump MAX_DUMP_LENGTH bytes ∷ read_of questions MAX_SCRIPT_LENGTH asked ∷ [];

@@ -17,7 +17,8 @@ use Rattle.gp_dump.specs.Dumps.{Dump, IsDump, dump_of, spans_in}
 use Rattle.gp_dump.specs.Verdicts.{Holds, Fails, verdict_on}
 use Rattle.gp_dump.specs.Views.{tables_view}
 use Rattle.gp_dump.proofs.LawLemmas.{read, written-well-formed}
-use Rattle.gp_ask.specs.Answers.{answer_to, held_to}
+use Rattle.gp_ask.specs.Answers.{held_to}
+use Rattle.gp_ask.specs.Computed.{computed_answer}
 use Rattle.gprom_cli.specs.declared.summary.Summary.{Summary}
 use Rattle.gprom_cli.specs.Steps.{script_dump}
 use Rattle.gprom_cli.specs.Generated.{Pieces, closing_lines, generated_questions, generated_script, line_text, lines_text, replay_line}
@@ -140,8 +141,8 @@ no-fault-there script bytes f line rules same fails =
 -- its numbers, one by one
 pub same-summary : (rounds : ℕ) (script : List ℕ) (dump : Dump) (questions : List ℕ) (lines committed lost spans asked rows : ℕ)
     → lines ≡ length (script_lines script) → committed ≡ length (committed_in dump.entries) → lost ≡ lost_in dump.entries → spans ≡ spans_in dump.tables
-    → asked ≡ length (script_lines questions) → rows ≡ rows_in (answer_to dump) questions
-    → record { rounds = rounds; lines = lines; committed = committed; lost = lost; spans = spans; questions = asked; rows = rows } ≡ summary_by rounds script dump (answer_to dump) questions
+    → asked ≡ length (script_lines questions) → rows ≡ rows_in (computed_answer dump) questions
+    → record { rounds = rounds; lines = lines; committed = committed; lost = lost; spans = spans; questions = asked; rows = rows } ≡ summary_by rounds script dump (computed_answer dump) questions
 same-summary rounds script dump questions lines committed lost spans asked rows a b c d e f = rw (a, b, c, d, e, f) refl
 
 module _ (rounds : ℕ) (script : List ℕ) (dump : Dump) (committed questions : List ℕ) (is_script : script ≡ generated_script rounds) (is_dump : dump ≡ dump_of (final_state plain script))
@@ -151,16 +152,16 @@ module _ (rounds : ℕ) (script : List ℕ) (dump : Dump) (committed questions :
 
   -- a summary whose answers are those of the dump
   abbrev pub told : Summary
-  told = summary_by rounds script dump (answer_to dump) questions
+  told = summary_by rounds script dump (computed_answer dump) questions
 
-  module _ (rows : (asked : List ℕ) → rows_in (answer_to (dump_of (final_state plain script))) asked ≡ rows_in (held_to (final_state monomials script)) asked) where
+  module _ (rows : (asked : List ℕ) → rows_in (computed_answer (dump_of (final_state plain script))) asked ≡ rows_in (held_to (final_state monomials script)) asked) where
     pub summary-is : told ≡ summary_of rounds
     summary-is =
         let state = final_state plain script in
-        let there : told ≡ summary_by rounds script (dump_of state) (answer_to (dump_of state)) (questions_about (dump_of state).entries) =
-        ap (λ (asked : List ℕ). summary_by rounds script dump (answer_to dump) asked) questions-are
-        ∙ ap (λ (d : Dump). summary_by rounds script d (answer_to d) (questions_about d.entries)) is_dump in
+        let there : told ≡ summary_by rounds script (dump_of state) (computed_answer (dump_of state)) (questions_about (dump_of state).entries) =
+        ap (λ (asked : List ℕ). summary_by rounds script dump (computed_answer dump) asked) questions-are
+        ∙ ap (λ (d : Dump). summary_by rounds script d (computed_answer d) (questions_about d.entries)) is_dump in
         let asked = questions_about (dump_of state).entries in
-        let held : summary_by rounds script (dump_of state) (answer_to (dump_of state)) asked ≡ summary_by rounds script (dump_of state) (held_to (final_state monomials script)) asked =
-        ap (λ (n : ℕ). record (summary_by rounds script (dump_of state) (answer_to (dump_of state)) asked) { rows = n }) (rows asked) in
+        let held : summary_by rounds script (dump_of state) (computed_answer (dump_of state)) asked ≡ summary_by rounds script (dump_of state) (held_to (final_state monomials script)) asked =
+        ap (λ (n : ℕ). record (summary_by rounds script (dump_of state) (computed_answer (dump_of state)) asked) { rows = n }) (rows asked) in
         there ∙ held ∙ ap (λ (s : List ℕ). summary_with rounds s) is_script

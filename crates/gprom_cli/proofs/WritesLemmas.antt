@@ -7,7 +7,8 @@ use Rattle.gp_io.specs.Sink.{SinkState, after_failure, after_write}
 use Rattle.gp_io.specs.SinkSteps.{WriteStops}
 use Rattle.gprom_cli.specs.declared.status.Status.{Status}
 use Rattle.gprom_cli.specs.declared.status.Status.TheVariants as exit
-use Rattle.gprom_cli.specs.Call.{HasFailed, WritesOutput, IsAnswered, IsOrFails, all_written, some_written, write_failed}
+use Rattle.gprom_cli.specs.Consequences.{HasFailed, IsOrFails}
+use Rattle.gprom_cli.specs.Call.{WritesOutput, IsAnswered, all_written, some_written, write_failed}
 use Rattle.gprom_cli.specs.Steps.{WritesText, stop_status}
 
 -- the status of a write, by its result

@@ -3,6 +3,7 @@ use Rattle.std.specs.Prelude.{◌≡◌, ℕ, ◌+◌, ◌≤◌, ◌<◌, ◌�
 use Rattle.std.specs.Fmt.{decimal}
 use Rattle.std.specs.List.{concat}
 use Rattle.gp_base.specs.Annotated.{plain}
+use Rattle.gp_base.specs.Numbered.{newline}
 use Rattle.gp_io.specs.Events.{Event, Read, Missing, Unreadable, Replaced, NotReplaced}
 use Rattle.gp_io.specs.Sink.{SinkState, after_failure, after_write}
 use Rattle.gp_script.specs.History.{IsScript, ReadLine, has_refusal, last_state, replies_text, replies_to}
@@ -13,9 +14,9 @@ use Rattle.gp_dump.specs.Rules.{FirstFault}
 use Rattle.gp_csv.specs.Faults.{refuse}
 use Rattle.gp_load.specs.Loading.{LoadsText, loaded_of}
 use Rattle.gp_ask.specs.declared.format.Format.{Format}
+use Rattle.gp_ask.specs.declared.format.Format.TheVariants.{Text}
 use Rattle.gp_ask.specs.Answers.{answer_to}
 use Rattle.gp_ask.specs.Explained.{ExplainsLines}
-use Rattle.gp_ask.specs.Formats.{ExplainsIn}
 use Rattle.gp_ask.specs.Questions.{AreQuestions, ReadQuestion, answer_texts, refuses_some}
 use Rattle.gprom_cli.specs.declared.load.TheConstants.{MAX_SHEET_LENGTH}
 use Rattle.gprom_cli.specs.declared.status.Status.{Status}
@@ -38,14 +39,6 @@ pub record Call : Type 0 where
 
 -- ---- writing
 
--- the status is the expected one, or the write failed, or memory ran out
-abbrev pub IsOrFails : Status → Status → Type 0
-IsOrFails expected actual = (actual ≡ expected) ⊎ ((actual ≡ exit.Unwritten) ⊎ (actual ≡ exit.OutOfMemory))
-
--- the byte that ends a line
-abbrev pub newline : List ℕ
-newline = 10 ∷ []
-
 -- the text is whole lines, or empty
 abbrev pub AreLines : List ℕ → Type 0
 AreLines text = (text ≡ []) ⊎ ((front : List ℕ) × (text ≡ front ++ newline))
@@ -60,10 +53,6 @@ pub data WritesOutput (text : List ℕ) (expected : Status) (before after : Sink
   -- whole lines of it, and then the write of the next ones failed
   write_failed : (lines next rest : List ℕ) → text ≡ lines ++ (next ++ rest) → AreLines lines → after ≡ after_failure next (after_write lines before) → actual ≡ exit.Unwritten
       → WritesOutput text expected before after actual
-
--- a write failed
-abbrev pub HasFailed : SinkState → SinkState → Type 0
-HasFailed before after = (bytes : List ℕ) × (after.failed ≡ before.failed ++ bytes ∷ [])
 
 -- ---- texts
 
@@ -145,7 +134,7 @@ module _ (ended : Status) where
     damaged : (format : Format) (dump questions bytes asked : List ℕ) (f line : ℕ) → length bytes ≤ MAX_DUMP_LENGTH → length asked ≤ MAX_SCRIPT_LENGTH → FirstFault bytes f line
         → ComesTo (Some (Ask format dump questions)) (read_of dump MAX_DUMP_LENGTH bytes ∷ read_of questions MAX_SCRIPT_LENGTH asked ∷ []) (damage_message f line) exit.Damaged
     answered : (format : Format) (dump questions bytes asked : List ℕ) (contents : Dump) (lines : List ReadQuestion) → length bytes ≤ MAX_DUMP_LENGTH → length asked ≤ MAX_SCRIPT_LENGTH
-        → WellFormed bytes contents → AreQuestions asked lines → (IsAnswered ended → ExplainsIn format (ExplainsLines contents.entries lines))
+        → WellFormed bytes contents → AreQuestions asked lines → (IsAnswered ended → format ≡ Text → ExplainsLines contents.entries lines)
         → ComesTo (Some (Ask format dump questions)) (read_of dump MAX_DUMP_LENGTH bytes ∷ read_of questions MAX_SCRIPT_LENGTH asked ∷ [])
         (answer_texts format (answer_to contents) lines) (answered_status (refuses_some format (answer_to contents) lines))
     -- `gen`: the summary

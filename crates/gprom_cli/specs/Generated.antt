@@ -2,17 +2,14 @@
 use Rattle.std.specs.Prelude.{ℕ, zero, suc, ◌+◌, ◌*◌, ◌%◌, List, [], ◌∷◌, ◌++◌, map, codes}
 use Rattle.std.specs.Fmt.{decimal}
 use Rattle.std.specs.List.{concat, flat_map}
+use Rattle.gp_base.specs.Numbered.{newline}
 
 -- a line, as the pieces of its text
 abbrev pub Pieces : Type 0
 Pieces = List (List ℕ)
 
--- a line feed ends each line
-abbrev pub line_feed : List ℕ
-line_feed = 10 ∷ []
-
 abbrev pub line_text : Pieces → List ℕ
-line_text line = concat (line ++ line_feed ∷ [])
+line_text line = concat (line ++ newline ∷ [])
 
 abbrev pub lines_text : List Pieces → List ℕ
 lines_text lines = flat_map line_text lines

@@ -6,6 +6,7 @@ pub mod Generated
 pub mod Summary
 pub mod Summaries
 pub mod Call
+pub mod Consequences
 pub mod Steps
 pub mod Promises
 pub mod OverFiles

@@ -12,7 +12,7 @@ use Rattle.gp_csv.specs.Faults.{Fault}
 use Rattle.gp_load.specs.Loading.{LoadsText, loaded_of}
 use Rattle.gp_ask.specs.declared.format.Format.{Format}
 use Rattle.gp_ask.specs.declared.format.Format.TheVariants.{Text}
-use Rattle.gp_ask.specs.Answers.{held_to, remade_to}
+use Rattle.gp_ask.specs.Answers.{answer_to, held_to}
 use Rattle.gp_ask.specs.Explained.{ExplainsLines}
 use Rattle.gp_ask.specs.Questions.{AreQuestions, ReadQuestion, answer_texts, refuses_some}
 use Rattle.gprom_cli.specs.declared.load.TheConstants.{MAX_SHEET_LENGTH}
@@ -69,7 +69,7 @@ pub record OverFiles (call : Call) (old new : Contents) : Type 0 where
       → IsAnswered call.status → ExplainsLines contents.entries questions
   pub hypothetical : (format : Format) (dump name bytes asked : List ℕ) (contents : Dump) (questions : List ReadQuestion) → call.command ≡ Some (Ask format dump name) → NoFault call.events
       → old dump ≡ Some bytes → length bytes ≤ MAX_DUMP_LENGTH → WellFormed bytes contents → old name ≡ Some asked → length asked ≤ MAX_SCRIPT_LENGTH → AreQuestions asked questions
-      → WritesOutput (answer_texts format (remade_to contents) questions) (answered_status (refuses_some format (remade_to contents) questions)) call.sink call.sink_after call.status
+      → WritesOutput (answer_texts format (answer_to contents) questions) (answered_status (refuses_some format (answer_to contents) questions)) call.sink call.sink_after call.status
   -- `load` makes SCRIPT the script of the sheet that the file has.
   pub loaded : (name table script bytes : List ℕ) → call.command ≡ Some (Load name table script) → NoFault call.events → old name ≡ Some bytes → length bytes ≤ MAX_SHEET_LENGTH
       → LoadsFile table script bytes call old new (loaded_of table bytes)

@@ -1,166 +1,44 @@
--- Part of the statement: what every call of the program promises. This is the contract of `gprom`, for every shelf and every sink that keep
--- their own contracts, the real ones included. It speaks of what the shelf has done in the call: which bytes each read gave, and by which bytes a file
--- was replaced.
-use Rattle.std.specs.Prelude.{◌≡◌, ◌⊎◌, ℕ, ◌≤◌, List, [], ◌∷◌, ◌++◌, length, map, Option, Some, None, Result, Ok, Err}
+-- Part of the statement: what every call of the program promises. This is the contract of `gprom`, with what follows from it (`Consequences`), for every
+-- shelf and every sink that keep their own contracts, the real ones included. It speaks of what the shelf has done in the call: which bytes each read gave,
+-- and by which bytes a file was replaced. What it means for the files that a shelf has is in `OverFiles`, by a law.
+use Rattle.std.specs.Prelude.{◌≡◌, ℕ, ◌≤◌, List, length, None, Some}
 use Rattle.gp_base.specs.Annotated.{monomials, plain}
 use Rattle.gp_grammar.specs.CommandGrammar.{IsScriptLine}
 use Rattle.gp_grammar.specs.Limits.{line_shape, question_shape}
 use Rattle.gp_grammar.specs.LineReading.{AreReadOnce}
 use Rattle.gp_grammar.specs.QuestionGrammar.{IsQuestion}
-use Rattle.gp_io.specs.Events.{Event, Read, Missing, Unreadable, Replaced, NotReplaced}
-use Rattle.gp_script.specs.History.{IsScript, ReadLine, has_refusal, last_state, replies_text, replies_to}
+use Rattle.gp_grammar.specs.Syntax as y
+use Rattle.gp_script.specs.History.{IsScript, ReadLine, last_state}
 use Rattle.gp_script.specs.declared.script.TheConstants.{MAX_SCRIPT_LENGTH}
 use Rattle.gp_syntax.specs.Lines.{script_lines}
-use Rattle.gp_dump.specs.declared.dump.TheConstants.{MAX_DUMP_LENGTH}
-use Rattle.gp_dump.specs.Dumps.{Dump, WellFormed, dump_of}
+use Rattle.gp_dump.specs.Dumps.{Dump, IsDump, WellFormed, dump_of}
 use Rattle.gp_log.specs.Parameters.{parameters}
 use Rattle.gp_machine.specs.Event.{Line, after}
 use Rattle.gp_machine.specs.State.{start}
 use Rattle.gp_replay.specs.Differences.{IsOfHistory, difference}
 use Rattle.gp_replay.specs.FirstDifferences.{DiffersFirst}
-use Rattle.gp_csv.specs.Faults.{Fault}
-use Rattle.gp_load.specs.Loading.{LoadsText, loaded_of}
-use Rattle.gp_ask.specs.declared.format.Format.{Format}
-use Rattle.gp_ask.specs.declared.format.Format.TheVariants.{Text}
-use Rattle.gp_ask.specs.Answers.{held_to, remade_to}
-use Rattle.gp_ask.specs.Explained.{ExplainsLines}
+use Rattle.gp_ask.specs.Answers.{answer_to, held_to}
 use Rattle.gp_ask.specs.Hypothetical.{remaking_refusal, replayed_dump}
-use Rattle.gp_ask.specs.Questions.{AreQuestions, ReadQuestion, answer_texts, refuses_some}
-use Rattle.gprom_cli.specs.declared.load.TheConstants.{MAX_SHEET_LENGTH}
-use Rattle.gprom_cli.specs.declared.status.Status.{Status}
-use Rattle.gprom_cli.specs.declared.status.Status.TheVariants as exit
-use Rattle.gprom_cli.specs.declared.summary.Summary.{Summary}
-use Rattle.gprom_cli.specs.Args.{Command, Run, Ask, Generate, Load}
-use Rattle.gprom_cli.specs.Call.{Call, ComesTo, HasFailed, HasOutcome, IsAnswered, IsOrFails, RunsScript, WritesOutput, answered_status, history_dump, loaded_message, read_of, sheet_message}
-use Rattle.gprom_cli.specs.Summary.{IsSummary, summary_text}
-
--- ---- what the shelf has done
-
--- what a command asks of the shelf, in order
-pub data Step : Type 0 where
-  reads : List ℕ → Step
-  replaces : List ℕ → Step
-
-abbrev pub steps_of : Option Command → List Step
-steps_of None = []
-steps_of (Some (Run script dump)) = reads script ∷ replaces dump ∷ []
-steps_of (Some (Ask format dump questions)) = reads dump ∷ reads questions ∷ []
-steps_of (Some (Generate rounds)) = []
-steps_of (Some (Load csv table script)) = reads csv ∷ replaces script ∷ []
-
-abbrev pub step_of : Event → Step
-step_of (Read name most bytes) = reads name
-step_of (Missing name) = reads name
-step_of (Unreadable name) = reads name
-step_of (Replaced name bytes) = replaces name
-step_of (NotReplaced name bytes) = replaces name
-
--- these are the first steps of the command, each once
-abbrev pub FollowsSteps : Option Command → List Event → Type 0
-FollowsSteps command events = (later : List Step) × (map step_of events ++ later ≡ steps_of command)
-
--- each file was read or replaced
-abbrev pub AllDone : List Event → Type 0
-AllDone [] = Unit {0}
-AllDone (Read name most bytes ∷ events) = AllDone events
-AllDone (Replaced name bytes ∷ events) = AllDone events
-AllDone (Missing name ∷ events) = ⊥
-AllDone (Unreadable name ∷ events) = ⊥
-AllDone (NotReplaced name bytes ∷ events) = ⊥
-
--- this is what the shelf did last
-abbrev pub IsLast : Event → List Event → Type 0
-IsLast event events = (before : List Event) × (events ≡ before ++ event ∷ [])
-
--- ---- promises
-
--- the statuses under which each file was read or replaced, and each write succeeded
-abbrev pub IsClean : Status → Type 0
-IsClean exit.Absent = ⊥
-IsClean exit.Unreadable = ⊥
-IsClean exit.Unwritten = ⊥
-IsClean exit.OutOfMemory = ⊥
-IsClean status = Unit {0}
-
--- after this was read, the file is replaced by these bytes; only where memory runs out it is not
-abbrev pub IsReplacedAfter : Event → List ℕ → List ℕ → Call → Type 0
-IsReplacedAfter read name bytes call = (call.events ≡ read ∷ Replaced name bytes ∷ []) ⊎ ((call.status ≡ exit.OutOfMemory) × (call.events ≡ read ∷ []))
-
--- what `load` does with a sheet of these bytes, by what it comes to: the text of its script, which loads its rows, and their number, or its first fault
-abbrev pub LoadsSheet : List ℕ → List ℕ → List ℕ → List ℕ → Call → Result (List ℕ × ℕ) Fault → Type 0
-LoadsSheet csv table script bytes call (Ok made) = WritesOutput (loaded_message made.1) exit.Done call.sink call.sink_after call.status
-    × IsReplacedAfter (read_of csv MAX_SHEET_LENGTH bytes) script made.0 call × (LoadsText table bytes made.0 ⊎ (call.status ≡ exit.OutOfMemory))
-LoadsSheet csv table script bytes call (Err fault) = WritesOutput (sheet_message fault.c fault.number) exit.SheetRefused call.sink call.sink_after call.status
-    × (call.events ≡ read_of csv MAX_SHEET_LENGTH bytes ∷ [])
+use Rattle.gprom_cli.specs.Call.{Call, HasOutcome, history_dump}
 
 pub record Promises (call : Call) : Type 0 where
   -- The arguments and what the shelf has done determine the output and the exit status. The output is complete, but for whole lines before a write error or
   -- before memory ran out. `ComesTo` has the events of each end: which bytes were read, and by which bytes a file was replaced.
   pub outcome : HasOutcome call
-  -- Each file is read once at most, in order, and then the dump of `run` or the script of `load` is replaced once at most, and no other file.
-  pub steps : FollowsSteps call.command call.events
-  -- Whatever a call comes to that has done this, the output and the status are of that.
-  pub determined : (ended : Status) (text : List ℕ) (status : Status) → ComesTo ended call.command call.events text status → WritesOutput text status call.sink call.sink_after call.status
   -- Every script, and every file of questions, is read as exactly one list of lines.
   pub scripts : (script : List ℕ) → AreReadOnce IsScriptLine line_shape (script_lines script)
   pub questions : (file : List ℕ) → AreReadOnce IsQuestion question_shape (script_lines file)
-  -- `run` writes exactly the replies of the history of the script that it read, whatever its bytes, and replaces the dump by that of its last state; only
-  -- where memory runs out it does not.
-  pub replied : (name dump script : List ℕ) (made : List Event) (lines : List ReadLine) → call.command ≡ Some (Run name dump)
-      → call.events ≡ read_of name MAX_SCRIPT_LENGTH script ∷ made → AllDone made → RunsScript script lines → length (history_dump lines) ≤ MAX_DUMP_LENGTH
-      → WritesOutput (replies_text (replies_to lines)) (answered_status (has_refusal (replies_to lines))) call.sink call.sink_after call.status
-      × IsReplacedAfter (read_of name MAX_SCRIPT_LENGTH script) dump (history_dump lines) call
-  -- `ask` answers from the dump of a script that it read, whichever script made it, as the history of the script held it, with the provenance of each row there,
-  -- though the dump has none: so with its value in every semiring, without rules in witnesses exactly with its minimal token sets, and without the rows
-  -- of some tokens with exactly the rows that the query gives over the annotated history without these rows. What a transaction saw is the query over what the history
-  -- machine held for it, and what a statement changed are the rows that it wrote there, whatever became of the transaction. `export` writes the same answers as CSV, but refuses questions that are not exported.
-  pub held : (format : Format) (dump name script asked : List ℕ) (lines : List ReadLine) (questions : List ReadQuestion) → call.command ≡ Some (Ask format dump name)
-      → call.events ≡ read_of dump MAX_DUMP_LENGTH (history_dump lines) ∷ read_of name MAX_SCRIPT_LENGTH asked ∷ [] → RunsScript script lines
-      → length (history_dump lines) ≤ MAX_DUMP_LENGTH → length asked ≤ MAX_SCRIPT_LENGTH → AreQuestions asked questions
-      → WritesOutput (answer_texts format (held_to (last_state monomials lines)) questions) (answered_status (refuses_some format (held_to (last_state monomials lines)) questions))
-      call.sink call.sink_after call.status
-  -- Where `ask` answers all questions, each program that it prints is one program in normal form that, on every database of past versions, gives the
-  -- answer of the query over the state that the logged statements lead to. The dump is any that is well formed.
-  pub explained : (dump name bytes asked : List ℕ) (contents : Dump) (questions : List ReadQuestion) → call.command ≡ Some (Ask Text dump name)
-      → call.events ≡ read_of dump MAX_DUMP_LENGTH bytes ∷ read_of name MAX_SCRIPT_LENGTH asked ∷ [] → length asked ≤ MAX_SCRIPT_LENGTH
-      → WellFormed bytes contents → AreQuestions asked questions → IsAnswered call.status → ExplainsLines contents.entries questions
-  -- From any well-formed dump `ask` and `export` answer what a transaction was, saw and changed, and what a commit changed, by the log and the stored versions, as
-  -- `remade_to` says. They answer a question about what would be with a change as the history held it that the commits of the changed log, made again, lead to: so
-  -- every row, with its provenance and its values, is one of that history, and no difference and no limit of a run stops the question once the commits were
-  -- made again. It is refused before by the change, by the question on the changed log, or, unless it is explained, by the first commit that cannot be made
-  -- again. So do differences, and the statements that an answer depends on, which are given by these answers.
-  pub hypothetical : (format : Format) (dump name bytes asked : List ℕ) (contents : Dump) (questions : List ReadQuestion) → call.command ≡ Some (Ask format dump name)
-      → call.events ≡ read_of dump MAX_DUMP_LENGTH bytes ∷ read_of name MAX_SCRIPT_LENGTH asked ∷ [] → length bytes ≤ MAX_DUMP_LENGTH → length asked ≤ MAX_SCRIPT_LENGTH
-      → WellFormed bytes contents → AreQuestions asked questions
-      → WritesOutput (answer_texts format (remade_to contents) questions) (answered_status (refuses_some format (remade_to contents) questions)) call.sink call.sink_after call.status
-  -- CHECK answers whether the dump is that of a history, as the history machine takes lines: where it names no line, the dump is that of some lines of a script;
-  -- and the line that it names is the first that is not as the log makes it. The dump is any that is well formed, and what is printed for it is told above.
-  pub checked : (bytes : List ℕ) (contents : Dump) → WellFormed bytes contents
-      → (difference contents ≡ None → IsOfHistory contents) × ((line : ℕ) → difference contents ≡ Some line → DiffersFirst contents line)
-  -- Where the dump is that of a history, `ask` and `export` answer every question as that history held it, whichever lines it was of.
-  pub recorded : (format : Format) (dump name bytes asked : List ℕ) (contents : Dump) (lines : List Line) (questions : List ReadQuestion) → call.command ≡ Some (Ask format dump name)
-      → call.events ≡ read_of dump MAX_DUMP_LENGTH bytes ∷ read_of name MAX_SCRIPT_LENGTH asked ∷ [] → length bytes ≤ MAX_DUMP_LENGTH → length asked ≤ MAX_SCRIPT_LENGTH
-      → WellFormed bytes contents → contents ≡ dump_of (after plain parameters start lines) → AreQuestions asked questions
-      → WritesOutput (answer_texts format (held_to (after monomials parameters start lines)) questions)
-      (answered_status (refuses_some format (held_to (after monomials parameters start lines)) questions)) call.sink call.sink_after call.status
-  -- With nothing changed, the commits of the log of a script, made again, do not stop, and lead to the dump of the script.
+  -- The dump of every script is well formed. With nothing changed, the commits of its log, made again, do not stop, and lead to this dump.
+  pub formed : (script : List ℕ) (lines : List ReadLine) → length script ≤ MAX_SCRIPT_LENGTH → IsScript script lines → WellFormed (history_dump lines) (dump_of (last_state plain lines))
   pub unchanged : (script : List ℕ) (lines : List ReadLine) → length script ≤ MAX_SCRIPT_LENGTH → IsScript script lines
       → (remaking_refusal (last_state plain lines).entries ≡ None) × (replayed_dump (last_state plain lines).entries ≡ dump_of (last_state plain lines))
-  -- `gen` writes the summary of the history of the generated script: its dump, and the rows with which that history, annotated, answered the generated
-  -- questions.
-  pub generated : (rounds : ℕ) (summary : Summary) → call.command ≡ Some (Generate rounds) → IsSummary rounds summary
-      → WritesOutput (summary_text summary) exit.Done call.sink call.sink_after call.status
-  -- `load` replaces the script by one that creates the table and fills it with the rows of the sheet that it read: no line of it is refused, and the last
-  -- version of its history has exactly these rows. A sheet that has a fault is refused for the first, and no file is replaced.
-  pub loaded : (name table script bytes : List ℕ) (made : List Event) → call.command ≡ Some (Load name table script)
-      → call.events ≡ read_of name MAX_SHEET_LENGTH bytes ∷ made → AllDone made → length bytes ≤ MAX_SHEET_LENGTH → LoadsSheet name table script bytes call (loaded_of table bytes)
-  -- Each status has its cause: invalid arguments and no others give the usage line,
-  pub usage : call.status ≡ exit.Usage → call.command ≡ None
-  pub invalid : call.command ≡ None → IsOrFails exit.Usage call.status
-  -- a file is called absent or unreadable only where the shelf answered so, last,
-  pub absent : call.status ≡ exit.Absent → (name : List ℕ) × IsLast (Missing name) call.events
-  pub unreadable : call.status ≡ exit.Unreadable → (name : List ℕ) × IsLast (Unreadable name) call.events
-  -- a write error is claimed only where the dump or the script was not replaced, or a write to the output failed,
-  pub unwritten : call.status ≡ exit.Unwritten → ((name : List ℕ) × (bytes : List ℕ) × IsLast (NotReplaced name bytes) call.events) ⊎ HasFailed call.sink call.sink_after
-  -- and under the other statuses there was none. Memory may run out in any call: no postcondition can rule that out.
-  pub clean : IsClean call.status → AllDone call.events × (call.sink_after.failed ≡ call.sink.failed)
+  -- From the dump of a history, of whatever lines, every question is answered as the history held it, with the provenance of each row there, though the dump
+  -- has none: so with its value in every semiring, without rules in witnesses exactly with its minimal token sets, and without the rows of some tokens with
+  -- exactly the rows that the query gives over the annotated history without these rows. What a transaction saw is the query over what the history machine
+  -- held for it, and what a statement changed are the rows that it wrote there, whatever became of the transaction. What would be with a change is what the
+  -- history held that the commits of the changed log, made again, lead to, and so it is answered from any dump.
+  pub held : (lines : List Line) (question : y.Question) → answer_to (dump_of (after plain parameters start lines)) question ≡ held_to (after monomials parameters start lines) question
+  -- CHECK answers whether a well-formed dump is that of a history, as the history machine takes lines: where it names no line, the dump is that of some lines
+  -- of a script; and the line that it names is the first that is not as the log makes it.
+  pub checked : (contents : Dump) → IsDump contents
+      → (difference contents ≡ None → IsOfHistory contents) × ((line : ℕ) → difference contents ≡ Some line → DiffersFirst contents line)

@@ -11,7 +11,7 @@ use Rattle.gp_dump.specs.Rules.{FirstFault}
 use Rattle.gp_ask.specs.declared.format.Format.{Format}
 use Rattle.gp_ask.specs.Answers.{answer_to}
 use Rattle.gp_ask.specs.Explained.{ExplainsLines}
-use Rattle.gp_ask.specs.Formats.{ExplainsIn}
+use Rattle.gp_ask.specs.QuestionFiles.{ExplainsIn}
 use Rattle.gp_ask.specs.Questions.{AreQuestions, ReadQuestion, answer_texts, refuses_some}
 use Rattle.gprom_cli.specs.declared.status.Status.{Status}
 use Rattle.gprom_cli.specs.declared.status.Status.TheVariants as exit

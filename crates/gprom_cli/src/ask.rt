@@ -5,19 +5,18 @@ ghost use Rattle.gp_io.specs.Events.{Event};
 ghost use Rattle.gp_check.specs.Valid.{tables_are_valid};
 ghost use Rattle.gp_log.specs.LogFacts.{tables_in};
 ghost use Rattle.gp_grammar.specs.Reading.{question_of};
-ghost use Rattle.gp_ask.specs.Answers.{answer_to};
+ghost use Rattle.gp_ask.specs.Computed.{computed_answer};
 ghost use Rattle.gp_ask.specs.Explained.{ExplainsRead};
-ghost use Rattle.gp_ask.specs.QuestionFiles.{ExplainsQuestions};
-ghost use Rattle.gp_ask.specs.Formats.{ExplainsIn};
+ghost use Rattle.gp_ask.specs.QuestionFiles.{ExplainsIn, ExplainsQuestions, answers_text, has_refused, line_answer_in, line_answer_text};
 ghost use Rattle.gp_ask.specs.Keeping.{AreKept};
 ghost use Rattle.gp_ask.specs.Questions.{is_refused};
-ghost use Rattle.gp_ask.specs.QuestionFiles.{answers_text, has_refused, line_answer_in, line_answer_text};
 ghost use Rattle.gp_dump.specs.Dumps.{IsDump};
 ghost use Rattle.gp_dump.specs.Views.{dump_view};
 ghost use Rattle.gprom_cli.specs.Args.{Ask};
 ghost use Rattle.gprom_cli.specs.Call.{IsAnswered, WritesOutput, answered_status, read_of};
 ghost use Rattle.gprom_cli.specs.Steps.{Answers, Ends, WritesAnswers};
 
+use crate::laws::dumps_answer_for_changed_histories;
 use crate::output::{stop_status, write_damage};
 use crate::read::read_file;
 use crate::status::Status;
@@ -50,9 +49,9 @@ fn answered(
     requires kept { AreKept dump.now kept.old }
     ensures kept { AreKept dump.now kept.new }
     ensures text { IfOk result (λ answer. answer.text.items
-        ≡ line_answer_text format (answer_to (dump_view dump.now)) (number, bytes.now)) }
+        ≡ line_answer_text format (computed_answer (dump_view dump.now)) (number, bytes.now)) }
     ensures refused { IfOk result (λ answer. answer.refused
-        ≡ is_refused (line_answer_in format (answer_to (dump_view dump.now)) (number, bytes.now))) }
+        ≡ is_refused (line_answer_in format (computed_answer (dump_view dump.now)) (number, bytes.now))) }
     ensures explained { IfOk result (λ answer.
         ExplainsIn format (ExplainsRead (dump_view dump.now).entries (question_of bytes.now))) }
 {
@@ -88,8 +87,8 @@ fn write_line<K: Sink>(
     requires kept { AreKept dump.now kept.old }
     ensures kept { AreKept dump.now kept.new }
     ensures written { WritesAnswers
-        (line_answer_text format (answer_to (dump_view dump.now)) (number, bytes.now))
-        (is_refused (line_answer_in format (answer_to (dump_view dump.now)) (number, bytes.now)))
+        (line_answer_text format (computed_answer (dump_view dump.now)) (number, bytes.now))
+        (is_refused (line_answer_in format (computed_answer (dump_view dump.now)) (number, bytes.now)))
         (K.state out.old) (K.state out.new) result }
     ensures explained { IfOk result (λ refused.
         ExplainsIn format (ExplainsRead (dump_view dump.now).entries (question_of bytes.now))) }
@@ -112,8 +111,8 @@ fn write_lines<K: Sink>(
     requires valid { tables_are_valid (tables_in (dump_view dump.now).entries) ≡ true }
     requires short { length questions.now ≤ MAX_SCRIPT_LENGTH }
     ensures written { WritesAnswers
-        (answers_text format (answer_to (dump_view dump.now)) questions.now)
-        (has_refused format (answer_to (dump_view dump.now)) questions.now)
+        (answers_text format (computed_answer (dump_view dump.now)) questions.now)
+        (has_refused format (computed_answer (dump_view dump.now)) questions.now)
         (K.state out.old) (K.state out.new) result }
     ensures explained { IfOk result (λ refused.
         ExplainsIn format (ExplainsQuestions (dump_view dump.now).entries questions.now)) }
@@ -140,8 +139,8 @@ fn write_answers<K: Sink>(
     requires valid { tables_are_valid (tables_in (dump_view dump.now).entries) ≡ true }
     requires short { length questions.now ≤ MAX_SCRIPT_LENGTH }
     ensures written { WritesOutput
-        (answers_text format (answer_to (dump_view dump.now)) questions.now)
-        (answered_status (has_refused format (answer_to (dump_view dump.now)) questions.now))
+        (answers_text format (computed_answer (dump_view dump.now)) questions.now)
+        (answered_status (has_refused format (computed_answer (dump_view dump.now)) questions.now))
         (K.state out.old) (K.state out.new) result }
     ensures explained { IsAnswered result
         → ExplainsIn format (ExplainsQuestions (dump_view dump.now).entries questions.now) }
@@ -165,7 +164,11 @@ fn answer<K: Sink>(
     ensures { Answers format bytes.now questions.now (K.state out.old) (K.state out.new) result }
 {
     match read_dump(alloc, bytes) {
-        Ok(dump) => write_answers(alloc, format, &dump, questions, out),
+        Ok(dump) => {
+            // What would be with a change is what that history held, by this law. The call does nothing.
+            dumps_answer_for_changed_histories();
+            write_answers(alloc, format, &dump, questions, out)
+        }
         Err(DumpStop::Fault { f, line }) => write_damage(alloc, out, f, line),
         Err(DumpStop::NoMemory) => Status::OutOfMemory,
     }

@@ -1,15 +1,15 @@
 //! The whole call: from the arguments of the program to the bytes written and the exit status.
 
-ghost use Rattle.std.specs.Prelude.{◌≡◌, List, ◌++◌, map, string_bytes};
-ghost use Rattle.gp_io.specs.Events.{Event};
+ghost use Rattle.std.specs.Prelude.{◌≡◌, ◌++◌, map, string_bytes};
 ghost use Rattle.gprom_cli.specs.Args.{command_of};
+ghost use Rattle.gprom_cli.specs.Call.{Call};
+ghost use Rattle.gprom_cli.specs.Consequences.{Consequences};
 ghost use Rattle.gprom_cli.specs.Promises.{Promises};
-ghost use Rattle.gprom_cli.specs.Status.{number_of, status_of};
+ghost use Rattle.gprom_cli.specs.Status.{number_of};
 
 use crate::execute::execute;
 use crate::laws::{
-    dumps_answer_for_changed_histories, dumps_of_histories_are_known,
-    scripts_have_well_formed_dumps,
+    dumps_of_histories_are_known, promises_have_consequences, scripts_have_well_formed_dumps,
 };
 use gp_io::{Shelf, Sink};
 use std::alloc::Global;
@@ -31,19 +31,14 @@ use std::alloc::Global;
 /// | 8 | memory ran out |
 /// | 9 | the sheet has a fault |
 pub fn gprom<H: Shelf, K: Sink>(alloc: Global, args: &[String], shelf: &mut H, out: &mut K) -> u8
-    ensures number { result ≡ number_of (status_of result) }
-    ensures promises { (events : List Event) × (H.events shelf.new ≡ H.events shelf.old ++ events)
-        × Promises (record {
-          command = command_of (map string_bytes args.now);
-          events = events;
-          sink = K.state out.old;
-          sink_after = K.state out.new;
-          status = status_of result;
-        }) }
+    ensures { (call : Call) × (call.command ≡ command_of (map string_bytes args.now))
+        × (H.events shelf.new ≡ H.events shelf.old ++ call.events)
+        × (call.sink ≡ K.state out.old) × (call.sink_after ≡ K.state out.new)
+        × (result ≡ number_of call.status) × Promises call × Consequences call }
 {
-    // What `ask` promises of dumps, and of the dumps of scripts, rests on these laws. The calls do nothing.
+    // What is promised of dumps, and of the dumps of scripts, rests on these laws. The calls do nothing.
     scripts_have_well_formed_dumps();
-    dumps_answer_for_changed_histories();
     dumps_of_histories_are_known();
+    promises_have_consequences();
     execute(alloc, args, shelf, out).number()
 }

@@ -2,6 +2,7 @@
 
 ghost use Rattle.std.specs.Prelude.{◌≡◌, ◌≤◌, ℕ, List, ◌++◌, None, Some, length};
 ghost use Rattle.gp_base.specs.Annotated.{monomials, plain};
+ghost use Rattle.gp_grammar.specs.Syntax as y;
 ghost use Rattle.gp_io.specs.Contents.{contents_of};
 ghost use Rattle.gp_io.specs.MemoryFiles.{calm_files, mem_files};
 ghost use Rattle.gp_io.specs.declared.calm.CalmShelf.{CalmShelf};
@@ -14,10 +15,12 @@ ghost use Rattle.gp_replay.specs.FirstDifferences.{DiffersFirst};
 ghost use Rattle.gp_script.specs.Scripts.{final_state};
 ghost use Rattle.gp_dump.specs.Dumps.{Dump, IsDump, dump_of};
 ghost use Rattle.gp_ask.specs.declared.format.Format.{Format};
-ghost use Rattle.gp_ask.specs.Answers.{answer_to, held_to, remade_to};
+ghost use Rattle.gp_ask.specs.Answers.{answer_to, held_to};
+ghost use Rattle.gp_ask.specs.Computed.{computed_answer};
 ghost use Rattle.gp_ask.specs.Hypothetical.{remaking_refusal, replayed_dump};
 ghost use Rattle.gp_ask.specs.QuestionFiles.{answers_text, has_refused};
 ghost use Rattle.gprom_cli.specs.Call.{Call};
+ghost use Rattle.gprom_cli.specs.Consequences.{Consequences};
 ghost use Rattle.gprom_cli.specs.OverFiles.{OverFiles};
 ghost use Rattle.gprom_cli.specs.Promises.{Promises};
 ghost use Rattle.gprom_cli.specs.Summaries.{rows_in};
@@ -30,20 +33,13 @@ use gp_replay::{differences_are_first, dumps_of_histories_do_not_differ};
 use gp_script::{MAX_SCRIPT_LENGTH, lines_of_scripts_are_script_lines, scripts_lead_to_histories};
 use gp_whatif::histories_are_replayed_as_they_were;
 
-/// The dump of every script is well formed, and answers every file of questions as the annotated history of the script held it: with the same
-/// text in either format, as many rows, and refusing a question where the history refuses one. The commits of its log, made again with nothing
-/// changed, do not stop, and lead to this dump (`unchanged`).
+/// The dump of every script is well formed, and the answers that are computed from it have as many rows as those that the annotated history
+/// of the script held. The commits of its log, made again with nothing changed, do not stop, and lead to this dump (`unchanged`).
 pub fn scripts_have_well_formed_dumps()
     ensures formed { (script : List ℕ) → length script ≤ MAX_SCRIPT_LENGTH
         → IsDump (dump_of (final_state plain script)) }
-    ensures answers { (format : Format) (script questions : List ℕ)
-        → answers_text format (answer_to (dump_of (final_state plain script))) questions
-        ≡ answers_text format (held_to (final_state monomials script)) questions }
-    ensures refusals { (format : Format) (script questions : List ℕ)
-        → has_refused format (answer_to (dump_of (final_state plain script))) questions
-        ≡ has_refused format (held_to (final_state monomials script)) questions }
-    ensures rows { (script questions : List ℕ)
-        → rows_in (answer_to (dump_of (final_state plain script))) questions
+    ensures rows { (script questions : List ℕ) → length script ≤ MAX_SCRIPT_LENGTH
+        → rows_in (computed_answer (dump_of (final_state plain script))) questions
         ≡ rows_in (held_to (final_state monomials script)) questions }
     ensures unchanged { (script : List ℕ) → length script ≤ MAX_SCRIPT_LENGTH
         → (remaking_refusal (final_state plain script).entries ≡ None)
@@ -55,22 +51,20 @@ pub fn scripts_have_well_formed_dumps()
     lines_of_scripts_are_script_lines();
     dumps_of_histories_are_well_formed();
     histories_are_replayed_as_they_were();
-    histories_answer_as_their_dumps()
+    histories_answer_as_their_dumps();
+    dumps_answer_as_changed_histories()
 }
 
-/// The dump of every history, of whatever lines of a script, answers every file of questions as the history held it. A dump that keeps the
+/// The dump of every history, of whatever lines of a script, answers every question as the history held it (`held`). A dump that keeps the
 /// rules is that of a history where CHECK finds no difference (`checked`), and the line of a difference is the first that is not as the log
 /// makes it (`first`).
 pub fn dumps_of_histories_are_known()
+    ensures held { (lines : List Line) (question : y.Question)
+        → answer_to (dump_of (after plain parameters start lines)) question
+        ≡ held_to (after monomials parameters start lines) question }
     ensures checked { (dump : Dump) → IsDump dump → difference dump ≡ None → IsOfHistory dump }
     ensures first { (dump : Dump) (line : ℕ) → IsDump dump
         → difference dump ≡ Some line → DiffersFirst dump line }
-    ensures answers { (format : Format) (lines : List Line) (questions : List ℕ)
-        → answers_text format (answer_to (dump_of (after plain parameters start lines))) questions
-        ≡ answers_text format (held_to (after monomials parameters start lines)) questions }
-    ensures refusals { (format : Format) (lines : List Line) (questions : List ℕ)
-        → has_refused format (answer_to (dump_of (after plain parameters start lines))) questions
-        ≡ has_refused format (held_to (after monomials parameters start lines)) questions }
 {
     dumps_of_histories_do_not_differ();
     differences_are_first();
@@ -81,13 +75,22 @@ pub fn dumps_of_histories_are_known()
 /// would be with a change: with the same text in either format, and refusing a question where that history refuses it.
 pub fn dumps_answer_for_changed_histories()
     ensures answers { (format : Format) (dump : Dump) (questions : List ℕ) → IsDump dump
-        → answers_text format (answer_to dump) questions
-        ≡ answers_text format (remade_to dump) questions }
+        → answers_text format (computed_answer dump) questions
+        ≡ answers_text format (answer_to dump) questions }
     ensures refusals { (format : Format) (dump : Dump) (questions : List ℕ) → IsDump dump
-        → has_refused format (answer_to dump) questions
-        ≡ has_refused format (remade_to dump) questions }
+        → has_refused format (computed_answer dump) questions
+        ≡ has_refused format (answer_to dump) questions }
 {
     dumps_answer_as_changed_histories()
+}
+
+/// What a call promises determines what it writes and what becomes of the files, by its arguments and by what the shelf has done, and each
+/// status has its cause.
+pub fn promises_have_consequences()
+    ensures { (call : Call) → Promises call → Consequences call }
+{
+    scripts_lead_to_histories::<()>();
+    scripts_lead_to_histories::<Monomial>()
 }
 
 /// What a call promises of what the shelf has done, it promises of the files, where the shelf knows them: which files were read, and what they are
@@ -100,5 +103,6 @@ pub fn calls_keep_promises_over_files()
         → ⟦<MemShelf as Shelf>⟧.events after ≡ ⟦<MemShelf as Shelf>⟧.events before ++ call.events
         → OverFiles call (contents_of (mem_files before)) (contents_of (mem_files after)) }
 {
+    promises_have_consequences();
     events_lead_to_files()
 }

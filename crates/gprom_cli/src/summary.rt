@@ -10,7 +10,7 @@ ghost use Rattle.gp_dump.specs.Views.{dump_view};
 ghost use Rattle.gp_log.specs.Contents.{entries};
 ghost use Rattle.gp_log.specs.LogFacts.{tables_in};
 ghost use Rattle.gp_machine.specs.Entries.{fate_of, transactions_in};
-ghost use Rattle.gp_ask.specs.Answers.{answer_to};
+ghost use Rattle.gp_ask.specs.Computed.{computed_answer};
 ghost use Rattle.gp_script.specs.Scripts.{final_state};
 ghost use Rattle.gp_syntax.specs.Lines.{script_lines};
 ghost use Rattle.gprom_cli.specs.Call.{WritesOutput};
@@ -142,7 +142,7 @@ fn line_rows(alloc: Global, dump: &Dump, line: &[u8]) -> Result<u64, NoMemory>
     requires rules { IsDump (dump_view dump.now) }
     requires valid { tables_are_valid (tables_in (dump_view dump.now).entries) ≡ true }
     ensures { IfOk result (λ rows. (number : ℕ)
-        → rows ≡ line_rows (answer_to (dump_view dump.now)) (number, line.now)) }
+        → rows ≡ line_rows (computed_answer (dump_view dump.now)) (number, line.now)) }
 {
     let answer = answer_line(alloc, dump, line)?;
     Ok(row_count(&answer) as u64)
@@ -153,7 +153,7 @@ fn count_rows(alloc: Global, dump: &Dump, questions: &[u8]) -> Result<u64, NoMem
     requires rules { IsDump (dump_view dump.now) }
     requires valid { tables_are_valid (tables_in (dump_view dump.now).entries) ≡ true }
     requires short { length questions.now ≤ MAX_SCRIPT_LENGTH }
-    ensures { IfOk result (λ rows. rows ≡ rows_in (answer_to (dump_view dump.now)) questions.now) }
+    ensures { IfOk result (λ rows. rows ≡ rows_in (computed_answer (dump_view dump.now)) questions.now) }
 {
     let mut rows: u64 = 0;
     let mut rest = lines(questions);

@@ -7,9 +7,8 @@ use Rattle.gp_log.specs.Parameters.{parameters}
 use Rattle.gp_syntax.specs.Views.{change_view, how_view, kept_view, query_view, state_view}
 use Rattle.gp_whatif.specs.Changed.{changed}
 use Rattle.gp_ask.specs.declared.answered.Answered.{Answered}
-use Rattle.gp_ask.specs.Answers.{answer_to}
+use Rattle.gp_ask.specs.Computed.{computed_answer, what_if_answer}
 use Rattle.gp_ask.specs.Differences.{without_in}
-use Rattle.gp_ask.specs.Hypothetical.{what_if_answer}
 use Rattle.gp_ask.specs.Writes.{write_view}
 use Rattle.gp_ask.proofs.CausesLemmas.{copies-made}
 use Rattle.gp_ask.proofs.ProvenanceLemmas.{replayable}
@@ -51,6 +50,6 @@ returns c =
     let how = how_view c.args.asked.now.kept.now.how in
     let point = state_view c.args.asked.now.kept.now.state in
     let query = query_view c.args.asked.now.query.now in
-    IfOk-weaker c.what_if_from.result (λ (a : Answered). a ≡ answer_to dump (y.what_if (change_view c.dropping-change.result) how point query))
+    IfOk-weaker c.what_if_from.result (λ (a : Answered). a ≡ computed_answer dump (y.what_if (change_view c.dropping-change.result) how point query))
     (λ (a : Answered). a ≡ without_in (what_if_answer dump.entries) (kept_view c.args.asked.now.kept.now) query (write_view c.args.own))
     (λ a is. is ∙ ap (λ (change : LogChange). what_if_answer dump.entries change how point query) c.dropping-change.ensures) c.what_if_from.ensures.answered

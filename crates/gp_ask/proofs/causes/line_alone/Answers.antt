@@ -4,7 +4,7 @@ use Rattle.gp_dump.specs.Views.{dump_view}
 use Rattle.gp_grammar.specs.Syntax.{LogChange}
 use Rattle.gp_syntax.specs.Views.{how_view, query_view, state_view}
 use Rattle.gp_ask.specs.Differences.{cause_of, rows_in}
-use Rattle.gp_ask.specs.Hypothetical.{what_if_answer}
+use Rattle.gp_ask.specs.Computed.{what_if_answer}
 use Rattle.gp_ask.specs.Writes.{IsLine, listed_line, write_view}
 use Rattle.gp_ask.proofs.causes.line_alone.Goals as goal
 

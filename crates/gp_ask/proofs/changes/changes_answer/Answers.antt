@@ -6,7 +6,8 @@ use Rattle.gp_log.specs.Logs.{log_view}
 use Rattle.gp_machine.specs.Entries.{statement_at, statement_count}
 use Rattle.gp_machine.specs.Questions.{is_known}
 use Rattle.gp_ask.specs.declared.answered.Answered.{Answered}
-use Rattle.gp_ask.specs.Changes.{changes_to, dump_changes, if_any, unless}
+use Rattle.gp_ask.specs.Changes.{changes_to, dump_changes, if_any}
+use Rattle.gp_ask.specs.Values.{unless_refused}
 use Rattle.gp_ask.proofs.ChangesLemmas.{changes-by, known-changed, numbered-changed}
 use Rattle.gp_ask.proofs.changes.changes_answer.Goals as goal
 
@@ -36,7 +37,7 @@ statement_changes-requires-clause-most c =
 pub returns-in-Some : goal.returns-in-Some
 returns-in-Some c =
     let dump = dump_view c.args.dump.now in
-    ap (λ (refusal : Option Refusal). unless refusal (if_any (dump_changes dump c.args.t (c.args.k - 1)) (statement_at c.args.t c.args.k dump.entries))) c.in-Some.ensures
+    ap (λ (refusal : Option Refusal). unless_refused refusal (if_any (dump_changes dump c.args.t (c.args.k - 1)) (statement_at c.args.t c.args.k dump.entries))) c.in-Some.ensures
 
 pub returns-in-None : goal.returns-in-None
 returns-in-None c =

@@ -5,7 +5,8 @@ use Rattle.gp_dump.specs.Views.{dump_view}
 use Rattle.gp_log.specs.Logs.{log_view}
 use Rattle.gp_machine.specs.Entries.{version_of}
 use Rattle.gp_ask.specs.declared.answered.Answered.{Answered}
-use Rattle.gp_ask.specs.Changes.{commit_changes_to, unless, version_changes}
+use Rattle.gp_ask.specs.Changes.{commit_changes_to, version_changes}
+use Rattle.gp_ask.specs.Values.{unless_refused}
 use Rattle.gp_ask.proofs.ChangesLemmas.{commit-changes-by, known-committed}
 use Rattle.gp_ask.proofs.changes.commit_changes_answer.Goals as goal
 
@@ -14,7 +15,7 @@ transaction_number-requires c = known-committed c.args.t (log_view c.args.dump.n
 
 pub returns-in-Some : goal.returns-in-Some
 returns-in-Some c =
-    let dump = dump_view c.args.dump.now in ap (λ (refusal : Option Refusal). unless refusal (version_changes dump (version_of c.args.t dump.entries))) c.in-Some.ensures
+    let dump = dump_view c.args.dump.now in ap (λ (refusal : Option Refusal). unless_refused refusal (version_changes dump (version_of c.args.t dump.entries))) c.in-Some.ensures
 
 pub returns-in-None : goal.returns-in-None
 returns-in-None c =

@@ -10,24 +10,8 @@ use Rattle.gp_ask.specs.Hypothetical as h
 use Rattle.gp_ask.proofs.WhatIfLemmas.{lost_at, remaking_is}
 use Rattle.gp_ask.proofs.hypothetical.remaking_refusal.Goals as goal
 
-pub lost-requires-clause-first : goal.lost-requires-clause-first
-lost-requires-clause-first c =
-    (lost_at (log_view c.args.log.now.entries) c.requires.replayable c.in-Lost.version c.in-Lost.other c.in-Lost.table c.in-Lost.id (rw c.in-Lost.is at c.requires.stops) c.conflicts_are_least.ensures.some).first
-
-pub lost-requires-clause-within : goal.lost-requires-clause-within
-lost-requires-clause-within c =
-    (lost_at (log_view c.args.log.now.entries) c.requires.replayable c.in-Lost.version c.in-Lost.other c.in-Lost.table c.in-Lost.id (rw c.in-Lost.is at c.requires.stops) c.conflicts_are_least.ensures.some).within
-
-pub lost-requires-clause-other_first : goal.lost-requires-clause-other_first
-lost-requires-clause-other_first c =
-    (lost_at (log_view c.args.log.now.entries) c.requires.replayable c.in-Lost.version c.in-Lost.other c.in-Lost.table c.in-Lost.id (rw c.in-Lost.is at c.requires.stops) c.conflicts_are_least.ensures.some).other_first
-
-pub lost-requires-clause-other_within : goal.lost-requires-clause-other_within
-lost-requires-clause-other_within c =
-    (lost_at (log_view c.args.log.now.entries) c.requires.replayable c.in-Lost.version c.in-Lost.other c.in-Lost.table c.in-Lost.id (rw c.in-Lost.is at c.requires.stops) c.conflicts_are_least.ensures.some).other_within
-
-pub lost-requires-clause-table : goal.lost-requires-clause-table
-lost-requires-clause-table c =
+pub lost-requires : goal.lost-requires
+lost-requires c =
     (lost_at (log_view c.args.log.now.entries) c.requires.replayable c.in-Lost.version c.in-Lost.other c.in-Lost.table c.in-Lost.id (rw c.in-Lost.is at c.requires.stops) c.conflicts_are_least.ensures.some).table
 
 pub returns-in-Lost : goal.returns-in-Lost

@@ -7,9 +7,10 @@ use Rattle.gp_versions.specs.Spans.{Versions}
 use Rattle.gp_dump.specs.Views.{tables_view}
 use Rattle.gp_ask.specs.declared.answered.Answered.{Answered}
 use Rattle.gp_ask.specs.Answerable.{IsAnswerable}
-use Rattle.gp_ask.specs.Answers.{answer_to}
+use Rattle.gp_ask.specs.Computed.{computed_answer}
 use Rattle.gp_ask.specs.Asking.{ask_to}
 use Rattle.gp_ask.specs.Hypothetical as h
+use Rattle.gp_ask.specs.Values.{unless_refused}
 use Rattle.gp_ask.specs.Replays.{dump_in}
 use Rattle.gp_ask.proofs.FittingReplays.{replay_answerable}
 use Rattle.gp_ask.proofs.WhatIfLemmas.{replayed_is}
@@ -29,8 +30,8 @@ returns-in-Ok c =
     let how = how_view c.args.how.now in
     let point = state_view c.args.state in
     let query = query_view c.args.query.now in
-    let expected : Answered = h.unless_refused (h.remaking_refusal entries) (ask_to (h.replayed_dump entries) how point query) in
-    IfOk-weaker c.ask_answer.result (λ (a : Answered). a ≡ answer_to (dump_in entries (tables_view c.from_vec-versions.result)) (y.ask how point query)) (λ (a : Answered). a ≡ expected)
+    let expected : Answered = unless_refused (h.remaking_refusal entries) (ask_to (h.replayed_dump entries) how point query) in
+    IfOk-weaker c.ask_answer.result (λ (a : Answered). a ≡ computed_answer (dump_in entries (tables_view c.from_vec-versions.result)) (y.ask how point query)) (λ (a : Answered). a ≡ expected)
     (λ a is.
     is
     ∙ subst (λ (own : List Versions). ask_to (dump_in entries (tables_view own)) how point query ≡ expected) (sym c.from_vec-versions.ensures)

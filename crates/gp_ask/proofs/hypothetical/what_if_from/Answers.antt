@@ -8,7 +8,7 @@ use Rattle.gp_log.specs.Logs.{log_view}
 use Rattle.gp_syntax.specs.Views.{change_view, how_view, query_view, state_view}
 use Rattle.gp_dump.specs.Views.{dump_view}
 use Rattle.gp_ask.specs.declared.answered.Answered.{Answered}
-use Rattle.gp_ask.specs.Answers.{answer_to}
+use Rattle.gp_ask.specs.Computed.{computed_answer}
 use Rattle.gp_ask.specs.Asking.{ask_to}
 use Rattle.gp_ask.specs.Explained.{ExplainsQuestion}
 use Rattle.gp_ask.specs.Hypothetical.{remade_answer, replayed_dump}
@@ -43,7 +43,7 @@ returns-in-Ok-clause-answered c =
     let point = state_view c.args.state in
     let query = query_view c.args.query.now in
     IfOk-weaker c.remade_answer.result (λ (a : Answered). a ≡ remade_answer (ask_to (replayed_dump new)) new how point query)
-    (λ (a : Answered). a ≡ answer_to (dump_view c.args.dump.now) (y.what_if change how point query))
+    (λ (a : Answered). a ≡ computed_answer (dump_view c.args.dump.now) (y.what_if change how point query))
     (λ a is. is ∙ sym (changed_is entries change how point query (Ok new) c.in-Ok.ensures.changed)) c.remade_answer.ensures.answered
 
 pub returns-in-Ok-clause-explained : goal.returns-in-Ok-clause-explained

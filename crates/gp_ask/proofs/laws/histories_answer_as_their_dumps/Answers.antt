@@ -52,5 +52,4 @@ returns c = λ lines question.
     (alters state reached plainly sessions once whole tables bags)
     (λ how point query. c.unstopped_histories_answer_as_their_dumps.ensures state (c.histories_do_not_stop.ensures.reached monomials parameters lines) (tables-kept monomials parameters start lines refl)
     (dump_of (forgetting state)).tables moved how point query)
-    (λ change how point query. c.changed_histories_answer_their_questions.ensures.held state.entries change coherent how point query)
     (subst (λ (s : State (Unit {0})). difference (dump_of s) ≡ None) same (complete lines)) question)

@@ -15,7 +15,7 @@ use Rattle.gp_reenact.specs.Programs.{merged_at}
 use Rattle.gp_versions.specs.declared.span.Span.{Span}
 use Rattle.gp_dump.specs.Views.{dump_view}
 use Rattle.gp_ask.specs.declared.answered.Answered.{Answered}
-use Rattle.gp_ask.specs.Answers.{answer_to}
+use Rattle.gp_ask.specs.Computed.{computed_answer}
 use Rattle.gp_ask.specs.Asking.{of_elements, query_answer}
 use Rattle.gp_ask.specs.Backends.{AnswersBy, AnswersQuery}
 use Rattle.gp_ask.proofs.BackendLemmas.{executed_answers, past_is}
@@ -32,7 +32,7 @@ returns c =
     let checked = checked_query (tables_in entries) (query_view c.args.query.now) in
     let spans_fit = subst (λ (spans : ℕ → List Span). SpansFit (tables_in entries) spans) (sym (dump-spans dump.versions)) c.requires.rules.spans in
     let moved = ap (λ (spans : ℕ → List Span). query_answer (λ select. of_elements (rows_answer parameters entries spans point select)) expected checked) (dump-spans dump.versions) in
-    IfOk-weaker c.query_answer_by.result (λ (a : Answered). AnswersBy Executes (dump_view dump) question a) (λ (a : Answered). a ≡ answer_to (dump_view dump) question)
+    IfOk-weaker c.query_answer_by.result (λ (a : Answered). AnswersBy Executes (dump_view dump) question a) (λ (a : Answered). a ≡ computed_answer (dump_view dump) question)
     (λ a by.
     executed_answers entries dump.versions point c.requires.rules.statements spans_fit expected checked a refl
     (subst (λ (past : PlainEnvironment). AnswersQuery Executes (tables_in entries) (transaction_at point) (merged_at false entries point) past expected checked a) (sym (past_is dump.versions)) by)

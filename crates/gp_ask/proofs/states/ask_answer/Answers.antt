@@ -7,8 +7,9 @@ use Rattle.gp_syntax.specs.declared.question.How.{How}
 use Rattle.gp_syntax.specs.declared.question.Rule.{Rule}
 use Rattle.gp_syntax.specs.Views.{how_view, query_view, rule_view, state_view}
 use Rattle.gp_ask.specs.declared.answered.Answered.{Answered}
-use Rattle.gp_ask.specs.Answers.{answer_to}
-use Rattle.gp_ask.specs.Asking.{dump_query, dump_values}
+use Rattle.gp_ask.specs.Computed.{computed_answer}
+use Rattle.gp_ask.specs.Asking.{dump_query}
+use Rattle.gp_ask.specs.ValueForms.{dump_values}
 use Rattle.gp_ask.specs.Values.{rules_of, semiring_of}
 use Rattle.gp_ask.proofs.WitnessLemmas.{asked_values}
 use Rattle.gp_ask.proofs.states.ask_answer.Goals as goal
@@ -21,12 +22,12 @@ returns-in-Value-clause-answered c =
     let name = c.in-Value.semiring in
     let other = c.in-Value.other in
     let own = map rule_view c.as_slice.result.now in
-    subst (λ (how : How). IfOk c.value_answer.result (λ answered. answered ≡ answer_to dump (y.ask (how_view how) point query)))
+    subst (λ (how : How). IfOk c.value_answer.result (λ answered. answered ≡ computed_answer dump (y.ask (how_view how) point query)))
     (sym c.in-Value.is)
-    (subst (λ (rules : List Rule). IfOk c.value_answer.result (λ answered. answered ≡ answer_to dump (y.ask (y.value name (map rule_view rules) other) point query)))
+    (subst (λ (rules : List Rule). IfOk c.value_answer.result (λ answered. answered ≡ computed_answer dump (y.ask (y.value name (map rule_view rules) other) point query)))
     c.as_slice.ensures
     (IfOk-weaker c.value_answer.result (λ (a : Answered). a ≡ dump_query dump (dump_values (semiring_of name) name (rules_of own other) dump point) point query)
-    (λ (a : Answered). a ≡ answer_to dump (y.ask (y.value name own other) point query))
+    (λ (a : Answered). a ≡ computed_answer dump (y.ask (y.value name own other) point query))
     (λ a is. is ∙ asked_values name own other dump point query) c.value_answer.ensures.answered))
 
 pub returns-in-Without-clause-answered : goal.returns-in-Without-clause-answered
@@ -34,9 +35,9 @@ returns-in-Without-clause-answered c =
     let dump = dump_view c.args.dump.now in
     let point = state_view c.args.state in
     let query = query_view c.args.query.now in
-    subst (λ (how : How). IfOk c.remaining_answer.result (λ answered. answered ≡ answer_to dump (y.ask (how_view how) point query)))
+    subst (λ (how : How). IfOk c.remaining_answer.result (λ answered. answered ≡ computed_answer dump (y.ask (how_view how) point query)))
     (sym c.in-Without.is)
-    (subst (λ (rules : List Rule). IfOk c.remaining_answer.result (λ answered. answered ≡ answer_to dump (y.ask (y.without (map rule_view rules)) point query)))
+    (subst (λ (rules : List Rule). IfOk c.remaining_answer.result (λ answered. answered ≡ computed_answer dump (y.ask (y.without (map rule_view rules)) point query)))
     c.as_slice-in-Without.ensures c.remaining_answer.ensures.answered)
 
 pub returns-in-Provenance-clause-kept : goal.returns-in-Provenance-clause-kept

@@ -5,7 +5,7 @@ use Rattle.gp_dump.specs.Views.{dump_view}
 use Rattle.gp_grammar.specs.declared.semiring_name.SemiringName.{SemiringName}
 use Rattle.gp_syntax.specs.Views.{state_view}
 use Rattle.gp_semiring.specs.declared.rules.Rule.{Rule}
-use Rattle.gp_ask.specs.Asking.{dump_values}
+use Rattle.gp_ask.specs.ValueForms.{dump_values}
 use Rattle.gp_ask.specs.Values.{semiring_of}
 use Rattle.gp_ask.proofs.values.selected_values.Goals as goal
 

@@ -9,8 +9,13 @@ use Rattle.gprom_cli.proofs.ask.answer.Goals as goal
 
 pub returns-in-Ok : goal.returns-in-Ok
 returns-in-Ok g c =
-    answered-read c.args.format c.args.bytes.now c.args.questions.now (dump_view c.in-Ok.dump) (g.K.Sink.state c.args.out.now) (g.K.Sink.state c.write_answers.new.out) c.write_answers.result
-    (only c.args.bytes.now (dump_view c.in-Ok.dump) c.in-Ok.ensures.exact) c.write_answers.ensures.written c.write_answers.ensures.explained
+    let dump = dump_view c.in-Ok.dump in
+    let formed = only c.args.bytes.now dump c.in-Ok.ensures.exact in
+    answered-read c.args.format c.args.bytes.now c.args.questions.now dump (g.K.Sink.state c.args.out.now) (g.K.Sink.state c.write_answers.new.out) c.write_answers.result
+    formed
+    (λ format. c.dumps_answer_for_changed_histories.ensures.answers format dump c.args.questions.now formed.rules)
+    (λ format. c.dumps_answer_for_changed_histories.ensures.refusals format dump c.args.questions.now formed.rules)
+    c.write_answers.ensures.written c.write_answers.ensures.explained
 
 pub returns-in-Err-Fault : goal.returns-in-Err-Fault
 returns-in-Err-Fault g c =

@@ -1,5 +1,5 @@
 use Rattle.std.proofs.Common.{Bool, Ok, Err, ◌∙◌, ap, subst, sym}
-use Rattle.gp_ask.specs.Answers.{answer_to}
+use Rattle.gp_ask.specs.Computed.{computed_answer}
 use Rattle.gp_ask.specs.QuestionFiles.{answers_text, has_refused}
 use Rattle.gp_dump.specs.Views.{dump_view}
 use Rattle.gprom_cli.specs.declared.status.Status.{Status}
@@ -9,7 +9,7 @@ use Rattle.gprom_cli.proofs.ask.write_answers.Goals as goal
 
 pub returns-in-Ok-clause-written : goal.returns-in-Ok-clause-written
 returns-in-Ok-clause-written g c =
-    let answers = answer_to (dump_view c.args.dump.now) in
+    let answers = computed_answer (dump_view c.args.dump.now) in
     let text = answers_text c.args.format answers c.args.questions.now in
     let status = answered_status (has_refused c.args.format answers c.args.questions.now) in
     let old = g.K.Sink.state c.args.out.now in
@@ -20,7 +20,7 @@ returns-in-Ok-clause-written g c =
 
 pub returns-in-Err-clause-written : goal.returns-in-Err-clause-written
 returns-in-Err-clause-written g c =
-    let answers = answer_to (dump_view c.args.dump.now) in
+    let answers = computed_answer (dump_view c.args.dump.now) in
     let text = answers_text c.args.format answers c.args.questions.now in
     let status = answered_status (has_refused c.args.format answers c.args.questions.now) in
     let old = g.K.Sink.state c.args.out.now in

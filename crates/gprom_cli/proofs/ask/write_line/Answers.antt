@@ -1,5 +1,5 @@
 use Rattle.std.proofs.Common.{Bool, ℕ, List, [], inl, refl, subst}
-use Rattle.gp_ask.specs.Answers.{answer_to}
+use Rattle.gp_ask.specs.Computed.{computed_answer}
 use Rattle.gp_ask.specs.QuestionFiles.{line_answer_text}
 use Rattle.gp_dump.specs.Views.{dump_view}
 use Rattle.gprom_cli.specs.Call.{some_written}
@@ -10,7 +10,7 @@ use Rattle.gprom_cli.proofs.ask.write_line.Goals as goal
 
 pub returns-in-Ok-clause-written : goal.returns-in-Ok-clause-written
 returns-in-Ok-clause-written g c =
-    let answers = answer_to (dump_view c.args.dump.now) in
+    let answers = computed_answer (dump_view c.args.dump.now) in
     let line : ℕ × List ℕ = (c.args.number, c.args.bytes.now) in
     let old = g.K.Sink.state c.args.out.now in
     let new = g.K.Sink.state c.write_answered.new.out in
@@ -19,5 +19,5 @@ returns-in-Ok-clause-written g c =
 
 pub returns-in-Err-clause-written : goal.returns-in-Err-clause-written
 returns-in-Err-clause-written g c =
-    let text = line_answer_text c.args.format (answer_to (dump_view c.args.dump.now)) (c.args.number, c.args.bytes.now) in
+    let text = line_answer_text c.args.format (computed_answer (dump_view c.args.dump.now)) (c.args.number, c.args.bytes.now) in
     record { refused = tt; written = some_written [] text refl (inl refl) (after-nothing (g.K.Sink.state c.args.out.now)) refl }

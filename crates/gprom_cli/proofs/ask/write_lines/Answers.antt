@@ -1,5 +1,5 @@
 use Rattle.std.proofs.Common.{ℕ, List, subst}
-use Rattle.gp_ask.specs.Answers.{answer_to}
+use Rattle.gp_ask.specs.Computed.{computed_answer}
 use Rattle.gp_dump.specs.Views.{dump_view}
 use Rattle.gprom_cli.proofs.AnswersLemmas.{IsProgress, ends, ends-explained, goes_on, starts, stops_with}
 use Rattle.gprom_cli.proofs.ask.write_lines.Goals as goal
@@ -8,13 +8,13 @@ pub loop-line-init : goal.loop-line-init
 loop-line-init g c =
     let sink = g.K.Sink.state c.args.out.now in
     record {
-      progress = starts c.args.format (answer_to (dump_view c.args.dump.now)) (dump_view c.args.dump.now).entries c.args.questions.now sink sink c.lines-rest.result c.lines-rest.ensures.lines;
+      progress = starts c.args.format (computed_answer (dump_view c.args.dump.now)) (dump_view c.args.dump.now).entries c.args.questions.now sink sink c.lines-rest.result c.lines-rest.ensures.lines;
       kept = c.new-kept.ensures c.args.dump.now;
     }
 
 pub loop-line-preserved : goal.loop-line-preserved
 loop-line-preserved g c =
-    let answers = answer_to (dump_view c.args.dump.now) in
+    let answers = computed_answer (dump_view c.args.dump.now) in
     let old = g.K.Sink.state c.args.out.now in
     let new = g.K.Sink.state c.loop-line.out in
     let line = c.in-Some.line in
@@ -28,7 +28,7 @@ loop-line-preserved g c =
 
 pub returns-in_err-refused-clause-written : goal.returns-in_err-refused-clause-written
 returns-in_err-refused-clause-written g c =
-    let answers = answer_to (dump_view c.args.dump.now) in
+    let answers = computed_answer (dump_view c.args.dump.now) in
     let old = g.K.Sink.state c.args.out.now in
     let new = g.K.Sink.state c.loop-line.out in
     let line = c.in-Some.line in
@@ -38,7 +38,7 @@ returns-in_err-refused-clause-written g c =
 
 pub returns-clause-written : goal.returns-clause-written
 returns-clause-written g c =
-    let answers = answer_to (dump_view c.args.dump.now) in
+    let answers = computed_answer (dump_view c.args.dump.now) in
     let old = g.K.Sink.state c.args.out.now in
     let new = g.K.Sink.state c.loop-line.out in
     let way = subst (λ (lines : List (ℕ × List ℕ)). IsProgress c.args.format answers (dump_view c.args.dump.now).entries c.args.questions.now lines c.loop-line.refused old new) c.in_default.ensures.steps.0 c.loop-line.invariant.progress in
@@ -46,7 +46,7 @@ returns-clause-written g c =
 
 pub returns-clause-explained : goal.returns-clause-explained
 returns-clause-explained g c =
-    let answers = answer_to (dump_view c.args.dump.now) in
+    let answers = computed_answer (dump_view c.args.dump.now) in
     let entries = (dump_view c.args.dump.now).entries in
     let old = g.K.Sink.state c.args.out.now in
     let new = g.K.Sink.state c.loop-line.out in

@@ -1,5 +1,5 @@
 use Rattle.std.proofs.Common.{length}
-use Rattle.gp_ask.specs.Answers.{answer_to}
+use Rattle.gp_ask.specs.Computed.{computed_answer}
 use Rattle.gp_ask.specs.Keeping.{AreKept}
 use Rattle.gp_dump.specs.Views.{dump_view}
 use Rattle.gprom_cli.proofs.AnswersLemmas.{IsProgress}
@@ -8,7 +8,7 @@ use Rattle.gprom_cli.proofs.ask.write_lines.Given as goal
 abbrev pub invariant-loop-line : goal.invariant-loop-line
 invariant-loop-line g l =
     record {
-      progress : IsProgress l.format (answer_to (dump_view l.dump)) (dump_view l.dump).entries l.questions l.rest l.refused (g.K.Sink.state l.initial.out) (g.K.Sink.state l.out);
+      progress : IsProgress l.format (computed_answer (dump_view l.dump)) (dump_view l.dump).entries l.questions l.rest l.refused (g.K.Sink.state l.initial.out) (g.K.Sink.state l.out);
       kept : AreKept l.dump l.kept;
     }
 

@@ -1,9 +1,10 @@
-use Rattle.gp_ask.specs.Answers.{answer_to, remade_to}
+use Rattle.gp_ask.specs.Answers.{answer_to}
+use Rattle.gp_ask.specs.Computed.{computed_answer}
 use Rattle.gprom_cli.proofs.AnswersLemmas.{same-refusals, same-texts}
 use Rattle.gprom_cli.proofs.laws.dumps_answer_for_changed_histories.Goals as goal
 
 pub returns-clause-answers : goal.returns-clause-answers
-returns-clause-answers c = λ format dump questions rules. same-texts (answer_to dump) (remade_to dump) (c.dumps_answer_as_changed_histories.ensures dump rules) format questions
+returns-clause-answers c = λ format dump questions rules. same-texts (computed_answer dump) (answer_to dump) (c.dumps_answer_as_changed_histories.ensures dump rules) format questions
 
 pub returns-clause-refusals : goal.returns-clause-refusals
-returns-clause-refusals c = λ format dump questions rules. same-refusals (answer_to dump) (remade_to dump) (c.dumps_answer_as_changed_histories.ensures dump rules) format questions
+returns-clause-refusals c = λ format dump questions rules. same-refusals (computed_answer dump) (answer_to dump) (c.dumps_answer_as_changed_histories.ensures dump rules) format questions

@@ -2,7 +2,7 @@ use Rattle.std.proofs.Common.{rules, ℕ, ◌+◌, List, subst, sym}
 use Rattle.gp_base.specs.declared.limit.TheConstants.{MAX_ANSWER_ROWS}
 use Rattle.gp_syntax.specs.Lines.{script_lines}
 use Rattle.gp_dump.specs.Views.{dump_view}
-use Rattle.gp_ask.specs.Answers.{answer_to}
+use Rattle.gp_ask.specs.Computed.{computed_answer}
 use Rattle.gprom_cli.specs.Summaries.{line_rows}
 use Rattle.gprom_cli.proofs.CountingLemmas.{IsCounted, counts-none, counts-few, counts-more, counts-all}
 use Rattle.gprom_cli.proofs.RowCountLemmas.{few-rows}
@@ -10,15 +10,15 @@ use Rattle.gprom_cli.proofs.summary.count_rows.Goals as goal
 
 pub loop-line-init : goal.loop-line-init
 loop-line-init c =
-    counts-none (line_rows (answer_to (dump_view c.args.dump.now))) MAX_ANSWER_ROWS c.args.questions.now c.lines-rest.result c.lines-rest.ensures.lines c.lines-rest.ensures.increasing
+    counts-none (line_rows (computed_answer (dump_view c.args.dump.now))) MAX_ANSWER_ROWS c.args.questions.now c.lines-rest.result c.lines-rest.ensures.lines c.lines-rest.ensures.increasing
 
 pub returns : goal.returns
 returns c =
-    counts-all (line_rows (answer_to (dump_view c.args.dump.now))) MAX_ANSWER_ROWS c.args.questions.now c.loop-line.rest c.loop-line.rows c.in_default.ensures.steps.0 c.loop-line.invariant
+    counts-all (line_rows (computed_answer (dump_view c.args.dump.now))) MAX_ANSWER_ROWS c.args.questions.now c.loop-line.rest c.loop-line.rows c.in_default.ensures.steps.0 c.loop-line.invariant
 
 pub loop-line-preserved : goal.loop-line-preserved
 loop-line-preserved c =
-    let answers = answer_to (dump_view c.args.dump.now) in
+    let answers = computed_answer (dump_view c.args.dump.now) in
     let questions = c.args.questions.now in
     let so_far = c.loop-line in
     let line = c.in-Some.line in
@@ -29,7 +29,7 @@ loop-line-preserved c =
 -- no line has more rows than an answer may have, and the numbers of lines fit 32 bits
 pub overflow_add-rows : goal.overflow_add-rows
 overflow_add-rows c =
-    let answers = answer_to (dump_view c.args.dump.now) in
+    let answers = computed_answer (dump_view c.args.dump.now) in
     let questions = c.args.questions.now in
     let so_far = c.loop-line in
     let line = c.in-Some.line in

@@ -6,7 +6,7 @@ use Rattle.gp_script.specs.declared.script.TheConstants.{MAX_SCRIPT_LENGTH}
 use Rattle.gp_script.specs.Scripts.{final_state}
 use Rattle.gp_dump.specs.Dumps.{dump_of}
 use Rattle.gp_dump.specs.Views.{dump_view}
-use Rattle.gp_ask.specs.Answers.{answer_to}
+use Rattle.gp_ask.specs.Computed.{computed_answer}
 use Rattle.gprom_cli.specs.Generated.{generated_questions}
 use Rattle.gprom_cli.specs.Summaries.{rows_in}
 use Rattle.gprom_cli.proofs.GeneratedLemmas.{short-script}
@@ -48,5 +48,6 @@ returns c =
     c.count_lost.ensures
     c.count_spans.ensures
     (c.count_lines-2.ensures ∙ ap (λ (text : List ℕ). length (script_lines text)) c.deref-4.ensures.value)
-    (c.in_ok-count_rows.ensures ∙ ap (λ (text : List ℕ). rows_in (answer_to dump) text) c.deref-5.ensures.value)
-    ∙ summary-is c.args.rounds script dump committed questions c.in_ok-script.ensures is_dump c.in_ok-committed.ensures is_questions (c.scripts_have_well_formed_dumps.ensures.rows script)
+    (c.in_ok-count_rows.ensures ∙ ap (λ (text : List ℕ). rows_in (computed_answer dump) text) c.deref-5.ensures.value)
+    ∙ summary-is c.args.rounds script dump committed questions c.in_ok-script.ensures is_dump c.in_ok-committed.ensures is_questions
+    (λ asked. c.scripts_have_well_formed_dumps.ensures.rows script asked (subst IsShort (sym c.in_ok-script.ensures) (short-script c.args.rounds c.requires)))
