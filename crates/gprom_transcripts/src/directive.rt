@@ -1,5 +1,8 @@
 //! The directives of a transcript: what one line says.
 
+/// More calls of the files, and more writes, than those of which a transcript speaks.
+pub(crate) const LAST_CALL: u16 = 1000;
+
 /// What a text line is a line of.
 #[derive(Clone, Copy, PartialEq, Eq)]
 pub(crate) enum Marker {
@@ -48,9 +51,11 @@ pub(crate) enum Directive<'a> {
     /// What the file of this name has to hold after the call.
     After(&'a str, Shown<'a>),
     /// The call of the files that fails, counted from 1.
-    FailFiles(u64),
+    FailFiles(u16),
     /// The write to the output that fails, counted from 1.
-    FailWrite(u64),
+    FailWrite(u16),
+    /// How often the call writes to the output.
+    Writes(u16),
     /// The text lines up to `Again` stand for each number from the first to the last.
     Repeat(u64, u64),
     /// The end of `Repeat`.
@@ -80,7 +85,8 @@ impl Line<'_> {
     /// Whether something that a call wrote, its status or a file is checked here.
     pub(crate) fn is_check(&self) -> bool {
         match self.directive {
-            Directive::Text(Marker::Output, _) | Directive::After(_, _) => true,
+            Directive::Text(Marker::Output, _) | Directive::After(_, _) | Directive::Writes(_) =>
+                true,
             Directive::Output(Shown::Unchecked) => false,
             Directive::Output(_) => true,
             Directive::Status(status) => status != 0,
@@ -109,6 +115,7 @@ fn directive_in_words<'a>(word: &str, rest: &'a str) -> Option<Directive<'a>> {
         "status" => Some(Directive::Status(rest.parse::<u8>().ok()?)),
         "after" => after(rest),
         "fail" => fail(rest),
+        "writes" => Some(Directive::Writes(call_number(rest)?)),
         "repeat" => repeat(rest),
         "again" if rest.is_empty() => Some(Directive::Again),
         _ => None,
@@ -166,9 +173,19 @@ fn shown_by(words: &str) -> Option<Shown<'_>> {
     }
 }
 
+/// The number of a call that can be counted.
+fn call_number(text: &str) -> Option<u16> {
+    let call = text.parse::<u16>().ok()?;
+    if 0 < call && call < LAST_CALL {
+        Some(call)
+    } else {
+        None
+    }
+}
+
 fn fail(rest: &str) -> Option<Directive<'_>> {
     let (what, call) = rest.split_once(' ')?;
-    let call = call.parse::<u64>().ok()?;
+    let call = call_number(call)?;
     match what {
         "read" | "replace" => Some(Directive::FailFiles(call)),
         "write" => Some(Directive::FailWrite(call)),

@@ -59,23 +59,18 @@ pub(crate) fn real_file<H: Shelf>(
     }
 }
 
-/// Adds the file of this name, if the shelf of a call has one. At most `fails` more of the calls of the shelf fail.
+/// Adds the file of this name, if the shelf of a call has one. No further call of the shelf fails.
 pub(crate) fn add_from(
     alloc: Global,
     shelf: &mut MemShelf,
     name: &str,
-    fails: usize,
     files: &mut Vec<NamedFile>,
 ) -> Result<(), Failure> {
-    for _ in 0..=fails {
-        match shelf.read(name, MOST) {
-            Ok(bytes) => return Ok(put(alloc, files, name, &bytes)?),
-            Err(ShelfStop::Absent) => return Ok(()),
-            Err(ShelfStop::NoMemory) => return Err(NO_MEMORY),
-            Err(ShelfStop::Failed) => (),
-        }
+    match shelf.read(name, MOST) {
+        Ok(bytes) => Ok(put(alloc, files, name, &bytes)?),
+        Err(ShelfStop::Absent) => Ok(()),
+        Err(ShelfStop::NoMemory | ShelfStop::Failed) => Err(NO_MEMORY),
     }
-    Ok(())
 }
 
 /// A file with `lines` in place of its line of this number, or behind that line where it is kept. None if it has no such line.

@@ -1,12 +1,13 @@
 //! Transcripts are played: files are given, calls are made, and what they leave is checked.
 
 use crate::check::Check;
-use crate::directive::{Directive, Line, Marker, Shown};
+use crate::directive::{Directive, LAST_CALL, Line, Marker, Shown};
+use crate::effect::check_effects;
 use crate::files::{add_from, altered, content, copies, put, real_file};
 use crate::report::Failure;
 use crate::text::expanded;
 use crate::transcript::lines_of;
-use gp_io::{MemShelf, MemSink, NamedFile, Shelf};
+use gp_io::{MemShelf, MemSink, NamedFile, Shelf, ShelfStop, Sink, SinkStop};
 use gprom_cli::gprom;
 use std::alloc::{AllocError, Global};
 use std::mem;
@@ -64,17 +65,60 @@ fn input_file(words: &str) -> Option<&str> {
     }
 }
 
-/// The calls of the files, or else the writes to the output, that fail.
+/// The calls of the files, or else the writes to the output, that fail. Where there are such, so does the last one, by which they are counted.
 fn failing(alloc: Global, body: &[Line<'_>], of_files: bool) -> Result<Vec<u64>, AllocError> {
     let mut calls = Vec::new(alloc);
     for line in body {
         match line.directive {
-            Directive::FailFiles(call) if of_files => calls.push(call)?,
-            Directive::FailWrite(call) if !of_files => calls.push(call)?,
+            Directive::FailFiles(call) if of_files => calls.push(u64::from(call))?,
+            Directive::FailWrite(call) if !of_files => calls.push(u64::from(call))?,
+            Directive::Writes(_) if !of_files => calls.push(u64::from(LAST_CALL))?,
             _ => (),
         }
     }
+    if !calls.is_empty() {
+        calls.push(u64::from(LAST_CALL))?;
+    }
     Ok(calls)
+}
+
+/// How many calls of these files were made, if the last one fails: as many as it is away from it.
+fn reads_made(shelf: &mut MemShelf) -> u16 {
+    let mut left = 0;
+    for call in 1..=LAST_CALL {
+        if matches!(shelf.read("", 0), Err(ShelfStop::Failed)) {
+            left = call;
+        }
+    }
+    LAST_CALL.saturating_sub(left)
+}
+
+/// How many writes were made, if the last one fails.
+fn writes_made(out: &mut MemSink) -> u16 {
+    let mut left = 0;
+    for call in 1..=LAST_CALL {
+        if matches!(out.write_all(b""), Err(SinkStop::Failed)) {
+            left = call;
+        }
+    }
+    LAST_CALL.saturating_sub(left)
+}
+
+/// Checks the number of calls of the files, or else that of writes: those that have to fail were made.
+fn check_made(alloc: Global, body: &[Line<'_>], of_files: bool, made: u16) -> Result<(), Failure> {
+    for line in body {
+        let (wanted, is_right) = match line.directive {
+            Directive::FailFiles(call) if of_files => (call, call <= made),
+            Directive::FailWrite(call) if !of_files => (call, call <= made),
+            Directive::Writes(count) if !of_files => (count, count == made),
+            _ => (0, true),
+        };
+        if !is_right {
+            let what = format!(in alloc; "wanted {wanted} calls, got {made}")?;
+            return Err(Failure::Differs(line.number, what.into_bytes()));
+        }
+    }
+    Ok(())
 }
 
 /// The status with which a call has to end.
@@ -124,15 +168,14 @@ fn files_behind(
     alloc: Global,
     files: &[NamedFile],
     words: &str,
-    fails: usize,
     shelf: &mut MemShelf,
 ) -> Result<Vec<NamedFile>, Failure> {
     let mut behind = Vec::new(alloc);
     for file in files {
-        add_from(alloc, shelf, file.name.as_str(), fails, &mut behind)?;
+        add_from(alloc, shelf, file.name.as_str(), &mut behind)?;
     }
     for word in words.split(' ') {
-        add_from(alloc, shelf, word, fails, &mut behind)?;
+        add_from(alloc, shelf, word, &mut behind)?;
     }
     Ok(behind)
 }
@@ -195,15 +238,9 @@ impl Player {
         }
     }
 
-    /// Keeps what a call left. At most `fails` more of the calls of its shelf fail.
-    fn keep(
-        &mut self,
-        words: &str,
-        fails: usize,
-        shelf: &mut MemShelf,
-        output: &[u8],
-    ) -> Result<(), Failure> {
-        self.after = files_behind(self.alloc, &self.files, words, fails, shelf)?;
+    /// Keeps what a call left.
+    fn keep(&mut self, words: &str, shelf: &mut MemShelf, output: &[u8]) -> Result<(), Failure> {
+        self.after = files_behind(self.alloc, &self.files, words, shelf)?;
         let output = Vec::from_slice(self.alloc, output)?;
         self.output_before = mem::replace(&mut self.output, output);
         self.calls = self.calls.saturating_add(1);
@@ -215,8 +252,9 @@ impl Player {
         let mut shelf = shelf_of(self.alloc, &self.files, body)?;
         let mut out = MemSink::new(self.alloc, failing(self.alloc, body, false)?);
         let status = called(self.alloc, words, &mut shelf, &mut out)?;
-        // Each call of the shelf that fails has a line.
-        self.keep(words, body.len(), &mut shelf, out.bytes())?;
+        check_made(self.alloc, body, true, reads_made(&mut shelf))?;
+        check_made(self.alloc, body, false, writes_made(&mut out))?;
+        self.keep(words, &mut shelf, out.bytes())?;
         Ok(status)
     }
 
@@ -303,6 +341,7 @@ impl Player {
             _ => Ok(()),
         }
     }
+
     /// Plays a transcript.
     fn play_steps<H: Shelf>(&mut self, lines: &[Line<'_>], real: &mut H) -> Result<(), Failure> {
         for step in lines.chunk_by(|_, next| !next.begins_step()) {
@@ -318,6 +357,7 @@ pub(crate) fn play<H: Shelf>(alloc: Global, text: &str, real: &mut H) -> Result<
     if !lines.iter().any(|line| line.is_check()) {
         return Err(Failure::Whole("no check"));
     }
+    check_effects(&lines)?;
     let mut player = Player::new(alloc);
     player.play_steps(&lines, real)?;
     Ok(player.calls)

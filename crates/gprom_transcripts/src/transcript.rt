@@ -40,6 +40,7 @@ impl Place {
             | Directive::Status(_)
             | Directive::FailFiles(_)
             | Directive::FailWrite(_)
+            | Directive::Writes(_)
                 if self.in_call => { (true, false, false) }
             _ => return None,
         };
