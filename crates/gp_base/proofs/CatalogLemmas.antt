@@ -10,7 +10,8 @@ use Rattle.indexmap.specs.IndexMap.{insert_entry}
 use Rattle.indexmap.proofs.MapLemmas.{some_index}
 use Rattle.gp_base.specs.declared.table.Table.{Table}
 use Rattle.gp_base.specs.declared.catalog.TheConstants.{MAX_TABLES}
-use Rattle.gp_base.specs.Catalogs.{table_names, HaveDifferentNames}
+use Rattle.gp_base.specs.Catalogs.{table_names}
+use Rattle.gp_base.specs.CatalogForms.{HaveDifferentNames}
 
 -- keys that differ, which are the names, differ as lists of bytes
 pub different_names : (names : List (List ℕ)) (tables : List Table) → names ≡ table_names tables → IsDistinct bytes_eq names → HaveDifferentNames tables

@@ -4,7 +4,7 @@ use Rattle.std.specs.Ordering.{is_eq, nat_cmp, ordering_then}
 use Rattle.std.specs.Cmp.{both_tied, tied_itself, unsigned_ties}
 use Rattle.std.specs.declared.cmp.Ordering.TheVariants.{Less}
 use Rattle.gp_base.specs.Identities.{Identity, Sources, identity, no_sources, source, identity_cmp, sources_cmp, same_identity, same_sources}
-use Rattle.gp_base.specs.IdentityParts.{sources_of}
+use Rattle.gp_base.specs.IdentityForms.{sources_of}
 use Rattle.gp_base.specs.IdentityOrder.{identity_cmp_total}
 
 mutual

@@ -3,7 +3,7 @@ use Rattle.std.proofs.Common.{◌≡◌, ◌-◌, ◌<◌, ◌≤◌, List, [], 
 use Rattle.std.proofs.lemmas.List.{take_rest}
 use Rattle.std.specs.declared.cmp.Ordering.TheVariants.{Less}
 use Rattle.gp_base.specs.Identities.{Identity, identity, nodes, nodes_in, sources_cmp}
-use Rattle.gp_base.specs.IdentityParts.{sources_of}
+use Rattle.gp_base.specs.IdentityForms.{sources_of}
 
 one_le_nodes : (id : Identity) → 1 ≤ nodes id
 one_le_nodes (identity t k n ids) = omega arith

@@ -4,7 +4,7 @@ use Rattle.std.specs.List.{flat_map}
 use Rattle.std.proofs.Math.Seq.{take-append-add}
 use Rattle.std.proofs.lemmas.List.{append-nil, take_at, take-append-le, take_min, take-append-drop, at_drop_more}
 use Rattle.std.proofs.lemmas.Grind.{flat_map-append}
-use Rattle.gp_base.specs.Writing.{AppendsPrefix}
+use Rattle.gp_base.specs.DirectWriting.{AppendsPrefix}
 
 -- the whole first part is written
 pub AppendsPrefix-part : (old new text part rest : List ℕ) → new ≡ old ++ part → text ≡ part ++ rest → AppendsPrefix old new text

@@ -15,8 +15,8 @@ pub record Annotations (M : Type 0) : Type 0 where
   pub token : Token → M
 
 -- no annotations
-abbrev pub plain : Annotations (Unit {0})
-plain = record { one = tt; times = λ a b. tt; token = λ t. tt }
+abbrev pub unannotated : Annotations (Unit {0})
+unannotated = record { one = tt; times = λ a b. tt; token = λ t. tt }
 
 -- monomials: a row is annotated with one summand of its provenance polynomial
 abbrev pub monomials : Annotations Monomial

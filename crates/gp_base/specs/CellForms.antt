@@ -5,7 +5,7 @@ use Rattle.gp_base.specs.declared.cell.Cell.{Cell}
 use Rattle.gp_base.specs.declared.cell.Cell.TheVariants.{Null, Int, Text, Id, Mark, Mono}
 use Rattle.gp_base.specs.declared.cell.CellRef as r
 use Rattle.gp_base.specs.declared.cell.CellRef.TheVariants as v
-use Rattle.gp_base.specs.IdentityParts.{IsIdentity}
+use Rattle.gp_base.specs.IdentityForms.{IsIdentity}
 use Rattle.gp_base.specs.MonomialForms.{IsMonomial}
 
 -- a number in a cell fits 64 bits with sign, and an identity or a monomial is one

@@ -5,7 +5,7 @@ use Rattle.std.specs.Coded.{Coded, code_by, coded_list, coded_ℕ}
 use Rattle.std.proofs.Common.{arith, ap, sym, ◌∙◌, append_assoc, append-nil, length-append}
 use denote.Param.Weighed.{most}
 use Rattle.gp_base.specs.Identities.{Identity, Sources, identity, no_sources, source, nodes, nodes_in}
-use Rattle.gp_base.specs.IdentityParts.{sources_of}
+use Rattle.gp_base.specs.IdentityForms.{sources_of}
 
 -- a 0 ends a list of sources, and a 1 comes before each of them
 abbrev mutual

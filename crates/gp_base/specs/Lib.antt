@@ -16,6 +16,9 @@ pub mod Writing
 pub mod CellForms
 pub mod MonomialForms
 pub mod IdentityParts
+pub mod IdentityForms
+pub mod CatalogForms
+pub mod DirectWriting
 pub mod UserCells
 pub mod Digits
 pub mod Leaves

@@ -1,6 +1,6 @@
 -- Part of the statement: the tokens of provenance polynomials, and monomials: finite products of tokens, each with its count (Green,
 -- Karvounarakis and Tannen 2007). Their counts stop at the greatest number of 64 bits.
-use Rattle.std.specs.Prelude.{ℕ, ◌+◌, min, List, [], ◌∷◌, codes, if◌then◌else◌, ◌==◌}
+use Rattle.std.specs.Prelude.{ℕ, ◌+◌, ◌&&◌, nat_le, min, Bool, List, [], ◌∷◌, codes, if◌then◌else◌, ◌==◌}
 use Rattle.std.specs.List.{concat}
 use Rattle.std.specs.Fmt.{decimal}
 use Rattle.std.specs.Ordering.{nat_cmp, ordering_then, on, then_cmp}
@@ -23,6 +23,16 @@ token_cmp (Queried t k) (Updated u l) = Less
 token_cmp (Updated t k) (Inserted u l m) = Greater
 token_cmp (Updated t k) (Queried u l) = Greater
 token_cmp (Updated t k) (Updated u l) = ordering_then (nat_cmp t u) (nat_cmp k l)
+
+-- a number of 32 bits
+abbrev pub is_u32 : ℕ → Bool
+is_u32 n = nat_le n 0xffff_ffff
+
+-- a token whose numbers have 32 bits
+abbrev pub is_token : Token → Bool
+is_token (Inserted t k n) = is_u32 t && (is_u32 k && is_u32 n)
+is_token (Queried t k) = is_u32 t && is_u32 k
+is_token (Updated t k) = is_u32 t && is_u32 k
 
 -- the greatest count
 abbrev pub greatest_count : ℕ

@@ -1,7 +1,8 @@
 //! The catalogue of a history.
 
 ghost use Rattle.std.specs.Prelude.{◌≡◌, ◌↔◌, ◌<◌, ◌≤◌, ◌++◌, ◌∷◌, [], Err, Some, length, slice_get, None, IfOk, OnOk, OnErr, IsSome};
-ghost use Rattle.gp_base.specs.Catalogs.{place_of, HaveDifferentNames};
+ghost use Rattle.gp_base.specs.Catalogs.{place_of};
+ghost use Rattle.gp_base.specs.CatalogForms.{HaveDifferentNames};
 
 use crate::error::AddStop;
 use crate::name::Name;

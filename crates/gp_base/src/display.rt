@@ -6,9 +6,9 @@ ghost use Rattle.std.specs.Fmt.{signed_decimal};
 ghost use Rattle.std.specs.List.{flat_map};
 ghost use Rattle.gp_base.specs.Texts.{cell_text, row_text, quoted_byte};
 ghost use Rattle.gp_base.specs.Identities.{identity_text, others_text, sources_text};
-ghost use Rattle.gp_base.specs.IdentityParts.{sources_of};
+ghost use Rattle.gp_base.specs.IdentityForms.{sources_of};
 ghost use Rattle.gp_base.specs.Tokens.{monomial_text, power_text, token_text};
-ghost use Rattle.gp_base.specs.Writing.{AppendsPrefix};
+ghost use Rattle.gp_base.specs.DirectWriting.{AppendsPrefix};
 
 use crate::cell::Cell;
 use crate::error::NoMemory;

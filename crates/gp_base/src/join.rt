@@ -2,7 +2,8 @@
 
 ghost use Rattle.std.specs.Prelude.{◌≡◌, ◌++◌, IfOk, OnOk, OnErr, List, ℕ, ◌∷◌};
 ghost use Rattle.std.specs.List.{flat_map};
-ghost use Rattle.gp_base.specs.Writing.{AppendsPrefix, joined};
+ghost use Rattle.gp_base.specs.Writing.{joined};
+ghost use Rattle.gp_base.specs.DirectWriting.{AppendsPrefix};
 
 use crate::error::NoMemory;
 use std::alloc::Global;

@@ -8,7 +8,7 @@ ghost use Rattle.gp_base.specs.declared.cell.Cell.{Cell};
 ghost use Rattle.gp_base.specs.declared.token.Token.{Token};
 ghost use Rattle.gp_base.specs.CellForms.{ArePlain};
 ghost use Rattle.gp_base.specs.Identities.{Identity, identity_cmp, same_identity, sources_cmp};
-ghost use Rattle.gp_base.specs.IdentityParts.{sources_of};
+ghost use Rattle.gp_base.specs.IdentityForms.{sources_of};
 ghost use Rattle.gp_base.specs.Order.{row_cmp, sorted_by};
 ghost use Rattle.gp_base.specs.Texts.{row_text};
 ghost use Rattle.gp_base.specs.Tokens.{Monomial, greatest_count, monomial_cmp, one, times, token_cmp};

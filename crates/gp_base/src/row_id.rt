@@ -4,7 +4,8 @@ ghost use Rattle.std.specs.Prelude.{◌≡◌, ◌<◌, ◌≤◌, IfSome, Match
 ghost use Rattle.std.specs.Ordering.{eq_by_cmp, as_partial_cmp};
 ghost use Rattle.std.specs.Cmp.{eq_by_cmp_equiv, partial_equiv_from_equiv, po};
 ghost use Rattle.gp_base.specs.Identities.{identity, identity_cmp, nodes, nodes_in, sources_cmp};
-ghost use Rattle.gp_base.specs.IdentityParts.{AreIdentities, IsIdentity, number_of, sources_in, sources_of, statement_of, transaction_of};
+ghost use Rattle.gp_base.specs.IdentityParts.{statement_of, transaction_of};
+ghost use Rattle.gp_base.specs.IdentityForms.{AreIdentities, IsIdentity, number_of, sources_in, sources_of};
 ghost use Rattle.gp_base.specs.IdentityOrder.{identity_cmp_total};
 
 use std::alloc::AllocError;
@@ -31,7 +32,7 @@ impl Model for RowId {
     ghost use Rattle.std.specs.Prelude.{◌≡◌};
     ghost use Rattle.std.proofs.Common.{arith};
     ghost use Rattle.gp_base.specs.Identities.{Identity, identity, nodes};
-    ghost use Rattle.gp_base.specs.IdentityParts.{IsIdentity, sources_of};
+    ghost use Rattle.gp_base.specs.IdentityForms.{IsIdentity, sources_of};
     ghost use Rattle.gp_base.specs.IdentityCodes.{coded_identity, most_le-nodes};
 
     ghost Value = { Identity };

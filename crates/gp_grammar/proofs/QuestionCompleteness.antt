@@ -9,12 +9,12 @@ use Rattle.gp_grammar.specs.declared.token_kind.TokenKind.{TokenKind}
 use Rattle.gp_grammar.specs.declared.token_kind.TokenKind.TheVariants as token
 use Rattle.gp_grammar.specs.declared.limits.TheConstants.{MAX_PATTERN_NUMBER}
 use Rattle.gp_grammar.specs.Syntax as syntax
-use Rattle.gp_grammar.specs.Syntax.{Lexemes, Bytes, Command, State, Pattern, Rule, rule_of, Rules, How, Query, LogChange, Kept, Side, Question}
+use Rattle.gp_grammar.specs.Syntax.{Lexemes, Bytes, Command, Point, Pattern, Rule, rule_of, Rules, How, Query, LogChange, Kept, Side, Question}
 use Rattle.gp_grammar.specs.Capping.{capped_block, capped_command, capped_change, capped_side, capped_question}
 use Rattle.gp_grammar.specs.CommandGrammar as l
 use Rattle.gp_grammar.specs.CommandGrammar.{IsList, comma, IsQuery, IsStatement, Closed}
 use Rattle.gp_grammar.specs.QuestionGrammar as g
-use Rattle.gp_grammar.specs.QuestionGrammar.{IsState, IsSemiring, IsPattern, IsRule, IsRules, IsLeftOut, IsHow, IsAsk, IsChange, IsKept, IsKeptHow, IsSide, IsOpenQuestion, pattern_name}
+use Rattle.gp_grammar.specs.QuestionGrammar.{IsPoint, IsSemiring, IsPattern, IsRule, IsRules, IsLeftOut, IsHow, IsAsk, IsChange, IsKept, IsKeptHow, IsSide, IsOpenQuestion, pattern_name}
 use Rattle.gp_grammar.specs.Parsing.{Outcome, Parser, ◌>>=◌, by_option, strip, expect}
 use Rattle.gp_grammar.specs.CommandParsing.{◌then◌, where_next, accept, strip_word, expect_word, push, query, statement}
 use Rattle.gp_grammar.specs.QuestionParsing as q
@@ -144,7 +144,7 @@ semiring-complete _ _ g.level rest = refl
 semiring-complete _ _ g.poly rest = refl
 semiring-complete _ _ g.witness rest = refl
 
-state-complete : (a : Lexemes) (x : State) → IsState a x → (rest : Lexemes) → q.state (a ++ rest) ≡ Ok (x, rest)
+state-complete : (a : Lexemes) (x : Point) → IsPoint a x → (rest : Lexemes) → q.state (a ++ rest) ≡ Ok (x, rest)
 unfolding q.state
 state-complete _ _ (g.as_of v) rest = refl
 state-complete _ _ (g.after t k) rest = refl
@@ -245,7 +245,7 @@ record BeginsState (ts : Lexemes) : Type 0 where
   sides : q.side ts ≡ q.as_is_side ts
   asks : q.open_question ts ≡ q.ask syntax.ask ts
 
-begins-state : (b : Lexemes) (x : State) → IsState b x → (rest : Lexemes) → BeginsState (b ++ rest)
+begins-state : (b : Lexemes) (x : Point) → IsPoint b x → (rest : Lexemes) → BeginsState (b ++ rest)
 unfolding q.how q.kept_how q.side q.open_question
 begins-state _ _ (g.as_of v) rest = record { no_provenance = refl; rows = refl; all = refl; sides = refl; asks = refl }
 begins-state _ _ (g.after t k) rest = record { no_provenance = refl; rows = refl; all = refl; sides = refl; asks = refl }
@@ -286,13 +286,13 @@ begins-how _ _ (g.without a xs i) rest h = refl
 ask-split : (a b c rest : Lexemes) → (a ++ (b ++ c)) ++ rest ≡ a ++ (b ++ (c ++ rest))
 ask-split a b c rest = simp append_assoc
 
-begins-ask : (a : Lexemes) (how : How) (state : State) (xs : Query) → IsAsk a how state xs → (rest : Lexemes) → q.open_question (a ++ rest) ≡ q.ask syntax.ask (a ++ rest)
+begins-ask : (a : Lexemes) (how : How) (state : Point) (xs : Query) → IsAsk a how state xs → (rest : Lexemes) → q.open_question (a ++ rest) ≡ q.ask syntax.ask (a ++ rest)
 begins-ask _ _ _ _ (g.asked a b c how state xs i j k) rest =
     let P : Lexemes → Type 0 = λ z. q.open_question z ≡ q.ask syntax.ask z in
     subst P (sym (ask-split a b c rest)) (begins-how a how i (b ++ (c ++ rest)) (begins-state b state j (c ++ rest)))
 
-module _ {A : Type 0} (question : How → State → Query → A) where
-  ask-of : (ts us ws rest : Lexemes) (how : How) (state : State) (xs : Query) → q.how ts ≡ Ok (how, us) → q.state us ≡ Ok (state, ws) → query ws ≡ Ok (xs, rest)
+module _ {A : Type 0} (question : How → Point → Query → A) where
+  ask-of : (ts us ws rest : Lexemes) (how : How) (state : Point) (xs : Query) → q.how ts ≡ Ok (how, us) → q.state us ≡ Ok (state, ws) → query ws ≡ Ok (xs, rest)
       → q.ask question ts ≡ Ok (question how state xs, rest)
   unfolding q.ask
   ask-of ts us ws rest how state xs e f h =
@@ -300,7 +300,7 @@ module _ {A : Type 0} (question : How → State → Query → A) where
       ∙ ap (λ o. o >>= (λ state. query state.1 >>= (λ xs. Ok (question how state.0 xs.0, xs.1)))) f
       ∙ ap (λ o. o >>= (λ xs. Ok (question how state xs.0, xs.1))) h
 
-  ask-complete : (a : Lexemes) (how : How) (state : State) (xs : Query) → IsAsk a how state xs → (rest : Lexemes) → EndsQuery rest
+  ask-complete : (a : Lexemes) (how : How) (state : Point) (xs : Query) → IsAsk a how state xs → (rest : Lexemes) → EndsQuery rest
       → q.ask question (a ++ rest) ≡ Ok (question how state (map capped_block xs), rest)
   ask-complete _ _ _ _ (g.asked a b c how state xs i j k) rest h =
       ap (q.ask question) (ask-split a b c rest)
@@ -339,7 +339,7 @@ unfolding q.kept_how
 kept_how-complete _ _ g.all rest h = h.all
 kept_how-complete _ _ (g.remaining a xs i) rest h = ap q.without (append_assoc a (Word (codes "of") ∷ []) rest) ∙ without-complete a xs i rest
 
-kept-of : (ts us rest : Lexemes) (how : How) (state : State) → q.kept_how ts ≡ Ok (how, us) → q.state us ≡ Ok (state, rest) → q.kept ts ≡ Ok (q.kept_of how state, rest)
+kept-of : (ts us rest : Lexemes) (how : How) (state : Point) → q.kept_how ts ≡ Ok (how, us) → q.state us ≡ Ok (state, rest) → q.kept ts ≡ Ok (q.kept_of how state, rest)
 unfolding q.kept
 kept-of ts us rest how state e f =
     ap (λ o. o >>= (λ how. q.state how.1 >>= (λ state. Ok (q.kept_of how.0 state.0, state.1)))) e

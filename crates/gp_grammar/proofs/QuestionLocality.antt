@@ -9,7 +9,7 @@ use Rattle.gp_grammar.specs.declared.token_kind.TokenKind.{TokenKind}
 use Rattle.gp_grammar.specs.declared.token_kind.TokenKind.TheVariants as token
 use Rattle.gp_grammar.specs.declared.limits.TheConstants.{MAX_PATTERN_NUMBER}
 use Rattle.gp_grammar.specs.Syntax as syntax
-use Rattle.gp_grammar.specs.Syntax.{Lexemes, Bytes, Command, State, Pattern, Rule, rule_of, Rules, How, Query, LogChange, Kept, Side, Question}
+use Rattle.gp_grammar.specs.Syntax.{Lexemes, Bytes, Command, Point, Pattern, Rule, rule_of, Rules, How, Query, LogChange, Kept, Side, Question}
 use Rattle.gp_grammar.specs.QuestionGrammar.{pattern_name}
 use Rattle.gp_grammar.specs.Parsing.{Outcome, Parser, ◌>>=◌, by_option, identifier}
 use Rattle.gp_grammar.specs.CommandParsing.{◌then◌, where_next, fail, accept, where_word, expect_word, push, separated, in_brackets, query, statement}
@@ -65,11 +65,11 @@ module _ (t : Lexeme) (m m' : Lexemes) where
   is_local-state : IsLocal q.state
   unfolding q.state
   is_local-state = local-next-all t m m' s.As (expect_word (codes "of") (λ ts. number ts >>= (λ v. Ok (syntax.as_of v.0, v.1))))
-      (expect_word (codes "reenact") (λ ts. number ts >>= (λ t. where_next s.Commit (accept (syntax.State.commit t.0))
+      (expect_word (codes "reenact") (λ ts. number ts >>= (λ t. where_next s.Commit (accept (syntax.Point.commit t.0))
       (expect_word (codes "after") (λ rest. number rest >>= (λ k. Ok (syntax.after t.0 k.0, k.1)))) t.1)))
       (is_local-expect (codes "of") _ (is_local-bind number _ is_local-number (λ v. is_local-ok (syntax.as_of v))))
-      (is_local-expect (codes "reenact") _ (is_local-bind number _ is_local-number (λ x. local-next-all t m m' s.Commit (accept (syntax.State.commit x))
-      (expect_word (codes "after") (λ rest. number rest >>= (λ k. Ok (syntax.after x k.0, k.1)))) (is_local-ok (syntax.State.commit x))
+      (is_local-expect (codes "reenact") _ (is_local-bind number _ is_local-number (λ x. local-next-all t m m' s.Commit (accept (syntax.Point.commit x))
+      (expect_word (codes "after") (λ rest. number rest >>= (λ k. Ok (syntax.after x k.0, k.1)))) (is_local-ok (syntax.Point.commit x))
       (is_local-expect (codes "after") _ (is_local-bind number _ is_local-number (λ k. is_local-ok (syntax.after x k)))))))
 
   is_local-semiring : IsLocal q.semiring_name
@@ -153,7 +153,7 @@ module _ (t : Lexeme) (m m' : Lexemes) where
       (local-word-all t m m' (codes "value") q.value (where_word (codes "without") q.without (accept syntax.rows)) is_local-value
       (local-word-all t m m' (codes "without") q.without (accept syntax.rows) is_local-without (is_local-ok syntax.rows))))
 
-  is_local-ask : {A : Type 0} (question : How → State → Query → A) → IsLocal (q.ask question)
+  is_local-ask : {A : Type 0} (question : How → Point → Query → A) → IsLocal (q.ask question)
   unfolding q.ask
   is_local-ask question = is_local-bind q.how _ is_local-how (λ how. is_local-bind q.state _ is_local-state (λ state.
       is_local-bind query _ (λ n. local-query t m m' n) (λ xs. is_local-ok (question how state xs))))

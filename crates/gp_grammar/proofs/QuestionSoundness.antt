@@ -10,12 +10,12 @@ use Rattle.gp_grammar.specs.declared.token_kind.TokenKind.{TokenKind}
 use Rattle.gp_grammar.specs.declared.token_kind.TokenKind.TheVariants as token
 use Rattle.gp_grammar.specs.declared.limits.TheConstants.{MAX_PATTERN_NUMBER}
 use Rattle.gp_grammar.specs.Syntax as syntax
-use Rattle.gp_grammar.specs.Syntax.{Lexemes, Bytes, Command, State, Pattern, Rule, rule_of, Rules, How, Query, LogChange, Kept, Side, Question}
+use Rattle.gp_grammar.specs.Syntax.{Lexemes, Bytes, Command, Point, Pattern, Rule, rule_of, Rules, How, Query, LogChange, Kept, Side, Question}
 use Rattle.gp_grammar.specs.Capping.{capped_change, capped_side, capped_question}
 use Rattle.gp_grammar.specs.CommandGrammar as l
 use Rattle.gp_grammar.specs.CommandGrammar.{IsList, comma, Closed}
 use Rattle.gp_grammar.specs.QuestionGrammar as g
-use Rattle.gp_grammar.specs.QuestionGrammar.{IsState, IsSemiring, IsPattern, IsRule, IsRules, IsLeftOut, IsHow, IsAsk, IsChange, IsKept, IsKeptHow, IsSide, IsOpenQuestion, pattern_name}
+use Rattle.gp_grammar.specs.QuestionGrammar.{IsPoint, IsSemiring, IsPattern, IsRule, IsRules, IsLeftOut, IsHow, IsAsk, IsChange, IsKept, IsKeptHow, IsSide, IsOpenQuestion, pattern_name}
 use Rattle.gp_grammar.specs.Parsing.{Outcome, ◌>>=◌, by_option}
 use Rattle.gp_grammar.specs.CommandParsing.{◌then◌, where_next, fail, accept, where_word, expect_word, push, separated, in_brackets, query, statement}
 use Rattle.gp_grammar.specs.QuestionParsing as q
@@ -64,20 +64,20 @@ number-sound Q ts f k = number_if-sound (λ n. true) refl Q ts f (λ n rest h. k
 
 -- ---- states and semirings
 
-state-sound : (ts : Lexemes) → Sound IsState ts (q.state ts)
+state-sound : (ts : Lexemes) → Sound IsPoint ts (q.state ts)
 unfolding q.state
-state-sound ts = next-sound s.As IsState (expect_word (codes "of") (λ ts. number ts >>= (λ v. Ok (syntax.as_of v.0, v.1))))
-    (expect_word (codes "reenact") (λ ts. number ts >>= (λ t. where_next s.Commit (accept (syntax.State.commit t.0))
+state-sound ts = next-sound s.As IsPoint (expect_word (codes "of") (λ ts. number ts >>= (λ v. Ok (syntax.as_of v.0, v.1))))
+    (expect_word (codes "reenact") (λ ts. number ts >>= (λ t. where_next s.Commit (accept (syntax.Point.commit t.0))
     (expect_word (codes "after") (λ rest. number rest >>= (λ k. Ok (syntax.after t.0 k.0, k.1)))) t.1))) ts
-    (λ ts1. expect_word-sound (codes "of") (λ b y. IsState (Sign s.As ∷ b) y) _ ts1 (λ ts2.
-    number-sound (λ b y. IsState (Sign s.As ∷ Word (codes "of") ∷ b) y) ts2 _ (λ v ts3. sound-ok _ ts3 (syntax.as_of v) (g.as_of v))))
-    (expect_word-sound (codes "reenact") IsState _ ts (λ ts1.
-    number-sound (λ b y. IsState (Word (codes "reenact") ∷ b) y) ts1 _ (λ t ts2.
-    next-sound s.Commit (λ b y. IsState (Word (codes "reenact") ∷ Number t ∷ b) y) (accept (syntax.State.commit t))
+    (λ ts1. expect_word-sound (codes "of") (λ b y. IsPoint (Sign s.As ∷ b) y) _ ts1 (λ ts2.
+    number-sound (λ b y. IsPoint (Sign s.As ∷ Word (codes "of") ∷ b) y) ts2 _ (λ v ts3. sound-ok _ ts3 (syntax.as_of v) (g.as_of v))))
+    (expect_word-sound (codes "reenact") IsPoint _ ts (λ ts1.
+    number-sound (λ b y. IsPoint (Word (codes "reenact") ∷ b) y) ts1 _ (λ t ts2.
+    next-sound s.Commit (λ b y. IsPoint (Word (codes "reenact") ∷ Number t ∷ b) y) (accept (syntax.Point.commit t))
     (expect_word (codes "after") (λ rest. number rest >>= (λ k. Ok (syntax.after t k.0, k.1)))) ts2
-    (λ ts3. sound-ok _ ts3 (syntax.State.commit t) (g.commit t))
-    (expect_word-sound (codes "after") (λ b y. IsState (Word (codes "reenact") ∷ Number t ∷ b) y) _ ts2 (λ ts3.
-    number-sound (λ b y. IsState (Word (codes "reenact") ∷ Number t ∷ Word (codes "after") ∷ b) y) ts3 _
+    (λ ts3. sound-ok _ ts3 (syntax.Point.commit t) (g.commit t))
+    (expect_word-sound (codes "after") (λ b y. IsPoint (Word (codes "reenact") ∷ Number t ∷ b) y) _ ts2 (λ ts3.
+    number-sound (λ b y. IsPoint (Word (codes "reenact") ∷ Number t ∷ Word (codes "after") ∷ b) y) ts3 _
     (λ k ts4. sound-ok _ ts4 (syntax.after t k) (g.after t k)))))))
 
 a_semiring : Sentence IsSemiring
@@ -252,16 +252,16 @@ how-sound ts =
     (word-sound (codes "without") IsHow q.without (accept syntax.rows) ts without-sound (sound-ok IsHow ts syntax.rows g.rows))))
 
 -- what is built with how, state and query, where the parser gives them to `question`
-ask-sound : {A : Type 0} (question : How → State → Query → A) (Q : Lexemes → A → Type 0)
-    → ((a b c : Lexemes) (how : How) (state : State) (xs : Query) → IsHow a how → IsState b state → BuildsQuery c xs → Q (a ++ (b ++ c)) (question how state xs))
+ask-sound : {A : Type 0} (question : How → Point → Query → A) (Q : Lexemes → A → Type 0)
+    → ((a b c : Lexemes) (how : How) (state : Point) (xs : Query) → IsHow a how → IsPoint b state → BuildsQuery c xs → Q (a ++ (b ++ c)) (question how state xs))
     → (ts : Lexemes) → Sound Q ts (q.ask question ts)
 unfolding q.ask
 ask-sound question Q build ts = sound-bind IsHow Q ts (q.how ts) _ (how-sound ts) (λ a ts1 how i.
-    sound-bind IsState (λ b y. Q (a ++ b) y) ts1 (q.state ts1) _ (state-sound ts1) (λ b ts2 state j.
+    sound-bind IsPoint (λ b y. Q (a ++ b) y) ts1 (q.state ts1) _ (state-sound ts1) (λ b ts2 state j.
     sound-bind BuildsQuery (λ c y. Q (a ++ (b ++ c)) y) ts2 (query ts2) _ (query-sound ts2)
     (λ c ts3 xs k. sound-ok _ ts3 (question how state xs) (let z : c ++ [] ≡ c = append-nil c in rw z (build a b c how state xs i j k)))))
 
-asks : (a b c : Lexemes) (how : How) (state : State) (xs : Query) → IsHow a how → IsState b state → BuildsQuery c xs → BuildsQuestion (a ++ (b ++ c)) (syntax.ask how state xs)
+asks : (a b c : Lexemes) (how : How) (state : Point) (xs : Query) → IsHow a how → IsPoint b state → BuildsQuery c xs → BuildsQuestion (a ++ (b ++ c)) (syntax.ask how state xs)
 asks a b c how state xs i j k = record {
   tree = syntax.ask how state k.tree;
   is = g.ask (a ++ (b ++ c)) how state k.tree (g.asked a b c how state k.tree i j k.is);
@@ -316,7 +316,7 @@ change-sound ts = word-sound (codes "drop") BuildsChange q.dropped (where_word (
     (word-sound (codes "replace") BuildsChange q.replaced (expect_word (codes "add") q.added) ts replaced-sound
     (expect_word-sound (codes "add") BuildsChange q.added ts added-sound))
 
-changes : (a : Lexemes) (change : LogChange) → BuildsChange a change → (b c d : Lexemes) (how : How) (state : State) (xs : Query) → IsHow b how → IsState c state → BuildsQuery d xs
+changes : (a : Lexemes) (change : LogChange) → BuildsChange a change → (b c d : Lexemes) (how : How) (state : Point) (xs : Query) → IsHow b how → IsPoint c state → BuildsQuery d xs
     → BuildsQuestion (Word (codes "whatif") ∷ (a ++ (Word (codes "of") ∷ (b ++ (c ++ d))))) (syntax.what_if change how state xs)
 changes a change i b c d how state xs j k l = record {
   tree = syntax.what_if i.tree how state l.tree;
@@ -339,7 +339,7 @@ kept_how-sound ts = word-sound (codes "without") IsKeptHow q.without (accept syn
 kept-sound : (ts : Lexemes) → Sound IsKept ts (q.kept ts)
 unfolding q.kept
 kept-sound ts = sound-bind IsKeptHow IsKept ts (q.kept_how ts) _ (kept_how-sound ts) (λ a ts1 how i.
-    sound-bind IsState (λ b y. IsKept (a ++ b) y) ts1 (q.state ts1) _ (state-sound ts1)
+    sound-bind IsPoint (λ b y. IsKept (a ++ b) y) ts1 (q.state ts1) _ (state-sound ts1)
     (λ b ts2 state j. sound-ok _ ts2 (q.kept_of how state) (let z : b ++ [] ≡ b = append-nil b in rw z (g.kept a b how state i j))))
 
 abbrev BuildsSide : Lexemes → Side → Type 0

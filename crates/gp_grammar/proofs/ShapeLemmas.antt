@@ -7,7 +7,8 @@ use Rattle.gp_grammar.specs.declared.limits.TheConstants.{MAX_COLUMNS, MAX_FROM,
 use Rattle.gp_grammar.specs.Syntax as syntax
 use Rattle.gp_grammar.specs.Syntax.{Term, SetTerm, Item, Items, Block, Query, Command, ScriptLine, LogChange, Side, Question}
 use Rattle.gp_grammar.specs.Limits as l
-use Rattle.gp_grammar.specs.Limits.{Limit, Shape, nodes, levels, some_above, passed_limit, terms_of_condition, listed, terms_of_query, query_shape, shape_of_terms, term_shape, command_shape, line_shape, change_shape, side_shape, both, question_shape}
+use Rattle.gp_grammar.specs.Limits.{Limit, Shape, nodes, levels, some_above, passed_limit, terms_of_condition, listed, terms_of_query, query_shape, shape_of_terms, command_shape, line_shape, change_shape, side_shape, both, question_shape}
+use Rattle.gp_grammar.specs.Laws.{CapsFairly, term_shape}
 use Rattle.gp_grammar.specs.Capping.{is_large, capped, capped_set, capped_items, capped_block, capped_command, capped_line, capped_change, capped_side, capped_question}
 use Rattle.gp_grammar.specs.Grammar.{IsTerm}
 use Rattle.gp_grammar.specs.CommandGrammar.{IsCommand, IsScriptLine}
@@ -15,7 +16,6 @@ use Rattle.gp_grammar.specs.QuestionGrammar.{IsQuestion}
 use Rattle.gp_grammar.specs.Parsing.{term}
 use Rattle.gp_grammar.specs.CommandParsing.{command, script_line}
 use Rattle.gp_grammar.specs.QuestionParsing.{question}
-use Rattle.gp_grammar.specs.Laws.{CapsFairly}
 use Rattle.gp_grammar.proofs.CappingLemmas.{Fair, capped-fair}
 
 -- ---- terms

@@ -1,5 +1,5 @@
 -- Part of the statement: what the laws say of a parser, a grammar and the definitions of reading.
-use Rattle.std.specs.Prelude.{◌≡◌, ◌↔◌, ℕ, Bool, List, None, Ok, Err, true, false, ◌==◌, ◌&&◌}
+use Rattle.std.specs.Prelude.{◌≡◌, ◌↔◌, ℕ, Bool, List, [], ◌∷◌, None, Ok, Err, true, false, ◌==◌, ◌&&◌}
 use Rattle.std.specs.List.{list_any}
 use Rattle.std.specs.Str.{IsUtf8}
 use Rattle.gp_lexer.specs.ProperLexemes.{AreProper}
@@ -9,12 +9,15 @@ use Rattle.gp_grammar.specs.Syntax.{Lexemes, Bytes, Command, is_statement, LogCh
 use Rattle.gp_grammar.specs.CommandGrammar.{IsCommand}
 use Rattle.gp_grammar.specs.Places.{Stops}
 use Rattle.gp_grammar.specs.Depth.{is_too_deep}
-use Rattle.gp_grammar.specs.Limits.{Shape, passed_limit, command_shape}
+use Rattle.gp_grammar.specs.Limits.{Shape, passed_limit, command_shape, shape_of_terms}
 use Rattle.gp_grammar.specs.Canonical.{command_lexemes, command_text}
 use Rattle.gp_grammar.specs.Parsing.{Parser, whole}
 use Rattle.gp_grammar.specs.CommandParsing.{command}
 use Rattle.gp_grammar.specs.LineReading.{Fault, ReadsText, RefusesText, ReadsLine, RefusesLine, AreReadOnce}
 use Rattle.gp_grammar.specs.Reading.{read_text, read_line, command_of, question_of}
+
+abbrev pub term_shape : y.Term → Shape
+term_shape x = shape_of_terms (x ∷ [])
 
 -- the parser builds this: a tree that the grammar derives, capped
 pub record Built {A : Type 0} (Is : Lexemes → A → Type 0) (cap : A → A) (lexemes : Lexemes) (built : A) : Type 0 where

@@ -5,6 +5,7 @@ pub mod CommandGrammar
 pub mod QuestionGrammar
 pub mod Places
 pub mod Depth
+pub mod Folding
 pub mod Limits
 pub mod LineReading
 pub mod Laws

@@ -2,34 +2,17 @@
 use Rattle.std.specs.Prelude.{ℕ, suc, ◌+◌, max, Bool, List, [], ◌∷◌, ◌++◌, length, map, Option, Some, None, nat_lt, if◌then◌else◌}
 use Rattle.std.specs.List.{flat_map, list_any}
 use Rattle.gp_grammar.specs.declared.limits.TheConstants.{MAX_COLUMNS, MAX_FROM, MAX_BRANCHES, MAX_VALUES, MAX_NODES, MAX_LEVELS}
+use Rattle.gp_grammar.specs.Folding.{folded}
 use Rattle.gp_grammar.specs.Syntax as y
 use Rattle.gp_grammar.specs.Syntax.{Term, SetTerm, Item, Items, Block, Query, Command, ScriptLine, LogChange, Side, Question}
 
 -- the literals, columns, operators and CASEs of a term; brackets are none
 abbrev pub nodes : Term → ℕ
-nodes y.null = 1
-nodes (y.int n) = 1
-nodes (y.text bytes) = 1
-nodes (y.col item name) = 1
-nodes (y.binary o a b) = nodes a + nodes b + 1
-nodes (y.neg a) = nodes a + 1
-nodes (y.not a) = nodes a + 1
-nodes (y.is_null a holds) = nodes a + 1
-nodes (y.is_true a holds) = nodes a + 1
-nodes (y.case a b c) = nodes a + nodes b + nodes c + 1
+nodes = folded (λ leaf. 1) (λ parts. parts + 1) ◌+◌
 
 -- a literal or a column has one level, any other term one more than the most of its parts
 abbrev pub levels : Term → ℕ
-levels y.null = 1
-levels (y.int n) = 1
-levels (y.text bytes) = 1
-levels (y.col item name) = 1
-levels (y.binary o a b) = suc (max (levels a) (levels b))
-levels (y.neg a) = suc (levels a)
-levels (y.not a) = suc (levels a)
-levels (y.is_null a holds) = suc (levels a)
-levels (y.is_true a holds) = suc (levels a)
-levels (y.case a b c) = suc (max (levels a) (max (levels b) (levels c)))
+levels = folded (λ leaf. 1) suc max
 
 pub data Limit : Type 0 where
   columns from branches values node_count depth : Limit
@@ -67,19 +50,15 @@ query_shape blocks = record {
 abbrev pub shape_of_terms : List Term → Shape
 shape_of_terms terms = record { columns = []; from = []; branches = 0; values = 0; terms = terms }
 
-abbrev pub term_shape : Term → Shape
-term_shape x = shape_of_terms (x ∷ [])
-
+-- any other command has nothing that a limit is on
 abbrev pub command_shape : Command → Shape
 command_shape (y.create table) = record { columns = length table.cols ∷ []; from = []; branches = 0; values = 0; terms = [] }
-command_shape (y.begin read_committed) = shape_of_terms []
-command_shape y.Command.commit = shape_of_terms []
-command_shape y.rollback = shape_of_terms []
 command_shape (y.insert table rows) = record { columns = []; from = []; branches = 0; values = length rows; terms = [] }
 command_shape (y.insert_select table query) = query_shape query
 command_shape (y.update table sets cond) = shape_of_terms (map (λ (set : SetTerm). set.term) sets ++ terms_of_condition cond)
 command_shape (y.delete table cond) = shape_of_terms (terms_of_condition cond)
 command_shape (y.select query) = query_shape query
+command_shape _ = shape_of_terms []
 
 abbrev pub line_shape : ScriptLine → Shape
 line_shape line = command_shape line.command
@@ -103,18 +82,14 @@ abbrev pub side_shape : Side → Shape
 side_shape (y.as_is kept) = shape_of_terms []
 side_shape (y.changed change kept) = change_shape change
 
+-- any other question has nothing that a limit is on
 abbrev pub question_shape : Question → Shape
-question_shape y.transactions = shape_of_terms []
-question_shape (y.log t) = shape_of_terms []
-question_shape (y.versions table) = shape_of_terms []
 question_shape (y.saw t k query) = query_shape query
-question_shape (y.changes t k) = shape_of_terms []
-question_shape (y.commit_changes t) = shape_of_terms []
-question_shape y.check = shape_of_terms []
 question_shape (y.diff first second query) = both (both (side_shape first) (side_shape second)) (query_shape query)
 question_shape (y.causes kept query) = query_shape query
 question_shape (y.ask how state query) = query_shape query
 question_shape (y.what_if change how state query) = both (change_shape change) (query_shape query)
+question_shape _ = shape_of_terms []
 
 abbrev pub some_above : ℕ → List ℕ → Bool
 some_above most = list_any (λ n. nat_lt most n)

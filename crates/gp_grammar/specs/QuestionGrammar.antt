@@ -10,13 +10,13 @@ use Rattle.gp_grammar.specs.declared.token_kind.TokenKind.{TokenKind}
 use Rattle.gp_grammar.specs.declared.token_kind.TokenKind.TheVariants as token
 use Rattle.gp_grammar.specs.declared.limits.TheConstants.{MAX_PATTERN_NUMBER}
 use Rattle.gp_grammar.specs.Syntax as y
-use Rattle.gp_grammar.specs.Syntax.{Lexemes, Bytes, Command, State, Pattern, Rule, rule_of, Rules, How, Query, LogChange, Kept, Side, Question}
+use Rattle.gp_grammar.specs.Syntax.{Lexemes, Bytes, Command, Point, Pattern, Rule, rule_of, Rules, How, Query, LogChange, Kept, Side, Question}
 use Rattle.gp_grammar.specs.CommandGrammar.{IsList, comma, IsQuery, IsStatement, Closed, is_number_without_zero}
 
-pub data IsState : Lexemes → State → Type 0 where
-  as_of : (v : ℕ) → IsState (Sign s.As ∷ Word (codes "of") ∷ Number v ∷ []) (y.as_of v)
-  after : (t k : ℕ) → IsState (Word (codes "reenact") ∷ Number t ∷ Word (codes "after") ∷ Number k ∷ []) (y.after t k)
-  commit : (t : ℕ) → IsState (Word (codes "reenact") ∷ Number t ∷ Sign s.Commit ∷ []) (y.State.commit t)
+pub data IsPoint : Lexemes → Point → Type 0 where
+  as_of : (v : ℕ) → IsPoint (Sign s.As ∷ Word (codes "of") ∷ Number v ∷ []) (y.as_of v)
+  after : (t k : ℕ) → IsPoint (Word (codes "reenact") ∷ Number t ∷ Word (codes "after") ∷ Number k ∷ []) (y.after t k)
+  commit : (t : ℕ) → IsPoint (Word (codes "reenact") ∷ Number t ∷ Sign s.Commit ∷ []) (y.Point.commit t)
 
 pub data IsSemiring : Lexemes → SemiringName → Type 0 where
   count : IsSemiring (Word (codes "count") ∷ []) semiring.Count
@@ -77,8 +77,8 @@ pub data IsHow : Lexemes → How → Type 0 where
   without : (a : Lexemes) (rules : List Rule) → IsList comma IsLeftOut a rules
       → IsHow (Word (codes "without") ∷ (a ++ (Word (codes "of") ∷ []))) (y.without rules)
 
-pub data IsAsk : Lexemes → How → State → Query → Type 0 where
-  asked : (a b q : Lexemes) (how : How) (state : State) (query : Query) → IsHow a how → IsState b state → IsQuery q query
+pub data IsAsk : Lexemes → How → Point → Query → Type 0 where
+  asked : (a b q : Lexemes) (how : How) (state : Point) (query : Query) → IsHow a how → IsPoint b state → IsQuery q query
       → IsAsk (a ++ (b ++ q)) how state query
 
 pub data IsChange : Lexemes → LogChange → Type 0 where
@@ -95,7 +95,7 @@ pub data IsKeptHow : Lexemes → How → Type 0 where
       → IsKeptHow (Word (codes "without") ∷ (a ++ (Word (codes "of") ∷ []))) (y.without rules)
 
 pub data IsKept : Lexemes → Kept → Type 0 where
-  kept : (a b : Lexemes) (how : How) (state : State) → IsKeptHow a how → IsState b state → IsKept (a ++ b) (record { how = how; state = state })
+  kept : (a b : Lexemes) (how : How) (state : Point) → IsKeptHow a how → IsPoint b state → IsKept (a ++ b) (record { how = how; state = state })
 
 pub data IsSide : Lexemes → Side → Type 0 where
   as_is : (a : Lexemes) (kept : Kept) → IsKept a kept → IsSide a (y.as_is kept)
@@ -115,8 +115,8 @@ pub data IsOpenQuestion : Lexemes → Question → Type 0 where
       → IsOpenQuestion (Word (codes "diff") ∷ (a ++ (Word (codes "to") ∷ (b ++ c)))) (y.diff first second query)
   causes : (a b : Lexemes) (kept : Kept) (query : Query) → IsKept a kept → IsQuery b query
       → IsOpenQuestion (Word (codes "causes") ∷ Word (codes "of") ∷ (a ++ b)) (y.causes kept query)
-  ask : (a : Lexemes) (how : How) (state : State) (query : Query) → IsAsk a how state query → IsOpenQuestion a (y.ask how state query)
-  what_if : (a b : Lexemes) (change : LogChange) (how : How) (state : State) (query : Query) → IsChange a change → IsAsk b how state query
+  ask : (a : Lexemes) (how : How) (state : Point) (query : Query) → IsAsk a how state query → IsOpenQuestion a (y.ask how state query)
+  what_if : (a b : Lexemes) (change : LogChange) (how : How) (state : Point) (query : Query) → IsChange a change → IsAsk b how state query
       → IsOpenQuestion (Word (codes "whatif") ∷ (a ++ (Word (codes "of") ∷ b))) (y.what_if change how state query)
 
 -- the lexemes are a question

@@ -8,7 +8,7 @@ use Rattle.gp_grammar.specs.declared.token_kind.TokenKind.{TokenKind}
 use Rattle.gp_grammar.specs.declared.token_kind.TokenKind.TheVariants as token
 use Rattle.gp_grammar.specs.declared.limits.TheConstants.{MAX_PATTERN_NUMBER}
 use Rattle.gp_grammar.specs.Syntax as y
-use Rattle.gp_grammar.specs.Syntax.{Lexemes, Bytes, Command, State, Pattern, Rule, rule_of, Rules, How, Query, LogChange, Kept, Side, Question}
+use Rattle.gp_grammar.specs.Syntax.{Lexemes, Bytes, Command, Point, Pattern, Rule, rule_of, Rules, How, Query, LogChange, Kept, Side, Question}
 use Rattle.gp_grammar.specs.QuestionGrammar.{pattern_name}
 use Rattle.gp_grammar.specs.Parsing.{Parser, ◌>>=◌, by_option, expect, identifier}
 use Rattle.gp_grammar.specs.CommandParsing.{◌then◌, where_next, fail, accept, where_word, expect_word, push, separated, in_brackets, query, statement, closed}
@@ -29,9 +29,9 @@ number = number_if (λ n. true)
 
 -- ---- questions
 
-unfoldable pub state : Parser State
+unfoldable pub state : Parser Point
 state = where_next s.As (expect_word (codes "of") (λ ts. number ts >>= (λ v. Ok (y.as_of v.0, v.1))))
-    (expect_word (codes "reenact") (λ ts. number ts >>= (λ t. where_next s.Commit (accept (y.State.commit t.0))
+    (expect_word (codes "reenact") (λ ts. number ts >>= (λ t. where_next s.Commit (accept (y.Point.commit t.0))
     (expect_word (codes "after") (λ rest. number rest >>= (λ k. Ok (y.after t.0 k.0, k.1)))) t.1)))
 
 unfoldable pub semiring_name : Parser SemiringName
@@ -108,7 +108,7 @@ how = where_word (codes "explain") (where_word (codes "provenance") (expect_word
     (where_word (codes "value") value (where_word (codes "without") without (accept y.rows))))
 
 -- what is asked, of which state, by which query
-unfoldable pub ask : {A : Type 0} → (How → State → Query → A) → Parser A
+unfoldable pub ask : {A : Type 0} → (How → Point → Query → A) → Parser A
 ask question ts = do
   how ← how ts
   state ← state how.1
@@ -155,7 +155,7 @@ changes ts = number ts >>= (λ t. where_next s.Commit (accept (y.commit_changes 
 unfoldable pub kept_how : Parser How
 kept_how = where_word (codes "without") without (accept y.rows)
 
-abbrev pub kept_of : How → State → Kept
+abbrev pub kept_of : How → Point → Kept
 kept_of how state = record { how = how; state = state }
 
 unfoldable pub kept : Parser Kept

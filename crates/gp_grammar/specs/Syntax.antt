@@ -74,10 +74,10 @@ pub record ScriptLine : Type 0 where
   pub command : Command
 
 -- the state that a question asks about: a version, or a transaction after a statement or at its commit
-pub data State : Type 0 where
-  as_of : ℕ → State
-  after : ℕ → ℕ → State
-  commit : ℕ → State
+pub data Point : Type 0 where
+  as_of : ℕ → Point
+  after : ℕ → ℕ → Point
+  commit : ℕ → Point
 
 -- the provenance tokens of a kind, whose numbers are the given ones
 pub record Pattern : Type 0 where
@@ -119,7 +119,7 @@ pub data LogChange : Type 0 where
 -- a state as it is, or without the rows of some tokens: what a question asks for of it is its rows, or those that are left without the tokens
 pub record Kept : Type 0 where
   pub how : How
-  pub state : State
+  pub state : Point
 
 -- one of the two sides of a difference: a state, or the state that there would be with a change
 pub data Side : Type 0 where
@@ -139,5 +139,5 @@ pub data Question : Type 0 where
   check : Question
   diff : Side → Side → Query → Question
   causes : Kept → Query → Question
-  ask : How → State → Query → Question
-  what_if : LogChange → How → State → Query → Question
+  ask : How → Point → Query → Question
+  what_if : LogChange → How → Point → Query → Question

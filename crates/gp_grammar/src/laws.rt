@@ -3,17 +3,12 @@
 ghost use Rattle.gp_grammar.specs.Grammar.{IsTerm};
 ghost use Rattle.gp_grammar.specs.CommandGrammar.{IsCommand, IsScriptLine};
 ghost use Rattle.gp_grammar.specs.QuestionGrammar.{IsQuestion};
-ghost use Rattle.gp_grammar.specs.Limits.{term_shape, command_shape, line_shape, question_shape};
+ghost use Rattle.gp_grammar.specs.Limits.{command_shape, line_shape, question_shape};
+ghost use Rattle.gp_grammar.specs.Laws.{CanonicalIsDerived, CanonicalIsParsed, CanonicalIsProper, CanonicalIsShallow, CanonicalTextIsOneLine, CanonicalTextIsRead, CanonicalTextIsUtf8, CapsFairly, ChangesAreStatements, IsUnambiguous, ParsesExactly, ReadsLinesExactly, ReadsLinesOnce, ReadsTextsExactly, RefusesLinesExactly, RefusesTextsExactly, StopsExactly, term_shape};
 ghost use Rattle.gp_grammar.specs.Capping.{capped, capped_command, capped_line, capped_question};
 ghost use Rattle.gp_grammar.specs.Parsing.{term};
 ghost use Rattle.gp_grammar.specs.CommandParsing.{command, script_line};
 ghost use Rattle.gp_grammar.specs.QuestionParsing.{question};
-ghost use Rattle.gp_grammar.specs.Laws.{ParsesExactly, StopsExactly, IsUnambiguous, CapsFairly};
-ghost use Rattle.gp_grammar.specs.Laws.{ReadsTextsExactly, RefusesTextsExactly, ReadsLinesExactly, RefusesLinesExactly};
-ghost use Rattle.gp_grammar.specs.Laws.{ReadsLinesOnce};
-ghost use Rattle.gp_grammar.specs.Laws.{CanonicalIsDerived, CanonicalIsParsed, CanonicalIsShallow, CanonicalIsProper};
-ghost use Rattle.gp_grammar.specs.Laws.{ChangesAreStatements};
-ghost use Rattle.gp_grammar.specs.Laws.{CanonicalTextIsRead, CanonicalTextIsUtf8, CanonicalTextIsOneLine};
 
 /// The parser of terms takes the lines that the grammar derives, stops on the others at the place of the fault, and
 /// within the limits there is one way to derive a line. Capping changes no term within the limits and no refusal.

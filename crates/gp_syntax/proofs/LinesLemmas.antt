@@ -6,7 +6,8 @@ use Rattle.std.specs.Str.Lines.{lines, lines_of_parts, strip_carriage_return}
 use Rattle.std.proofs.lemmas.Bool.{cases_Bool, cond-false, ne_eqb}
 use Rattle.std.proofs.lemmas.List.Elements.{All-from_recursion}
 use Rattle.std.proofs.lemmas.List.Splits.{slice_split_first, slice_split_none, length-slice_split}
-use Rattle.gp_syntax.specs.Lines.{is_answered, numbers_of, script_lines}
+use Rattle.gp_syntax.specs.Lines.{is_answered, script_lines}
+use Rattle.gp_syntax.specs.LineForms.{numbers_of}
 
 abbrev is_feed : ℕ → Bool
 is_feed byte = eqb byte 10

@@ -1,4 +1,5 @@
 pub mod Lines
+pub mod LineForms
 pub mod Names
 pub mod Views
 pub mod Parses

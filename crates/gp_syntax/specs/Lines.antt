@@ -1,14 +1,11 @@
 -- Part of the statement: the numbered lines of a script, and which of them get a reply. Blank lines and comments get none, but are
 -- counted. Lines are those of std's `str::lines`: they end at a line feed, and one carriage return directly before a line feed belongs
 -- to the end of its line. Two hyphens begin a comment, as in SQL (ISO/IEC 9075-2), but only at the beginning of a line.
-use Rattle.std.specs.Prelude.{ℕ, Bool, true, ◌&&◌, ◌||◌, not, List, [], ◌∷◌, length, map, nat_eq, nat_le, if◌then◌else◌, ◌==◌, filter, codes}
+use Rattle.std.specs.Prelude.{ℕ, Bool, true, ◌&&◌, not, List, [], ◌∷◌, length, nat_eq, nat_le, if◌then◌else◌, filter, codes}
 use Rattle.std.specs.List.{enumerate_from, starts_with}
 use Rattle.std.specs.Str.Lines.{lines}
+use Rattle.gp_lexer.specs.Lexing.{is_blank}
 use Rattle.gp_grammar.specs.declared.limits.TheConstants.{MAX_LINE_LENGTH}
-
--- a space or a tab
-abbrev pub is_blank : ℕ → Bool
-is_blank byte = (byte == 32) || (byte == 9)
 
 -- a line of spaces and tabs alone, or one that has two hyphens after them
 abbrev pub is_blank_or_comment : List ℕ → Bool
@@ -27,7 +24,3 @@ answered_from number bytes = filter (λ line. is_answered line.1) (enumerate_fro
 -- the lines of a script that get a reply, in order, each with its number; all lines are counted, from 1
 abbrev pub script_lines : List ℕ → List (ℕ × List ℕ)
 script_lines script = answered_from 1 script
-
--- the numbers of numbered lines
-abbrev pub numbers_of : List (ℕ × List ℕ) → List ℕ
-numbers_of numbered = map (λ (line : ℕ × List ℕ). line.0) numbered

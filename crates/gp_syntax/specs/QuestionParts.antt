@@ -8,7 +8,7 @@ use Rattle.gp_grammar.specs.QuestionParsing.{ask, kept, number, second_side}
 use Rattle.gp_syntax.specs.declared.question_parser.Rules.{Rules}
 use Rattle.gp_syntax.specs.declared.question_parser.Pattern.{Pattern}
 use Rattle.gp_syntax.specs.declared.question_parser.Asked.{Asked}
-use Rattle.gp_syntax.specs.Views.{how_view, query_view, rule_view, state_view}
+use Rattle.gp_syntax.specs.Views.{how_view, query_view, rule_view, point_view}
 
 abbrev pub rules_view : Rules → y.Rules
 rules_view rules = record { rules = map rule_view rules.rules; other = rules.other }
@@ -21,8 +21,8 @@ abbrev pub pattern_view : Pattern → y.Pattern
 pattern_view pattern = record { kind = pattern.kind; t = pattern.t; k = pattern.k; n = pattern.n }
 
 -- behind REENACT and its transaction
-abbrev pub reenacted : ℕ → Parser y.State
-reenacted t = where_next s.Commit (accept (y.State.commit t)) (expect_word (codes "after") (λ rest. number rest >>= (λ k. Ok (y.after t k.0, k.1))))
+abbrev pub reenacted : ℕ → Parser y.Point
+reenacted t = where_next s.Commit (accept (y.Point.commit t)) (expect_word (codes "after") (λ rest. number rest >>= (λ k. Ok (y.after t k.0, k.1))))
 
 -- the closing bracket of rules without ELSE
 abbrev pub ends_rules : List y.Rule → Parser y.Rules
@@ -33,11 +33,11 @@ abbrev pub explained : Parser y.How
 explained = where_word (codes "provenance") (expect_word (codes "of") (accept (y.explain true))) (accept (y.explain false))
 
 -- what is asked, as the arguments of a question
-abbrev pub asked_in : (y.How → y.State → y.Query → y.Question) → Asked → y.Question
-asked_in question asked = question (how_view asked.how) (state_view asked.state) (query_view asked.query)
+abbrev pub asked_in : (y.How → y.Point → y.Query → y.Question) → Asked → y.Question
+asked_in question asked = question (how_view asked.how) (point_view asked.state) (query_view asked.query)
 
 -- behind a change
-abbrev pub of_ask : (y.How → y.State → y.Query → y.Question) → Parser y.Question
+abbrev pub of_ask : (y.How → y.Point → y.Query → y.Question) → Parser y.Question
 of_ask question = expect_word (codes "of") (ask question)
 
 -- behind SAW and its numbers

@@ -12,8 +12,8 @@ use Rattle.gp_syntax.specs.declared.command.Query.{Query}
 use Rattle.gp_syntax.specs.declared.command.Command.{Command}
 use Rattle.gp_syntax.specs.declared.command.Command.TheVariants as c
 use Rattle.gp_syntax.specs.declared.command.ScriptLine.{ScriptLine}
-use Rattle.gp_syntax.specs.declared.question.State.{State}
-use Rattle.gp_syntax.specs.declared.question.State.TheVariants as s
+use Rattle.gp_syntax.specs.declared.question.Point.{Point}
+use Rattle.gp_syntax.specs.declared.question.Point.TheVariants as s
 use Rattle.gp_syntax.specs.declared.question.Rule.{Rule}
 use Rattle.gp_syntax.specs.declared.question.How.{How}
 use Rattle.gp_syntax.specs.declared.question.How.TheVariants as h
@@ -70,10 +70,10 @@ command_view (c.Select query) = y.select (query_view query)
 abbrev pub line_view : ScriptLine → y.ScriptLine
 line_view line = record { session = line.session; command = command_view line.command }
 
-abbrev pub state_view : State → y.State
-state_view (s.AsOf v) = y.as_of v
-state_view (s.After t k) = y.after t k
-state_view (s.Commit t) = y.State.commit t
+abbrev pub point_view : Point → y.Point
+point_view (s.AsOf v) = y.as_of v
+point_view (s.After t k) = y.after t k
+point_view (s.Commit t) = y.Point.commit t
 
 abbrev pub rule_view : Rule → y.Rule
 rule_view rule = record { kind = rule.kind; t = rule.t; k = rule.k; n = rule.n; value = rule.value }
@@ -91,7 +91,7 @@ change_view (l.Replace t k command) = y.replace t k (command_view command)
 change_view (l.Add t command) = y.add t (command_view command)
 
 abbrev pub kept_view : Kept → y.Kept
-kept_view kept = record { how = how_view kept.how; state = state_view kept.state }
+kept_view kept = record { how = how_view kept.how; state = point_view kept.state }
 
 abbrev pub side_view : Side → y.Side
 side_view (side.AsIs kept) = y.as_is (kept_view kept)
@@ -107,5 +107,5 @@ question_view (q.CommitChanges t) = y.commit_changes t
 question_view q.Check = y.check
 question_view (q.Diff first second query) = y.diff (side_view first) (side_view second) (query_view query)
 question_view (q.Causes kept query) = y.causes (kept_view kept) (query_view query)
-question_view (q.Ask how state query) = y.ask (how_view how) (state_view state) (query_view query)
-question_view (q.WhatIf change how state query) = y.what_if (change_view change) (how_view how) (state_view state) (query_view query)
+question_view (q.Ask how state query) = y.ask (how_view how) (point_view state) (query_view query)
+question_view (q.WhatIf change how state query) = y.what_if (change_view change) (how_view how) (point_view state) (query_view query)

@@ -36,6 +36,6 @@ pub use command::{Block, Command, Item, Items, Query, ScriptLine, SetTerm};
 pub use error::ReadStop;
 pub use gp_grammar::{MAX_LINE_LENGTH, Op, SemiringName, TokenKind};
 pub use line::{Line, LineIter, lines};
-pub use question::{How, Kept, LogChange, Question, Rule, Side, State};
+pub use question::{How, Kept, LogChange, Point, Question, Rule, Side};
 pub use read::{read_command, read_line, read_question};
 pub use term::Term;

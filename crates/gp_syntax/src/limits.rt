@@ -111,7 +111,8 @@ fn levels(term: &Term) -> usize
         Term::IsTrue { term, .. } => levels(term).saturating_add(1),
         Term::Case { when, first, other } => {
             levels(when)
-                .max(levels(first).max(levels(other)))
+                .max(levels(first))
+                .max(levels(other))
                 .saturating_add(1)
         }
     }

@@ -5,7 +5,9 @@ ghost use Rattle.std.specs.List.{position_or_len};
 ghost use Rattle.std.specs.Iterator.{YieldsFirstBy, item_count};
 ghost use Rattle.std.specs.List.Sorted.{IsStrictlyIncreasing};
 ghost use Rattle.std.specs.Str.Lines.{lines, strip_carriage_return};
-ghost use Rattle.gp_syntax.specs.Lines.{script_lines, numbers_of, is_blank_or_comment, is_answered, is_blank};
+ghost use Rattle.gp_syntax.specs.Lines.{script_lines, is_blank_or_comment, is_answered};
+ghost use Rattle.gp_lexer.specs.Lexing.{is_blank};
+ghost use Rattle.gp_syntax.specs.LineForms.{numbers_of};
 
 use gp_grammar::MAX_LINE_LENGTH;
 use std::marker::Model;

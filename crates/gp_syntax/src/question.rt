@@ -6,7 +6,7 @@ use gp_grammar::{SemiringName, TokenKind};
 
 /// The state that a question asks about.
 #[derive(Clone, Copy)]
-pub enum State {
+pub enum Point {
     /// A version: the state after that many commits.
     AsOf {
         /// The version.
@@ -104,7 +104,7 @@ pub struct Kept {
     /// What is asked for: [`How::Rows`] or [`How::Without`].
     pub how: How,
     /// The state.
-    pub state: State,
+    pub state: Point,
 }
 
 /// One of the two sides of a difference.
@@ -183,7 +183,7 @@ pub enum Question {
         /// What it asks for.
         how: How,
         /// The state.
-        state: State,
+        state: Point,
         /// The query.
         query: Query,
     },
@@ -194,7 +194,7 @@ pub enum Question {
         /// What it asks for.
         how: How,
         /// The state.
-        state: State,
+        state: Point,
         /// The query.
         query: Query,
     },

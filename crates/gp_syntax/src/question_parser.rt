@@ -10,7 +10,7 @@ ghost use Rattle.gp_grammar.specs.Syntax.{rule_of};
 ghost use Rattle.gp_grammar.proofs.QuestionCompleteness.{shrinks-left_out};
 ghost use Rattle.gp_syntax.specs.Parses.{Parses, ParsesAll, Extends, pushed};
 ghost use Rattle.gp_syntax.specs.QuestionParts.{asked_in, pattern_view, rules_view, rules_of, ends_rules, explained, of_ask, reenacted, saw_query};
-ghost use Rattle.gp_syntax.specs.Views.{how_view, query_view, question_view, rule_view, state_view};
+ghost use Rattle.gp_syntax.specs.Views.{how_view, query_view, question_view, rule_view, point_view};
 
 use crate::change_parser::change;
 use crate::command::Query;
@@ -20,7 +20,7 @@ use crate::lexeme_parser::{expect, expect_word, identifier, strip, strip_word};
 use crate::list_parser::{ParsedList, separated};
 use crate::names::pattern_name;
 use crate::parsed::{Parsed, ended};
-use crate::question::{How, Question, Rule, State};
+use crate::question::{How, Point, Question, Rule};
 use crate::side_parser::{caused, diff};
 use gp_base::Sequence;
 use gp_grammar::{MAX_PATTERN_NUMBER, SemiringName, TokenKind};
@@ -42,7 +42,7 @@ pub(crate) struct Asked {
     /// What it asks for.
     pub how: How,
     /// The state.
-    pub state: State,
+    pub state: Point,
     /// The query.
     pub query: Query,
 }
@@ -71,29 +71,29 @@ pub(crate) fn number(lexemes: &[Lexeme]) -> Result<(u64, &[Lexeme]), ParseStop<'
 }
 
 /// The state of a transaction, behind its number.
-fn reenacted(t: u64, lexemes: &[Lexeme]) -> Result<(State, &[Lexeme]), ParseStop<'_>>
-    ensures { Parses state_view result (reenacted t lexemes.now) }
+fn reenacted(t: u64, lexemes: &[Lexeme]) -> Result<(Point, &[Lexeme]), ParseStop<'_>>
+    ensures { Parses point_view result (reenacted t lexemes.now) }
 {
     match strip(lexemes, Symbol::Commit) {
-        Some(rest) => Ok((State::Commit { t }, rest)),
+        Some(rest) => Ok((Point::Commit { t }, rest)),
         None => {
             let rest = expect_word(lexemes, b"after")?;
             let (k, rest) = number(rest)?;
-            Ok((State::After { t, k }, rest))
+            Ok((Point::After { t, k }, rest))
         }
     }
 }
 
 /// The state that a question asks about.
 #[tactic(auto, unfolding(gp_grammar::specs::QuestionParsing::state))]
-pub(crate) fn state(lexemes: &[Lexeme]) -> Result<(State, &[Lexeme]), ParseStop<'_>>
-    ensures { Parses state_view result (spec.state lexemes.now) }
+pub(crate) fn state(lexemes: &[Lexeme]) -> Result<(Point, &[Lexeme]), ParseStop<'_>>
+    ensures { Parses point_view result (spec.state lexemes.now) }
 {
     match strip(lexemes, Symbol::As) {
         Some(rest) => {
             let rest = expect_word(rest, b"of")?;
             let (v, rest) = number(rest)?;
-            Ok((State::AsOf { v }, rest))
+            Ok((Point::AsOf { v }, rest))
         }
         None => {
             let rest = expect_word(lexemes, b"reenact")?;
@@ -427,9 +427,9 @@ fn how(alloc: Global, lexemes: &[Lexeme]) -> Result<(How, &[Lexeme]), ParseStop<
 pub(crate) fn with_state<T: Drop>(
     value: T,
     lexemes: &[Lexeme],
-) -> Result<((T, State), &[Lexeme]), ParseStop<'_>>
+) -> Result<((T, Point), &[Lexeme]), ParseStop<'_>>
     ensures value { IfOk result (λ r. r.0.0 ≡ value) }
-    ensures state { Parses (λ r. state_view r.1) result (spec.state lexemes.now) }
+    ensures state { Parses (λ r. point_view r.1) result (spec.state lexemes.now) }
 {
     let (state, rest) = state(lexemes)?;
     Ok(((value, state), rest))
@@ -451,7 +451,7 @@ pub(crate) fn with_query<T: Drop>(
 /// What is asked, of which state and by which query.
 #[tactic(auto, unfolding(gp_grammar::specs::QuestionParsing::ask))]
 fn ask_parts(alloc: Global, lexemes: &[Lexeme]) -> Result<(Asked, &[Lexeme]), ParseStop<'_>>
-    ensures { (question : y.How → y.State → y.Query → y.Question)
+    ensures { (question : y.How → y.Point → y.Query → y.Question)
         → Parses (asked_in question) result (spec.ask question lexemes.now) }
 {
     let (how, rest) = how(alloc, lexemes)?;
@@ -476,7 +476,7 @@ fn with_asked<T: Drop>(
     lexemes: &[Lexeme],
 ) -> Result<((T, Asked), &[Lexeme]), ParseStop<'_>>
     ensures value { IfOk result (λ r. r.0.0 ≡ value) }
-    ensures asked { (question : y.How → y.State → y.Query → y.Question)
+    ensures asked { (question : y.How → y.Point → y.Query → y.Question)
         → Parses (λ r. asked_in question r.1) result (of_ask question lexemes.now) }
 {
     let rest = expect_word(lexemes, b"of")?;

@@ -87,7 +87,7 @@ fn syntax_refusal(lexemes: &Lexemes, rest: &[Lexeme], len: usize) -> Refusal
 }
 
 /// What a whole text is read as.
-trait Statement: Drop + Sized {
+trait Sentence: Drop + Sized {
     /// Its abstract syntax.
     ghost Tree: { Type 0 };
     /// The abstract syntax of a value.
@@ -106,7 +106,7 @@ trait Statement: Drop + Sized {
         ensures { result ≡ option_map limit_of (passed_limit (Self.shape (Self.view self.now))) };
 }
 
-impl Statement for Command {
+impl Sentence for Command {
     ghost Tree = { y.Command };
 
     ghost view = { command_view };
@@ -124,7 +124,7 @@ impl Statement for Command {
     }
 }
 
-impl Statement for ScriptLine {
+impl Sentence for ScriptLine {
     ghost Tree = { y.ScriptLine };
 
     ghost view = { line_view };
@@ -142,7 +142,7 @@ impl Statement for ScriptLine {
     }
 }
 
-impl Statement for Question {
+impl Sentence for Question {
     ghost Tree = { y.Question };
 
     ghost view = { question_view };
@@ -161,7 +161,7 @@ impl Statement for Question {
 }
 
 /// The statement, unless it passes a limit.
-fn limited<T: Statement>(statement: T) -> Result<T, ReadStop>
+fn limited<T: Sentence>(statement: T) -> Result<T, ReadStop>
     ensures { Returns T.view result
         (within_shape (T.view statement) (passed_limit (T.shape (T.view statement)))) }
 {
@@ -173,7 +173,7 @@ fn limited<T: Statement>(statement: T) -> Result<T, ReadStop>
 
 /// The statement that the text is read as.
 #[tactic(auto, using(crate::proofs::ReadingLemmas::readings))]
-fn read_text<T: Statement>(alloc: Global, text: &[u8]) -> Result<T, ReadStop>
+fn read_text<T: Sentence>(alloc: Global, text: &[u8]) -> Result<T, ReadStop>
     requires { length text.now < 2 ^ 32 - 1 }
     ensures { Returns T.view result (read_text T.parser T.shape text.now) }
 {

@@ -1,6 +1,6 @@
 use Rattle.std.proofs.Common.{◌+◌, ◌*◌}
 use Rattle.gp_base.specs.Identities.{nodes, nodes_in}
-use Rattle.gp_base.specs.IdentityParts.{sources_of}
+use Rattle.gp_base.specs.IdentityForms.{sources_of}
 use Rattle.gp_base.proofs.display.+id_text.Given as goal
 
 abbrev pub decreases-push_id : goal.decreases-push_id

@@ -1,7 +1,7 @@
 use Rattle.std.proofs.Common.{◌≡◌, ◌++◌, ◌∷◌, [], OnOk, OnErr, ℕ, List, sym, ap, ◌∙◌, subst}
 use Rattle.std.specs.List.{flat_map}
 use Rattle.gp_base.specs.Texts.{quoted_byte}
-use Rattle.gp_base.specs.Writing.{AppendsPrefix}
+use Rattle.gp_base.specs.DirectWriting.{AppendsPrefix}
 use Rattle.gp_base.specs.declared.display.TheConstants.{QUOTE}
 use Rattle.gp_base.proofs.TextLemmas.{unquoted}
 use Rattle.gp_base.proofs.display.write_quoted.Goals as goal

@@ -1,6 +1,6 @@
 use Rattle.std.proofs.Common.{◌+◌, ◌*◌}
 use Rattle.gp_base.specs.Identities.{nodes, nodes_in}
-use Rattle.gp_base.specs.IdentityParts.{sources_of}
+use Rattle.gp_base.specs.IdentityForms.{sources_of}
 use Rattle.gp_base.proofs.row_id.+identity_order.Given as goal
 
 abbrev pub decreases-RowId::compare : goal.decreases-RowId::compare

@@ -1,7 +1,7 @@
 use Rattle.std.proofs.Common.{◌≡◌, ◌<◌, ◌+◌, drop}
 use Rattle.gp_base.specs.declared.row_id.TheConstants.{MAX_NODES}
 use Rattle.gp_base.specs.Identities.{nodes_in}
-use Rattle.gp_base.specs.IdentityParts.{AreIdentities, sources_of}
+use Rattle.gp_base.specs.IdentityForms.{AreIdentities, sources_of}
 use Rattle.gp_base.proofs.row_id.nodes_in.Given as goal
 
 -- the nodes so far and those that remain are all; the identities so far are valid

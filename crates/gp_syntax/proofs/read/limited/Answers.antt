@@ -5,4 +5,4 @@ use Rattle.gp_syntax.proofs.read.limited.Goals as goal
 
 pub returns-in-Some : goal.returns-in-Some
 returns-in-Some g c =
-    limited (g.T.Statement.view c.args.statement) (passed_limit (g.T.Statement.shape (g.T.Statement.view c.args.statement))) c.in-Some.limit (sym c.in-Some.ensures)
+    limited (g.T.Sentence.view c.args.statement) (passed_limit (g.T.Sentence.shape (g.T.Sentence.view c.args.statement))) c.in-Some.limit (sym c.in-Some.ensures)
