@@ -3,6 +3,7 @@ pub mod Erasure
 pub mod FittingMore
 pub mod PlainBags
 pub mod QuerySizes
+pub mod ReadsLemmas
 pub mod ScanLemmas
 pub mod ScanOrder
 pub mod SimpleLemmas

@@ -7,9 +7,10 @@ use Rattle.std.specs.Cmp.{IsTotalOrder, IsEquivalence, on_total, then_total, nat
 use Rattle.std.specs.declared.cmp.Ordering.{Ordering}
 use Rattle.std.specs.declared.cmp.Ordering.TheVariants.{Less, Equal, Greater}
 use Rattle.gp_algebra.specs.declared.plain.ScanAt.{ScanAt}
-use Rattle.gp_algebra.specs.declared.plain.PProgram.{PProgram}
+use Rattle.gp_algebra.specs.declared.plain.PQuery.{PQuery}
+use Rattle.gp_algebra.specs.declared.program.Program.{Program}
 use Rattle.gp_algebra.specs.PlainViews.{query_view, step_view, program_view}
-use Rattle.gp_algebra.specs.declared.annotated.AProgram.{AProgram}
+use Rattle.gp_algebra.specs.declared.annotated.AQuery.{AQuery}
 use Rattle.gp_algebra.specs.AnnotatedQueries.{QueryStep}
 use Rattle.gp_algebra.specs.QueryViews.{annotated_view, annotated_step_view, annotated_program_view}
 use Rattle.gp_algebra.specs.Scans.{scan_cmp, query_scans, program_scans, annotated_query_scans, annotated_program_scans}
@@ -41,10 +42,10 @@ same_scan-exact one other e =
     λ i. record { table = t i; version = v i }
 
 -- the scans of a program of the code
-pub program_scans-view : (program : PProgram) → program_scans (program_view program) ≡ flat_map (λ step. query_scans (query_view step.query)) program.steps ++ query_scans (query_view program.last)
+pub program_scans-view : (program : Program PQuery) → program_scans (program_view program) ≡ flat_map (λ step. query_scans (query_view step.query)) program.steps ++ query_scans (query_view program.last)
 program_scans-view program = ap (λ scans. scans ++ query_scans (query_view program.last)) (flat_map-map (λ step. query_scans step.query) step_view program.steps)
 
-pub annotated_program_scans-view : (program : AProgram) →
+pub annotated_program_scans-view : (program : Program AQuery) →
     annotated_program_scans (annotated_program_view program) ≡ flat_map (λ step. annotated_query_scans (annotated_view step.query)) program.steps
     ++ annotated_query_scans (annotated_view program.last)
 annotated_program_scans-view program =

@@ -7,6 +7,7 @@ pub mod Plain
 pub mod PlainViews
 pub mod QueryForms
 pub mod QueryViews
+pub mod Reads
 pub mod Reannotation
 pub mod SameRows
 pub mod Scans

@@ -3,8 +3,8 @@ use Rattle.std.specs.Prelude.{map}
 use Rattle.gp_expr.specs.Views.{expr_view, cond_view}
 use Rattle.gp_algebra.specs.Plain as p
 use Rattle.gp_algebra.specs.declared.plain.PQuery.{PQuery, Scan, Step, Filter', Project', Product', Union', Values, Publish'}
-use Rattle.gp_algebra.specs.declared.plain.PStep.{PStep}
-use Rattle.gp_algebra.specs.declared.plain.PProgram.{PProgram}
+use Rattle.gp_algebra.specs.declared.program.Step as s
+use Rattle.gp_algebra.specs.declared.program.Program.{Program}
 
 abbrev pub query_view : PQuery → p.Plain
 query_view (Scan table version) = p.scan table version
@@ -16,8 +16,8 @@ query_view (Union' r left s right) = p.union (query_view left) (query_view right
 query_view (Values rows) = p.given rows
 query_view (Publish' at r base s mine u later) = p.publish at (query_view base) (query_view mine) (query_view later)
 
-abbrev pub step_view : PStep → p.PlainStep
+abbrev pub step_view : s.Step PQuery → p.PlainStep
 step_view step = record { j = step.j; table = step.table; query = query_view step.query }
 
-abbrev pub program_view : PProgram → p.PlainProgram
+abbrev pub program_view : Program PQuery → p.PlainProgram
 program_view program = record { steps = map step_view program.steps; last = query_view program.last }

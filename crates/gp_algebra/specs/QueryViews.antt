@@ -5,8 +5,8 @@ use Rattle.gp_expr.specs.Views.{expr_view, cond_view}
 use Rattle.gp_algebra.specs.AnnotatedQueries as q
 use Rattle.gp_algebra.specs.declared.annotated.Change.{Change}
 use Rattle.gp_algebra.specs.declared.annotated.AQuery.{AQuery, Scan, Step, Filter', Project', Product', Union', Values, NewRows', Publish'}
-use Rattle.gp_algebra.specs.declared.annotated.AStep.{AStep}
-use Rattle.gp_algebra.specs.declared.annotated.AProgram.{AProgram}
+use Rattle.gp_algebra.specs.declared.program.Step as s
+use Rattle.gp_algebra.specs.declared.program.Program.{Program}
 
 abbrev pub change_view : Change → q.Change
 change_view change = record { cond = cond_view change.cond; token = change.token }
@@ -22,8 +22,8 @@ annotated_view (Values t k rows) = q.given t k rows
 annotated_view (NewRows' t k b r input) = q.new_rows t k b (annotated_view input)
 annotated_view (Publish' r base s mine u later) = q.publish (annotated_view base) (annotated_view mine) (annotated_view later)
 
-abbrev pub annotated_step_view : AStep → q.QueryStep
+abbrev pub annotated_step_view : s.Step AQuery → q.QueryStep
 annotated_step_view step = record { j = step.j; table = step.table; query = annotated_view step.query }
 
-abbrev pub annotated_program_view : AProgram → q.Program
+abbrev pub annotated_program_view : Program AQuery → q.Program
 annotated_program_view program = record { steps = map annotated_step_view program.steps; last = annotated_view program.last }

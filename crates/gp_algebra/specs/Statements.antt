@@ -1,7 +1,8 @@
 -- Part of the statement: statements and queries, as data, their targets, and the widths of tables. The types of the code are these with boxes in their
 -- expressions.
-use Rattle.std.specs.Prelude.{ℕ, List, Option, None, Some, length, slice_get}
+use Rattle.std.specs.Prelude.{ℕ, zero, suc, List, [], ◌∷◌, Option, None, Some, length, slice_get}
 use Rattle.gp_base.specs.declared.cell.Cell.{Cell}
+use Rattle.gp_expr.specs.Expressions as e
 use Rattle.gp_expr.specs.Expressions.{Expr, Cond}
 use Rattle.std.specs.Option.{option_map_or}
 use Rattle.gp_base.specs.declared.table.Table.{Table}
@@ -40,3 +41,8 @@ target (read select) = None
 -- the number of columns of a table, or 0 if it is not there
 abbrev pub width_of : List Table → ℕ → ℕ
 width_of tables place = option_map_or (λ (table : Table). length table.cols) (slice_get tables place) 0
+
+-- as many columns, behind this many others
+abbrev pub columns_behind : ℕ → ℕ → List Expr
+columns_behind before zero = []
+columns_behind before (suc count) = e.col (suc before) ∷ columns_behind (suc before) count

@@ -1,4 +1,4 @@
-//! The annotated algebra: queries and programs over rows with identities, marks and annotations. Tables are numbered by their
+//! The annotated algebra: queries over rows with identities, marks and annotations. Tables are numbered by their
 //! places in the catalogue, from 0, and columns from 1.
 
 use gp_base::{Row, Sequence, Token};
@@ -90,24 +90,4 @@ pub enum AQuery {
         /// The rows of the version before its commit.
         later: Box<AQuery>,
     },
-}
-
-/// A step: the contents of a table after a statement.
-#[derive(Drop)]
-pub struct AStep {
-    /// The number of the statement.
-    pub j: u32,
-    /// The table.
-    pub table: u32,
-    /// The contents.
-    pub query: AQuery,
-}
-
-/// A program: steps, which are taken in order, and a last query.
-#[derive(Drop)]
-pub struct AProgram {
-    /// The steps, in rising order of their numbers.
-    pub steps: Sequence<AStep>,
-    /// The last query.
-    pub last: AQuery,
 }

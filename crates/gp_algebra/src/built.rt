@@ -6,7 +6,8 @@ ghost use Rattle.gp_algebra.specs.PlainViews.{program_view, query_view, step_vie
 ghost use Rattle.gp_algebra.specs.WellBuilt as w;
 ghost use Rattle.gp_expr.specs.Views.{expr_view};
 
-use crate::plain::{PProgram, PQuery, PStep};
+use crate::plain::PQuery;
+use crate::program::{PProgram, PStep};
 use gp_expr::{Expr, cond_is_simple};
 
 /// Whether an expression makes no identity.

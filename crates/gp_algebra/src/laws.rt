@@ -4,7 +4,7 @@
 ghost use Rattle.std.specs.Prelude.{◌≡◌, ℕ, true, List, map};
 ghost use Rattle.std.specs.List.Sorted.{IsPermutation};
 ghost use Rattle.gp_base.specs.declared.table.Table.{Table};
-ghost use Rattle.gp_base.specs.Annotated.{Annotations, Database, plain};
+ghost use Rattle.gp_base.specs.Annotated.{Annotations, Database, unannotated};
 ghost use Rattle.gp_algebra.specs.Answers.{answer};
 ghost use Rattle.gp_algebra.specs.Effects.{is_over_nodes, is_over_rows, step, wrote};
 ghost use Rattle.gp_algebra.specs.Fitting.{select_fits, statement_fits};
@@ -67,7 +67,7 @@ pub fn annotations_commute<M, N>()
         → (most t k : ℕ) (statement : Statement) (db : Database M)
         → is_over_nodes other most t k statement (database_reannotated h db)
         ≡ is_over_nodes domain most t k statement db }
-    ensures forgetting { (domain : Annotations M) → IsHomomorphism domain plain forgotten }
+    ensures forgetting { (domain : Annotations M) → IsHomomorphism domain unannotated forgotten }
 {}
 
 /// The rows of a plain program and where it stops depend on the tables and versions that it scans, and on nothing else.

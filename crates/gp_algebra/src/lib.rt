@@ -2,9 +2,10 @@
 //! statements are rewritten, and the plain algebra, in which questions are computed.
 //!
 //! In reading order: [`Stmt`] is a statement, [`Select`] a query of [`Branch`]es, [`SetExpr`] an assignment of an UPDATE.
-//! [`AProgram`] is a program of the annotated algebra, whose rows carry identities, marks and annotations: steps [`AStep`] and
-//! a last [`AQuery`], in which a [`Change`] is what an UPDATE does to a row; [`copy_query`] copies a query and [`copy_exprs`]
-//! a list of expressions. [`PProgram`] is a plain program: steps [`PStep`] and a last [`PQuery`]. [`scans_of`] and [`scans`]
+//! [`Program`] is a program over queries of one algebra: steps [`Step`] and a last query. [`AProgram`] is one of the annotated
+//! algebra, whose rows carry identities, marks and annotations: its query is [`AQuery`], in which a [`Change`] is what an UPDATE
+//! does to a row; [`copy_query`] copies a query and [`copy_exprs`] a list of expressions. [`PProgram`] is a plain program, whose
+//! query is [`PQuery`]. [`Reads`] tells the earlier steps that a query of either algebra reads. [`scans_of`] and [`scans`]
 //! give the tables and versions that a program of the one and of the other algebra reads. [`select_is_simple`] and
 //! [`is_well_built`] test what the executor asks for.
 //!
@@ -25,18 +26,22 @@ mod built;
 mod copying;
 mod laws;
 mod plain;
+mod program;
+mod reads;
 mod scan;
 mod simple;
 mod statement;
 
-pub use annotated::{AProgram, AQuery, AStep, Change};
+pub use annotated::{AQuery, Change};
 pub use built::is_well_built;
 pub use copying::{copy_exprs, copy_query};
 pub use laws::{
     annotations_commute, answers_respect_bags, fitting_queries_are_simple,
     programs_read_their_scans, programs_respect_bags, statements_respect_bags,
 };
-pub use plain::{PProgram, PQuery, PStep, ScanAt};
+pub use plain::{PQuery, ScanAt};
+pub use program::{AProgram, AStep, PProgram, PStep, Program, Step};
+pub use reads::Reads;
 pub use scan::{scans, scans_of};
 pub use simple::select_is_simple;
 pub use statement::{Branch, Select, SetExpr, Stmt};

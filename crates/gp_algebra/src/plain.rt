@@ -1,4 +1,4 @@
-//! The plain algebra: queries and programs over rows of cells. Tables are numbered by their places in the catalogue, from
+//! The plain algebra: queries over rows of cells. Tables are numbered by their places in the catalogue, from
 //! 0, and columns from 1.
 
 use gp_base::{Row, Sequence};
@@ -65,26 +65,6 @@ pub enum PQuery {
         /// The rows of the version before its commit.
         later: Box<PQuery>,
     },
-}
-
-/// A step: the contents of a table after a statement.
-#[derive(Drop)]
-pub struct PStep {
-    /// The number of the statement.
-    pub j: u32,
-    /// The table.
-    pub table: u32,
-    /// The contents. That of an INSERT is a [`PQuery::Union`].
-    pub query: PQuery,
-}
-
-/// A program: steps, which are taken in order, and a last query.
-#[derive(Drop)]
-pub struct PProgram {
-    /// The steps, in rising order of their numbers.
-    pub steps: Sequence<PStep>,
-    /// The last query.
-    pub last: PQuery,
 }
 
 /// A table in a version.

@@ -7,8 +7,9 @@ ghost use Rattle.gp_algebra.specs.PlainViews.{program_view, query_view};
 ghost use Rattle.gp_algebra.specs.QueryViews.{annotated_program_view, annotated_view};
 ghost use Rattle.gp_algebra.specs.Scans.{annotated_program_scans, annotated_query_scans, program_scans, query_scans, scan_cmp};
 
-use crate::annotated::{AProgram, AQuery, AStep};
-use crate::plain::{PProgram, PQuery, PStep, ScanAt};
+use crate::annotated::AQuery;
+use crate::plain::{PQuery, ScanAt};
+use crate::program::{AProgram, AStep, PProgram, PStep};
 use gp_base::NoMemory;
 use std::alloc::Global;
 

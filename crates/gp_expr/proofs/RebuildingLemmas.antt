@@ -8,7 +8,8 @@ use Rattle.gp_expr.specs.Expressions.{Expr, Cond, Parts}
 use Rattle.gp_base.specs.declared.cell.Cell.TheVariants as cell
 use Rattle.gp_expr.specs.Rebuilding.{expr_or_null, rebuilt, rebuilt_cond, rebuilt_parts}
 use Rattle.gp_expr.specs.declared.expr.Expr.{Expr as Code}
-use Rattle.gp_expr.specs.Sizes.{size, parts_size}
+use Rattle.gp_expr.specs.Sizes.{size}
+use Rattle.gp_expr.specs.SizeForms.{parts_size}
 use Rattle.gp_expr.specs.Views.{expr_view, parts_of}
 use Rattle.gp_expr.specs.Substitution.{chosen, substituted, substituted_cond, substituted_parts}
 use Rattle.gp_expr.proofs.ViewLemmas.{chosen_view, parts_from}

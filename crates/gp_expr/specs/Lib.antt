@@ -2,7 +2,9 @@ pub mod Evaluation
 pub mod Expressions
 pub mod Rebuilding
 pub mod Results
+pub mod Gathering
 pub mod Sizes
+pub mod SizeForms
 pub mod Substitution
 pub mod Values
 pub mod Views

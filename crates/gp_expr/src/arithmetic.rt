@@ -49,7 +49,7 @@ pub fn negate(number: Option<i64>) -> Option<i64>
 }
 
 /// The number in a borrowed cell, or None if it is another cell.
-pub fn number_of(cell: CellRef<'_>) -> Option<i64>
+fn number_of(cell: CellRef<'_>) -> Option<i64>
     ensures { result ≡ number_in (cell_view cell.entry) }
 {
     match cell {
@@ -59,13 +59,28 @@ pub fn number_of(cell: CellRef<'_>) -> Option<i64>
 }
 
 /// The number as a borrowed cell; NULL if there is none.
-pub fn number_ref<'a>(number: Option<i64>) -> CellRef<'a>
+fn number_ref<'a>(number: Option<i64>) -> CellRef<'a>
     ensures { cell_view result ≡ number_view number }
 {
     match number {
         Some(number) => CellRef::Int(number),
         None => CellRef::Null,
     }
+}
+
+/// The result of the operation on two borrowed cells; NULL if there is none.
+pub fn compute_ref<'a>(by: Arithmetic, left: CellRef<'_>, right: CellRef<'_>) -> CellRef<'a>
+    ensures { cell_view result
+        ≡ on_numbers (operation by) (cell_view left.entry) (cell_view right.entry) }
+{
+    number_ref(compute(by, number_of(left), number_of(right)))
+}
+
+/// The number in a borrowed cell with the other sign; NULL if there is none.
+pub fn negate_ref<'a>(cell: CellRef<'_>) -> CellRef<'a>
+    ensures { cell_view result ≡ negated (cell_view cell.entry) }
+{
+    number_ref(negate(number_of(cell)))
 }
 
 /// The number as a cell; NULL if there is none.

@@ -5,7 +5,8 @@ ghost use Rattle.std.specs.Option.{option_map};
 ghost use Rattle.gp_base.specs.CellForms.{cell_view};
 ghost use Rattle.gp_expr.specs.Expressions as e;
 ghost use Rattle.gp_expr.specs.Rebuilding.{column_in, expr_or_null, inner_view, rebuilt, rebuilt_cond};
-ghost use Rattle.gp_expr.specs.Sizes.{parts_size, size};
+ghost use Rattle.gp_expr.specs.Sizes.{size};
+ghost use Rattle.gp_expr.specs.SizeForms.{parts_size};
 ghost use Rattle.gp_expr.specs.Substitution as s;
 ghost use Rattle.gp_expr.specs.Views.{cond_view, expr_view, parts_of};
 

@@ -1,8 +1,9 @@
 //! The sizes of expressions and conditions.
 
 ghost use Rattle.std.specs.Prelude.{◌≡◌, ◌+◌};
+ghost use Rattle.gp_expr.specs.SizeForms as forms;
 ghost use Rattle.gp_expr.specs.Sizes as s;
-ghost use Rattle.gp_expr.specs.Sizes.{up_to_greatest};
+ghost use Rattle.gp_expr.specs.SizeForms.{up_to_greatest};
 ghost use Rattle.gp_expr.specs.Views.{cond_view, expr_view, parts_of};
 
 use crate::expr::{Cond, Expr};
@@ -37,7 +38,7 @@ pub fn size(expr: &Expr) -> u64
 /// The number of nodes of a condition, or the greatest u64 if there are more.
 #[cycle(sizes)]
 pub fn cond_size(cond: &Cond) -> u64
-    ensures { result ≡ up_to_greatest (s.cond_size (cond_view cond.now)) }
+    ensures { result ≡ up_to_greatest (forms.cond_size (cond_view cond.now)) }
 {
     match cond {
         Cond::True => 1,
@@ -54,7 +55,7 @@ pub fn cond_size(cond: &Cond) -> u64
 /// The number of nodes of all of these.
 #[cycle(sizes)]
 fn parts_size(parts: &[Expr]) -> u64
-    ensures { result ≡ up_to_greatest (s.parts_size (parts_of parts.now)) }
+    ensures { result ≡ up_to_greatest (forms.parts_size (parts_of parts.now)) }
 {
     let mut total: u64 = 0;
     for part in parts {

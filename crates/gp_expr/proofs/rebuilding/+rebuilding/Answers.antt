@@ -2,7 +2,8 @@ use Rattle.std.proofs.Common.{◌≡◌, ◌+◌, ◌∙◌, ap, sym, arith, map
 use Rattle.std.proofs.lemmas.Result.{IfOk-weaker}
 use Rattle.gp_expr.specs.Expressions.{new_id}
 use Rattle.gp_expr.specs.Rebuilding.{column_in, inner_view, rebuilt_parts}
-use Rattle.gp_expr.specs.Sizes.{size, parts_size}
+use Rattle.gp_expr.specs.Sizes.{size}
+use Rattle.gp_expr.specs.SizeForms.{parts_size}
 use Rattle.gp_expr.specs.Substitution.{chosen}
 use Rattle.gp_expr.specs.Views.{expr_view, parts_of}
 use Rattle.gp_expr.proofs.RebuildingLemmas.{rebuilt_from, rebuilt_own}

@@ -1,6 +1,7 @@
 use Rattle.std.proofs.Common.{◌≡◌, ◌+◌, ◌*◌, ◌++◌, ◌≤◌, map, drop}
 use Rattle.gp_expr.specs.Rebuilding.{inner_view, rebuilt}
-use Rattle.gp_expr.specs.Sizes.{size, cond_size, parts_size}
+use Rattle.gp_expr.specs.Sizes.{size}
+use Rattle.gp_expr.specs.SizeForms.{cond_size, parts_size}
 use Rattle.gp_expr.specs.Views.{cond_view, expr_view, parts_of}
 use Rattle.gp_expr.proofs.RebuildingLemmas.{inner_size}
 use Rattle.gp_expr.proofs.rebuilding.+rebuilding.Given as goal

@@ -1,5 +1,5 @@
 use Rattle.std.proofs.Common.{◌≡◌, ap, drop, arith}
-use Rattle.gp_expr.specs.Sizes as s
+use Rattle.gp_expr.specs.SizeForms as s
 use Rattle.gp_expr.specs.Views.{parts_of}
 use Rattle.gp_expr.proofs.ViewLemmas.{new_id_view, parts_of_end}
 use Rattle.gp_expr.proofs.sizes.+sizes.Goals as goal

@@ -1,6 +1,6 @@
 use Rattle.std.proofs.Common.{◌≡◌, ◌+◌, drop}
-use Rattle.gp_expr.specs.Sizes as s
-use Rattle.gp_expr.specs.Sizes.{up_to_greatest}
+use Rattle.gp_expr.specs.SizeForms as s
+use Rattle.gp_expr.specs.SizeForms.{up_to_greatest}
 use Rattle.gp_expr.specs.Views.{parts_of}
 use Rattle.gp_expr.proofs.sizes.+sizes.Given as goal
 
