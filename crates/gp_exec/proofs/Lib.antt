@@ -1,5 +1,6 @@
 pub mod BackendLemmas
 pub mod ChoosingLemmas
+pub mod DoneLemmas
 pub mod EarlyLemmas
 pub mod EqualityLemmas
 pub mod EvaluationLemmas
@@ -8,11 +9,11 @@ pub mod IndexLemmas
 pub mod InputLemmas
 pub mod JoinLemmas
 pub mod JoiningLemmas
-pub mod LivenessLemmas
 pub mod LookingLemmas
 pub mod ProductLemmas
 pub mod ProgramLemmas
 pub mod PublishingLemmas
 pub mod RelationLemmas
 pub mod StepLemmas
-pub mod StepRowsLemmas
+pub mod SteppingLemmas
+pub mod WritingLemmas

@@ -12,3 +12,4 @@ pub mod Products
 pub mod Publishing
 pub mod Running
 pub mod Search
+pub mod Stepping

@@ -1,5 +1,5 @@
 -- Machinery: rows of which the identities and the marks are looked at before the rows are made.
-use Rattle.std.specs.Prelude.{◌≡◌, ℕ, suc, Bool, true, not, ◌&&◌, ◌||◌, List, map, Option, Some, None}
+use Rattle.std.specs.Prelude.{◌≡◌, ℕ, suc, Bool, true, ◌&&◌, List, map, Option, Some, None}
 use Rattle.std.specs.List.{list_all, list_any}
 use Rattle.std.specs.Option.{option_map}
 use Rattle.gp_base.specs.declared.cell.Cell.{Cell}
@@ -65,10 +65,3 @@ shows id x rows = list_any (λ row. is_same_id (id row) x) rows
 -- a marked row has it
 abbrev pub shows_marked : (List Cell → Cell) → (List Cell → Cell) → Cell → List (List Cell) → Bool
 shows_marked id mark x rows = list_any (λ row. is_marked (mark row) && is_same_id (id row) x) rows
-
--- base has it, and mine has not
-abbrev pub is_gone : (List Cell → Cell) → (List Cell → Cell) → List (List Cell) → List (List Cell) → Cell → Bool
-is_gone base_id id base mine x = shows base_id x base && not (shows id x mine)
-
-abbrev pub writes : (List Cell → Cell) → (List Cell → Cell) → (List Cell → Cell) → List (List Cell) → List (List Cell) → Cell → Bool
-writes base_id id mark base mine x = shows_marked id mark x mine || is_gone base_id id base mine x

@@ -3,17 +3,18 @@
 //! In reading order: [`Views`] are the rows of the tables and [`choose`] the answer of a query over them, one [`Chosen`] for
 //! each choice of rows. [`Env`] is what a program scans; [`run`] gives the rows of its last query and [`run_table`] those of
 //! a program that ends in a table, without a limit on their number. [`ExecStop`] and [`ChooseStop`] are the reasons
-//! why there are none. A [`Backend`] is whatever runs plain programs, and [`Plain`] is this executor as one. [`give_choices`], with
-//! [`Chooser`], [`refs`], [`joined`], [`values_beside`], [`value`] and [`truth`] are parts of it that other executors share.
+//! why there are none. A [`Backend`] is whatever runs plain programs, and [`Plain`] is this executor as one. Other executors share
+//! parts of it: [`give_choices`], with [`Chooser`], [`refs`], [`joined`] and [`values_beside`]; [`take_steps`], with [`Stepper`],
+//! [`Rest`], [`Done`], [`rows_of`] and [`take_rows`]; and [`written`], with [`RowMark`].
 //!
 //! Inside, `join` chooses one row of each table by nested loops, and gives each choice to a [`Chooser`]: `search` makes the elements
 //! of an answer of them, `relation` the rows of a product. `early` has the tests that prune the loops. Where a condition has an
 //! equality of columns, which `equality` finds, `input` gives the rows that join a row: it knows the places of the cells of a column,
-//! by `cell_index` and `key`. `beside` computes on the rows chosen so far and one more, side by side, with the
-//! operations of `cells`. `found` has the rows of a query where they stand, and filters them there; `projection` makes rows of rows.
+//! by `cell_index` and `key`. `found` has the rows of a query where they stand, and filters them there; `projection` makes rows of rows.
 //! `publication` puts a transaction onto a later version: its rows are `pending`, and the marks and identities that they will have
-//! are found by a `look` before they are made. `evaluation` evaluates a query by these, up to a limit where there is one, and
-//! `program` takes the steps of a program in turn. `liveness` tells which of them later ones still read.
+//! are found by a `look` before they are made; `writing` tells by them what the transaction wrote. `evaluation` evaluates a query by
+//! these, up to a limit where there is one. `steps` takes the steps of a program in turn, as a [`Stepper`] tells, which for plain
+//! programs is in `program`. The rows of a step are `done`, and `liveness` tells which of them later steps still read.
 //!
 //! ```text
 //! // every element of the answer, at most 50,000
@@ -22,9 +23,8 @@
 #![tactic(auto)]
 
 mod backend;
-mod beside;
 mod cell_index;
-mod cells;
+mod done;
 mod early;
 mod env;
 mod equality;
@@ -43,13 +43,18 @@ mod publication;
 mod relation;
 mod row;
 mod search;
+mod steps;
+mod writing;
 
 pub use backend::{Backend, Plain};
-pub use beside::{truth, value};
+pub use done::{Done, rows_of, take_rows};
 pub use env::{Env, Scanned};
 pub use error::{ChooseStop, ExecStop};
 pub use input::HasRow;
 pub use join::{Chooser, give_choices};
+pub use liveness::Rest;
 pub use program::{run, run_table};
 pub use row::{joined, refs, values_beside};
 pub use search::{Chosen, Views, choose};
+pub use steps::{Stepper, take_steps};
+pub use writing::{RowMark, written};

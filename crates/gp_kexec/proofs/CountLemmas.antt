@@ -13,13 +13,13 @@ use Rattle.gp_base.specs.declared.token.Token.{Token}
 use Rattle.gp_base.specs.declared.cell.Cell.{Cell}
 use Rattle.gp_base.specs.Annotated.{Database, Environment, monomials}
 use Rattle.gp_base.specs.Order.{insert_sorted, sorted_by}
-use Rattle.gp_base.specs.Tokens.{Monomial}
+use Rattle.gp_base.specs.Tokens.{Monomial, greatest_count}
 use Rattle.gp_algebra.specs.AnnotatedQueries.{Program}
 use Rattle.gp_algebra.specs.AnnotatedMeaning.{Derived, program_meaning}
 use Rattle.gp_algebra.specs.Answers.{Element, answer, cells_of, pairs_of as element_pairs}
 use Rattle.gp_algebra.specs.Reannotation.{IsHomomorphism}
 use Rattle.gp_algebra.specs.Statements.{Select}
-use Rattle.gp_semiring.specs.Elements.{greatest, no_token, number_up_to}
+use Rattle.gp_semiring.specs.Elements.{no_token, number_up_to}
 use Rattle.gp_semiring.specs.Numbers.{Same}
 use Rattle.gp_semiring.specs.Powers.{raised}
 use Rattle.gp_semiring.specs.Sums.{added, summed, plus_up_to, times_up_to}
@@ -27,7 +27,8 @@ use Rattle.gp_semiring.specs.SumForms.{Each}
 use Rattle.gp_semiring.specs.SumLaws.{both, first, second, less, below_less, is_sorted-summed, value, value_summed}
 use Rattle.gp_semiring.specs.declared.rules.Rule.{Rule}
 use Rattle.gp_semiring.specs.Rules.{fits_rule, number_by}
-use Rattle.gp_semiring.specs.Values.{monomial_value, token_value, value_by, values_as_annotations}
+use Rattle.gp_semiring.specs.Values.{monomial_value, token_value, value_by}
+use Rattle.gp_kexec.specs.Valuing.{values_as_annotations}
 use Rattle.gp_kexec.specs.SemiringForms.{derived_reannotated, environment_reannotated}
 use Rattle.gp_kexec.specs.Rows.{pairs_of}
 use Rattle.gp_kexec.proofs.CarryLemmas.{program_carried}
@@ -40,13 +41,13 @@ use Rattle.gp_base.proofs.SmallLemmas.{or_nothing}
 
 -- ---- counting is a homomorphism
 
-count_product : (a b : Bool) → cond (a || b) 0 1 ≡ min (cond a 0 1 * cond b 0 1) greatest
+count_product : (a b : Bool) → cond (a || b) 0 1 ≡ min (cond a 0 1 * cond b 0 1) greatest_count
 count_product true true = refl
 count_product true false = refl
 count_product false true = refl
 count_product false false = refl
 
-pub counting_carries : (matches : Token → Bool) → IsHomomorphism monomials (values_as_annotations 1 (times_up_to greatest) (counted_by matches)) (counted_by (has_token matches))
+pub counting_carries : (matches : Token → Bool) → IsHomomorphism monomials (values_as_annotations 1 (times_up_to greatest_count) (counted_by matches)) (counted_by (has_token matches))
 counting_carries matches = record {
   one = refl;
   times = λ a b. ap (λ c. cond c 0 1) (found_in_product matches a b) ∙ count_product (has_token matches a) (has_token matches b);
@@ -164,33 +165,33 @@ module _ {X : Type 0} (R : X → X → Ordering) (o : IsTotalOrder R) (same : (x
 
 -- ---- values by rules
 
-raised_one : (n : ℕ) → raised 1 (times_up_to greatest) 1 n ≡ 1
+raised_one : (n : ℕ) → raised 1 (times_up_to greatest_count) 1 n ≡ 1
 raised_one zero = refl
-raised_one (suc n) = ap (λ m. min (1 * m) greatest) (raised_one n)
+raised_one (suc n) = ap (λ m. min (1 * m) greatest_count) (raised_one n)
 
-raised_bit : (b : Bool) (n : ℕ) → 1 ≤ n → raised 1 (times_up_to greatest) (cond b 0 1) n ≡ cond b 0 1
+raised_bit : (b : Bool) (n : ℕ) → 1 ≤ n → raised 1 (times_up_to greatest_count) (cond b 0 1) n ≡ cond b 0 1
 raised_bit true zero some = absurd (omega arith)
-raised_bit true (suc n) some = nothing (raised 1 (times_up_to greatest) 0 n)
+raised_bit true (suc n) some = nothing (raised 1 (times_up_to greatest_count) 0 n)
   where
-    nothing : (m : ℕ) → min (0 * m) greatest ≡ 0
+    nothing : (m : ℕ) → min (0 * m) greatest_count ≡ 0
     nothing m = omega arith
 raised_bit false n some = raised_one n
 
 -- a monomial counts 0 where a token of it is matched, else 1
-pub monomial_counted : (matches : Token → Bool) (m : Monomial) → HasCounts m → monomial_value 1 (times_up_to greatest) (counted_by matches) m ≡ counted_by (has_token matches) m
+pub monomial_counted : (matches : Token → Bool) (m : Monomial) → HasCounts m → monomial_value 1 (times_up_to greatest_count) (counted_by matches) m ≡ counted_by (has_token matches) m
 monomial_counted matches [] are = refl
 monomial_counted matches (p ∷ ps) are =
-    ap (λ n. min (n * monomial_value 1 (times_up_to greatest) (counted_by matches) ps) greatest) (raised_bit (matches p.0) p.1 are.0)
-    ∙ ap (λ n. min (counted_by matches p.0 * n) greatest) (monomial_counted matches ps are.1)
+    ap (λ n. min (n * monomial_value 1 (times_up_to greatest_count) (counted_by matches) ps) greatest_count) (raised_bit (matches p.0) p.1 are.0)
+    ∙ ap (λ n. min (counted_by matches p.0 * n) greatest_count) (monomial_counted matches ps are.1)
     ∙ sym (count_product (matches p.0) (has_token matches ps))
 
 -- a token counts 0 where a rule of value 0 fits, else 1
 pub token_counted : (rules : List Rule) → Each (λ (rule : Rule). rule.value ≡ 0) rules → (token : Token)
-    → token_value 1 (number_up_to greatest) no_token (rules, Some 1) token ≡ counted_by (λ other. list_any (λ rule. fits_rule rule other) rules) token
+    → token_value 1 (number_up_to greatest_count) no_token (rules, Some 1) token ≡ counted_by (λ other. list_any (λ rule. fits_rule rule other) rules) token
 token_counted [] are token = refl
 token_counted (rule ∷ rules) are token =
-    elim (fits_rule rule token) as (λ b. value_by 1 (number_up_to greatest) no_token (cond b (Some rule.value) (number_by rules (Some 1) token)) token ≡ cond (b || list_any (λ rule. fits_rule rule token) rules) 0 1) [
-      | true ↦ ap (λ n. value_by 1 (number_up_to greatest) no_token (Some n) token) are.0
+    elim (fits_rule rule token) as (λ b. value_by 1 (number_up_to greatest_count) no_token (cond b (Some rule.value) (number_by rules (Some 1) token)) token ≡ cond (b || list_any (λ rule. fits_rule rule token) rules) 0 1) [
+      | true ↦ ap (λ n. value_by 1 (number_up_to greatest_count) no_token (Some n) token) are.0
       | false ↦ token_counted rules are.1 token
     ]
 
@@ -201,10 +202,10 @@ pairs_counted has [] = refl
 pairs_counted has (row ∷ rows) = ap (λ pairs. (row.cells, counted_by has row.annotation) ∷ pairs) (pairs_counted has rows)
 
 pub program_counted : (matches : Token → Bool) (env : Environment Monomial) (program : Program)
-    → pairs_of (program_meaning (values_as_annotations 1 (times_up_to greatest) (counted_by matches)) (environment_reannotated (counted_by (has_token matches)) env) program)
+    → pairs_of (program_meaning (values_as_annotations 1 (times_up_to greatest_count) (counted_by matches)) (environment_reannotated (counted_by (has_token matches)) env) program)
     ≡ counted_pairs (has_token matches) (pairs_of (program_meaning monomials env program))
 program_counted matches env program =
-    ap pairs_of (program_carried monomials (values_as_annotations 1 (times_up_to greatest) (counted_by matches)) (counted_by (has_token matches)) (counting_carries matches) env program)
+    ap pairs_of (program_carried monomials (values_as_annotations 1 (times_up_to greatest_count) (counted_by matches)) (counted_by (has_token matches)) (counting_carries matches) env program)
     ∙ pairs_counted (has_token matches) (program_meaning monomials env program)
 
 kept_cells : {M : Type 0} (has : M → Bool) (elements : List (Element M)) → kept has (element_pairs elements) ≡ cells_of (filter (λ (element : Element M). not (has element.annotation)) elements)

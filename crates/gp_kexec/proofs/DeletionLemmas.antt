@@ -13,7 +13,8 @@ use Rattle.gp_expr.specs.Values.{passes}
 use Rattle.gp_algebra.specs.Statements.{Branch, Select, Statement, insert, insert_select, update, delete, read}
 use Rattle.gp_algebra.specs.Answers.{Element, answer, answer_from, choices, chosen, joined, no_choice, passes_where, values}
 use Rattle.gp_algebra.specs.Effects.{assigned, changed, given_from, made, step, with_rows}
-use Rattle.gp_kexec.specs.Deletion.{Finds, has_token, reduced}
+use Rattle.gp_kexec.specs.Deletion.{has_token, reduced}
+use Rattle.gp_kexec.specs.DeletionForms.{Finds}
 use Rattle.gp_base.proofs.SmallLemmas.{filter-append, filter-map, filter_agree}
 use Rattle.std.proofs.lemmas.Bool.{both_ways}
 

@@ -18,7 +18,8 @@ use Rattle.gp_semiring.specs.Sums.{summed}
 use Rattle.gp_semiring.specs.SumForms.{Each}
 use Rattle.gp_semiring.specs.Totals.{total_at}
 use Rattle.gp_semiring.proofs.TotalLemmas.{find-summed}
-use Rattle.gp_semiring.specs.Values.{monomial_value, values_as_annotations}
+use Rattle.gp_semiring.specs.Values.{monomial_value}
+use Rattle.gp_kexec.specs.Valuing.{values_as_annotations}
 use Rattle.gp_semiring.proofs.MonomialValues.{monomial_value-in}
 use Rattle.gp_kexec.specs.InSemiring.{in_semiring}
 use Rattle.gp_kexec.specs.SemiringForms.{NoneStops, counted, derived_reannotated, environment_reannotated, spread, word_value, words}

@@ -5,7 +5,6 @@ pub mod Forms
 pub mod Grouping
 pub mod InSemiring
 pub mod Joins
-pub mod Liveness
 pub mod Publishing
 pub mod Rows
 pub mod Running
@@ -13,6 +12,7 @@ pub mod Valuing
 pub mod SemiringForms
 pub mod Counting
 pub mod Deletion
+pub mod DeletionForms
 pub mod Minimal
 pub mod Remaining
 pub mod CountForms
