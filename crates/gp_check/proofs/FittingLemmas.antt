@@ -1,7 +1,7 @@
 -- What the check gives fits the catalogue: each fact of the statement comes from a phase that found no fault, or from the command itself.
 use Rattle.std.proofs.Common.{◌≡◌, ◌<◌, ◌≤◌, ◌+◌, ◌^◌, ℕ, zero, suc, Bool, true, false, true≢false, ◌&&◌, ◌==◌, nat_lt, List, [], ◌∷◌, length, map, filter_map, bytes_eq, get_or, inl, inr, Option, Some, None, is_some, option_and_then, unwrap_or, slice_get, if◌then◌else◌, Result, Ok, Err, IfOk, zero-add, add-zero, refl, sym, ap, subst, ◌∙◌, arith}
 use Rattle.std.specs.List.{list_all, cons_option}
-use Rattle.std.specs.Option.{option_map, option_map_or}
+use Rattle.std.specs.Option.{option_map, option_map_or, option_or}
 use Rattle.std.specs.Result.{result_unwrap_or}
 use Rattle.std.proofs.lemmas.Bool.{lt-ltb, ltb-true, and_from, and_parts, le-leb}
 use Rattle.std.proofs.lemmas.Option.{slice_get_cases}
@@ -20,13 +20,13 @@ use Rattle.gp_grammar.specs.Syntax as y
 use Rattle.gp_grammar.specs.Syntax.{Bytes, Term, SetTerm, Item, Items, Block, Query, Command, is_statement}
 use Rattle.gp_expr.specs.ExpressionForms.{is_simple, cond_is_simple, all_leaves, cond_all_leaves}
 use Rattle.gp_algebra.specs.Fitting.{is_there, joined_width, is_column, expr_fits, cond_fits, optional_cond_fits, row_fits, branch_fits, set_fits, branches_fit, is_countable, select_fits, statement_fits}
-use Rattle.gp_algebra.specs.Statements.{width_of}
+use Rattle.gp_algebra.specs.Statements.{columns_behind, width_of}
 use Rattle.gp_check.specs.declared.place.Place.{Place}
 use Rattle.gp_check.specs.declared.place.Resolution.{Resolution}
 use Rattle.gp_check.specs.declared.place.Resolution.TheVariants.{Absent, Found, Ambiguous}
-use Rattle.gp_check.specs.Scopes.{Source, Scope, ColumnName, columns_of, scope_behind, scope_of, target_item, target_scope, place_behind, may_be_of, place_in, only_place, resolution}
-use Rattle.gp_check.specs.Faults.{or_else, unless, first_fault, table_fault, items_fault, block_columns_fault, column_fault, resolution_fault, set_name, set_fault, widths_agree, first_refusal, width_behind, scope_width, items_width, block_width, have_width, have_one_width, block_tables_fault, query_tables_fault}
-use Rattle.gp_check.specs.Meaning.{column_expr, expr_of, cond_of, where_of, columns_behind, exprs_of, number_of_table, branch_of, select_of, column_number, set_of, statement_of}
+use Rattle.gp_check.specs.Scopes.{Source, Scope, ColumnName, columns_of, scope_behind, scope_of, target_scope, place_behind, may_be_of, place_in, only_place, resolution}
+use Rattle.gp_check.specs.Faults.{unless, first_fault, table_fault, items_fault, block_columns_fault, column_fault, resolution_fault, set_name, set_fault, widths_agree, first_refusal, width_behind, scope_width, items_width, block_width, have_width, have_one_width, block_tables_fault, query_tables_fault}
+use Rattle.gp_check.specs.Meaning.{column_expr, expr_of, cond_of, where_of, exprs_of, number_of_table, branch_of, select_of, column_number, set_of, statement_of}
 use Rattle.gp_check.specs.Valid.{is_valid, tables_are_valid, set_is_valid, term_is_valid, condition_is_valid, items_are_valid, block_is_valid, query_is_valid, table_is_valid}
 use Rattle.gp_check.specs.Checking.{refused_by, checked, checked_query}
 use Rattle.gp_check.specs.Views.{Checks}
@@ -38,7 +38,7 @@ use Rattle.gp_base.proofs.SmallLemmas.{eq_itself}
 
 -- ---- tests and phases
 
-pub none_of : (a b : Option Refusal) → or_else a b ≡ None → (a ≡ None) × (b ≡ None)
+pub none_of : (a b : Option Refusal) → option_or a b ≡ None → (a ≡ None) × (b ≡ None)
 none_of None b none = (refl, none)
 none_of (Some refusal) b none = cc
 
@@ -394,7 +394,7 @@ sets_fit scope width fits (set ∷ sets) valid none =
 -- the one table of an UPDATE or a DELETE
 target_inside : (tables : List Table) (table : Bytes) → table_fault tables table ≡ None → Within (width_of tables (number_of_table tables table)) (target_scope tables table)
 target_inside tables table none =
-    let f = from_fits tables (target_item table ∷ []) (ap (λ fault. or_else fault None) none) in
+    let f = from_fits tables (record { table = table; name = table } ∷ []) (ap (λ fault. option_or fault None) none) in
     subst (λ n. Within n (target_scope tables table)) (add-zero _) f.inside
 
 rows_fit : (width : ℕ) (rows : List (List Cell)) → list_all (list_all is_user_cell) rows ≡ true → list_all (λ (row : List Cell). length row == width) rows ≡ true
@@ -413,13 +413,13 @@ fits tables (y.insert table rows) columns statement valid none =
     and_from _ _ (known tables table n.0) (and_from _ _ v.0 (rows_fit _ rows v.1
     (subst (λ w. list_all (λ (row : List Cell). length row == w) rows ≡ true) (sym (width_known tables table n.0)) (holds_if _ _ m.0))))
 fits tables (y.insert_select table query) columns statement valid none =
-    let n = none_of (or_else (table_fault tables table) (query_tables_fault tables query)) _ none in let t = none_of (table_fault tables table) _ n.0 in
+    let n = none_of (option_or (table_fault tables table) (query_tables_fault tables query)) _ none in let t = none_of (table_fault tables table) _ n.0 in
     let names = none_of (first_fault items_fault query) _ n.1 in let cols = none_of (first_fault (block_columns_fault tables) query) _ names.1 in
     let w = none_of (unless (widths_agree tables (y.insert_select table query)) E15) _ cols.1 in
     and_from _ _ (known tables table t.0)
     (query_fit tables _ query columns valid t.1 (subst (λ w. have_width tables query w ≡ true) (sym (width_known tables table t.0)) (holds_if _ _ w.0)))
 fits tables (y.update table sets cond) columns statement valid none =
-    let n = none_of (table_fault tables table) _ none in let c = none_of (or_else (first_fault (set_fault (target_scope tables table)) sets) _) _ n.1 in
+    let n = none_of (table_fault tables table) _ none in let c = none_of (option_or (first_fault (set_fault (target_scope tables table)) sets) _) _ n.1 in
     let s = none_of (first_fault (set_fault (target_scope tables table)) sets) _ c.0 in
     let v = and_parts (list_all set_is_valid sets) _ valid in let inside = target_inside tables table n.0 in
     and_from _ _ (known tables table n.0)

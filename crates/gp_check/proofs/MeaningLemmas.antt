@@ -4,7 +4,7 @@ use Rattle.std.proofs.lemmas.List.{map-append}
 use Rattle.gp_expr.specs.Expressions as e
 use Rattle.gp_expr.specs.declared.expr.Expr.{Expr, Col}
 use Rattle.gp_expr.specs.Views.{expr_view}
-use Rattle.gp_check.specs.Meaning.{columns_behind}
+use Rattle.gp_algebra.specs.Statements.{columns_behind}
 
 pub next_column : (before width : ℕ) → before < width → columns_behind before (width - before) ≡ e.col (before + 1) ∷ columns_behind (before + 1) (width - (before + 1))
 next_column before width less =

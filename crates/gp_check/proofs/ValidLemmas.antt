@@ -25,7 +25,7 @@ use Rattle.gp_lexer.proofs.ProperLemmas.{lexemes-proper}
 use Rattle.gp_lexer.proofs.Utf8Lemmas.{texts-utf8}
 use Rattle.gp_grammar.specs.declared.limits.TheConstants.{MAX_BRANCHES, MAX_VALUES}
 use Rattle.gp_grammar.specs.Syntax as y
-use Rattle.gp_grammar.specs.Syntax.{Lexemes, Bytes, Term, SetTerm, Item, Items, Block, Query, Command, ScriptLine, How, State, LogChange, Side, Question}
+use Rattle.gp_grammar.specs.Syntax.{Lexemes, Bytes, Term, SetTerm, Item, Items, Block, Query, Command, ScriptLine, How, Point, LogChange, Side, Question}
 use Rattle.gp_grammar.specs.Grammar as t
 use Rattle.gp_grammar.specs.Grammar.{Phrase, Derives, IsTerm}
 use Rattle.gp_grammar.specs.CommandGrammar as g
@@ -216,7 +216,7 @@ change-valid _ _ (q.drop t k) h none = refl
 change-valid _ _ (q.replace t k a x i) h none = command-valid a x i.command (inner a h.1.1.1.1) none
 change-valid _ _ (q.add t a x i) h none = command-valid a x i.command (inner a h.1.1.1) none
 
-ask-valid : (a : Lexemes) (how : How) (state : State) (query : Query) → IsAsk a how state query → AreOfText a → passed_limit (query_shape query) ≡ None → query_is_valid query ≡ true
+ask-valid : (a : Lexemes) (how : How) (state : Point) (query : Query) → IsAsk a how state query → AreOfText a → passed_limit (query_shape query) ≡ None → query_is_valid query ≡ true
 ask-valid _ how state query (q.asked a b c _ _ _ i j k) h none = query-valid c query k (second b c (second a (b ++ c) h)) none
 
 -- the change of a side

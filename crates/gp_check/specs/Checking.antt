@@ -1,5 +1,6 @@
 -- Part of the statement: what the check makes of a command or a query, which is its meaning or its first refusal.
-use Rattle.std.specs.Prelude.{List, Option, Some, None, Result, Ok, Err}
+use Rattle.std.specs.Prelude.{List, Option, Result, Ok, Err}
+use Rattle.std.specs.Option.{option_map_or}
 use Rattle.gp_base.specs.declared.refusal.Refusal.{Refusal}
 use Rattle.gp_base.specs.declared.table.Table.{Table}
 use Rattle.gp_grammar.specs.Syntax as y
@@ -9,8 +10,7 @@ use Rattle.gp_check.specs.Faults.{first_refusal}
 use Rattle.gp_check.specs.Meaning.{select_of, statement_of}
 
 abbrev pub refused_by : {A : Type 0} → Option Refusal → A → Result A Refusal
-refused_by None meaning = Ok meaning
-refused_by (Some refusal) meaning = Err refusal
+refused_by fault meaning = option_map_or Err fault (Ok meaning)
 
 abbrev pub checked : List Table → Command → Result Statement Refusal
 checked tables command = refused_by (first_refusal tables command) (statement_of tables command)

@@ -1,7 +1,7 @@
 -- Part of the statement: the faults of a statement against the tables of a catalogue, phase by phase, and the first of them.
 use Rattle.std.specs.Prelude.{ℕ, ◌+◌, ◌==◌, Bool, true, false, ◌&&◌, List, [], ◌∷◌, ◌++◌, length, map, Option, Some, None, is_some, if◌then◌else◌}
 use Rattle.std.specs.List.{flat_map, list_all, list_any}
-use Rattle.std.specs.Option.{option_map}
+use Rattle.std.specs.Option.{option_map, option_or}
 use Rattle.std.specs.Str.{bytes_eq}
 use Rattle.gp_base.specs.declared.cell.Cell.{Cell}
 use Rattle.gp_base.specs.declared.refusal.Refusal.{Refusal}
@@ -16,17 +16,12 @@ use Rattle.gp_check.specs.declared.place.Resolution.{Resolution}
 use Rattle.gp_check.specs.declared.place.Resolution.TheVariants.{Absent, Found, Ambiguous}
 use Rattle.gp_check.specs.declared.types.TermType.{TermType}
 use Rattle.gp_check.specs.Scopes.{Scope, ColumnName, columns_of, scope_of, target_scope, resolution}
-use Rattle.gp_check.specs.Typing.{kind_type, cell_type, is_value, agrees, operand_passes, operands_agree, is_condition, type_of, column_type}
-
--- the one fault, or the other where there is none
-abbrev pub or_else : {B : Type 0} → Option B → Option B → Option B
-or_else None other = other
-or_else (Some found) other = Some found
+use Rattle.gp_check.specs.Typing.{kind_type, cell_type, is_value, operand_passes, operands_agree, is_condition, type_of, column_type}
 
 -- the first fault that an item of the list has
 abbrev pub first_fault : {A B : Type 0} → (A → Option B) → List A → Option B
 first_fault fault [] = None
-first_fault fault (item ∷ items) = or_else (fault item) (first_fault fault items)
+first_fault fault (item ∷ items) = option_or (fault item) (first_fault fault items)
 
 abbrev pub unless : Bool → Refusal → Option Refusal
 unless holds refusal = if holds then None else Some refusal
@@ -53,7 +48,7 @@ query_tables_fault tables = first_fault (block_tables_fault tables)
 
 abbrev pub tables_fault : List Table → Command → Option Refusal
 tables_fault tables (y.insert table rows) = table_fault tables table
-tables_fault tables (y.insert_select table query) = or_else (table_fault tables table) (query_tables_fault tables query)
+tables_fault tables (y.insert_select table query) = option_or (table_fault tables table) (query_tables_fault tables query)
 tables_fault tables (y.update table sets cond) = table_fault tables table
 tables_fault tables (y.delete table cond) = table_fault tables table
 tables_fault tables (y.select query) = query_tables_fault tables query
@@ -84,12 +79,12 @@ term_fault scope y.null = None
 term_fault scope (y.int n) = None
 term_fault scope (y.text bytes) = None
 term_fault scope (y.col item name) = column_fault scope (record { item = item; col = name })
-term_fault scope (y.binary o x z) = or_else (term_fault scope x) (term_fault scope z)
+term_fault scope (y.binary o x z) = option_or (term_fault scope x) (term_fault scope z)
 term_fault scope (y.neg x) = term_fault scope x
 term_fault scope (y.not x) = term_fault scope x
 term_fault scope (y.is_null x holds) = term_fault scope x
 term_fault scope (y.is_true x holds) = term_fault scope x
-term_fault scope (y.case x z u) = or_else (term_fault scope x) (or_else (term_fault scope z) (term_fault scope u))
+term_fault scope (y.case x z u) = option_or (term_fault scope x) (option_or (term_fault scope z) (term_fault scope u))
 
 abbrev pub where_fault : Scope → Option Term → Option Refusal
 where_fault scope None = None
@@ -97,18 +92,18 @@ where_fault scope (Some term) = term_fault scope term
 
 unfoldable pub block_columns_fault : List Table → Block → Option Refusal
 block_columns_fault tables block =
-    or_else (first_fault (term_fault (scope_of tables block.from)) (listed block.items)) (where_fault (scope_of tables block.from) block.cond)
+    option_or (first_fault (term_fault (scope_of tables block.from)) (listed block.items)) (where_fault (scope_of tables block.from) block.cond)
 
 abbrev pub set_name : SetTerm → ColumnName
 set_name set = record { item = None; col = set.col }
 
 abbrev pub set_fault : Scope → SetTerm → Option Refusal
-set_fault scope set = or_else (column_fault scope (set_name set)) (term_fault scope set.term)
+set_fault scope set = option_or (column_fault scope (set_name set)) (term_fault scope set.term)
 
 abbrev pub columns_fault : List Table → Command → Option Refusal
 columns_fault tables (y.insert_select table query) = first_fault (block_columns_fault tables) query
 columns_fault tables (y.update table sets cond) =
-    or_else (first_fault (set_fault (target_scope tables table)) sets) (where_fault (target_scope tables table) cond)
+    option_or (first_fault (set_fault (target_scope tables table)) sets) (where_fault (target_scope tables table) cond)
 columns_fault tables (y.delete table cond) = where_fault (target_scope tables table) cond
 columns_fault tables (y.select query) = first_fault (block_columns_fault tables) query
 columns_fault tables _ = None
@@ -143,17 +138,14 @@ block_width tables block = items_width (scope_of tables block.from) block.items
 abbrev pub have_width : List Table → Query → ℕ → Bool
 have_width tables query width = list_all (λ block. block_width tables block == width) query
 
-abbrev pub table_width : List Table → Bytes → ℕ
-table_width tables table = length (columns_of tables table)
-
 -- as many columns in every block as in the first
 abbrev pub have_one_width : List Table → Query → Bool
 have_one_width tables [] = true
 have_one_width tables (block ∷ query) = have_width tables query (block_width tables block)
 
 abbrev pub widths_agree : List Table → Command → Bool
-widths_agree tables (y.insert table rows) = list_all (λ (row : List Cell). length row == table_width tables table) rows
-widths_agree tables (y.insert_select table query) = have_width tables query (table_width tables table)
+widths_agree tables (y.insert table rows) = list_all (λ (row : List Cell). length row == length (columns_of tables table)) rows
+widths_agree tables (y.insert_select table query) = have_width tables query (length (columns_of tables table))
 widths_agree tables (y.select query) = have_one_width tables query
 widths_agree tables _ = true
 
@@ -186,9 +178,8 @@ block_where_is_typed tables block = where_is_typed (scope_of tables block.from) 
 -- position by position
 abbrev pub all_agree : List (Option TermType) → List (Option TermType) → Bool
 all_agree [] [] = true
-all_agree [] (b ∷ bs) = false
-all_agree (a ∷ others) [] = false
 all_agree (a ∷ others) (b ∷ bs) = operands_agree a b && all_agree others bs
+all_agree _ _ = false
 
 -- each of the others with these
 abbrev pub agree_with : List (Option TermType) → List (List (Option TermType)) → Bool
@@ -199,12 +190,9 @@ abbrev pub pairs_agree : List (List (Option TermType)) → Bool
 pairs_agree [] = true
 pairs_agree (types ∷ others) = agree_with types others && pairs_agree others
 
--- a VALUES row and the columns of its table, position by position
+-- a VALUES row and the columns of its table
 abbrev pub cells_agree : List Column → List Cell → Bool
-cells_agree [] [] = true
-cells_agree [] (cell ∷ cells) = false
-cells_agree (column ∷ columns) [] = false
-cells_agree (column ∷ columns) (cell ∷ cells) = agrees (kind_type column.kind) (cell_type cell) && cells_agree columns cells
+cells_agree columns cells = all_agree (kind_types columns) (map (λ (cell : Cell). Some (cell_type cell)) cells)
 
 -- the value that is set agrees with its column
 abbrev pub set_is_typed : Scope → SetTerm → Bool
@@ -231,16 +219,16 @@ is_typed tables _ = true
 
 abbrev pub first_refusal : List Table → Command → Option Refusal
 first_refusal tables command =
-    or_else (tables_fault tables command)
-    (or_else (names_fault command)
-    (or_else (columns_fault tables command)
-    (or_else (sets_fault command)
-    (or_else (unless (widths_agree tables command) E15)
+    option_or (tables_fault tables command)
+    (option_or (names_fault command)
+    (option_or (columns_fault tables command)
+    (option_or (sets_fault command)
+    (option_or (unless (widths_agree tables command) E15)
     (unless (is_typed tables command) E07)))))
 
 -- ---- CREATE TABLE: the table's name, then its columns
 
 abbrev pub table_refusal : List Table → Table → Option Refusal
 table_refusal tables table =
-    or_else (if is_some (place_of table.name tables) then Some (E08 table.name) else None)
+    option_or (if is_some (place_of table.name tables) then Some (E08 table.name) else None)
     (option_map E08 (first_repeated (map (λ (column : Column). column.name) table.cols)))

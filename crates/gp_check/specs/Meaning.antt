@@ -1,5 +1,5 @@
 -- Part of the statement: the statement that a command without faults means, with tables and columns by number.
-use Rattle.std.specs.Prelude.{ℕ, zero, suc, List, [], ◌∷◌, map, Option, Some, None, unwrap_or}
+use Rattle.std.specs.Prelude.{ℕ, List, [], map, Option, Some, None, unwrap_or}
 use Rattle.std.specs.Option.{option_map}
 use Rattle.gp_base.specs.declared.cell.Cell.TheVariants as cell
 use Rattle.gp_base.specs.declared.table.Table.{Table}
@@ -11,16 +11,15 @@ use Rattle.gp_expr.specs.declared.expr.Cmp.TheVariants as cmp
 use Rattle.gp_expr.specs.Expressions as e
 use Rattle.gp_expr.specs.Expressions.{Expr, Cond}
 use Rattle.gp_algebra.specs.Statements as s
-use Rattle.gp_algebra.specs.Statements.{SetExpr, Branch, Select, Statement}
+use Rattle.gp_algebra.specs.Statements.{SetExpr, Branch, Select, Statement, columns_behind}
 use Rattle.gp_check.specs.declared.place.Resolution.{Resolution}
-use Rattle.gp_check.specs.declared.place.Resolution.TheVariants.{Absent, Found, Ambiguous}
+use Rattle.gp_check.specs.declared.place.Resolution.TheVariants.{Found}
 use Rattle.gp_check.specs.Scopes.{Scope, scope_of, target_scope, resolution}
 use Rattle.gp_check.specs.Faults.{scope_width, set_name}
 
 abbrev pub column_expr : Resolution → Expr
 column_expr (Found place) = e.col place.number
-column_expr Absent = e.constant cell.Null
-column_expr Ambiguous = e.constant cell.Null
+column_expr _ = e.constant cell.Null
 
 -- a term that is a value, and a term that is a condition; a term that is not well typed has some meaning, which nothing uses
 abbrev mutual
@@ -55,11 +54,6 @@ abbrev pub where_of : Scope → Option Term → Cond
 where_of scope None = e.always
 where_of scope (Some term) = cond_of scope term
 
--- as many columns, behind this many others
-abbrev pub columns_behind : ℕ → ℕ → List Expr
-columns_behind before zero = []
-columns_behind before (suc count) = e.col (suc before) ∷ columns_behind (suc before) count
-
 abbrev pub exprs_of : Scope → Items → List Expr
 exprs_of scope y.star = columns_behind 0 (scope_width scope)
 exprs_of scope (y.list terms) = map (expr_of scope) terms
@@ -79,8 +73,7 @@ select_of tables = map (branch_of tables)
 
 abbrev pub column_number : Resolution → ℕ
 column_number (Found place) = place.number
-column_number Absent = 0
-column_number Ambiguous = 0
+column_number _ = 0
 
 abbrev pub set_of : Scope → SetTerm → SetExpr
 set_of scope set = record { col = column_number (resolution scope (set_name set)); expr = expr_of scope set.term }

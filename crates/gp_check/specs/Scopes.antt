@@ -36,11 +36,8 @@ abbrev pub scope_of : List Table → List Item → Scope
 scope_of = scope_behind 0
 
 -- an UPDATE or a DELETE has one table, under its own name
-abbrev pub target_item : Bytes → Item
-target_item table = record { table = table; name = table }
-
 abbrev pub target_scope : List Table → Bytes → Scope
-target_scope tables table = scope_of tables (target_item table ∷ [])
+target_scope tables table = scope_of tables (record { table = table; name = table } ∷ [])
 
 -- a column that a term names, with the FROM name before it, if one is written
 pub record ColumnName : Type 0 where
@@ -55,8 +52,7 @@ place_behind before col (column ∷ columns) =
 
 -- a column without a FROM name may be of every source
 abbrev pub may_be_of : Option Bytes → Source → Bool
-may_be_of None source = true
-may_be_of (Some item) source = bytes_eq item source.name
+may_be_of item source = option_map_or (λ (name : Bytes). bytes_eq name source.name) item true
 
 abbrev pub place_in : ColumnName → Source → Option Place
 place_in name source = if may_be_of name.item source then place_behind source.before name.col source.columns else None

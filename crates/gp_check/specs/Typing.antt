@@ -1,6 +1,7 @@
 -- Part of the statement: the types of terms. SQL (ISO/IEC 9075-2) has the same types; that NULL has a type of its own, which agrees with both others, is
 -- this dialect's way to type it. `TypingRules` has the rules as a relation.
 use Rattle.std.specs.Prelude.{Bool, true, false, ◌&&◌, Option, Some, None, if◌then◌else◌}
+use Rattle.std.specs.Option.{option_map_or}
 use Rattle.gp_base.specs.declared.cell.Cell.{Cell}
 use Rattle.gp_base.specs.declared.cell.Cell.TheVariants as cell
 use Rattle.gp_base.specs.declared.table.Kind.{Kind}
@@ -12,7 +13,7 @@ use Rattle.gp_grammar.specs.Syntax.{Term}
 use Rattle.gp_check.specs.declared.types.TermType.{TermType}
 use Rattle.gp_check.specs.declared.types.TermType.TheVariants.{Null, Int, Text, Condition}
 use Rattle.gp_check.specs.declared.place.Resolution.{Resolution}
-use Rattle.gp_check.specs.declared.place.Resolution.TheVariants.{Absent, Found, Ambiguous}
+use Rattle.gp_check.specs.declared.place.Resolution.TheVariants.{Found}
 use Rattle.gp_check.specs.Scopes.{Scope, resolution}
 
 abbrev pub kind_type : Kind → TermType
@@ -70,8 +71,7 @@ is_condition _ = false
 
 -- a well typed operand that passes the test
 abbrev pub operand_passes : (TermType → Bool) → Option TermType → Bool
-operand_passes test None = false
-operand_passes test (Some a) = test a
+operand_passes test operand = option_map_or test operand false
 
 abbrev pub operands_agree : Option TermType → Option TermType → Bool
 operands_agree None b = false
@@ -83,14 +83,12 @@ operation_type comparison a b = typed_if (operands_agree a b) Condition
 operation_type connective a b = typed_if (is_condition a && is_condition b) Condition
 
 abbrev pub choice_type : Option TermType → Option TermType → Option TermType
-choice_type None b = None
-choice_type (Some a) None = None
 choice_type (Some a) (Some b) = typed_if (agrees a b) (common_type a b)
+choice_type _ _ = None
 
 abbrev pub column_type : Resolution → Option TermType
 column_type (Found place) = Some (kind_type place.kind)
-column_type Absent = None
-column_type Ambiguous = None
+column_type _ = None
 
 -- the type of a well typed term
 abbrev pub type_of : Scope → Term → Option TermType

@@ -6,6 +6,7 @@ ghost use Rattle.gp_expr.specs.Expressions as e;
 ghost use Rattle.gp_expr.specs.Views.{expr_view, cond_view};
 ghost use Rattle.gp_grammar.specs.Syntax as y;
 ghost use Rattle.gp_syntax.specs.Views.{block_view, condition_view, item_view, items_view, set_view, term_view};
+ghost use Rattle.gp_algebra.specs.Statements.{columns_behind};
 ghost use Rattle.gp_algebra.specs.Views as a;
 ghost use Rattle.gp_check.specs.Meaning as m;
 ghost use Rattle.gp_check.specs.Scopes.{resolution};
@@ -248,7 +249,7 @@ fn optional_where(
 
 /// The columns from the first one, so many.
 fn first_columns(alloc: Global, width: u32) -> Result<Sequence<Expr>, NoMemory>
-    ensures { IfOk result (λ exprs. map expr_view exprs ≡ m.columns_behind 0 width) }
+    ensures { IfOk result (λ exprs. map expr_view exprs ≡ columns_behind 0 width) }
 {
     let mut exprs = Sequence::new(alloc);
     for before in 0..width {

@@ -12,7 +12,7 @@ use Rattle.gp_grammar.specs.declared.limits.TheConstants.{MAX_LINE_LENGTH, MAX_V
 use Rattle.gp_csv.specs.Faults.{Fault, refuse, result_map, result_then}
 use Rattle.gp_csv.specs.Packing.{Output, has_room, joined, begun, line_end, put_row, put_rows, tuple_text, insert_text, no_line, create_of, packed_script, script_head, script_end}
 use Rattle.gp_base.specs.CellForms.{ArePlain}
-use Rattle.gp_csv.specs.Scripts.{line_of, ended_line, fits_line, batches_from, batches_of, transaction_break, inserts_from, inserts_of, script_text, script_of}
+use Rattle.gp_csv.specs.Scripts.{line_of, ended_line, fits_line, batches_from, batches_of, transaction_break, inserts_from, script_text, script_of}
 use Rattle.gp_csv.specs.SheetForms.{ArePlainRows}
 use Rattle.gp_csv.specs.declared.error.TheConstants.{LONG_ROW, TOO_MANY}
 use Rattle.gp_csv.specs.declared.script.TheConstants.{MAX_ROWS, MAX_INSERTS, MAX_STEPS}
@@ -70,7 +70,7 @@ script_end-suc : (n : ℕ) → script_end (suc n) ≡ codes "\ns1: COMMIT\n"
 script_end-suc n = rw (not_zero n) refl
 
 transaction_break-text : (n : ℕ) → codes "\n" ++ script_text (transaction_break (suc n)) ≡ line_end (suc n)
-transaction_break-text n = transaction_break-by (suc n) (eqb (suc n % MAX_STEPS) 0) refl ∙ sym (line_end-suc n)
+transaction_break-text n = rw (lt-ltb 0 (suc n) (omega arith)) (transaction_break-by (suc n) (eqb (suc n % MAX_STEPS) 0) refl ∙ sym (line_end-suc n))
 
 tail-more : (name : List ℕ) (n : ℕ) (line : List (List Cell)) (more : List (List (List Cell))) → IsFull more
     → tail name (suc n) (line ∷ more) ≡ line_of (insert name line) ++ (line_end (suc n) ++ tail name (suc (suc n)) more)
@@ -211,7 +211,7 @@ head-text name cols rest =
     ∙ sym (ap (λ (t : List ℕ). ended_line (create_of name cols) ++ (t ++ rest)) begin-line ∙ append_assoc (line_of (create_of name cols)) (codes "\n") (codes "s1: BEGIN\n" ++ rest) ∙ append_assoc (codes "s1: ") (command_text (create_of name cols)) (codes "\n" ++ (codes "s1: BEGIN\n" ++ rest)))
 
 abbrev whole : List ℕ → List Column → List (List (List Cell)) → List ℕ
-whole name cols lines = script_text (create_of name cols ∷ begin false ∷ (inserts_of name lines ++ (Command.commit ∷ [])))
+whole name cols lines = script_text (create_of name cols ∷ begin false ∷ (inserts_from name 0 lines ++ (Command.commit ∷ [])))
 
 expected-whole : (name : List ℕ) (cols : List Column) (r : Result (List (List (List Cell))) Fault) → IfOk r IsFull
     → expected (script_head name cols) name 1 r ≡ result_map (λ (lines : List (List (List Cell))). whole name cols lines) r

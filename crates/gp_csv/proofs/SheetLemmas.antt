@@ -1,5 +1,5 @@
 -- Columns, cells and rows in turn.
-use Rattle.std.proofs.Common.{◌≡◌, ℕ, suc, ◌+◌, ◌<◌, ◌≤◌, List, [], ◌∷◌, ◌++◌, length, drop, get_or, Option, Some, None, Result, Ok, Err, refl, ap, append_assoc, add-one}
+use Rattle.std.proofs.Common.{◌≡◌, ℕ, suc, ◌+◌, ◌<◌, ◌≤◌, List, [], ◌∷◌, ◌++◌, length, drop, get_or, Option, Some, None, Result, Ok, Err, refl, ap, append_assoc, add-one, unwrap_or}
 use Rattle.std.specs.Option.{option_map}
 use Rattle.std.proofs.lemmas.List.{drop_more, drop_all, append-nil}
 use Rattle.std.proofs.lemmas.List.Folds.{list_all-map}
@@ -8,7 +8,7 @@ use Rattle.gp_base.specs.declared.cell.Cell.{Cell}
 use Rattle.gp_base.specs.declared.table.Column.{Column}
 use Rattle.gp_csv.specs.Faults.{Fault, refuse, result_map}
 use Rattle.gp_csv.specs.Fields.{cell_of, cells_from}
-use Rattle.gp_csv.specs.Sheets.{columns_from, inferred, kind_or, row_of, rows_from}
+use Rattle.gp_csv.specs.Sheets.{columns_from, inferred, row_of, rows_from}
 use Rattle.gp_csv.specs.declared.heading.Heading.{Heading}
 
 -- ---- columns
@@ -16,7 +16,7 @@ use Rattle.gp_csv.specs.declared.heading.Heading.{Heading}
 pub ruleset tests = (list_all-map)
 
 abbrev column_at : ℕ → List (List (List ℕ)) → Heading → Column
-column_at place others heading = record { name = heading.name; kind = kind_or (inferred place others) heading.kind }
+column_at place others heading = record { name = heading.name; kind = unwrap_or heading.kind (inferred place others) }
 
 pub columns-next : (others : List (List (List ℕ))) (headings : List Heading) (i : ℕ) (d : Heading) (columns : List Column) → i < length headings
     → (columns ++ column_at i others (get_or headings i d) ∷ []) ++ columns_from (i + 1) others (drop (i + 1) headings) ≡ columns ++ columns_from i others (drop i headings)

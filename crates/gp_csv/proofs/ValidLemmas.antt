@@ -16,13 +16,14 @@ use Rattle.gp_base.specs.declared.cell.Cell.TheVariants as cell
 use Rattle.gp_base.specs.declared.table.Column.{Column}
 use Rattle.gp_base.specs.declared.table.Kind.{Kind}
 use Rattle.gp_base.specs.declared.table.Kind.TheVariants as kind
-use Rattle.gp_csv.specs.Faults.{Fault, refuse, result_map, result_then}
+use Rattle.gp_csv.specs.Faults.{Fault, or_refuse, refuse, result_map, result_then}
 use Rattle.gp_csv.specs.Fields.{positive_of, negative_of, magnitude_of, number_of, null_field, unescaped, text_cell, int_cell_of, value_cell_of, cell_of, cells_from}
-use Rattle.gp_csv.specs.Headings.{header_of, heading_named, heading_of, headings_from, is_taken, kind_of_suffix, name_len, or_bad_header, with_heading}
+use Rattle.gp_csv.specs.Headings.{header_of, heading_named, heading_of, headings_from, is_taken, kind_of_suffix, name_len, with_heading}
 use Rattle.gp_csv.specs.SheetForms.{ArePlainRows, IsSheet, is_cell_of, is_row_of, column_names, Returns}
-use Rattle.gp_csv.specs.Sheets.{columns_from, or_bad_cell, row_of, rows_from, sheet_under, sheet_of_records, records_of}
+use Rattle.gp_csv.specs.Sheets.{columns_from, row_of, rows_from, sheet_under, sheet_of_records, records_of}
 use Rattle.gp_csv.specs.declared.error.CsvStop.{CsvStop}
 use Rattle.gp_csv.specs.declared.error.CsvStop.TheVariants.{Refused, NoMemory}
+use Rattle.gp_csv.specs.declared.error.TheConstants.{BAD_CELL, BAD_HEADER}
 use Rattle.gp_csv.specs.declared.heading.Heading.{Heading}
 use Rattle.gp_csv.specs.declared.sheet.Sheet.{Sheet}
 use Rattle.gp_csv.proofs.RecordLemmas.{first-some}
@@ -118,16 +119,16 @@ cells-suit place fields (column ∷ columns) cells e =
     let m = from_mapped (λ (more : List Cell). x.0 ∷ more) (cells_from (suc place) fields columns) cells x.2 in
     subst (λ (cs : List Cell). is_row_of (column ∷ columns) cs ≡ true) m.2 (and_from (is_cell_of column.kind x.0) (is_row_of columns m.0) (cell-is_cell_of column.kind y.0 x.0 y.2) (cells-suit (suc place) fields columns m.0 m.1))
 
-from_or : (number : ℕ) (o : Option (List Cell)) (cells : List Cell) → or_bad_cell number o ≡ Ok cells → o ≡ Some cells
-from_or number None cells e = absurd cc
-from_or number (Some x) cells e = cc
+from_or : {A : Type 0} (c number : ℕ) (o : Option A) (found : A) → or_refuse c number o ≡ Ok found → o ≡ Some found
+from_or c number None found e = absurd cc
+from_or c number (Some x) found e = cc
 
 row-is_cell_of : (columns : List Column) (number : ℕ) (fields : List (List ℕ)) (cells : List Cell) → row_of columns number fields ≡ Ok cells → is_row_of columns cells ≡ true
 unfolding row_of
 row-is_cell_of columns number fields cells e =
     let f = refused_else (not (list_all is_utf8 fields)) _ _ _ cells e in
     let g = found_else (eqb (length fields) (length columns)) _ _ _ cells f in
-    cells-suit 0 fields columns cells (from_or number (cells_from 0 fields columns) cells g)
+    cells-suit 0 fields columns cells (from_or BAD_CELL number (cells_from 0 fields columns) cells g)
 
 same_rows : (c d : List (List Cell)) → ◌≡◌ {A = Result (List (List Cell)) Fault} (Ok c) (Ok d) → c ≡ d
 same_rows c d e = cc
@@ -212,10 +213,6 @@ headings-good headings (field ∷ fields) all e good =
     let m = rest.1 in
     (rest.0, omega (arith, n, m))
 
-from_header : (o : Option (List Heading)) (headings : List Heading) → or_bad_header o ≡ Ok headings → o ≡ Some headings
-from_header None headings e = absurd cc
-from_header (Some x) headings e = cc
-
 passed_else : {A : Type 0} (b : Bool) (c n : ℕ) (r : Result A Fault) (y : A) → cond b (refuse c n) r ≡ Ok y → (b ≡ false) × (r ≡ Ok y)
 passed_else true c n r y e = absurd cc
 passed_else false c n r y e = (refl, e)
@@ -236,7 +233,7 @@ header-good fields headings some e =
     let f = refused_else (not (list_all is_utf8 fields)) _ _ _ headings e in
     let g = passed_else (ltb MAX_COLUMNS (length fields)) _ _ _ headings f in
     let few : length fields ≤ MAX_COLUMNS = ltb-false MAX_COLUMNS (length fields) g.0 in
-    let good = headings-good [] fields headings (from_header (headings_from [] fields) headings g.1) no_names in
+    let good = headings-good [] fields headings (from_or BAD_HEADER 1 (headings_from [] fields) headings g.1) no_names in
     let count = good.1 in
     record { some = omega (arith, count, some); few = omega (arith, count, few); names = good.0 }
 

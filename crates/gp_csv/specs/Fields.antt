@@ -1,7 +1,7 @@
 -- Part of the statement: the cells that fields of a sheet write. NULL is `\N`, as in the text format of PostgreSQL's COPY, or an empty field of an
 -- INT column. A text that begins with a backslash is written with two.
-use Rattle.std.specs.Prelude.{ℕ, ℤ, zero, suc, pos, negsuc, ◌+◌, ◌*◌, ◌-◌, ◌^◌, nat_lt, Bool, List, [], ◌∷◌, Option, Some, None, option_and_then, if◌then◌else◌, ◌==◌, true, false}
-use Rattle.std.specs.Option.{option_map}
+use Rattle.std.specs.Prelude.{ℕ, ℤ, zero, suc, pos, negsuc, ◌+◌, ◌*◌, ◌-◌, ◌^◌, nat_lt, Bool, List, [], ◌∷◌, Option, Some, None, is_some, option_and_then, if◌then◌else◌, ◌==◌, true}
+use Rattle.std.specs.Option.{option_map, option_map_or}
 use Rattle.std.specs.Str.{bytes_eq}
 use Rattle.csv.specs.Records.{field_at}
 use Rattle.gp_base.specs.Digits.{is_digit}
@@ -81,9 +81,4 @@ cells_from place fields (column ∷ columns) =
 
 -- a record has no field at the place, or one that an INT column can hold
 abbrev pub is_int_field : Option (List ℕ) → Bool
-is_int_field None = true
-is_int_field (Some field) = is_there (cell_of kind.Int field)
-  where
-    is_there : Option Cell → Bool
-    is_there None = false
-    is_there (Some cell) = true
+is_int_field field = option_map_or (λ (bytes : List ℕ). is_some (cell_of kind.Int bytes)) field true

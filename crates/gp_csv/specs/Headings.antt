@@ -1,13 +1,13 @@
 -- Part of the statement: the headings of a sheet, which are its first record. Each is a name, in letters of either case, alone or followed by one
 -- space and INT or TEXT.
-use Rattle.std.specs.Prelude.{ℕ, nat_lt, Bool, not, List, [], ◌∷◌, ◌++◌, length, take, drop, Option, Some, None, Result, Ok, option_and_then, if◌then◌else◌, ◌==◌, codes}
+use Rattle.std.specs.Prelude.{ℕ, nat_lt, Bool, not, List, [], ◌∷◌, ◌++◌, length, take, drop, Option, Some, None, Result, option_and_then, if◌then◌else◌, ◌==◌, codes}
 use Rattle.std.specs.List.{list_all, list_any, position_or_len}
 use Rattle.std.specs.Str.{bytes_eq, is_utf8, str_to_ascii_lowercase}
 use Rattle.gp_base.specs.Names.{is_name}
 use Rattle.gp_base.specs.declared.table.Kind.{Kind}
 use Rattle.gp_base.specs.declared.table.Kind.TheVariants as kind
 use Rattle.gp_grammar.specs.declared.limits.TheConstants.{MAX_COLUMNS}
-use Rattle.gp_csv.specs.Faults.{Fault, refuse}
+use Rattle.gp_csv.specs.Faults.{Fault, or_refuse, refuse}
 use Rattle.gp_csv.specs.declared.heading.Heading.{Heading}
 use Rattle.gp_csv.specs.declared.error.TheConstants.{NOT_UTF8, BAD_HEADER}
 
@@ -43,12 +43,8 @@ abbrev pub headings_from : List Heading → List (List ℕ) → Option (List Hea
 headings_from headings [] = Some headings
 headings_from headings (field ∷ fields) = option_and_then (λ (more : List Heading). headings_from more fields) (with_heading headings (heading_of field))
 
-abbrev pub or_bad_header : Option (List Heading) → Result (List Heading) Fault
-or_bad_header None = refuse BAD_HEADER 1
-or_bad_header (Some headings) = Ok headings
-
 -- the headings of the first record, or its first fault
 unfoldable pub header_of : List (List ℕ) → Result (List Heading) Fault
 header_of fields =
     if not (list_all is_utf8 fields) then refuse NOT_UTF8 1
-    else (if nat_lt MAX_COLUMNS (length fields) then refuse BAD_HEADER 1 else or_bad_header (headings_from [] fields))
+    else (if nat_lt MAX_COLUMNS (length fields) then refuse BAD_HEADER 1 else or_refuse BAD_HEADER 1 (headings_from [] fields))

@@ -48,22 +48,18 @@ batches_of name (row ∷ rows) =
 
 -- ---- batches to commands
 
--- COMMIT and BEGIN after so many INSERTs, if the transaction can have no more
+-- COMMIT and BEGIN after so many INSERTs, if the transaction has some and can have no more
 abbrev pub transaction_break : ℕ → List Command
-transaction_break count = if count % MAX_STEPS == 0 then Command.commit ∷ begin false ∷ [] else []
+transaction_break count = if nat_lt 0 count && (count % MAX_STEPS == 0) then Command.commit ∷ begin false ∷ [] else []
 
 -- the INSERTs of these batches, after so many others
 abbrev pub inserts_from : List ℕ → ℕ → List (List Row) → List Command
 inserts_from name count [] = []
 inserts_from name count (batch ∷ batches) = transaction_break count ++ (insert name batch ∷ inserts_from name (suc count) batches)
 
-abbrev pub inserts_of : List ℕ → List (List Row) → List Command
-inserts_of name [] = []
-inserts_of name (batch ∷ batches) = insert name batch ∷ inserts_from name 1 batches
-
 -- the commands of a sheet, given its batches
 abbrev pub commands_of : List ℕ → Sheet → List (List Row) → List Command
-commands_of name sheet batches = create (record { name = name; cols = sheet.cols }) ∷ begin false ∷ (inserts_of name batches ++ (Command.commit ∷ []))
+commands_of name sheet batches = create (record { name = name; cols = sheet.cols }) ∷ begin false ∷ (inserts_from name 0 batches ++ (Command.commit ∷ []))
 
 abbrev pub script_text : List Command → List ℕ
 script_text commands = flat_map ended_line commands

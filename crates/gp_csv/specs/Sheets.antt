@@ -1,6 +1,6 @@
 -- Part of the statement: the sheet of a CSV text. The text is read after RFC 4180, without a header row, and its records may differ in length. The
 -- first record names the columns, and each other one is a row.
-use Rattle.std.specs.Prelude.{ℕ, suc, not, List, [], ◌∷◌, length, Option, Some, None, Result, Ok, if◌then◌else◌, ◌==◌}
+use Rattle.std.specs.Prelude.{ℕ, suc, not, List, [], ◌∷◌, length, unwrap_or, Result, Ok, if◌then◌else◌, ◌==◌}
 use Rattle.std.specs.List.{list_all}
 use Rattle.std.specs.Str.{is_utf8}
 use Rattle.csv.specs.Reading.{default_config, records, strip_bom}
@@ -9,7 +9,7 @@ use Rattle.gp_base.specs.declared.cell.Cell.{Cell}
 use Rattle.gp_base.specs.declared.table.Column.{Column}
 use Rattle.gp_base.specs.declared.table.Kind.{Kind}
 use Rattle.gp_base.specs.declared.table.Kind.TheVariants as kind
-use Rattle.gp_csv.specs.Faults.{Fault, refuse, result_map, result_then}
+use Rattle.gp_csv.specs.Faults.{Fault, or_refuse, refuse, result_map, result_then}
 use Rattle.gp_csv.specs.Fields.{cells_from, is_int_field}
 use Rattle.gp_csv.specs.Headings.{header_of}
 use Rattle.gp_csv.specs.declared.heading.Heading.{Heading}
@@ -26,27 +26,19 @@ records_of bytes = records default_config (strip_bom bytes)
 abbrev pub inferred : ℕ → List (List (List ℕ)) → Kind
 inferred place others = if list_all (λ (fields : List (List ℕ)). is_int_field (field_at fields place)) others then kind.Int else kind.Text
 
-abbrev pub kind_or : Kind → Option Kind → Kind
-kind_or other None = other
-kind_or other (Some written) = written
-
 -- the columns of headings, the first of which is at this place, over the other records
 abbrev pub columns_from : ℕ → List (List (List ℕ)) → List Heading → List Column
 columns_from place others [] = []
 columns_from place others (heading ∷ headings) =
-    record { name = heading.name; kind = kind_or (inferred place others) heading.kind } ∷ columns_from (suc place) others headings
+    record { name = heading.name; kind = unwrap_or heading.kind (inferred place others) } ∷ columns_from (suc place) others headings
 
 -- ---- rows
-
-abbrev pub or_bad_cell : ℕ → Option (List Cell) → Result (List Cell) Fault
-or_bad_cell number None = refuse BAD_CELL number
-or_bad_cell number (Some cells) = Ok cells
 
 -- the row of the record of this number, or its first fault
 unfoldable pub row_of : List Column → ℕ → List (List ℕ) → Result (List Cell) Fault
 row_of columns number fields =
     if not (list_all is_utf8 fields) then refuse NOT_UTF8 number
-    else (if length fields == length columns then or_bad_cell number (cells_from 0 fields columns) else refuse BAD_LENGTH number)
+    else (if length fields == length columns then or_refuse BAD_CELL number (cells_from 0 fields columns) else refuse BAD_LENGTH number)
 
 -- the rows of the records from this number on, or the first fault
 abbrev pub rows_from : List Column → ℕ → List (List (List ℕ)) → Result (List (List Cell)) Fault

@@ -1,12 +1,12 @@
 //! Sheets: a table with its rows, read from CSV.
 
-ghost use Rattle.std.specs.Prelude.{◌≡◌, ◌+◌, ◌-◌, ◌<◌, ◌^◌, [], IfOk, None, Some, length, map, if◌then◌else◌};
+ghost use Rattle.std.specs.Prelude.{◌≡◌, ◌+◌, ◌-◌, ◌<◌, ◌^◌, [], IfOk, None, Some, length, map, unwrap_or, if◌then◌else◌};
 ghost use Rattle.std.specs.List.{list_all};
 ghost use Rattle.csv.specs.Records.{field_at, fields_of};
-ghost use Rattle.gp_csv.specs.Fields.{cells_from};
-ghost use Rattle.gp_csv.specs.Fields.{is_int_field};
+ghost use Rattle.gp_csv.specs.Faults.{or_refuse};
+ghost use Rattle.gp_csv.specs.Fields.{cells_from, is_int_field};
 ghost use Rattle.gp_csv.specs.SheetForms.{ArePlainRows, IsSheet, Returns};
-ghost use Rattle.gp_csv.specs.Sheets.{columns_from, inferred, kind_or, or_bad_cell, row_of, rows_from, sheet_of, sheet_of_records, sheet_under};
+ghost use Rattle.gp_csv.specs.Sheets.{columns_from, inferred, row_of, rows_from, sheet_of, sheet_of_records, sheet_under};
 
 use crate::error::{BAD_CELL, BAD_HEADER, BAD_LENGTH, CsvStop, NOT_UTF8};
 use crate::field::{is_int_field, parse_cell};
@@ -52,7 +52,7 @@ fn infer_kind(place: usize, records: &[ByteRecord]) -> Kind
 
 /// The column of a heading.
 fn make_column(place: usize, heading: &Heading, records: &[ByteRecord]) -> Result<Column, NoMemory>
-    ensures { IfOk result (λ column. column ≡ record { name = heading.now.name; kind = kind_or (inferred place (map fields_of records.now)) heading.now.kind }) }
+    ensures { IfOk result (λ column. column ≡ record { name = heading.now.name; kind = unwrap_or heading.now.kind (inferred place (map fields_of records.now)) }) }
 {
     let name = heading.name.clone()?;
     let kind = match heading.kind {
@@ -111,7 +111,7 @@ fn read_cells(
     record: &ByteRecord,
 ) -> Result<Row, CsvStop>
     ensures { Returns (λ row. row) result
-        (or_bad_cell number (cells_from 0 (fields_of record.now) columns.now)) }
+        (or_refuse BAD_CELL number (cells_from 0 (fields_of record.now) columns.now)) }
 {
     let mut row = Row::new(alloc);
     if add_cells(alloc, columns, record, &mut row)? {

@@ -1,6 +1,7 @@
 -- Part of the statement: the number that rules give a token.
-use Rattle.std.specs.Prelude.{ℕ, Bool, true, false, ◌==◌, ◌&&◌, if◌then◌else◌, Option, None, Some, List, [], ◌∷◌}
-use Rattle.std.specs.Option.{is_none}
+use Rattle.std.specs.Prelude.{ℕ, Bool, true, false, ◌==◌, ◌&&◌, if◌then◌else◌, Option, Some, List, [], ◌∷◌, ◌++◌, map}
+use Rattle.std.specs.List.{find}
+use Rattle.std.specs.Option.{is_none, option_map_or, option_to_list}
 use Rattle.gp_base.specs.declared.token.Token.{Token}
 use Rattle.gp_base.specs.declared.token.Token.TheVariants.{Inserted, Queried, Updated}
 use Rattle.gp_semiring.specs.declared.token_kind.TokenKind.{TokenKind}
@@ -9,8 +10,7 @@ use Rattle.gp_semiring.specs.declared.rules.Rule.{Rule}
 
 -- a part that is not given fits every number
 abbrev pub fits_part : Option ℕ → ℕ → Bool
-fits_part None n = true
-fits_part (Some m) n = m == n
+fits_part part n = option_map_or (λ m. m == n) part true
 
 abbrev pub fits_kind : TokenKind → Token → Bool
 fits_kind I (Inserted t k n) = true
@@ -34,6 +34,4 @@ number_by (rule ∷ rules) other token = if fits_rule rule token then Some rule.
 
 -- the first of these numbers that stands for no element, in the order of the rules and then of all other tokens
 abbrev pub first_outside : {K : Type 0} → (ℕ → Option K) → List Rule → Option ℕ → Option ℕ
-first_outside number_of [] None = None
-first_outside number_of [] (Some n) = if is_none (number_of n) then Some n else None
-first_outside number_of (rule ∷ rules) other = if is_none (number_of rule.value) then Some rule.value else first_outside number_of rules other
+first_outside number_of rules other = find (λ n. is_none (number_of n)) (map (λ (rule : Rule). rule.value) rules ++ option_to_list other)

@@ -1,7 +1,6 @@
 -- Part of the statement: the values of tokens and monomials in a semiring (Green, Karvounarakis and Tannen 2007).
 use Rattle.std.specs.Prelude.{ℕ, List, [], ◌∷◌, Option, None, Some, unwrap_or}
 use Rattle.gp_base.specs.declared.token.Token.{Token}
-use Rattle.gp_base.specs.Annotated.{Annotations}
 use Rattle.gp_base.specs.Tokens.{Monomial}
 use Rattle.gp_semiring.specs.Powers.{raised}
 use Rattle.gp_semiring.specs.declared.rules.Rule.{Rule}
@@ -22,7 +21,3 @@ module _ {K : Type 0} (one : K) (times : K → K → K) (value : Token → K) wh
   abbrev pub monomial_value : Monomial → K
   monomial_value [] = one
   monomial_value (power ∷ powers) = times (raised one times (value power.0) power.1) (monomial_value powers)
-
-  -- the elements of the semiring as annotations
-  abbrev pub values_as_annotations : Annotations K
-  values_as_annotations = record { one = one; times = times; token = value }

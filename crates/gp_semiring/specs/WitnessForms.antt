@@ -5,9 +5,8 @@ use Rattle.std.specs.declared.cmp.Ordering.{Ordering}
 use Rattle.std.specs.FinMap.{is_sorted}
 use Rattle.gp_semiring.specs.SumForms.{Each, IsSum}
 use Rattle.gp_semiring.specs.Witnesses.{is_within}
-use Rattle.gp_base.specs.Tokens.{monomial_cmp}
+use Rattle.gp_base.specs.Tokens.{greatest_count, monomial_cmp}
 use Rattle.gp_base.specs.MonomialForms.{IsMonomial}
-use Rattle.gp_semiring.specs.Elements.{greatest}
 use Rattle.gp_semiring.specs.Polynomials.{Terms}
 
 -- one of the items
@@ -31,4 +30,4 @@ module _ {X : Type 0} (R : X → X → Ordering) where
     pub apart : (s t : List X) → In s sets → In t sets → is_within R s t ≡ true → s ≡ t
 
 abbrev pub IsPolynomial : Terms → Type 0
-IsPolynomial = IsSum monomial_cmp IsMonomial greatest
+IsPolynomial = IsSum monomial_cmp IsMonomial greatest_count
