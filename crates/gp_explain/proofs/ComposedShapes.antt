@@ -19,7 +19,8 @@ use Rattle.gp_machine.specs.Questions.{log_refusal, statement_refusal, transacti
 use Rattle.gp_log.specs.LogFitting.{statements_fit}
 use Rattle.gp_log.specs.LogFacts.{tables_in}
 use Rattle.gp_rewrite.specs.Rewriting.{rewritten}
-use Rattle.gp_compose.specs.Composed.{after, as_of, commit, composed, current, current_before, last_write, moved, onto, program_at, published, step_of, steps_of, writes}
+use Rattle.gp_compose.specs.Composed.{after, as_of, commit, composed, current, current_before, last_write, moved, onto, program_at, published, step_of, writes}
+use Rattle.gp_compose.specs.StepForms.{steps_of}
 use Rattle.gp_log.proofs.FittingLogs.{statement_at_fits}
 use Rattle.gp_plantext.specs.Spellable.{table_is_spellable}
 use Rattle.gp_reenact.specs.Programs.{merged_at}
@@ -135,7 +136,7 @@ module _ (catalogue : List Table) (named : (table : ℕ) → is_there catalogue 
       go false is e = absurd (some_none (E20 t) e)
 
   module _ (entries : List Entry) (fit : statements_fit catalogue entries ≡ true) (prov : Bool) (select : Select) (fitting : select_fits catalogue select ≡ true) where
-    point_shaped : (point : y.State) → log_refusal entries point ≡ None
+    point_shaped : (point : y.Point) → log_refusal entries point ≡ None
         → is_shaped catalogue (plain_program (width_of catalogue) prov (program_at (width_of catalogue) entries point select)) ≡ true
     point_shaped (y.as_of version) e = as_of_shaped prov version select fitting
     point_shaped (y.after t k) e =
@@ -144,13 +145,13 @@ module _ (catalogue : List Table) (named : (table : ℕ) → is_there catalogue 
         first : (o : Option Refusal) → option_or o (statement_refusal t k entries) ≡ None → o ≡ None
         first None e = refl
         first (Some refusal) e = absurd (some_none refusal e)
-    point_shaped (y.State.commit t) e =
+    point_shaped (y.Point.commit t) e =
         commit_shaped (log_of entries) t (known_counts entries t e) (λ k statement e. statement_at_fits catalogue entries fit t (suc k) statement e) prov (version_before (version_of t entries)) select fitting
 
 -- the merged program of a state
 pub merged_at_shaped : (entries : List Entry) → ((table : ℕ) → is_there (tables_in entries) table ≡ true → table_is_spellable (tables_in entries) table ≡ true)
     → statements_fit (tables_in entries) entries ≡ true → (prov : Bool) (select : Select) → select_fits (tables_in entries) select ≡ true
-    → (point : y.State) → log_refusal entries point ≡ None → is_shaped (tables_in entries) (merged_at prov entries point select) ≡ true
+    → (point : y.Point) → log_refusal entries point ≡ None → is_shaped (tables_in entries) (merged_at prov entries point select) ≡ true
 merged_at_shaped entries named fit prov select fitting point known =
     merged_shaped (tables_in entries) (plain_program (width_of (tables_in entries)) prov (program_at (width_of (tables_in entries)) entries point select))
     (point_shaped (tables_in entries) named entries fit prov select fitting point known)

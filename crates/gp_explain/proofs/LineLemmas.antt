@@ -5,9 +5,10 @@ use Rattle.std.specs.List.{flat_map, list_all}
 use Rattle.std.proofs.lemmas.Bool.{and_from, eqb-true}
 use Rattle.std.proofs.lemmas.List.Folds.{list_all-append}
 use Rattle.gp_base.specs.declared.table.Table.{Table}
+use Rattle.gp_base.specs.Numbered.{newline}
 use Rattle.gp_algebra.specs.Plain.{PlainProgram}
 use Rattle.gp_plantext.specs.Spelling.{Spells}
-use Rattle.gp_plantext.specs.Spelling.{last_text, line_feed, program_text, query_text, step_text}
+use Rattle.gp_plantext.specs.Spelling.{last_text, program_text, query_text, step_text}
 use Rattle.gp_explain.specs.ExplainedLines.{lines_from, lines_of}
 use Rattle.gp_explain.specs.LineTexts.{AreLines, is_line}
 
@@ -53,8 +54,8 @@ ends_behind (x ∷ xs) ys so done = ends_behind xs ys so (x == 10)
 program_ends : (tables : List Table) (program : PlainProgram) → (done : Bool) → ends done (program_text tables program) ≡ true
 program_ends tables program =
     ends_behind (flat_map (step_text tables) program.steps) (last_text tables program.last)
-    (ends_behind (codes "QUERY ") (query_text tables program.last ++ (line_feed ++ []))
-    (ends_behind (query_text tables program.last) (line_feed ++ []) (λ done. refl)))
+    (ends_behind (codes "QUERY ") (query_text tables program.last ++ (newline ++ []))
+    (ends_behind (query_text tables program.last) (newline ++ []) (λ done. refl)))
 
 pub spelled_lines : (tables : List Table) (program : PlainProgram) (text : List ℕ) → Spells tables program text → AreLines (lines_of text) text
 spelled_lines tables program text spelled = record {

@@ -46,7 +46,7 @@ rows_out prov made chosen same =
     let shown : Derived Monomial → List Cell = λ row. row.cells ++ noted prov (cell.Mono row.annotation) in
     sym (map-map shown unmarked made) ∙ ap (map shown) same ∙ map-map shown of_element chosen
 
-module _ (entries : List Entry) (select : Select) (fit : statements_fit (tables_in entries) entries ≡ true) (fits : select_fits (tables_in entries) select ≡ true) (point : y.State)
+module _ (entries : List Entry) (select : Select) (fit : statements_fit (tables_in entries) entries ≡ true) (fits : select_fits (tables_in entries) select ≡ true) (point : y.Point)
     (known : log_refusal entries point ≡ None) (prov : Bool) where
   abbrev columns : ℕ → ℕ
   columns = width_of (tables_in entries)

@@ -7,7 +7,8 @@ use Rattle.gp_base.specs.declared.table.Table.{Table}
 use Rattle.gp_expr.specs.Expressions.{Expr, Cond}
 use Rattle.gp_expr.specs.Substitution.{substituted_each}
 use Rattle.gp_algebra.specs.Plain.{Plain, scan, step, select, project, product, union, given, publish, PlainStep, PlainProgram}
-use Rattle.gp_merge.specs.Merging.{inlined, program_inlined, stays, settled, is_small, selected, projected, rebuilt, merged}
+use Rattle.gp_merge.specs.Merging.{inlined, stays, settled, is_small, selected, projected, rebuilt, merged}
+use Rattle.gp_merge.specs.MergingForms.{program_inlined}
 use Rattle.gp_plantext.specs.Spellable.{has_item, table_is_spellable}
 use Rattle.gp_explain.specs.Shapes.{expr_is_shaped, cond_is_shaped, query_is_shaped, step_is_shaped, is_shaped}
 use Rattle.gp_explain.proofs.PlainShapes.{each_stays, same_items}

@@ -21,7 +21,8 @@ use Rattle.gp_algebra.specs.Plain as p
 use Rattle.gp_algebra.specs.AnnotatedQueries.{step_table}
 use Rattle.gp_plantext.specs.Spellable.{has_item, has_part, table_is_spellable}
 use Rattle.gp_prov.specs.Encoding.{encoded_row, noted}
-use Rattle.gp_prov.specs.ToPlain.{columns_from, system_width, users_from, identities_from, times_from, product_of, changed_columns, new_columns, answer_columns, widths_of, plain, plain_last, plain_step, plain_program}
+use Rattle.gp_prov.specs.ToPlain.{system_width, users_from, identities_from, times_from, product_of, changed_columns, new_columns, answer_columns, widths_of, plain_query, plain_last, plain_step, plain_program}
+use Rattle.gp_algebra.specs.Statements.{columns_behind}
 use Rattle.gp_explain.specs.Shapes.{cell_is_shaped, expr_is_shaped, cond_is_shaped, parts_are_shaped, row_is_shaped, query_is_shaped, step_is_shaped, is_shaped, has_tables, has_sources, change_is_shaped, annotated_is_shaped, annotated_step_is_shaped}
 use Rattle.gp_base.proofs.SmallLemmas.{both_follow, left_true, right_true}
 
@@ -89,7 +90,7 @@ module _ (inner : List Expr) (all : list_all expr_is_shaped inner ≡ true) wher
 
 -- ---- the columns of projections
 
-columns_shaped : (at width : ℕ) → list_all expr_is_shaped (columns_from at width) ≡ true
+columns_shaped : (at width : ℕ) → list_all expr_is_shaped (columns_behind at width) ≡ true
 columns_shaped at zero = refl
 columns_shaped at (suc more) = columns_shaped (suc at) more
 
@@ -101,7 +102,7 @@ module _ (prov : Bool) where
   users_shaped : (at : ℕ) (widths : List ℕ) → list_all expr_is_shaped (users_from prov at widths) ≡ true
   users_shaped at [] = refl
   users_shaped at (width ∷ widths) =
-      all_joined expr_is_shaped (columns_from at width) (users_from prov (at + (width + system_width prov)) widths) (columns_shaped at width)
+      all_joined expr_is_shaped (columns_behind at width) (users_from prov (at + (width + system_width prov)) widths) (columns_shaped at width)
       (users_shaped (at + (width + system_width prov)) widths)
 
   identities_shaped : (at : ℕ) (widths : List ℕ) → parts_are_shaped (identities_from prov at widths) ≡ true
@@ -183,7 +184,7 @@ module _ (tables : List Table) (columns : ℕ → ℕ) (of_step : ℕ → ℕ) (
   widths query = widths_of columns of_step prov query
 
   abbrev made : Query → p.Plain
-  made query = plain columns of_step prov query
+  made query = plain_query columns of_step prov query
 
   abbrev shaped : Query → Bool
   shaped query = annotated_is_shaped tables query

@@ -9,12 +9,14 @@ use Rattle.gp_base.specs.declared.row_id.TheConstants.{MAX_NODES}
 use Rattle.gp_base.specs.declared.table.Table.{Table}
 use Rattle.gp_base.specs.CellForms.{IsInRange, AreInRange}
 use Rattle.gp_base.specs.Identities.{Identity, Sources, identity, no_sources, source, nodes}
-use Rattle.gp_base.specs.IdentityParts.{IsIdentity, AreIdentities}
+use Rattle.gp_base.specs.IdentityForms.{IsIdentity, AreIdentities}
+use Rattle.gp_base.specs.Tokens.{is_u32}
 use Rattle.gp_expr.specs.Expressions as e
 use Rattle.gp_expr.specs.Expressions.{Expr, Cond, Parts}
 use Rattle.gp_algebra.specs.Plain as p
 use Rattle.gp_algebra.specs.Plain.{Plain, PlainStep, PlainProgram}
-use Rattle.gp_plantext.specs.Spellable.{is_u32, is_from_one, has_numbers, have_numbers, cell_is_spellable, expr_is_spellable, cond_is_spellable, parts_are_spellable, has_part, has_item, row_is_spellable, table_is_spellable, query_is_spellable, step_is_spellable, is_spellable}
+use Rattle.gp_plantext.specs.Spellable.{is_from_one, has_numbers, have_numbers, cell_is_spellable, expr_is_spellable, cond_is_spellable, has_part, has_item, row_is_spellable, table_is_spellable, query_is_spellable, step_is_spellable, is_spellable}
+use Rattle.gp_plantext.specs.SpellableForms.{parts_are_spellable}
 use Rattle.gp_plantext.proofs.SpellableLemmas.{monomial-spellable}
 use Rattle.gp_explain.specs.Numbers.{IsU32, ExprInRange, CondInRange, PartsInRange, QueryInRange, StepInRange, ProgramInRange}
 use Rattle.gp_explain.specs.Shapes.{counts_from_one, count_from_one, cell_is_shaped, expr_is_shaped, cond_is_shaped, parts_are_shaped, row_is_shaped, query_is_shaped, step_is_shaped, is_shaped, AreNamed, IsShaped}
@@ -56,31 +58,33 @@ mutual
   expr_spelled : (x : Expr) → expr_is_shaped x ≡ true → ExprInRange x → expr_is_spellable x ≡ true
   expr_spelled (e.col n) so range = u32 n range
   expr_spelled (e.constant x) so range = cell_spelled x so range
-  expr_spelled (e.add a b) so range = both_spelled (expr_is_shaped a) (expr_is_shaped b) _ _ (expr_spelled a) (expr_spelled b) so range.0 range.1
-  expr_spelled (e.sub a b) so range = both_spelled (expr_is_shaped a) (expr_is_shaped b) _ _ (expr_spelled a) (expr_spelled b) so range.0 range.1
-  expr_spelled (e.mul a b) so range = both_spelled (expr_is_shaped a) (expr_is_shaped b) _ _ (expr_spelled a) (expr_spelled b) so range.0 range.1
+  expr_spelled (e.add a b) so range = both_spelled (expr_is_shaped a) (expr_is_shaped b) (expr_is_spellable a) (expr_is_spellable b) (expr_spelled a) (expr_spelled b) so range.0 range.1
+  expr_spelled (e.sub a b) so range = both_spelled (expr_is_shaped a) (expr_is_shaped b) (expr_is_spellable a) (expr_is_spellable b) (expr_spelled a) (expr_spelled b) so range.0 range.1
+  expr_spelled (e.mul a b) so range = both_spelled (expr_is_shaped a) (expr_is_shaped b) (expr_is_spellable a) (expr_is_spellable b) (expr_spelled a) (expr_spelled b) so range.0 range.1
   expr_spelled (e.neg a) so range = expr_spelled a so range
   expr_spelled (e.case c a b) so range =
-      both_spelled (cond_is_shaped c) (expr_is_shaped a && expr_is_shaped b) _ _ (cond_spelled c)
-      (λ so range. both_spelled (expr_is_shaped a) (expr_is_shaped b) _ _ (expr_spelled a) (expr_spelled b) so range.0 range.1) so range.0 range.1
+      both_spelled (cond_is_shaped c) (expr_is_shaped a && expr_is_shaped b) (cond_is_spellable c) (expr_is_spellable a && expr_is_spellable b) (cond_spelled c)
+      (λ so range. both_spelled (expr_is_shaped a) (expr_is_shaped b) (expr_is_spellable a) (expr_is_spellable b) (expr_spelled a) (expr_spelled b) so range.0 range.1) so range.0 range.1
   expr_spelled (e.new_id t k b parts) so range =
-      and_from (is_u32 t && (is_u32 k && is_u32 b)) _
+      and_from ((is_u32 t && (is_u32 k && is_u32 b)) && has_part parts) (parts_are_spellable parts)
+      (and_from (is_u32 t && (is_u32 k && is_u32 b)) (has_part parts)
       (and_from (is_u32 t) _ (u32 t range.0.0) (and_from (is_u32 k) (is_u32 b) (u32 k range.0.1.0) (u32 b range.0.1.1)))
-      (and_from (has_part parts) _ (left_true (has_part parts) (parts_are_shaped parts) so) (parts_spelled parts (right_true (has_part parts) (parts_are_shaped parts) so) range.1))
-  expr_spelled (e.times a b) so range = both_spelled (expr_is_shaped a) (expr_is_shaped b) _ _ (expr_spelled a) (expr_spelled b) so range.0 range.1
+      (left_true (has_part parts) (parts_are_shaped parts) so))
+      (parts_spelled parts (right_true (has_part parts) (parts_are_shaped parts) so) range.1)
+  expr_spelled (e.times a b) so range = both_spelled (expr_is_shaped a) (expr_is_shaped b) (expr_is_spellable a) (expr_is_spellable b) (expr_spelled a) (expr_spelled b) so range.0 range.1
 
   cond_spelled : (c : Cond) → cond_is_shaped c ≡ true → CondInRange c → cond_is_spellable c ≡ true
   cond_spelled e.always so range = refl
-  cond_spelled (e.compare cmp a b) so range = both_spelled (expr_is_shaped a) (expr_is_shaped b) _ _ (expr_spelled a) (expr_spelled b) so range.0 range.1
+  cond_spelled (e.compare cmp a b) so range = both_spelled (expr_is_shaped a) (expr_is_shaped b) (expr_is_spellable a) (expr_is_spellable b) (expr_spelled a) (expr_spelled b) so range.0 range.1
   cond_spelled (e.is_null a holds) so range = expr_spelled a so range
   cond_spelled (e.is_true c holds) so range = cond_spelled c so range
-  cond_spelled (e.and c d) so range = both_spelled (cond_is_shaped c) (cond_is_shaped d) _ _ (cond_spelled c) (cond_spelled d) so range.0 range.1
-  cond_spelled (e.or c d) so range = both_spelled (cond_is_shaped c) (cond_is_shaped d) _ _ (cond_spelled c) (cond_spelled d) so range.0 range.1
+  cond_spelled (e.and c d) so range = both_spelled (cond_is_shaped c) (cond_is_shaped d) (cond_is_spellable c) (cond_is_spellable d) (cond_spelled c) (cond_spelled d) so range.0 range.1
+  cond_spelled (e.or c d) so range = both_spelled (cond_is_shaped c) (cond_is_shaped d) (cond_is_spellable c) (cond_is_spellable d) (cond_spelled c) (cond_spelled d) so range.0 range.1
   cond_spelled (e.not c) so range = cond_spelled c so range
 
   parts_spelled : (parts : Parts) → parts_are_shaped parts ≡ true → PartsInRange parts → parts_are_spellable parts ≡ true
   parts_spelled e.no_parts so range = refl
-  parts_spelled (e.part a others) so range = both_spelled (expr_is_shaped a) (parts_are_shaped others) _ _ (expr_spelled a) (parts_spelled others) so range.0 range.1
+  parts_spelled (e.part a others) so range = both_spelled (expr_is_shaped a) (parts_are_shaped others) (expr_is_spellable a) (parts_are_spellable others) (expr_spelled a) (parts_spelled others) so range.0 range.1
 
 -- each item of a list
 each_spelled : {X : Type 0} (P : X → Type 0) (f g : X → Bool) → ((x : X) → f x ≡ true → P x → g x ≡ true) → (xs : List X) → list_all f xs ≡ true → AllByRecursion P xs

@@ -15,7 +15,8 @@ use Rattle.gp_algebra.specs.Statements.{width_of}
 use Rattle.gp_algebra.specs.AnnotatedQueries as q
 use Rattle.gp_algebra.specs.AnnotatedQueries.{Query}
 use Rattle.gp_plantext.specs.Spellable.{has_item}
-use Rattle.gp_rewrite.specs.Rewriting.{branch_of, cased, made_of, made_onto, product_of, product_onto, query_of, rewritten, selected_by, union_onto, updated_from}
+use Rattle.gp_rewrite.specs.Rewriting.{branch_of, cased, made_of, made_onto, product_of, query_of, rewritten, selected_by, updated_from}
+use Rattle.gp_rewrite.specs.RewritingForms.{product_onto, union_onto}
 use Rattle.gp_explain.specs.Shapes.{cell_is_shaped, expr_is_shaped, cond_is_shaped, annotated_is_shaped, has_tables, has_sources}
 use Rattle.gp_explain.proofs.FittingShapes.{user_cells, fit_shaped, fit_cond_shaped}
 use Rattle.gp_base.proofs.SmallLemmas.{all_weaker, left_true, right_true}

@@ -23,7 +23,7 @@ abbrev pub answer_row : Bool → Element Monomial → List Cell
 answer_row prov element = element.cells ++ noted prov (cell.Mono element.annotation)
 
 -- the text explains a query over a state of a log
-pub record Explains (entries : List Entry) (point : y.State) (select : Select) (prov : Bool) (text : List ℕ) : Type 0 where
+pub record Explains (entries : List Entry) (point : y.Point) (select : Select) (prov : Bool) (text : List ℕ) : Type 0 where
   pub program : PlainProgram
   pub spelled : Spells (tables_in entries) program text
   pub normal : is_normal program ≡ true

@@ -20,7 +20,7 @@ ghost use Rattle.gp_explain.specs.Shapes.{AreNamed};
 /// The merged program of a state has a text, if all statements and the query fit tables that have names, and its numbers are in
 /// the ranges of their types, as those of every program of the code are.
 pub fn merged_programs_are_spellable()
-    ensures { (entries : List Entry) (prov : Bool) (point : y.State) (select : Select)
+    ensures { (entries : List Entry) (prov : Bool) (point : y.Point) (select : Select)
         → AreNamed (tables_in entries) → statements_fit (tables_in entries) entries ≡ true
         → select_fits (tables_in entries) select ≡ true → log_refusal entries point ≡ None
         → ProgramInRange (merged_at prov entries point select)
@@ -31,7 +31,7 @@ pub fn merged_programs_are_spellable()
 /// gives the rows of the query over the state that the statements lead to, with provenance their monomials too. This joins the laws
 /// of composed programs, of plain ones and of merged ones.
 pub fn texts_explain_states()
-    ensures { (entries : List Entry) (prov : Bool) (point : y.State) (select : Select)
+    ensures { (entries : List Entry) (prov : Bool) (point : y.Point) (select : Select)
         → statements_fit (tables_in entries) entries ≡ true
         → select_fits (tables_in entries) select ≡ true → log_refusal entries point ≡ None
         → (text : List ℕ) → Spells (tables_in entries) (merged_at prov entries point select) text
@@ -40,7 +40,7 @@ pub fn texts_explain_states()
 
 /// A text that explains a state is its lines, each with a line feed behind it.
 pub fn explained_texts_are_lines()
-    ensures { (entries : List Entry) (prov : Bool) (point : y.State) (select : Select)
+    ensures { (entries : List Entry) (prov : Bool) (point : y.Point) (select : Select)
         (text : List ℕ) → Explains entries point select prov text
         → AreLines (lines_of text) text }
 {}

@@ -4,7 +4,7 @@
 ghost use Rattle.std.specs.Prelude.{map};
 ghost use Rattle.std.specs.List.{AllByRecursion};
 ghost use Rattle.gp_base.specs.CellForms.{AreInRange, IsInRange};
-ghost use Rattle.gp_base.specs.IdentityParts.{IsIdentity};
+ghost use Rattle.gp_base.specs.IdentityForms.{IsIdentity};
 ghost use Rattle.gp_base.specs.MonomialForms.{IsMonomial};
 ghost use Rattle.gp_expr.specs.Expressions as e;
 ghost use Rattle.gp_expr.specs.Views.{cond_view, expr_view, parts_of};

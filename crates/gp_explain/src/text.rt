@@ -1,7 +1,7 @@
 //! The text of the program of a state.
 
 ghost use Rattle.std.specs.Prelude.{None, IfOk};
-ghost use Rattle.gp_syntax.specs.Views.{state_view};
+ghost use Rattle.gp_syntax.specs.Views.{point_view};
 ghost use Rattle.gp_algebra.specs.PlainViews.{program_view};
 ghost use Rattle.gp_algebra.specs.Views.{select_view};
 ghost use Rattle.gp_compose.specs.Composing.{QueryFits};
@@ -18,7 +18,7 @@ use gp_algebra::{PProgram, Select};
 use gp_log::Log;
 use gp_plantext::write;
 use gp_reenact::{ReenactStop, planned};
-use gp_syntax::State;
+use gp_syntax::Point;
 use std::alloc::Global;
 
 /// The text of a program over the tables of a log.
@@ -40,16 +40,16 @@ fn written(alloc: Global, log: &Log, program: &PProgram) -> Result<Vec<u8>, Reen
 pub fn explain(
     alloc: Global,
     log: &Log,
-    state: State,
+    state: Point,
     select: &Select,
     with_prov: bool,
 ) -> Result<Vec<u8>, ReenactStop>
     requires { QueryFits log.now (select_view select.now) }
     ensures text { ExplainsBy (λ text. text.items) result
-        (log_refusal (entries log.now) (state_view state)) (tables log.now)
-        (merged_at with_prov (entries log.now) (state_view state) (select_view select.now)) }
+        (log_refusal (entries log.now) (point_view state)) (tables log.now)
+        (merged_at with_prov (entries log.now) (point_view state) (select_view select.now)) }
     ensures meaning { IfOk result (λ text. Explains (entries log.now)
-        (state_view state) (select_view select.now) with_prov text.items) }
+        (point_view state) (select_view select.now) with_prov text.items) }
 {
     let program = planned(alloc, log, state, select, with_prov)?;
     written(alloc, log, &program)

@@ -1,16 +1,18 @@
 -- A merged program is well built.
 use Rattle.std.proofs.Common.{◌≡◌, ℕ, zero, suc, ◌<◌, Bool, true, false, cond, List, [], ◌∷◌, refl, sym, ap, ◌∙◌, subst, map}
 use Rattle.std.specs.Prelude.{◌||◌, ◌&&◌, ◌==◌, not, nat_lt, nat_le}
-use Rattle.std.specs.List.{list_all, list_any}
+use Rattle.std.specs.List.{list_all, list_any, sum_by}
 use Rattle.std.proofs.lemmas.Bool.{and_parts, false≢true, or_right}
 use Rattle.gp_expr.specs.Expressions as e
 use Rattle.gp_expr.specs.Expressions.{Expr, Cond}
 use Rattle.gp_expr.specs.ExpressionForms.{cond_is_simple}
+use Rattle.gp_expr.specs.Sizes.{size}
 use Rattle.gp_expr.specs.Substitution.{substituted_each}
 use Rattle.gp_algebra.specs.Plain.{Plain, scan, step, select, project, product, union, given, publish, PlainStep, PlainProgram}
 use Rattle.gp_algebra.specs.Plain.{is_insert}
 use Rattle.gp_algebra.specs.WellBuilt.{makes_no_identity, may_be_identity, is_among, is_above, query_is_built, rows_are_built, step_is_built, steps_are_built, numbers_after, is_well_built}
-use Rattle.gp_merge.specs.Merging.{inlined, step_inlined, program_inlined, stays, settled, tests_times, total_size, is_small, selected, projected, rebuilt, step_rebuilt, merged}
+use Rattle.gp_merge.specs.Merging.{inlined, stays, settled, tests_times, is_small, selected, projected, rebuilt, merged}
+use Rattle.gp_merge.specs.MergingForms.{step_inlined, program_inlined, step_rebuilt}
 use Rattle.gp_merge.specs.declared.limit.TheConstants.{MAX_PROJECTION_NODES}
 use Rattle.gp_merge.proofs.ExpressionLemmas.{both, none_may_be, each_none_stays, each_may_stay}
 use Rattle.gp_merge.proofs.NormalLemmas.{either_false, inlined_insert, rebuilt_insert}
@@ -166,7 +168,7 @@ settled_built numbers (s ∷ steps) last built last_built =
 -- what is small tests no product of provenance
 no_tests : (exprs : List Expr) → is_small exprs ≡ true → list_any tests_times exprs ≡ false
 unfolding is_small
-no_tests exprs small = go (list_any tests_times exprs) (and_parts (nat_le (total_size exprs) MAX_PROJECTION_NODES) (not (list_any tests_times exprs)) small).1
+no_tests exprs small = go (list_any tests_times exprs) (and_parts (nat_le (sum_by size exprs) MAX_PROJECTION_NODES) (not (list_any tests_times exprs)) small).1
   where
     go : (b : Bool) → not b ≡ true → b ≡ false
     go true e = sym e

@@ -6,7 +6,8 @@ use Rattle.gp_base.specs.declared.cell.Cell.{Cell}
 use Rattle.gp_expr.specs.Values.{passes}
 use Rattle.gp_algebra.specs.Answers.{values}
 use Rattle.gp_algebra.specs.Plain.{Plain, scan, step, select, project, product, union, given, publish, PlainStep, PlainProgram, PlainEnvironment, StepRows, meaning, steps_meaning, program_meaning, with_step, no_steps, published}
-use Rattle.gp_merge.specs.Merging.{inlined, step_inlined, program_inlined, stays, settled_before, settled}
+use Rattle.gp_merge.specs.Merging.{inlined, stays, settled_before, settled}
+use Rattle.gp_merge.specs.MergingForms.{step_inlined, program_inlined}
 use Rattle.gp_merge.proofs.Orders.{unequal_back, IsBelow, AreAbove, AreOrdered}
 use Rattle.gp_base.proofs.SmallLemmas.{not_eq}
 use Rattle.std.proofs.lemmas.Bool.{eqb-true}

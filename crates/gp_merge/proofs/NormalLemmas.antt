@@ -6,7 +6,8 @@ use Rattle.gp_expr.specs.Expressions.{Expr, Cond}
 use Rattle.gp_expr.specs.Substitution.{substituted_each}
 use Rattle.gp_algebra.specs.Plain.{Plain, scan, step, select, project, product, union, given, publish, PlainStep, PlainProgram, PlainEnvironment}
 use Rattle.gp_algebra.specs.Plain.{is_insert}
-use Rattle.gp_merge.specs.Merging.{uses, program_uses, inlined, step_inlined, program_inlined, stays, settled, is_small, selected, projected, rebuilt, step_rebuilt, merged}
+use Rattle.gp_merge.specs.Merging.{uses, program_uses, inlined, stays, settled, is_small, selected, projected, rebuilt, merged}
+use Rattle.gp_merge.specs.MergingForms.{step_inlined, program_inlined, step_rebuilt}
 use Rattle.gp_merge.specs.Normal.{is_selection, can_be_one, is_tight, are_normal, is_normal}
 use Rattle.gp_merge.proofs.Orders.{IsBelow, AreAbove, AreOrdered}
 use Rattle.gp_merge.proofs.InliningLemmas.{above_settled}

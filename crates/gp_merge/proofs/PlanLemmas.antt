@@ -6,9 +6,11 @@ use Rattle.std.proofs.lemmas.List.{reverse-append}
 use Rattle.std.proofs.lemmas.Bool.Decides.{nat_tests}
 use Rattle.gp_algebra.specs.Plain.{Plain, scan, step, select, project, product, union, given, publish, PlainStep, PlainProgram}
 use Rattle.gp_algebra.specs.Plain.{is_insert}
-use Rattle.gp_algebra.specs.declared.plain.PStep.{PStep}
+use Rattle.gp_algebra.specs.declared.plain.PQuery.{PQuery}
+use Rattle.gp_algebra.specs.declared.program.Step as code
 use Rattle.gp_algebra.specs.PlainViews.{step_view}
-use Rattle.gp_merge.specs.Merging.{uses, program_uses, inlined, step_inlined, program_inlined, stays, settled_before, settled, selected, projected, rebuilt, step_rebuilt, program_rebuilt, merged}
+use Rattle.gp_merge.specs.Merging.{uses, program_uses, inlined, stays, settled_before, settled, selected, projected, rebuilt, merged}
+use Rattle.gp_merge.specs.MergingForms.{step_inlined, program_inlined, step_rebuilt, program_rebuilt}
 use Rattle.gp_merge.specs.Planning.{Plan, no_steps_planned, steps_uses, plan_uses, plan_before, planned_before, planned_onto, built_over, source_of, built, step_built, program_built}
 use Rattle.gp_merge.proofs.Orders.{unequal_back, IsBelow, AreAbove, AreOrdered}
 use Rattle.gp_merge.proofs.NormalLemmas.{unused_below}
@@ -268,7 +270,7 @@ merged_is_built program o =
 -- ---- for the loops of the code
 
 -- one more step before those from a place on
-pub planned_here : (last : Plain) (steps : List PStep) (place : ℕ) (s : PStep) (plan : Plan) → 0 < place → place ≤ length steps → s ≡ get_or steps (place - 1) s
+pub planned_here : (last : Plain) (steps : List (code.Step PQuery)) (place : ℕ) (s : code.Step PQuery) (plan : Plan) → 0 < place → place ≤ length steps → s ≡ get_or steps (place - 1) s
     → plan ≡ planned_before last (step_view s) (planned_onto last (map step_view (drop place steps)) no_steps_planned)
     → plan ≡ planned_onto last (map step_view (drop (place - 1) steps)) no_steps_planned
 planned_here last steps zero s plan some within is same = absurd (omega (arith, some))

@@ -13,7 +13,8 @@ use Rattle.gp_base.specs.declared.cell.Cell.{Cell}
 use Rattle.gp_expr.specs.Values.{passes}
 use Rattle.gp_algebra.specs.Answers.{values}
 use Rattle.gp_algebra.specs.Plain.{Plain, scan, step, select, project, product, union, given, publish, PlainStep, PlainProgram, PlainEnvironment, StepRows, meaning, steps_meaning, program_meaning, with_step, no_steps, published}
-use Rattle.gp_merge.specs.Merging.{is_small, selected, projected, rebuilt, step_rebuilt, merged, settled}
+use Rattle.gp_merge.specs.Merging.{is_small, selected, projected, rebuilt, merged, settled}
+use Rattle.gp_merge.specs.MergingForms.{step_rebuilt}
 use Rattle.gp_merge.proofs.Orders.{AreOrdered}
 use Rattle.gp_merge.proofs.InliningLemmas.{settled_is}
 

@@ -8,7 +8,8 @@ use Rattle.gp_expr.specs.Substitution.{substituted_each}
 use Rattle.gp_algebra.specs.declared.plain.ScanAt.{ScanAt}
 use Rattle.gp_algebra.specs.Plain.{Plain, scan, step, select, project, product, union, given, publish, PlainStep, PlainProgram}
 use Rattle.gp_algebra.specs.Scans.{query_scans, steps_scans, program_scans}
-use Rattle.gp_merge.specs.Merging.{inlined, step_inlined, program_inlined, stays, settled, is_small, selected, projected, rebuilt, step_rebuilt, program_rebuilt, merged}
+use Rattle.gp_merge.specs.Merging.{inlined, stays, settled, is_small, selected, projected, rebuilt, merged}
+use Rattle.gp_merge.specs.MergingForms.{step_inlined, program_inlined, step_rebuilt, program_rebuilt}
 
 -- ---- rebuilt queries scan the same
 

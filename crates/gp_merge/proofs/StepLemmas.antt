@@ -10,7 +10,8 @@ use Rattle.gp_algebra.specs.Plain.{Plain, scan, step, select, project, product, 
 use Rattle.gp_algebra.specs.Stops as stops
 use Rattle.gp_algebra.specs.Stops.{Stop, first_stop, steps_stop, program_stop}
 use Rattle.gp_algebra.specs.Plain.{is_insert}
-use Rattle.gp_merge.specs.Merging.{inlined, step_inlined, program_inlined, stays, settled, rebuilt, step_rebuilt, merged, insert_numbers}
+use Rattle.gp_merge.specs.Merging.{inlined, stays, settled, rebuilt, merged}
+use Rattle.gp_merge.specs.MergingForms.{insert_numbers, step_inlined, program_inlined, step_rebuilt}
 use Rattle.gp_algebra.specs.WellBuilt.{is_among}
 use Rattle.std.proofs.lemmas.Bool.{false≢true, eqb-true}
 use Rattle.gp_merge.proofs.Orders.{unequal_back, IsBelow, AreAbove, AreOrdered}

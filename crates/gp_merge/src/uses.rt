@@ -1,7 +1,7 @@
 //! How often steps are used.
 
 ghost use Rattle.std.specs.Prelude.{◌≡◌, map};
-ghost use Rattle.gp_expr.specs.Sizes.{up_to_greatest};
+ghost use Rattle.gp_expr.specs.SizeForms.{up_to_greatest};
 ghost use Rattle.gp_algebra.specs.PlainViews.{query_view, step_view};
 ghost use Rattle.gp_merge.specs.Merging as m;
 ghost use Rattle.gp_merge.specs.Planning as p;

@@ -9,14 +9,15 @@ use Rattle.std.specs.FinMap.{is_sorted}
 use Rattle.std.proofs.lemmas.Bool.{and_from, le-leb, eq-eqb, ne_eqb}
 use Rattle.gp_base.specs.declared.token.Token.{Token}
 use Rattle.gp_base.specs.declared.token.Token.TheVariants.{Inserted, Queried, Updated}
-use Rattle.gp_base.specs.Tokens.{Monomial, token_cmp, greatest_count}
+use Rattle.gp_base.specs.Tokens.{Monomial, token_cmp, greatest_count, is_token, is_u32}
 use Rattle.gp_base.specs.MonomialForms.{IsMonomial, IsToken, ArePowers}
 use Rattle.gp_expr.specs.Expressions as e
 use Rattle.gp_expr.specs.declared.expr.Expr.{Expr}
 use Rattle.gp_expr.specs.Views.{expr_view, parts_of}
-use Rattle.gp_plantext.specs.Spellable.{is_u32, token_is_spellable, power_is_spellable, monomial_is_spellable, expr_is_spellable, parts_are_spellable, has_part, has_item}
+use Rattle.gp_plantext.specs.Spellable.{power_is_spellable, monomial_is_spellable, expr_is_spellable, has_part, has_item}
+use Rattle.gp_plantext.specs.SpellableForms.{parts_are_spellable}
 
-token-spellable : (token : Token) → IsToken token → token_is_spellable token ≡ true
+token-spellable : (token : Token) → IsToken token → is_token token ≡ true
 token-spellable (Inserted t k n) is = and_from (is_u32 t) (is_u32 k && is_u32 n) (le-leb t 0xffff_ffff is.0) (and_from (is_u32 k) (is_u32 n) (le-leb k 0xffff_ffff is.1.0) (le-leb n 0xffff_ffff is.1.1))
 token-spellable (Queried t k) is = and_from (is_u32 t) (is_u32 k) (le-leb t 0xffff_ffff is.0) (le-leb k 0xffff_ffff is.1)
 token-spellable (Updated t k) is = and_from (is_u32 t) (is_u32 k) (le-leb t 0xffff_ffff is.0) (le-leb k 0xffff_ffff is.1)
@@ -25,7 +26,7 @@ powers-spellable : (powers : Monomial) → ArePowers powers → list_all power_i
 powers-spellable [] are = refl
 powers-spellable (power ∷ powers) are =
     and_from (power_is_spellable power) (list_all power_is_spellable powers)
-    (and_from (token_is_spellable power.0) (leb 1 power.1 && leb power.1 greatest_count) (token-spellable power.0 are.0.0)
+    (and_from (is_token power.0) (leb 1 power.1 && leb power.1 greatest_count) (token-spellable power.0 are.0.0)
     (and_from (leb 1 power.1) (leb power.1 greatest_count) (le-leb 1 power.1 are.0.1.0) (le-leb power.1 greatest_count are.0.1.1)))
     (powers-spellable powers are.1)
 
@@ -56,10 +57,11 @@ both-spellable [] = refl
 both-spellable (a ∷ parts) = ap (λ (b : Bool). expr_is_spellable (expr_view a) && b) (sym (exprs-spellable parts) ∙ parts-spellable parts)
 
 pub parts-both : (t k b : ℕ) (parts : List Expr) → (is_u32 t && (is_u32 k && is_u32 b)) ≡ true → expr_is_spellable (e.new_id t k b (parts_of parts)) ≡ (has_item (map expr_view parts) && list_all expr_is_spellable (map expr_view parts))
-parts-both t k b parts are = rw are (sym (both-spellable parts))
+parts-both t k b parts are =
+    ap (λ (own : Bool). (own && has_part (parts_of parts)) && parts_are_spellable (parts_of parts)) are ∙ sym (both-spellable parts)
 
 pub parts-none : (t k b : ℕ) (parts : List Expr) → (is_u32 t && (is_u32 k && is_u32 b)) ≡ false → expr_is_spellable (e.new_id t k b (parts_of parts)) ≡ false
-parts-none t k b parts are = rw are refl
+parts-none t k b parts are = ap (λ (own : Bool). (own && has_part (parts_of parts)) && parts_are_spellable (parts_of parts)) are
 
 pub ruleset part_lists = (parts-both, parts-none)
 

@@ -5,7 +5,8 @@ ghost use Rattle.std.specs.Char.{is_ascii_control};
 ghost use Rattle.std.specs.List.{list_all, list_any};
 ghost use Rattle.std.specs.Str.Lossy.{utf8_valid_len};
 ghost use Rattle.gp_base.specs.Cells as c;
-ghost use Rattle.gp_base.specs.IdentityParts.{sources_of};
+ghost use Rattle.gp_base.specs.IdentityForms.{sources_of};
+ghost use Rattle.gp_base.specs.Tokens as k;
 ghost use Rattle.gp_expr.specs.Expressions as e;
 ghost use Rattle.gp_expr.specs.Views.{cond_view, expr_view, parts_of};
 ghost use Rattle.gp_algebra.specs.PlainViews.{program_view, query_view, step_view};
@@ -17,7 +18,7 @@ use gp_expr::{Cond, Expr};
 
 /// Whether the number is one of 32 bits, as it is by its type.
 fn is_u32(_number: u32) -> bool
-    ensures { result ≡ s.is_u32 _number }
+    ensures { result ≡ k.is_u32 _number }
 {
     true
 }
@@ -128,7 +129,7 @@ fn exprs_are_spellable(exprs: &[Expr]) -> bool
 
 /// Whether the numbers are of 32 bits, as they are by their types.
 fn are_u32(_t: u32, _k: u32, _b: u32) -> bool
-    ensures { result ≡ (s.is_u32 _t && (s.is_u32 _k && s.is_u32 _b)) }
+    ensures { result ≡ (k.is_u32 _t && (k.is_u32 _k && k.is_u32 _b)) }
 {
     true
 }

@@ -20,7 +20,8 @@ use Rattle.gp_algebra.specs.AnnotatedQueries.{Change, Query, QueryStep, Program}
 use Rattle.gp_algebra.specs.QueryForms.{IsTable, IsSomeTable, IsJoin, IsSource, IsBranch, AreNew, IsStep, IsAnswer, is_sound, AreAfter, AreRising, AreSteps, HasSteps, reads_only, steps_read, numbers_with}
 use Rattle.gp_algebra.specs.AnnotatedQueries.{step_table}
 use Rattle.gp_prov.specs.Encoding.{noted}
-use Rattle.gp_prov.specs.ToPlain.{columns_from, system_width, users_from, identities_from, times_from, product_of, changed_columns, new_columns, answer_columns, widths_of, plain, plain_last, plain_step, plain_program}
+use Rattle.gp_prov.specs.ToPlain.{system_width, users_from, identities_from, times_from, product_of, changed_columns, new_columns, answer_columns, widths_of, plain_query, plain_last, plain_step, plain_program}
+use Rattle.gp_algebra.specs.Statements.{columns_behind}
 use Rattle.gp_prov.proofs.MeaningLemmas.{plain_table}
 use Rattle.gp_expr.proofs.SubstitutionLemmas.{simple_cond_substituted, simple_each_substituted}
 use Rattle.gp_base.proofs.SmallLemmas.{all_weaker, both_follow}
@@ -56,7 +57,7 @@ none_may_be expr so = so
 
 -- ---- the columns of projections
 
-columns_simple : (at width : ℕ) → list_all is_simple (columns_from at width) ≡ true
+columns_simple : (at width : ℕ) → list_all is_simple (columns_behind at width) ≡ true
 columns_simple at zero = refl
 columns_simple at (suc more) = columns_simple (suc at) more
 
@@ -64,7 +65,7 @@ module _ (prov : Bool) where
   users_simple : (at : ℕ) (widths : List ℕ) → list_all is_simple (users_from prov at widths) ≡ true
   users_simple at [] = refl
   users_simple at (width ∷ widths) =
-      all_joined is_simple (columns_from at width) (users_from prov (at + (width + system_width prov)) widths) (columns_simple at width)
+      all_joined is_simple (columns_behind at width) (users_from prov (at + (width + system_width prov)) widths) (columns_simple at width)
       (users_simple (at + (width + system_width prov)) widths)
 
   identities_make_none : (at : ℕ) (widths : List ℕ) → parts_make_no_identity (identities_from prov at widths) ≡ true
@@ -129,7 +130,7 @@ query_step_built earlier query so = so
 
 module _ (columns : ℕ → ℕ) (of_step : ℕ → ℕ) (prov : Bool) (earlier : List ℕ) where
   abbrev planned : Query → Plain
-  planned query = plain columns of_step prov query
+  planned query = plain_query columns of_step prov query
 
   abbrev parts : Query → List ℕ
   parts query = widths_of columns of_step prov query

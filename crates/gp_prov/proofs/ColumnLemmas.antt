@@ -13,7 +13,8 @@ use Rattle.gp_expr.specs.Expressions.{Expr, col, times}
 use Rattle.gp_expr.specs.Values.{value, identities, column, with_source, multiplied}
 use Rattle.gp_algebra.specs.Answers.{values}
 use Rattle.gp_prov.specs.Encoding.{noted, encoded_row}
-use Rattle.gp_prov.specs.ToPlain.{columns_from, system_width, users_from, identities_from, times_from, product_of}
+use Rattle.gp_prov.specs.ToPlain.{system_width, users_from, identities_from, times_from, product_of}
+use Rattle.gp_algebra.specs.Statements.{columns_behind}
 
 pub cell_at : (front back : List Cell) (c : Cell) (n : ℕ) → length front ≡ n → column (suc n) (front ++ (c ∷ back)) ≡ c
 cell_at front back c n e = subst (λ n. get_or (front ++ (c ∷ back)) n cell.Null ≡ c) e (get_or-append_seam front c back cell.Null)
@@ -21,11 +22,11 @@ cell_at front back c n e = subst (λ n. get_or (front ++ (c ∷ back)) n cell.Nu
 length_grown : (front : List Cell) (c : Cell) (n : ℕ) → length front ≡ n → length (front ++ (c ∷ [])) ≡ suc n
 length_grown front c n e = let l : length (front ++ (c ∷ [])) ≡ length front + 1 = length-append front (c ∷ []) in omega arith
 
-columns_are : (front cells back : List Cell) (at : ℕ) → length front ≡ at → values (columns_from at (length cells)) (front ++ (cells ++ back)) ≡ cells
+columns_are : (front cells back : List Cell) (at : ℕ) → length front ≡ at → values (columns_behind at (length cells)) (front ++ (cells ++ back)) ≡ cells
 columns_are front [] back at e = refl
 columns_are front (c ∷ cells) back at e =
-    let others : values (columns_from (suc at) (length cells)) (front ++ (c ∷ (cells ++ back))) ≡ cells =
-    subst (λ row. values (columns_from (suc at) (length cells)) row ≡ cells) (append_assoc front (c ∷ []) (cells ++ back))
+    let others : values (columns_behind (suc at) (length cells)) (front ++ (c ∷ (cells ++ back))) ≡ cells =
+    subst (λ row. values (columns_behind (suc at) (length cells)) row ≡ cells) (append_assoc front (c ∷ []) (cells ++ back))
     (columns_are (front ++ (c ∷ [])) cells back (suc at) (length_grown front c at e)) in
     λ i. cell_at front (cells ++ back) c at e i ∷ others i
 
@@ -85,13 +86,13 @@ module _ (prov : Bool) where
       values (users_from prov at (map width rows)) (front ++ side_by_side rows) ≡ flat_map cells_of rows
   users_are [] front at e = refl
   users_are (row ∷ rows) front at e =
-      let own : values (columns_from at (width row)) (front ++ (encoded_row prov row ++ side_by_side rows)) ≡ row.cells =
-      subst (λ r. values (columns_from at (width row)) (front ++ r) ≡ row.cells) (sym (append_assoc row.cells (system row) (side_by_side rows)))
+      let own : values (columns_behind at (width row)) (front ++ (encoded_row prov row ++ side_by_side rows)) ≡ row.cells =
+      subst (λ r. values (columns_behind at (width row)) (front ++ r) ≡ row.cells) (sym (append_assoc row.cells (system row) (side_by_side rows)))
       (columns_are front row.cells (system row ++ side_by_side rows) at e) in
       let others : values (users_from prov (after at row) (map width rows)) (front ++ (encoded_row prov row ++ side_by_side rows)) ≡ flat_map cells_of rows =
       subst (λ r. values (users_from prov (after at row) (map width rows)) r ≡ flat_map cells_of rows) (append_assoc front (encoded_row prov row) (side_by_side rows))
       (users_are rows (front ++ encoded_row prov row) (after at row) (next_long front row at e)) in
-      map-append (λ x. value x (front ++ (encoded_row prov row ++ side_by_side rows))) (columns_from at (width row)) (users_from prov (after at row) (map width rows))
+      map-append (λ x. value x (front ++ (encoded_row prov row ++ side_by_side rows))) (columns_behind at (width row)) (users_from prov (after at row) (map width rows))
       ∙ (λ i. own i ++ others i)
 
   pub identities_are : (rows : List (Annotated Monomial)) (front : List Cell) (at : ℕ) → length front ≡ at →

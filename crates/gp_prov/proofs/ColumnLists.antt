@@ -11,13 +11,13 @@ use Rattle.gp_expr.specs.declared.expr.Expr.{Expr}
 use Rattle.gp_expr.specs.Views.{expr_view, parts_of}
 use Rattle.gp_algebra.specs.Effects.{given_from}
 use Rattle.gp_prov.specs.Encoding.{encoded_row}
-use Rattle.gp_prov.specs.ToPlain.{columns_from}
+use Rattle.gp_algebra.specs.Statements.{columns_behind}
 
 -- the next of the columns up to an end
-pub columns_next : (n end : ℕ) → n < end → columns_from n (end - n) ≡ e.col (n + 1) ∷ columns_from (n + 1) (end - (n + 1))
+pub columns_next : (n end : ℕ) → n < end → columns_behind n (end - n) ≡ e.col (n + 1) ∷ columns_behind (n + 1) (end - (n + 1))
 columns_next n end below =
     let more : end - n ≡ suc (end - suc n) = omega arith in
-    rw add-one (ap (columns_from n) more)
+    rw add-one (ap (columns_behind n) more)
 
 -- a list of expressions before other parts of a new identity
 abbrev pub parts_before : List e.Expr → Parts → Parts

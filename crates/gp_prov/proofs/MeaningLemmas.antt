@@ -14,7 +14,7 @@ use Rattle.gp_algebra.specs.AnnotatedQueries.{Query, QueryStep, Program, step_ta
 use Rattle.gp_algebra.specs.QueryForms.{AreAfter, AreRising, AreSteps, HasSteps, IsWellBuilt, IsTableProgram, IsTable, IsSomeTable, IsJoin, IsSource, IsBranch, AreWide, AreNew, IsStep, IsAnswer}
 use Rattle.gp_algebra.specs.AnnotatedMeaning.{scanned, projected, crossed, renewed, meaning, steps_meaning, program_meaning}
 use Rattle.gp_prov.specs.Encoding.{noted, encoded_row, encoded}
-use Rattle.gp_prov.specs.ToPlain.{widths_of, changed_columns, new_columns, answer_columns, plain, plain_last, plain_step, plain_program}
+use Rattle.gp_prov.specs.ToPlain.{widths_of, changed_columns, new_columns, answer_columns, plain_query, plain_last, plain_step, plain_program}
 use Rattle.gp_prov.proofs.Pairs.{Pairwise, pair_append, pair_map, pair_weaker, pair_flat_map, pair_filter, pair_is}
 use Rattle.gp_prov.proofs.Codes.{Row, Coded, Joined, as_joined, one_more, passes_joined}
 use Rattle.gp_prov.proofs.RowLemmas.{published_there, change_there, new_there, answered_there, Answered}
@@ -63,7 +63,7 @@ module _ (columns : ℕ → ℕ) (of_step : ℕ → ℕ) (prov : Bool) where
   table_parts table (q.new_rows t k b query) is = absurd is
 
   -- the contents of a table keep their system columns
-  pub plain_table : (table : ℕ) (query : Query) → IsTable columns of_step table query → plain_last columns of_step prov query ≡ plain columns of_step prov query
+  pub plain_table : (table : ℕ) (query : Query) → IsTable columns of_step table query → plain_last columns of_step prov query ≡ plain_query columns of_step prov query
   plain_table table (q.scan own version) is = refl
   plain_table table (q.step j) is = refl
   plain_table table (q.select query c) is = refl
@@ -78,7 +78,7 @@ module _ (columns : ℕ → ℕ) (of_step : ℕ → ℕ) (prov : Bool) where
   module _ (plain_steps : ℕ → List (List Cell)) (steps : ℕ → List Row) (env : Environment Monomial) (widths : HaveWidths columns env)
       (steps_are : (j : ℕ) → Pairwise (Coded prov (columns (of_step j))) (plain_steps j) (steps j)) where
     abbrev planned : Query → List (List Cell)
-    planned query = plain_meaning plain_steps (encoded prov env) (plain columns of_step prov query)
+    planned query = plain_meaning plain_steps (encoded prov env) (plain_query columns of_step prov query)
 
     abbrev meant : Query → List Row
     meant query = meaning monomials steps env query
@@ -187,7 +187,7 @@ module _ (columns : ℕ → ℕ) (of_step : ℕ → ℕ) (prov : Bool) (env : En
       StepsAre columns of_step prov (plain_steps_meaning (encoded prov env) (map (plain_step columns of_step prov) todo) plain_steps) (steps_meaning monomials env todo steps)
   steps_go [] names forms plain_steps steps are = are
   steps_go (step ∷ todo) names forms plain_steps steps are =
-      let planned : List (List Cell) = plain_meaning plain_steps (encoded prov env) (plain columns of_step prov step.query) in
+      let planned : List (List Cell) = plain_meaning plain_steps (encoded prov env) (plain_query columns of_step prov step.query) in
       let meant : List Row = meaning monomials steps env step.query in
       steps_go todo names.1 forms.1 (with_step step.j planned plain_steps) (with_step step.j meant steps)
       (λ j. elim (j == step.j) as (λ b. (j == step.j) ≡ b → Pairwise (Coded prov (columns (of_step j))) (cond b planned (plain_steps j)) (cond b meant (steps j))) [

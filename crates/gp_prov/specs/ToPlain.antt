@@ -9,6 +9,7 @@ use Rattle.gp_expr.specs.Expressions as e
 use Rattle.gp_expr.specs.Expressions.{Expr, Cond, Parts}
 use Rattle.gp_expr.specs.Substitution.{substituted_each, substituted_cond}
 use Rattle.gp_algebra.specs.Effects.{given_from}
+use Rattle.gp_algebra.specs.Statements.{columns_behind}
 use Rattle.gp_algebra.specs.Plain as p
 use Rattle.gp_algebra.specs.Plain.{Plain, PlainStep, PlainProgram}
 use Rattle.gp_algebra.specs.AnnotatedQueries as q
@@ -17,11 +18,6 @@ use Rattle.gp_prov.specs.Encoding.{noted, encoded_row}
 
 -- ---- columns of joined rows, whose parts have so many user columns each
 
--- the columns behind this one, this many
-abbrev pub columns_from : ℕ → ℕ → List Expr
-columns_from at zero = []
-columns_from at (suc more) = e.col (suc at) ∷ columns_from (suc at) more
-
 -- how many columns a part has behind its user columns
 abbrev pub system_width : Bool → ℕ
 system_width true = 3
@@ -29,7 +25,7 @@ system_width false = 2
 
 abbrev pub users_from : Bool → ℕ → List ℕ → List Expr
 users_from prov at [] = []
-users_from prov at (width ∷ widths) = columns_from at width ++ users_from prov (at + (width + system_width prov)) widths
+users_from prov at (width ∷ widths) = columns_behind at width ++ users_from prov (at + (width + system_width prov)) widths
 
 abbrev pub identities_from : Bool → ℕ → List ℕ → Parts
 identities_from prov at [] = e.no_parts
@@ -87,28 +83,28 @@ module _ (columns : ℕ → ℕ) (of_step : ℕ → ℕ) (prov : Bool) where
   widths_of (q.publish base mine later) = widths_of base
 
   -- a query with its system columns
-  abbrev pub plain : Query → Plain
-  plain (q.scan table version) = p.scan table version
-  plain (q.step j) = p.step j
-  plain (q.select query c) = p.select (plain query) (substituted_cond c (users_from prov 0 (widths_of query)))
-  plain (q.project query exprs change) = p.project (plain query) (changed_columns prov (widths_of query) exprs change)
-  plain (q.product left right) = p.product (plain left) (plain right)
-  plain (q.union left right) = p.union (plain left) (plain right)
-  plain (q.given t k rows) = p.given (map (encoded_row prov) (given_from monomials t k 1 rows))
-  plain (q.new_rows t k b (q.project query exprs change)) = p.project (plain query) (new_columns prov t k b (widths_of query) exprs)
-  plain (q.new_rows t k b query) = plain query
-  plain (q.publish base mine later) = p.publish (suc (sum (widths_of base))) (plain base) (plain mine) (plain later)
+  abbrev pub plain_query : Query → Plain
+  plain_query (q.scan table version) = p.scan table version
+  plain_query (q.step j) = p.step j
+  plain_query (q.select query c) = p.select (plain_query query) (substituted_cond c (users_from prov 0 (widths_of query)))
+  plain_query (q.project query exprs change) = p.project (plain_query query) (changed_columns prov (widths_of query) exprs change)
+  plain_query (q.product left right) = p.product (plain_query left) (plain_query right)
+  plain_query (q.union left right) = p.union (plain_query left) (plain_query right)
+  plain_query (q.given t k rows) = p.given (map (encoded_row prov) (given_from monomials t k 1 rows))
+  plain_query (q.new_rows t k b (q.project query exprs change)) = p.project (plain_query query) (new_columns prov t k b (widths_of query) exprs)
+  plain_query (q.new_rows t k b query) = plain_query query
+  plain_query (q.publish base mine later) = p.publish (suc (sum (widths_of base))) (plain_query base) (plain_query mine) (plain_query later)
 
   -- the last query: the branches of an answer, or the contents of a table, which keep their system columns
   abbrev pub plain_last : Query → Plain
-  plain_last (q.project query exprs None) = p.project (plain query) (answer_columns prov (widths_of query) exprs)
+  plain_last (q.project query exprs None) = p.project (plain_query query) (answer_columns prov (widths_of query) exprs)
   plain_last (q.union left right) = p.union (plain_last left) (plain_last right)
-  plain_last query = plain query
+  plain_last query = plain_query query
 
 -- ---- programs
 
 abbrev pub plain_step : (ℕ → ℕ) → (ℕ → ℕ) → Bool → QueryStep → PlainStep
-plain_step columns of_step prov step = record { j = step.j; table = step.table; query = plain columns of_step prov step.query }
+plain_step columns of_step prov step = record { j = step.j; table = step.table; query = plain_query columns of_step prov step.query }
 
 abbrev pub plain_program : (ℕ → ℕ) → Bool → Program → PlainProgram
 plain_program columns prov program = record {

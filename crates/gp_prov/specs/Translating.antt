@@ -21,7 +21,7 @@ module _ (translation : Translation) where
   widths_over query = to.widths_of columns of_step translation.with_prov query
 
   abbrev pub plain_over : Query → Plain
-  plain_over query = to.plain columns of_step translation.with_prov query
+  plain_over query = to.plain_query columns of_step translation.with_prov query
 
   abbrev pub plain_last_over : Query → Plain
   plain_last_over query = to.plain_last columns of_step translation.with_prov query

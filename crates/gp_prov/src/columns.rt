@@ -3,7 +3,8 @@
 ghost use Rattle.std.specs.Prelude.{◌≡◌, ◌+◌, ◌++◌, ◌∷◌, [], map, IfOk, OnOk, sum};
 ghost use Rattle.gp_expr.specs.Expressions as e;
 ghost use Rattle.gp_expr.specs.Views.{expr_view, parts_of};
-ghost use Rattle.gp_prov.specs.ToPlain.{columns_from, identities_from, product_of, system_width, times_from, users_from};
+ghost use Rattle.gp_prov.specs.ToPlain.{identities_from, product_of, system_width, times_from, users_from};
+ghost use Rattle.gp_algebra.specs.Statements.{columns_behind};
 
 use crate::numbers::add;
 use gp_base::{Cell, Monomial, NoMemory};
@@ -48,7 +49,7 @@ pub(crate) fn push(exprs: &mut Vec<Expr>, expr: Expr) -> Result<(), NoMemory>
 /// Adds the columns behind `at`, `width` of them.
 fn push_columns(columns: &mut Vec<Expr>, at: u32, width: u32) -> Result<(), NoMemory>
     ensures { OnOk result (map expr_view columns.new.items
-        ≡ map expr_view columns.old.items ++ columns_from at width) }
+        ≡ map expr_view columns.old.items ++ columns_behind at width) }
 {
     let end = add(at, width)?;
     for n in at..end {
@@ -60,7 +61,7 @@ fn push_columns(columns: &mut Vec<Expr>, at: u32, width: u32) -> Result<(), NoMe
 /// Adds the system columns behind `at`.
 pub(crate) fn push_system(columns: &mut Vec<Expr>, with_prov: bool, at: u32) -> Result<(), NoMemory>
     ensures { OnOk result (map expr_view columns.new.items
-        ≡ map expr_view columns.old.items ++ columns_from at (system_width with_prov)) }
+        ≡ map expr_view columns.old.items ++ columns_behind at (system_width with_prov)) }
 {
     push_columns(columns, at, system_width(with_prov))
 }

@@ -10,7 +10,8 @@ use Rattle.gp_algebra.specs.Answers.{Element, choices, chosen, joined, passes_wh
 use Rattle.gp_algebra.specs.AnnotatedQueries.{Query, product}
 use Rattle.gp_algebra.specs.AnnotatedMeaning.{Derived, crossed, joined_sources, meaning, projected, scanned}
 use Rattle.gp_rewrite.specs.Meaning.{IsMonoid, StandFor, of_element, unmarked}
-use Rattle.gp_rewrite.specs.Rewriting.{branch_of, product_of, product_onto, selected_by}
+use Rattle.gp_rewrite.specs.Rewriting.{branch_of, product_of, selected_by}
+use Rattle.gp_rewrite.specs.RewritingForms.{product_onto}
 use Rattle.gp_rewrite.proofs.Each.{each_filter, each_made}
 use Rattle.gp_rewrite.proofs.FitLemmas.{IsFit}
 use Rattle.gp_base.proofs.SmallLemmas.{each_append, each_map, filter-map, flat_map-flat_map, flat_map-map, flat_map_agree, map-flat_map, map-map, map_agree}

@@ -9,7 +9,8 @@ use Rattle.gp_algebra.specs.Fitting.{select_fits, select_width, statement_fits}
 use Rattle.gp_algebra.specs.AnnotatedQueries as q
 use Rattle.gp_algebra.specs.AnnotatedQueries.{Query}
 use Rattle.gp_algebra.specs.QueryForms.{AreNew, AreWide, IsAnswer, IsJoin, IsSomeTable, IsSource, IsStep, IsTable}
-use Rattle.gp_rewrite.specs.Rewriting.{branch_of, made_of, made_onto, product_of, product_onto, query_of, rewritten, selected_by, union_onto, updated_from}
+use Rattle.gp_rewrite.specs.Rewriting.{branch_of, made_of, made_onto, product_of, query_of, rewritten, selected_by, updated_from}
+use Rattle.gp_rewrite.specs.RewritingForms.{product_onto, union_onto}
 use Rattle.gp_rewrite.proofs.FitLemmas.{AreFit, IsFit, given_are_wide, inserted_are_fit, select_is_fit}
 use Rattle.std.proofs.lemmas.Option.{none-some, same_Some}
 

@@ -15,7 +15,8 @@ use Rattle.gp_algebra.specs.Effects.{changed, given_from, made, step, with_rows}
 use Rattle.gp_algebra.specs.AnnotatedQueries.{Query, new_rows, union}
 use Rattle.gp_algebra.specs.AnnotatedMeaning.{Derived, meaning, renewed, scanned}
 use Rattle.gp_rewrite.specs.Meaning.{AreAsWide, IsMonoid, StandFor, of_element, unmarked}
-use Rattle.gp_rewrite.specs.Rewriting.{branch_of, made_of, made_onto, query_of, rewritten, union_onto}
+use Rattle.gp_rewrite.specs.Rewriting.{branch_of, made_of, made_onto, query_of, rewritten}
+use Rattle.gp_rewrite.specs.RewritingForms.{union_onto}
 use Rattle.gp_rewrite.proofs.ChoiceLemmas.{branch_is, chosen_number}
 use Rattle.gp_rewrite.proofs.FitLemmas.{AreFit, IsFit, inserted_are_fit, select_is_fit}
 use Rattle.gp_rewrite.proofs.UpdateLemmas.{delete_query_is, update_query_is}

@@ -10,7 +10,8 @@ use Rattle.gp_algebra.specs.Effects.{set_for}
 use Rattle.gp_algebra.specs.QueryViews.{annotated_view}
 use Rattle.gp_algebra.specs.Statements.{SetExpr}
 use Rattle.gp_algebra.specs.declared.annotated.AQuery.{AQuery}
-use Rattle.gp_rewrite.specs.Rewriting.{cased, query_at, updated_from}
+use Rattle.gp_rewrite.specs.Rewriting.{cased, updated_from}
+use Rattle.gp_rewrite.specs.RewritingForms.{query_at}
 use Rattle.std.proofs.lemmas.Bool.{and_parts}
 
 -- the query of a table

@@ -5,7 +5,8 @@ use Rattle.gp_algebra.specs.Statements.{Branch, Select, Statement, insert, inser
 use Rattle.gp_algebra.specs.AnnotatedQueries as q
 use Rattle.gp_algebra.specs.AnnotatedQueries.{Query}
 use Rattle.gp_algebra.specs.QueryForms.{reads_only}
-use Rattle.gp_rewrite.specs.Rewriting.{branch_of, made_of, made_onto, product_of, product_onto, query_of, rewritten, selected_by, union_onto}
+use Rattle.gp_rewrite.specs.Rewriting.{branch_of, made_of, made_onto, product_of, query_of, rewritten, selected_by}
+use Rattle.gp_rewrite.specs.RewritingForms.{product_onto, union_onto}
 use Rattle.std.proofs.lemmas.Bool.{and_from}
 
 module _ (earlier : List ℕ) (tables : ℕ → Query) (are : (table : ℕ) → reads_only earlier (tables table) ≡ true) where

@@ -14,7 +14,8 @@ use Rattle.gp_algebra.specs.Simple.{where_is_simple}
 use Rattle.gp_algebra.specs.AnnotatedQueries as q
 use Rattle.gp_algebra.specs.AnnotatedQueries.{Query}
 use Rattle.gp_algebra.specs.QueryForms.{is_sound}
-use Rattle.gp_rewrite.specs.Rewriting.{branch_of, cased, made_of, made_onto, product_of, product_onto, query_of, rewritten, selected_by, union_onto, updated_from}
+use Rattle.gp_rewrite.specs.Rewriting.{branch_of, cased, made_of, made_onto, product_of, query_of, rewritten, selected_by, updated_from}
+use Rattle.gp_rewrite.specs.RewritingForms.{product_onto, union_onto}
 use Rattle.gp_rewrite.proofs.FitLemmas.{AreFit, IsFit, delete_is_simple, given_are_few, inserted_are_fit, select_is_fit, sets_are_simple, update_is_simple}
 use Rattle.gp_base.proofs.SmallLemmas.{left_true, right_true}
 use Rattle.std.proofs.lemmas.Bool.{and_from}

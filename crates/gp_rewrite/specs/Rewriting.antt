@@ -1,12 +1,12 @@
 -- Part of the statement: a statement as a query of the annotated algebra, which gives the new contents of the table that it writes. An UPDATE is a
 -- projection with CASE, a DELETE a selection, an INSERT a union: reenactment (Arab, Gawlick, Krishnaswamy, Radhakrishnan and Glavic, Reenactment for
 -- Read-Committed Snapshot Isolation, 2016). The queries of the tables that it reads are a parameter.
-use Rattle.std.specs.Prelude.{ℕ, zero, suc, false, List, [], ◌∷◌, Option, Some, None, get_or}
-use Rattle.std.specs.Option.{option_map}
+use Rattle.std.specs.Prelude.{ℕ, zero, suc, false, List, [], ◌∷◌, Option, Some, None}
+use Rattle.std.specs.List.{fold}
 use Rattle.gp_base.specs.declared.token.Token.TheVariants.{Updated}
 use Rattle.gp_expr.specs.Expressions.{Expr, Cond, col, case, is_true}
 use Rattle.gp_algebra.specs.Statements as s
-use Rattle.gp_algebra.specs.Statements.{SetExpr, Branch, Select, Statement, target}
+use Rattle.gp_algebra.specs.Statements.{SetExpr, Branch, Select, Statement}
 use Rattle.gp_algebra.specs.Effects.{set_for}
 use Rattle.gp_algebra.specs.AnnotatedQueries as q
 use Rattle.gp_algebra.specs.AnnotatedQueries.{Query}
@@ -32,15 +32,10 @@ delete_query c query = q.select query (is_true c false)
 
 -- ---- queries
 
--- products nest to the left
-abbrev pub product_onto : (ℕ → Query) → Query → List ℕ → Query
-product_onto tables query [] = query
-product_onto tables query (table ∷ others) = product_onto tables (q.product query (tables table)) others
-
--- every choice of one row from each table; a branch has a table at least
+-- every choice of one row from each table: products nest to the left, and a branch has a table at least
 abbrev pub product_of : (ℕ → Query) → List ℕ → Query
 product_of tables [] = q.scan zero zero
-product_of tables (table ∷ others) = product_onto tables (tables table) others
+product_of tables (table ∷ others) = fold (λ query other. q.product query (tables other)) (tables table) others
 
 abbrev pub selected_by : Option Cond → Query → Query
 selected_by None query = query
@@ -49,15 +44,10 @@ selected_by (Some c) query = q.select query c
 abbrev pub branch_of : (ℕ → Query) → Branch → Query
 branch_of tables branch = q.project (selected_by branch.cond (product_of tables branch.from)) branch.items None
 
--- unions nest to the left
-abbrev pub union_onto : (ℕ → Query) → Query → List Branch → Query
-union_onto tables query [] = query
-union_onto tables query (branch ∷ others) = union_onto tables (q.union query (branch_of tables branch)) others
-
--- the rows of a query, which has a branch at least
+-- the rows of a query: unions nest to the left, and a query has a branch at least
 abbrev pub query_of : (ℕ → Query) → Select → Query
 query_of tables [] = q.scan zero zero
-query_of tables (branch ∷ others) = union_onto tables (branch_of tables branch) others
+query_of tables (branch ∷ others) = fold (λ query other. q.union query (branch_of tables other)) (branch_of tables branch) others
 
 -- ---- INSERT
 
@@ -79,10 +69,3 @@ rewritten columns t k (s.insert_select table select) tables = q.union (tables ta
 rewritten columns t k (s.update table sets c) tables = update_query (columns table) t k sets c (tables table)
 rewritten columns t k (s.delete table c) tables = delete_query c (tables table)
 rewritten columns t k (s.read select) tables = q.scan zero zero
-
-abbrev pub rewriting : (ℕ → ℕ) → ℕ → ℕ → Statement → (ℕ → Query) → Option Query
-rewriting columns t k statement tables = option_map (λ table. rewritten columns t k statement tables) (target statement)
-
--- the query that stands for each table, from a list in the order of the catalogue
-abbrev pub query_at : List Query → ℕ → Query
-query_at queries place = get_or queries place (q.scan zero zero)

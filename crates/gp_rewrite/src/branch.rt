@@ -9,7 +9,7 @@ ghost use Rattle.gp_algebra.specs.QueryViews.{annotated_view};
 ghost use Rattle.gp_algebra.specs.Views.{branch_view, select_view};
 ghost use Rattle.gp_rewrite.specs.Meaning.{branch_is_there, select_is_there};
 ghost use Rattle.gp_rewrite.specs.Rewriting as r;
-ghost use Rattle.gp_rewrite.specs.Rewriting.{query_at};
+ghost use Rattle.gp_rewrite.specs.RewritingForms.{product_onto, query_at, union_onto};
 
 use gp_algebra::{AQuery, Branch, Select, copy_exprs, copy_query};
 use gp_base::{NoMemory, Sequence};
@@ -67,7 +67,7 @@ fn product_onto(
 ) -> Result<AQuery, NoMemory>
     requires { list_all (λ place. nat_lt place (length tables.now)) others.now ≡ true }
     ensures { IfOk result (λ found. annotated_view found
-        ≡ r.product_onto (query_at (map annotated_view tables.now)) (annotated_view query) others.now) }
+        ≡ product_onto (query_at (map annotated_view tables.now)) (annotated_view query) others.now) }
 {
     let mut query = query;
     for table in others {
@@ -144,7 +144,7 @@ fn union_onto(
 ) -> Result<AQuery, NoMemory>
     requires { list_all (branch_is_there (length tables.now)) (map branch_view others.now) ≡ true }
     ensures { IfOk result (λ found. annotated_view found
-        ≡ r.union_onto (query_at (map annotated_view tables.now))
+        ≡ union_onto (query_at (map annotated_view tables.now))
         (annotated_view query) (map branch_view others.now)) }
 {
     let mut query = query;

@@ -13,7 +13,7 @@ ghost use Rattle.gp_algebra.specs.QueryViews.{annotated_view};
 ghost use Rattle.gp_algebra.specs.Views.{branch_view, select_view, set_view, statement_view};
 ghost use Rattle.gp_rewrite.specs.Meaning.{branch_is_there, select_is_there};
 ghost use Rattle.gp_rewrite.specs.Rewriting as r;
-ghost use Rattle.gp_rewrite.specs.Rewriting.{query_at};
+ghost use Rattle.gp_rewrite.specs.RewritingForms.{query_at, rewriting};
 
 use crate::branch::{branch_query, filtered, table_query, united};
 use gp_algebra::{AQuery, Branch, Change, Select, SetExpr, Stmt};
@@ -227,7 +227,7 @@ pub fn step(
     requires fits { statement_fits catalog.now (statement_view stmt.now) ≡ true }
     requires tables { length tables.now ≡ length catalog.now }
     ensures { IfOk result (λ found. option_map annotated_view found
-        ≡ r.rewriting (width_of catalog.now) t k (statement_view stmt.now)
+        ≡ rewriting (width_of catalog.now) t k (statement_view stmt.now)
         (query_at (map annotated_view tables.now))) }
 {
     match stmt {

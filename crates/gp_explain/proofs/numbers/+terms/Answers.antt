@@ -1,5 +1,6 @@
 use Rattle.std.proofs.Common.{◌≡◌, ◌+◌, ap, sym, subst, arith}
-use Rattle.gp_expr.specs.Sizes.{size, parts_size}
+use Rattle.gp_expr.specs.Sizes.{size}
+use Rattle.gp_expr.specs.SizeForms.{parts_size}
 use Rattle.gp_expr.specs.Views.{expr_view, parts_of}
 use Rattle.gp_expr.proofs.ViewLemmas.{new_id_view}
 use Rattle.gp_explain.specs.Numbers.{ExprInRange}

@@ -1,6 +1,7 @@
 use Rattle.std.proofs.Common.{◌+◌, ◌*◌, ◌≤◌, drop}
 use Rattle.std.specs.List.{AllByRecursion}
-use Rattle.gp_expr.specs.Sizes.{size, cond_size, parts_size}
+use Rattle.gp_expr.specs.Sizes.{size}
+use Rattle.gp_expr.specs.SizeForms.{cond_size, parts_size}
 use Rattle.gp_expr.specs.Views.{cond_view, expr_view, parts_of}
 use Rattle.gp_explain.specs.Numbers.{ExprInRange}
 use Rattle.gp_explain.proofs.numbers.+terms.Given as goal

@@ -1,5 +1,5 @@
 use Rattle.std.proofs.Common.{ℕ, Global, Vec, subst, sym}
-use Rattle.gp_syntax.specs.Views.{state_view}
+use Rattle.gp_syntax.specs.Views.{point_view}
 use Rattle.gp_algebra.specs.Plain.{PlainProgram}
 use Rattle.gp_algebra.specs.Views.{select_view}
 use Rattle.gp_log.specs.LogFacts.{tables_in}
@@ -18,20 +18,20 @@ written-requires c =
     let entries = log_view c.args.log.now.entries in
     let planned = c.in_ok-program.ensures in
     subst (λ (program : PlainProgram). IsShaped (tables_in entries) program) (sym planned.1)
-    (record { shaped = λ are. merged_at_shaped entries are.named c.requires.statements c.args.with_prov (select_view c.args.select.now) c.requires.fits (state_view c.args.state) planned.0 })
+    (record { shaped = λ are. merged_at_shaped entries are.named c.requires.statements c.args.with_prov (select_view c.args.select.now) c.requires.fits (point_view c.args.state) planned.0 })
 
 pub returns-clause-text : goal.returns-clause-text
 returns-clause-text c =
     let entries = log_view c.args.log.now.entries in
     let planned = c.in_ok-program.ensures in
-    explains_by (λ (text : Vec ℕ Global). text.items) c.written.result (log_refusal entries (state_view c.args.state)) (tables_in entries) _ _ planned.0 planned.1 c.written.ensures
+    explains_by (λ (text : Vec ℕ Global). text.items) c.written.result (log_refusal entries (point_view c.args.state)) (tables_in entries) _ _ planned.0 planned.1 c.written.ensures
 
 pub returns-clause-meaning : goal.returns-clause-meaning
 returns-clause-meaning c =
     let entries = log_view c.args.log.now.entries in
     let select = select_view c.args.select.now in
     let planned = c.in_ok-program.ensures in
-    explains_what (λ (text : Vec ℕ Global). text.items) (Explains entries (state_view c.args.state) select c.args.with_prov) c.written.result (log_refusal entries (state_view c.args.state)) (tables_in entries)
-    (merged_at c.args.with_prov entries (state_view c.args.state) select)
-    (λ text spells. spelled_explains entries select c.requires.statements c.requires.fits (state_view c.args.state) planned.0 c.args.with_prov text spells)
-    (explains_by (λ (text : Vec ℕ Global). text.items) c.written.result (log_refusal entries (state_view c.args.state)) (tables_in entries) _ _ planned.0 planned.1 c.written.ensures)
+    explains_what (λ (text : Vec ℕ Global). text.items) (Explains entries (point_view c.args.state) select c.args.with_prov) c.written.result (log_refusal entries (point_view c.args.state)) (tables_in entries)
+    (merged_at c.args.with_prov entries (point_view c.args.state) select)
+    (λ text spells. spelled_explains entries select c.requires.statements c.requires.fits (point_view c.args.state) planned.0 c.args.with_prov text spells)
+    (explains_by (λ (text : Vec ℕ Global). text.items) c.written.result (log_refusal entries (point_view c.args.state)) (tables_in entries) _ _ planned.0 planned.1 c.written.ensures)

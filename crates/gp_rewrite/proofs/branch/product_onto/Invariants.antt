@@ -1,6 +1,6 @@
 use Rattle.std.proofs.Common.{◌≡◌, map, drop}
 use Rattle.gp_algebra.specs.QueryViews.{annotated_view}
-use Rattle.gp_rewrite.specs.Rewriting.{product_onto, query_at}
+use Rattle.gp_rewrite.specs.RewritingForms.{query_at, product_onto}
 use Rattle.gp_rewrite.proofs.branch.product_onto.Given as goal
 
 -- the tables that remain, onto the query so far

@@ -1,7 +1,7 @@
 use Rattle.std.proofs.Common.{◌≡◌, map, drop}
 use Rattle.gp_algebra.specs.QueryViews.{annotated_view}
 use Rattle.gp_algebra.specs.Views.{branch_view}
-use Rattle.gp_rewrite.specs.Rewriting.{query_at, union_onto}
+use Rattle.gp_rewrite.specs.RewritingForms.{query_at, union_onto}
 use Rattle.gp_rewrite.proofs.branch.union_onto.Given as goal
 
 -- the branches that remain, onto the query so far

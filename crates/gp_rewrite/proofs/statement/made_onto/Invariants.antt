@@ -1,7 +1,8 @@
 use Rattle.std.proofs.Common.{◌≡◌, ◌+◌, suc, map, drop}
 use Rattle.gp_algebra.specs.QueryViews.{annotated_view}
 use Rattle.gp_algebra.specs.Views.{branch_view}
-use Rattle.gp_rewrite.specs.Rewriting.{made_onto, query_at}
+use Rattle.gp_rewrite.specs.Rewriting.{made_onto}
+use Rattle.gp_rewrite.specs.RewritingForms.{query_at}
 use Rattle.gp_rewrite.proofs.statement.made_onto.Given as goal
 
 -- the branches that remain, onto the query so far
