@@ -3,7 +3,7 @@ use Rattle.std.proofs.Common.{◌≡◌, Bool, true, refl}
 use Rattle.gp_base.specs.declared.table.Table.{Table}
 use Rattle.gp_grammar.specs.Syntax as y
 use Rattle.gp_grammar.specs.Syntax.{is_statement}
-use Rattle.gp_machine.specs.Actions.{Run, action_of}
+use Rattle.gp_machine.specs.ActionForms.{Run, action_of}
 use Rattle.gp_syntax.specs.Views.{command_view}
 use Rattle.gp_syntax.specs.declared.command.Command.{Command}
 use Rattle.gp_syntax.specs.declared.command.Command.TheVariants as c

@@ -3,7 +3,7 @@ use Rattle.std.proofs.Common.{◌≡◌, ℕ, ◌<◌, ◌≤◌, List, [], ◌�
 use Rattle.std.specs.List.{filter_map}
 use Rattle.std.proofs.lemmas.Bool.{cases_lt}
 use Rattle.std.proofs.Math.ListN.{get_or-eq_default}
-use Rattle.gp_base.specs.Annotated.{plain}
+use Rattle.gp_base.specs.Annotated.{unannotated}
 use Rattle.gp_versions.specs.Commits.{AreDistinct}
 use Rattle.gp_versions.specs.Spans.{Versions}
 use Rattle.gp_versions.specs.TableSpans.{AreWhole, NoOverlap}
@@ -55,7 +55,7 @@ pub shows : (kept : Kept) (session : ℕ) (overlay : Overlay) (conflict : Option
 shows kept session overlay conflict is shown other also = subst (λ o. ShowsConflict kept o conflict) (same-some overlay other (sym is ∙ also)) shown
 
 -- so the engine finds the conflict of the history machine
-pub found : (state : State (Unit {0})) (kept : Kept) (session : ℕ) (overlay : Overlay) (conflict : Option conflicts.Conflict) → Represents kept state → IsReached plain parameters state
+pub found : (state : State (Unit {0})) (kept : Kept) (session : ℕ) (overlay : Overlay) (conflict : Option conflicts.Conflict) → Represents kept state → IsReached unannotated parameters state
     → kept.sessions session ≡ Some overlay → ShowsConflict kept overlay conflict → FindsConflict kept state session (λ o. conflict)
 found state kept session overlay conflict represents reached is shown = machine.found parameters state kept represents reached session (λ o. conflict) (shows kept session overlay conflict is shown)
 

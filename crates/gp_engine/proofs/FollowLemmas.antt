@@ -8,7 +8,7 @@ use Rattle.gp_base.specs.declared.limit.Limit.TheVariants as limit
 use Rattle.gp_base.specs.declared.refusal.Refusal.{Refusal}
 use Rattle.gp_base.specs.declared.refusal.Refusal.TheVariants.{E09, E10, E11, E14}
 use Rattle.gp_base.specs.declared.table.Table.{Table}
-use Rattle.gp_base.specs.Annotated.{plain}
+use Rattle.gp_base.specs.Annotated.{unannotated}
 use Rattle.gp_algebra.specs.Effects.{step, wrote}
 use Rattle.gp_algebra.specs.Statements.{Statement}
 use Rattle.gp_check.specs.Checking.{checked}
@@ -22,7 +22,7 @@ use Rattle.gp_txn.specs.Counts.{count_spans}
 use Rattle.gp_txn.specs.Transactions.{no_table, snapshot_of, table_at, view_at, writes_at}
 use Rattle.gp_machine.specs.declared.reply.Reply.{Reply}
 use Rattle.gp_machine.specs.declared.reply.Reply.TheVariants as reply
-use Rattle.gp_machine.specs.Actions.{Action, Create, Begin, Commit, Rollback, Run, action_of}
+use Rattle.gp_machine.specs.ActionForms.{Action, Begin, Commit, Create, Rollback, Run, action_of}
 use Rattle.gp_machine.specs.Conflicts as machine
 use Rattle.gp_machine.specs.EngineLine as line
 use Rattle.gp_machine.specs.EngineLine.{Answers, FindsConflict, rows_after}
@@ -124,8 +124,8 @@ module _ (old new : Engine) (answer : Reply) (state : State (Unit {0})) (engine 
   abbrev next : Kept
   next = kept_of new
 
-  reached : IsReached plain parameters state
-  reached = subst (IsReached plain parameters) (sym engine.reached) (reached_after parameters engine.lines)
+  reached : IsReached unannotated parameters state
+  reached = subst (IsReached unannotated parameters) (sym engine.reached) (reached_after parameters engine.lines)
 
   -- the writes of a transaction before it
   abbrev seen : Running → Overlay
@@ -226,14 +226,14 @@ module _ (old new : Engine) (answer : Reply) (state : State (Unit {0})) (engine 
             view = λ table.
                 view_same old.versions r.after now table
                 ∙ accepts.view table
-                ∙ ap (λ db. step plain running.active.t (suc running.statements) statement db table) (sym start-same);
+                ∙ ap (λ db. step unannotated running.active.t (suc running.statements) statement db table) (sym start-same);
             base = λ table id other.
                 accepts.base table id other
-                ∙ base_same now table id (wrote plain running.active.t (suc running.statements) statement (view_at running.active.tables old.versions now)) _
-                ∙ ap (λ db. machine_view.base_after now table id (wrote plain running.active.t (suc running.statements) statement db) (machine_view.base_in (spans_of old.versions) (seen running) table id)) (sym start-same);
+                ∙ base_same now table id (wrote unannotated running.active.t (suc running.statements) statement (view_at running.active.tables old.versions now)) _
+                ∙ ap (λ db. machine_view.base_after now table id (wrote unannotated running.active.t (suc running.statements) statement db) (machine_view.base_in (spans_of old.versions) (seen running) table id)) (sym start-same);
           },
           kept-as new later old.versions (slice_set old.sessions place (Some r.after)) r.keeps ∙ same,
-          accepts.says ∙ ap (reply_of plain running.active.t (suc running.statements) statement) (sym start-same),
+          accepts.says ∙ ap (reply_of unannotated running.active.t (suc running.statements) statement) (sym start-same),
         )
 
     runs : (refusal : Option Refusal) (meaning : Result Statement Refusal) → method.RunsAs old new answer number place running command (meaning_of refusal meaning)
@@ -241,7 +241,7 @@ module _ (old new : Engine) (answer : Reply) (state : State (Unit {0})) (engine 
     runs (Some refusal) meaning r = refuses refusal r
     runs None (Err refusal) r = refuses refusal r
     runs None (Ok statement) r =
-        subst (line.Applies parameters kept number session next answer (seen running) command statement) (ap (refusal_of plain parameters (tables_of old) running.active.t (suc running.statements) statement) (sym start-same))
+        subst (line.Applies parameters kept number session next answer (seen running) command statement) (ap (refusal_of unannotated parameters (tables_of old) running.active.t (suc running.statements) statement) (sym start-same))
         (records statement (refusal_at old running statement) r)
 
   -- ---- the line
@@ -261,7 +261,7 @@ module _ (old new : Engine) (answer : Reply) (state : State (Unit {0})) (engine 
   }
 
   apart : (table : ℕ) → NoOverlap (spans_of old.versions table)
-  apart table = subst NoOverlap (sym (engine.kept.spans table)) (spans_apart plain (log_of state.entries) state.committed state.written reached.history table)
+  apart table = subst NoOverlap (sym (engine.kept.spans table)) (spans_apart unannotated (log_of state.entries) state.committed state.written reached.history table)
 
   whole : (table : ℕ) → AreWhole (spans_of old.versions table)
   whole table = subst AreWhole (sym (engine.kept.spans table)) (spans_whole (versions_in state.entries) state.committed state.written table)
@@ -294,15 +294,15 @@ module _ (old new : Engine) (answer : Reply) (state : State (Unit {0})) (engine 
       } =
       (λ i. record kept {
         entries = later;
-        spans = λ table. spans_published old running new.versions version long made.spans table i;
+        spans = λ table. spans_published old running new.versions version long made.made.spans table i;
         sessions = λ s. (overlays_stay (entries_of old) old.versions old.sessions number place running new.versions sound at own within long made s ∙ put None s) i;
         versions = version;
-        rows = count_published old running sound.tables new.versions version made.spans i;
+        rows = count_published old running sound.tables new.versions version made.made.spans i;
       }) in
       record {
         conflict = λ o. None;
-        finds = found state kept session (seen running) None engine.kept reached (ap (option_map seen) at) (shown_none running old own apart whole made.first);
-        does = subst (λ full. line.Commits parameters kept number session next answer (seen running) None full) (sym (has_room old running sound.tables made.few)) (
+        finds = found state kept session (seen running) None engine.kept reached (ap (option_map seen) at) (shown_none running old own apart whole made.made.first);
+        does = subst (λ full. line.Commits parameters kept number session next answer (seen running) None full) (sym (has_room old running sound.tables made.made.few)) (
           published old running,
           writes_of old running own (sound.each session running at).there nothing,
           kept-as new later new.versions (slice_set old.sessions place None) keeps ∙ same,
@@ -326,14 +326,14 @@ module _ (old new : Engine) (answer : Reply) (state : State (Unit {0})) (engine 
 
   -- the engine represents the state of the event, and its answer is the reply
   pub follows_at : (command : Command) → DoesAt old new answer number place (get_or old.sessions place None) (action_of command)
-      → IsEngineOf new (event plain parameters state number session command).0 × (answer ≡ (event plain parameters state number session command).1)
+      → IsEngineOf new (event unannotated parameters state number session command).0 × (answer ≡ (event unannotated parameters state number session command).1)
   follows_at command does =
       let lead = leads (get_or old.sessions place None) refl (action_of command) does in
       let both = line_represented parameters state kept engine.kept reached number session next answer lead.conflict lead.finds command lead.does in
       let last : Line = record { number = number; session = session; command = command } in (
         record {
           lines = engine.lines ++ last ∷ [];
-          reached = ap (λ (s : State (Unit {0})). (event plain parameters s number session command).0) engine.reached ∙ sym (after_last plain parameters start engine.lines last);
+          reached = ap (λ (s : State (Unit {0})). (event unannotated parameters s number session command).0) engine.reached ∙ sym (after_last unannotated parameters start engine.lines last);
           kept = both.0;
         },
         both.1,

@@ -10,7 +10,7 @@ use Rattle.gp_base.specs.declared.refusal.Refusal.{Refusal}
 use Rattle.gp_base.specs.declared.limit.Limit.TheVariants as limit
 use Rattle.gp_base.specs.declared.refusal.Refusal.TheVariants.{E09, E10, E14}
 use Rattle.gp_base.specs.declared.table.Table.{Table}
-use Rattle.gp_base.specs.Annotated.{Database, plain}
+use Rattle.gp_base.specs.Annotated.{Database, unannotated}
 use Rattle.gp_base.specs.IdentityParts.{transaction_of}
 use Rattle.gp_grammar.specs.Syntax as y
 use Rattle.gp_grammar.specs.Syntax.{Command}
@@ -28,7 +28,7 @@ use Rattle.gp_txn.proofs.AfterLemmas.{view-beyond}
 use Rattle.gp_txn.proofs.PairLemmas.{all-weaker}
 use Rattle.gp_txn.proofs.UnwrittenLemmas.{unwritten-view}
 use Rattle.gp_machine.specs.declared.reply.Reply.{Reply}
-use Rattle.gp_machine.specs.Actions.{Action, Create, Begin, Commit, Rollback, Run, action_of}
+use Rattle.gp_machine.specs.ActionForms.{Action, Begin, Commit, Create, Rollback, Run, action_of}
 use Rattle.gp_machine.specs.Entries.{End, Entry, RolledBack, Lost, Created, Began, Ran, Committed, Ended, statement_count, transactions_in, versions_in}
 use Rattle.gp_machine.specs.Event.{count_refusal, creation_refusal, target_of}
 use Rattle.gp_check.specs.Checking.{checked}
@@ -228,7 +228,7 @@ module _ (entries later : List Entry) (versions : List Versions) (sessions : Lis
 -- what has no writes reads nothing beyond the last table
 nothing-written : (active : Writes) (versions : List Versions) (begin place : ℕ) → IsUnwritten begin (writes_at place active.tables) → length versions ≤ place → view_at active.tables versions active.begin place ≡ []
 nothing-written active versions begin place none high =
-    unwritten-view begin active.begin (writes_at place active.tables) (table_at place versions).spans none ∙ (λ i. rows_at plain active.begin (get_or-eq_default versions no_table high i).spans)
+    unwritten-view begin active.begin (writes_at place active.tables) (table_at place versions).spans none ∙ (λ i. rows_at unannotated active.begin (get_or-eq_default versions no_table high i).spans)
 
 began_sound : (entries : List Entry) (versions : List Versions) (sessions : List (Option Running)) (line place : ℕ) (kind : Bool) (active : Writes) → IsSound entries versions sessions → place < length sessions
     → get_or sessions place None ≡ None → transactions_in entries < MAX_TRANSACTIONS → active.t ≡ suc (transactions_in entries) → active.begin ≡ versions_in entries → active.last ≡ 0
@@ -292,7 +292,7 @@ rows-elsewhere target place rows db other = ap (λ b. cond b rows (db place)) (n
 
 -- a statement changes no table beyond those that there are
 step-beyond : (t k count : ℕ) (statement : Statement) (db : Database (Unit {0})) → (is_read statement ≡ true) ⊎ (target_of statement < count) → (place : ℕ) → count ≤ place
-    → step plain t k statement db place ≡ db place
+    → step unannotated t k statement db place ≡ db place
 step-beyond t k count (insert table rows) db (inl reads) place high = absurd cc
 step-beyond t k count (insert table rows) db (inr low) place high = rows-elsewhere table place _ db (λ same. omega (arith, same, low, high))
 step-beyond t k count (insert_select table select) db (inl reads) place high = absurd cc

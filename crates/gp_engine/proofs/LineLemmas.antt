@@ -5,14 +5,14 @@ use Rattle.std.proofs.lemmas.Bool.{false≢true}
 use Rattle.gp_base.specs.declared.refusal.Refusal.{Refusal}
 use Rattle.gp_base.specs.declared.refusal.Refusal.TheVariants.{E11}
 use Rattle.gp_base.specs.declared.table.Table.{Table}
-use Rattle.gp_base.specs.Annotated.{Database, plain}
+use Rattle.gp_base.specs.Annotated.{Database, unannotated}
 use Rattle.gp_algebra.specs.Statements.{Statement, insert, insert_select, update, delete, read}
 use Rattle.gp_check.specs.Checking.{checked}
 use Rattle.gp_grammar.specs.Syntax.{Command, is_statement}
 use Rattle.gp_txn.specs.Transactions.{snapshot_of, view_at}
 use Rattle.gp_machine.specs.declared.reply.Reply.{Reply}
 use Rattle.gp_machine.specs.declared.reply.Reply.TheVariants as reply
-use Rattle.gp_machine.specs.Actions.{Action, Create, Begin, Commit, Rollback, Run, action_of}
+use Rattle.gp_machine.specs.ActionForms.{Action, Begin, Commit, Create, Rollback, Run, action_of}
 use Rattle.gp_machine.specs.Entries.{committer_of}
 use Rattle.gp_machine.specs.Event.{creation_refusal, count_refusal, name_at, reply_of}
 use Rattle.gp_machine.specs.Recorded.{is_recorded}
@@ -50,7 +50,7 @@ runs-does old new answer line place command there statement runs = by (get_or ol
 recorded : {A : Type 0} (answer expected : Reply) (test : Reply → Bool) → answer ≡ expected → test expected ≡ true → test answer ≡ false → A
 recorded answer expected test is given denied = absurd (false≢true (sym denied ∙ ap test is ∙ given))
 
-recorded-reply : (command : Command) (t k : ℕ) (statement : Statement) (view : Database (Unit {0})) → is_recorded (Run command) (reply_of plain t k statement view) ≡ true
+recorded-reply : (command : Command) (t k : ℕ) (statement : Statement) (view : Database (Unit {0})) → is_recorded (Run command) (reply_of unannotated t k statement view) ≡ true
 recorded-reply command t k (insert table rows) view = refl
 recorded-reply command t k (insert_select table select) view = refl
 recorded-reply command t k (update table sets c) view = refl
@@ -83,7 +83,7 @@ module _ (old new : Engine) (answer : Reply) (line place : ℕ) where
       → is_recorded (Run command) answer ≡ false → IsUnchanged old new
   checked-unchanged running command statement (Some refusal) r denied = r.0
   checked-unchanged running command statement None r denied =
-      recorded answer (reply_of plain running.active.t (suc running.statements) statement (view_at running.active.tables old.versions (snapshot_of running.active (newest_of old)))) (is_recorded (Run command)) r.accepts.says
+      recorded answer (reply_of unannotated running.active.t (suc running.statements) statement (view_at running.active.tables old.versions (snapshot_of running.active (newest_of old)))) (is_recorded (Run command)) r.accepts.says
       (recorded-reply command running.active.t (suc running.statements) statement (view_at running.active.tables old.versions (snapshot_of running.active (newest_of old)))) denied
 
   runs-unchanged : (running : Running) (command : Command) (meaning : Result Statement Refusal) → RunsAs old new answer line place running command meaning → is_recorded (Run command) answer ≡ false

@@ -4,7 +4,7 @@ use Rattle.std.proofs.Common.{◌≡◌, ℕ, ◌<◌, ◌≤◌, true, false, c
 use Rattle.std.specs.Prelude.{◌==◌}
 use Rattle.std.proofs.lemmas.Bool.{eqb-true}
 use Rattle.gp_algebra.specs.Effects.{Written}
-use Rattle.gp_base.specs.Annotated.{plain}
+use Rattle.gp_base.specs.Annotated.{unannotated}
 use Rattle.gp_base.specs.Identities.{Identity}
 use Rattle.gp_machine.specs.Represents as machine
 use Rattle.gp_txn.proofs.AfterLemmas.{overlay-kept}
@@ -22,10 +22,10 @@ pub view_same : (versions : List Versions) (running : Running) (version place : 
 view_same versions running version place =
     elim (version == (writes_at place running.active.tables).version) as (λ b. (version == (writes_at place running.active.tables).version) ≡ b
     → cond b (view_rows (overlay_at place running.active.tables versions) (rows_below (overlay_at place running.active.tables versions) (table_at place versions).spans))
-    (refreshed (overlay_at place running.active.tables versions) (rows_below (overlay_at place running.active.tables versions) (table_at place versions).spans) (rows_at plain version (table_at place versions).spans))
-    ≡ cond b (view_rows (overlay_at place running.active.tables versions) (rows_at plain version (table_at place versions).spans))
-    (refreshed (overlay_at place running.active.tables versions) (rows_below (overlay_at place running.active.tables versions) (table_at place versions).spans) (rows_at plain version (table_at place versions).spans))) [
-      | true ↦ λ is. ap (λ v. view_rows (overlay_at place running.active.tables versions) (rows_at plain v (table_at place versions).spans)) (sym (eqb-true version (writes_at place running.active.tables).version is))
+    (refreshed (overlay_at place running.active.tables versions) (rows_below (overlay_at place running.active.tables versions) (table_at place versions).spans) (rows_at unannotated version (table_at place versions).spans))
+    ≡ cond b (view_rows (overlay_at place running.active.tables versions) (rows_at unannotated version (table_at place versions).spans))
+    (refreshed (overlay_at place running.active.tables versions) (rows_below (overlay_at place running.active.tables versions) (table_at place versions).spans) (rows_at unannotated version (table_at place versions).spans))) [
+      | true ↦ λ is. ap (λ v. view_rows (overlay_at place running.active.tables versions) (rows_at unannotated v (table_at place versions).spans)) (sym (eqb-true version (writes_at place running.active.tables).version is))
       | false ↦ λ is. refl
     ] refl
 

@@ -201,7 +201,7 @@ module _ (entries : List Entry) (held : List Versions) (sessions : List (Option 
   made table =
       elim (cases_lt table (length held)) [
         | inl low ↦
-            subst (AllByRecursion (λ (span : Span). IsMade span.id)) (sym (commits.spans table low))
+            subst (AllByRecursion (λ (span : Span). IsMade span.id)) (sym (commits.made.spans table low))
             (ids_after IsMade (suc (versions_in entries)) (commit_of running.active.tables held table) (spans_of held table) (kept.makers table)
             (ids_written IsMade running.active.tables held table (kept.makers table) (mine.there table) (made-own table)))
         | inr high ↦ subst (AllByRecursion (λ (span : Span). IsMade span.id)) (sym (no-spans versions table (subst (λ n. n ≤ table) (sym same) high))) tt

@@ -2,7 +2,7 @@
 use Rattle.std.proofs.Common.{◌≡◌, ℕ, suc, ◌≤◌, ◌<◌, Bool, true, false, List, length, Some, None, refl, ap, subst, arith, inr}
 use Rattle.std.specs.Prelude.{if◌then◌else◌, nat_lt}
 use Rattle.std.proofs.lemmas.Bool.{and_parts, ltb-true}
-use Rattle.gp_base.specs.Annotated.{plain}
+use Rattle.gp_base.specs.Annotated.{unannotated}
 use Rattle.gp_base.specs.declared.refusal.Refusal.{Refusal}
 use Rattle.gp_base.specs.declared.table.Table.{Table}
 use Rattle.gp_algebra.specs.Statements.{Statement, insert, insert_select, update, delete, read}
@@ -43,8 +43,8 @@ module _ (tables : List Table) (versions : List Versions) (newest : ℕ) (old ne
 
   -- where the reply is the number of the rows that it wrote, and it gives no answer
   accepts-write : (statement : Statement) → is_applicable (length versions) statement ≡ true
-      → is_over_answer plain parameters.answer statement (view_at old.active.tables versions now) ≡ false
-      → reply.Wrote count ≡ reply_of plain old.active.t k statement (view_at old.active.tables versions now)
+      → is_over_answer unannotated parameters.answer statement (view_at old.active.tables versions now) ≡ false
+      → reply.Wrote count ≡ reply_of unannotated old.active.t k statement (view_at old.active.tables versions now)
       → Wrote k now statement versions old.active new.active count → AcceptsWrite statement
   accepts-write statement applicable few says wrote = record {
     unrefused = no-limit _ _ _ _ _ _ wrote.few_rows wrote.few_nodes few;

@@ -4,7 +4,7 @@ use Rattle.std.specs.List.{AllByRecursion}
 use Rattle.std.specs.Option.{option_map}
 use Rattle.gp_base.specs.declared.catalog.TheConstants.{MAX_TABLES}
 use Rattle.gp_base.specs.declared.table.Table.{Table}
-use Rattle.gp_base.specs.Annotated.{plain}
+use Rattle.gp_base.specs.Annotated.{unannotated}
 use Rattle.gp_base.specs.IdentityParts.{transaction_of}
 use Rattle.gp_grammar.specs.declared.limits.TheConstants.{MAX_SESSION}
 use Rattle.gp_grammar.specs.Syntax.{Command}
@@ -107,14 +107,14 @@ kept_of engine = kept_by (entries_of engine) engine.versions engine.sessions
 -- the engine represents a state that some lines leave
 pub record IsEngineOf (engine : Engine) (state : State (Unit {0})) : Type 0 where
   pub lines : List Line
-  pub reached : state ≡ after plain parameters start lines
+  pub reached : state ≡ after unannotated parameters start lines
   pub kept : Represents (kept_of engine) state
 
 -- For every state that the engine represents, the answer to a line of this number is the reply of the event, and the engine represents the state
 -- that the event leaves.
 pub record Follows (old new : Engine) (line session : ℕ) (command : Command) (answer : Reply) : Type 0 where
-  pub reply : (state : State (Unit {0})) → IsEngineOf old state → answer ≡ (event plain parameters state line session command).1
-  pub state : (state : State (Unit {0})) → IsEngineOf old state → IsEngineOf new (event plain parameters state line session command).0
+  pub reply : (state : State (Unit {0})) → IsEngineOf old state → answer ≡ (event unannotated parameters state line session command).1
+  pub state : (state : State (Unit {0})) → IsEngineOf old state → IsEngineOf new (event unannotated parameters state line session command).0
 
 -- nothing has changed but how much memory the log and the row versions have room for
 pub record IsUnchanged (old new : Engine) : Type 0 where

@@ -4,7 +4,7 @@ use Rattle.gp_base.specs.declared.limit.Limit.TheVariants as limit
 use Rattle.gp_base.specs.declared.refusal.Refusal.{Refusal}
 use Rattle.gp_base.specs.declared.refusal.Refusal.TheVariants.{E11, E14}
 use Rattle.gp_base.specs.declared.table.Table.{Table}
-use Rattle.gp_base.specs.Annotated.{Database, plain}
+use Rattle.gp_base.specs.Annotated.{Database, unannotated}
 use Rattle.gp_base.specs.Identities.{Identity}
 use Rattle.gp_base.specs.IdentityParts.{transaction_of}
 use Rattle.gp_algebra.specs.Effects.{step, wrote}
@@ -23,7 +23,8 @@ use Rattle.gp_txn.specs.Transactions.{Writes, HoldsOwn, HoldsThere, IsUnwritten,
 use Rattle.gp_machine.specs.declared.reply.Reply.{Reply}
 use Rattle.gp_machine.specs.declared.reply.Reply.TheVariants as reply
 use Rattle.gp_machine.specs.Actions as allow
-use Rattle.gp_machine.specs.Actions.{Action, Allowed, allowed}
+use Rattle.gp_machine.specs.Actions.{Allowed}
+use Rattle.gp_machine.specs.ActionForms.{Action, allowed_to}
 use Rattle.gp_machine.specs.Entries.{Entry, RolledBack, Lost, Created, Began, Ran, Committed, Ended, committer_of, statement_count}
 use Rattle.gp_machine.specs.Event.{count_refusal, creation_refusal, name_at, refusal_of, reply_of, target_of}
 use Rattle.gp_grammar.specs.Syntax.{Command}
@@ -55,7 +56,7 @@ module _ (tables : List Table) (versions : List Versions) (newest : ℕ) (old : 
 
   -- what refuses a statement that was checked
   abbrev pub refusal_in : Statement → Option Refusal
-  refusal_in statement = refusal_of plain parameters tables old.active.t (suc old.statements) statement start
+  refusal_in statement = refusal_of unannotated parameters tables old.active.t (suc old.statements) statement start
 
   -- a statement that passes no limit
   pub record Accepts (new : Running) (answer : Reply) (statement : Statement) : Type 0 where
@@ -66,14 +67,14 @@ module _ (tables : List Table) (versions : List Versions) (newest : ℕ) (old : 
     pub last : new.active.last ≤ suc old.statements
     pub there : (is_read statement ≡ true) ⊎ (target_of statement < length versions)
     pub statements : new.statements ≡ suc old.statements
-    pub view : (table : ℕ) → view_at new.active.tables versions now table ≡ step plain old.active.t (suc old.statements) statement start table
+    pub view : (table : ℕ) → view_at new.active.tables versions now table ≡ step unannotated old.active.t (suc old.statements) statement start table
     pub base : (table : ℕ) (id : Identity) → transaction_of id ≢ old.active.t
         → base_at new.active.tables versions table id
-        ≡ base_after now (has_written (wrote plain old.active.t (suc old.statements) statement start) table id) (base_at old.active.tables versions table id)
+        ≡ base_after now (has_written (wrote unannotated old.active.t (suc old.statements) statement start) table id) (base_at old.active.tables versions table id)
     pub below : (table : ℕ)
         → ((writes_at table new.active.tables).version ≡ (writes_at table old.active.tables).version) ⊎ ((writes_at table new.active.tables).version ≡ now)
     pub holds : HoldsThere old.active.tables versions → HoldsThere new.active.tables versions
-    pub says : answer ≡ reply_of plain old.active.t (suc old.statements) statement start
+    pub says : answer ≡ reply_of unannotated old.active.t (suc old.statements) statement start
 
 -- a statement does not run as this refuses it, or memory ran out, which may come in any
 abbrev pub StopsBy : RunStop → Option Refusal → Type 0
@@ -230,7 +231,7 @@ module _ (old new : Engine) (answer : Reply) where
 
   -- an action in a session with this transaction, or without one
   abbrev pub DoesAt : ℕ → ℕ → Option Running → Action → Type 0
-  DoesAt line place running action = Does line place (allowed running action)
+  DoesAt line place running action = Does line place (allowed_to running action)
 
   abbrev pub Outside : ℕ → ℕ → Action → Type 0
   Outside line place action = DoesAt line place None action

@@ -2,8 +2,7 @@
 
 ghost use Rattle.std.specs.Prelude.{◌≡◌, ℕ, ◌<◌, ◌≤◌, suc, true, IfErr, IfOk, OnErr, OnOk, Some, length, None};
 ghost use Rattle.gp_txn.specs.Committing as txn;
-ghost use Rattle.gp_txn.specs.Committing.{HasCause, spans_left};
-ghost use Rattle.gp_txn.specs.Conflicts.{lates_at};
+ghost use Rattle.gp_txn.specs.Committing.{AreRefused, HaveSameSpans};
 ghost use Rattle.gp_base.specs.declared.catalog.TheConstants.{MAX_TABLES};
 ghost use Rattle.gp_log.specs.Kinds.{ends};
 ghost use Rattle.gp_log.specs.Logs.{what_view};
@@ -30,12 +29,10 @@ fn commit(running: &Running, versions: &mut [VersionTable], version: u32) -> Res
     requires above { (table : ℕ) → AreBelow version (table_at table versions.old).spans }
     requires others { HoldsOthers running.now.active.t versions.old }
     ensures ok { OnOk result (txn.Commits version running.now.active versions.old versions.new) }
-    ensures cause { IfErr result (λ stop. HasCause stop (length versions.old)
-        (lates_at running.now.active.tables versions.old)
-        (spans_left running.now.active.tables versions.old)) }
+    ensures cause { IfErr result (λ stop.
+        AreRefused stop running.now.active.tables versions.old) }
     ensures bounds { IfErr result (IsConflictIn (length versions.old)) }
-    ensures unchanged { OnErr result ((table : ℕ)
-        → (table_at table versions.new).spans ≡ (table_at table versions.old).spans) }
+    ensures unchanged { OnErr result (HaveSameSpans versions.old versions.new) }
 {
     running.active.commit(versions, version)
 }
@@ -131,9 +128,7 @@ impl State {
         ensures ok { OnOk result (IfRuns self.old place
             (λ running. txn.Commits version running.active self.old.versions self.new.versions)) }
         ensures cause { IfErr result (λ stop. IfRuns self.old place
-            (λ running. HasCause stop (length self.old.versions)
-            (lates_at running.active.tables self.old.versions)
-            (spans_left running.active.tables self.old.versions))) }
+            (λ running. AreRefused stop running.active.tables self.old.versions)) }
         ensures bounds { IfErr result (IsConflictIn (length self.old.versions)) }
         ensures unchanged { OnErr result (IsUnchanged self.old self.new) }
         ensures log { self.new.log ≡ self.old.log }

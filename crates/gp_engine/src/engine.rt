@@ -1,7 +1,7 @@
 //! The engine.
 
 ghost use Rattle.std.specs.Prelude.{◌≡◌, ◌≤◌, true, false, length, IfOk, IsOk, OnErr};
-ghost use Rattle.gp_machine.specs.Actions.{action_of};
+ghost use Rattle.gp_machine.specs.ActionForms.{action_of};
 ghost use Rattle.gp_machine.specs.Recorded.{is_recorded};
 ghost use Rattle.gp_check.specs.Valid.{is_valid};
 ghost use Rattle.gp_grammar.specs.Syntax as y;

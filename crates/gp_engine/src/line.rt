@@ -4,7 +4,7 @@ ghost use Rattle.std.specs.Prelude.{◌≡◌, ◌<◌, true, false, IfOk, IsOk,
 ghost use Rattle.gp_check.specs.Valid.{is_valid};
 ghost use Rattle.gp_grammar.specs.Syntax as y;
 ghost use Rattle.gp_grammar.specs.Syntax.{is_statement};
-ghost use Rattle.gp_machine.specs.Actions.{action_of};
+ghost use Rattle.gp_machine.specs.ActionForms.{action_of};
 ghost use Rattle.gp_syntax.specs.Views.{command_view};
 ghost use Rattle.gp_engine.specs.Engine.{IsEngine, IsUnchanged};
 ghost use Rattle.gp_engine.specs.Methods.{DoesAt, HasPlace, Inside, Outside, IfRuns, running_at};

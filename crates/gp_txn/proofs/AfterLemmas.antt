@@ -7,7 +7,7 @@ use Rattle.std.proofs.lemmas.List.Folds.{list_any-append}
 use Rattle.std.proofs.Math.ListN.{get_or-eq_default}
 use Rattle.gp_base.specs.declared.cell.Cell.{Cell}
 use Rattle.gp_base.specs.declared.stored.Stored.{Stored}
-use Rattle.gp_base.specs.Annotated.{plain}
+use Rattle.gp_base.specs.Annotated.{unannotated}
 use Rattle.gp_base.specs.Identities.{Identity, same_identity}
 use Rattle.gp_base.specs.IdentityParts.{transaction_of}
 use Rattle.gp_versions.specs.declared.span.Span.{Span}
@@ -72,7 +72,7 @@ module _ (writes : Writes) (versions : List Versions) where
       ∙ sym (some-none (base_at writes.tables versions place id))
 
   -- it leaves the marked rows of what it sees
-  pub commit-rows : (place : ℕ) → live_rows plain (commit_of writes.tables versions place) ≡ map unmarked (filter (λ row. row.mark) (view_below writes.tables versions place))
+  pub commit-rows : (place : ℕ) → live_rows unannotated (commit_of writes.tables versions place) ≡ map unmarked (filter (λ row. row.mark) (view_below writes.tables versions place))
   commit-rows place = live-view (overlay_at place writes.tables versions) (table_at place versions).spans
 
   -- they are so many, where `count` counts the marked rows of the first tables
@@ -100,7 +100,7 @@ module _ (version : ℕ) (writes : Writes) (old new : List Versions) (same : len
       → (place : ℕ) → (table_at place new).spans ≡ after_commit version (commit_of writes.tables old place) (table_at place old).spans
   spans-everywhere there read empty place =
       elim (cases_lt place (length old)) [
-        | inl low ↦ commits.spans place low
+        | inl low ↦ commits.made.spans place low
         | inr high ↦
             ap (λ (held : Versions). held.spans) (get_or-eq_default new no_table (subst (λ n. n ≤ place) (sym same) high))
             ∙ sym (λ i. after_commit version (commit-none writes old place read high there (empty place high) i) (get_or-eq_default old no_table high i).spans)
@@ -108,7 +108,7 @@ module _ (version : ℕ) (writes : Writes) (old new : List Versions) (same : len
 
   -- one more for each row that the commit leaves
   pub spans-counted : count_spans new (length old) ≡ spans_left writes.tables old
-  spans-counted = count-after version (commit_of writes.tables old) old new (length old) commits.spans
+  spans-counted = count-after version (commit_of writes.tables old) old new (length old) commits.made.spans
 
 -- ---- whose rows they are
 
@@ -169,7 +169,7 @@ others-after u version writes old new same own there commits differ others place
     let held = (table_at place old).spans in
     elim (cases_lt place (length old)) [
       | inl low ↦
-          subst (AreOthers u) (sym (commits.spans place low))
+          subst (AreOthers u) (sym (commits.made.spans place low))
           (others-both u (map (ended version (commit_of writes.tables old place)) held) (filter_map (begun version) (commit_of writes.tables old place))
           (others-ended u version (commit_of writes.tables old place) held (others place))
           (others-begun u version (commit_of writes.tables old place)
@@ -197,7 +197,7 @@ pub there-after : (tables : List TableWrites) (version : ℕ) (writes : Writes) 
 there-after tables version writes old new same commits there place =
     let carried = (writes_at place tables).carried in
     elim (cases_lt place (length old)) [
-      | inl low ↦ subst (λ spans. AreThere spans carried) (sym (commits.spans place low)) (there-spans version (commit_of writes.tables old place) (table_at place old).spans carried (there place))
+      | inl low ↦ subst (λ spans. AreThere spans carried) (sym (commits.made.spans place low)) (there-spans version (commit_of writes.tables old place) (table_at place old).spans carried (there place))
       | inr high ↦
           subst (λ spans. AreThere spans carried)
           (ap (λ (table : Versions). table.spans) (get_or-eq_default old no_table high) ∙ sym (ap (λ (table : Versions). table.spans) (get_or-eq_default new no_table (subst (λ n. n ≤ place) (sym same) high)))) (there place)
@@ -220,7 +220,7 @@ pub overlay-kept : (version : ℕ) (writes : Writes) (old new : List Versions) �
 overlay-kept version writes old new same commits tables place early =
     let table = writes_at place tables in
     elim (cases_lt place (length old)) [
-      | inl low ↦ ap (λ spans. overlay_of spans table) (commits.spans place low) ∙ overlay-after version (commit_of writes.tables old place) (table_at place old).spans table early
+      | inl low ↦ ap (λ spans. overlay_of spans table) (commits.made.spans place low) ∙ overlay-after version (commit_of writes.tables old place) (table_at place old).spans table early
       | inr high ↦
           ap (λ (held : Versions). overlay_of held.spans table) (get_or-eq_default new no_table (subst (λ n. n ≤ place) (sym same) high)) ∙ sym (ap (λ (held : Versions). overlay_of held.spans table) (get_or-eq_default old no_table high))
     ]

@@ -5,7 +5,7 @@ use Rattle.std.proofs.lemmas.Bool.{cases_eq, eq-eqb, ne_eqb}
 use Rattle.std.proofs.lemmas.List.{length-append, get_or-set_same, get_or-set_other}
 use Rattle.gp_base.specs.declared.cell.Cell.{Cell}
 use Rattle.gp_base.specs.declared.stored.Stored.{Stored}
-use Rattle.gp_base.specs.Annotated.{plain, Database}
+use Rattle.gp_base.specs.Annotated.{unannotated, Database}
 use Rattle.gp_base.specs.Identities.{Identity}
 use Rattle.gp_base.specs.IdentityParts.{transaction_of}
 use Rattle.gp_algebra.specs.Answers.{answer}
@@ -85,10 +85,10 @@ inserted-keeps t last k version table before now moved spans new later apart oth
 
 module _ (k version place : ℕ) (statement : Statement) (versions : List Versions) (old : Writes) (within : place < length old.tables) where
   abbrev next : Database (Unit {0})
-  next = step plain old.t k statement (view_at old.tables versions version)
+  next = step unannotated old.t k statement (view_at old.tables versions version)
 
   abbrev pairs : List Written
-  pairs = wrote plain old.t k statement (view_at old.tables versions version)
+  pairs = wrote unannotated old.t k statement (view_at old.tables versions version)
 
   abbrev spans : ℕ → List Span
   spans p = (table_at p versions).spans
@@ -98,7 +98,7 @@ module _ (k version place : ℕ) (statement : Statement) (versions : List Versio
   writes = writes_over version (spans place) (writes_at place old.tables)
 
   abbrev base : List PlainRow
-  base = rows_at plain version (spans place)
+  base = rows_at unannotated version (spans place)
 
   module _ (new : TableWrites) (same : new.version ≡ version) where
     abbrev over : Overlay
@@ -108,7 +108,7 @@ module _ (k version place : ℕ) (statement : Statement) (versions : List Versio
     same-view = rw (same, eq-eqb version version refl) refl
 
     same-base : (id : Identity) → base_of over (rows_below over (spans place)) id ≡ base_of over base id
-    same-base id = ap (λ v. base_of over (rows_at plain v (spans place)) id) same
+    same-base id = ap (λ v. base_of over (rows_at unannotated v (spans place)) id) same
 
     pub applied-put : view_rows over base ≡ next place → ((p : ℕ) → p ≢ place → next p ≡ view_at old.tables versions version p)
         → ((id : Identity) → transaction_of id ≢ old.t → base_of over base id ≡ base_after version (has_written pairs place id) (base_of (overlay_of (spans place) writes) base id))
@@ -131,11 +131,11 @@ module _ (k version place : ℕ) (statement : Statement) (versions : List Versio
 
 -- ---- UPDATE and DELETE
 
-step-change : (t k place : ℕ) (change : Change) (db : Database (Unit {0})) (p : ℕ) → step plain t k (statement_at place change) db p ≡ with_rows place (rows_after plain t k change (db place)) db p
+step-change : (t k place : ℕ) (change : Change) (db : Database (Unit {0})) (p : ℕ) → step unannotated t k (statement_at place change) db p ≡ with_rows place (rows_after unannotated t k change (db place)) db p
 step-change t k place (update sets c) db p = refl
 step-change t k place (delete c) db p = refl
 
-wrote-change : (t k place : ℕ) (change : Change) (db : Database (Unit {0})) → wrote plain t k (statement_at place change) db ≡ written_in place (touched change (db place))
+wrote-change : (t k place : ℕ) (change : Change) (db : Database (Unit {0})) → wrote unannotated t k (statement_at place change) db ≡ written_in place (touched change (db place))
 wrote-change t k place (update sets c) db = refl
 wrote-change t k place (delete c) db = refl
 
@@ -155,20 +155,20 @@ pub applied-change : (k version place : ℕ) (change : Change) (versions : List 
 applied-change k version place change versions old within keeps =
     let db = view_at old.tables versions version in
     let spans = (table_at place versions).spans in
-    let base = rows_at plain version spans in
+    let base = rows_at unannotated version spans in
     let writes = writes_over version spans (writes_at place old.tables) in
     let shown = view-over version (writes_at place old.tables) spans in
     let same = version-over version (writes_at place old.tables) spans in
     let made : AreMadeBy old.t writes.own =
     subst (AreMadeBy old.t) (sym (own-over version (writes_at place old.tables) spans)) (inserted-own old.t old.last (writes_at place old.tables).own keeps.own).0 in
     let over = overlay_of spans writes in
-    let is : overlay_of spans (changed_table change spans writes) ≡ changed_overlay change over base = overlay-changed change spans writes ∙ ap (λ v. changed_overlay change over (rows_at plain v spans)) same in
+    let is : overlay_of spans (changed_table change spans writes) ≡ changed_overlay change over base = overlay-changed change spans writes ∙ ap (λ v. changed_overlay change over (rows_at unannotated v spans)) same in
     applied-put k version place (statement_at place change) versions old within (changed_table change spans writes) same
     (ap (λ (o : Overlay). view_rows o base) is
     ∙ view-changed old.t k change over base
-    ∙ ap (rows_after plain old.t k change) (sym shown)
-    ∙ sym (step-change old.t k place change db place ∙ rows-here place (rows_after plain old.t k change (db place)) db))
-    (λ p apart. step-change old.t k place change db p ∙ rows-other place p (rows_after plain old.t k change (db place)) db apart)
+    ∙ ap (rows_after unannotated old.t k change) (sym shown)
+    ∙ sym (step-change old.t k place change db place ∙ rows-here place (rows_after unannotated old.t k change (db place)) db))
+    (λ p apart. step-change old.t k place change db p ∙ rows-other place p (rows_after unannotated old.t k change (db place)) db apart)
     (λ id other.
     ap (λ (o : Overlay). base_of o base id) is
     ∙ base-changed old.t change over base id other made
@@ -181,14 +181,14 @@ applied-change k version place change versions old within keeps =
 -- ---- INSERT
 
 pub applied-insert : (k version place : ℕ) (statement : Statement) (rows : List PlainRow) (new : List Stored) (versions : List Versions) (old : Writes) → place < length old.tables
-    → map own_row new ≡ rows → AllByRecursion (IsMade plain old.t k) rows
-    → ((p : ℕ) → step plain old.t k statement (view_at old.tables versions version) p ≡ with_rows place (view_at old.tables versions version place ++ rows) (view_at old.tables versions version) p)
-    → wrote plain old.t k statement (view_at old.tables versions version) ≡ written_in place rows
+    → map own_row new ≡ rows → AllByRecursion (IsMade unannotated old.t k) rows
+    → ((p : ℕ) → step unannotated old.t k statement (view_at old.tables versions version) p ≡ with_rows place (view_at old.tables versions version place ++ rows) (view_at old.tables versions version) p)
+    → wrote unannotated old.t k statement (view_at old.tables versions version) ≡ written_in place rows
     → Applied k version statement versions old (put_table k place (with_own new (writes_over version (table_at place versions).spans (writes_at place old.tables))) old)
 applied-insert k version place statement rows new versions old within are made steps writes_are =
     let db = view_at old.tables versions version in
     let spans = (table_at place versions).spans in
-    let base = rows_at plain version spans in
+    let base = rows_at unannotated version spans in
     let writes = writes_over version spans (writes_at place old.tables) in
     let shown = view-over version (writes_at place old.tables) spans in
     applied-put k version place statement versions old within (with_own new writes) (version-over version (writes_at place old.tables) spans)
@@ -197,7 +197,7 @@ applied-insert k version place statement rows new versions old within are made s
     (λ id other.
     sym (ap (λ b. base_after version b (base_of (overlay_of spans writes) base id))
     (ap (λ pairs. has_written pairs place id) writes_are ∙ written-here place rows id
-    ∙ own-identity old.t rows id other (all-weaker (IsMade plain old.t k) (λ (row : PlainRow). transaction_of row.identity ≡ old.t) (λ row is. is.0) rows made))
+    ∙ own-identity old.t rows id other (all-weaker (IsMade unannotated old.t k) (λ (row : PlainRow). transaction_of row.identity ≡ old.t) (λ row is. is.0) rows made))
     ∙ after-none version (base_of (overlay_of spans writes) base id)))
     (λ p id apart. ap (λ pairs. has_written pairs p id) writes_are ∙ written-elsewhere place p rows id apart)
     (λ there. there)
@@ -232,24 +232,24 @@ pub rows-many : (place most : ℕ) (rows : List PlainRow) (db : Database (Unit {
 rows-many place most rows db = ap (λ (all : List PlainRow). nat_lt most (length all)) (rows-here place (db place ++ rows) db) ∙ ap (λ n. nat_lt most n) (length-append (db place) rows)
 
 pub insert-wrote : (k version place : ℕ) (given : List (List Cell)) (new : List Stored) (versions : List Versions) (old : Writes) (count : ℕ) → place < length old.tables
-    → Prepares (Ok new) (length (view_at old.tables versions version place)) (given_from plain old.t k 1 given) → count ≡ length new
+    → Prepares (Ok new) (length (view_at old.tables versions version place)) (given_from unannotated old.t k 1 given) → count ≡ length new
     → Wrote k version (insert place given) versions old (put_table k place (with_own new (writes_over version (table_at place versions).spans (writes_at place old.tables))) old) count
 insert-wrote k version place given new versions old count within prepared is =
-    let rows = given_from plain old.t k 1 given in
+    let rows = given_from unannotated old.t k 1 given in
     record {
-      applied = applied-insert k version place (insert place given) rows new versions old within prepared.1 (given_rows-made plain old.t k 1 given) (λ p. refl) refl;
+      applied = applied-insert k version place (insert place given) rows new versions old within prepared.1 (given_rows-made unannotated old.t k 1 given) (λ p. refl) refl;
       number = is ∙ sym (length-map (λ (row : PlainRow). record { table = place; identity = row.identity }) rows ∙ ap (λ (all : List PlainRow). length all) (sym prepared.1) ∙ length-map own_row new);
       few_rows = rows-many place MAX_TABLE_ROWS rows (view_at old.tables versions version) ∙ prepared.0;
       few_nodes = prepared.2;
     }
 
 pub insert_select-wrote : (k version place : ℕ) (select : Select) (new : List Stored) (versions : List Versions) (old : Writes) (count : ℕ) → place < length old.tables
-    → Prepares (Ok new) (length (view_at old.tables versions version place)) (map (made plain old.t k) (answer plain select (view_at old.tables versions version))) → count ≡ length new
+    → Prepares (Ok new) (length (view_at old.tables versions version place)) (map (made unannotated old.t k) (answer unannotated select (view_at old.tables versions version))) → count ≡ length new
     → Wrote k version (insert_select place select) versions old (put_table k place (with_own new (writes_over version (table_at place versions).spans (writes_at place old.tables))) old) count
 insert_select-wrote k version place select new versions old count within prepared is =
-    let rows = map (made plain old.t k) (answer plain select (view_at old.tables versions version)) in
+    let rows = map (made unannotated old.t k) (answer unannotated select (view_at old.tables versions version)) in
     record {
-      applied = applied-insert k version place (insert_select place select) rows new versions old within prepared.1 (made_rows-made plain old.t k (answer plain select (view_at old.tables versions version))) (λ p. refl) refl;
+      applied = applied-insert k version place (insert_select place select) rows new versions old within prepared.1 (made_rows-made unannotated old.t k (answer unannotated select (view_at old.tables versions version))) (λ p. refl) refl;
       number = is ∙ sym (length-map (λ (row : PlainRow). record { table = place; identity = row.identity }) rows ∙ ap (λ (all : List PlainRow). length all) (sym prepared.1) ∙ length-map own_row new);
       few_rows = rows-many place MAX_TABLE_ROWS rows (view_at old.tables versions version) ∙ prepared.0;
       few_nodes = prepared.2;

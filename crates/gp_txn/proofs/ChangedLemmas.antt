@@ -1,7 +1,7 @@
 -- What is kept of a table after an UPDATE or a DELETE.
-use Rattle.std.proofs.Common.{◌≡◌, ℕ, suc, ◌<◌, ◌≤◌, Bool, true, false, cond, not, ◌&&◌, List, [], ◌∷◌, ◌++◌, map, drop, length, Some, refl, ap, sym, ◌∙◌, arith}
+use Rattle.std.proofs.Common.{◌≡◌, ℕ, suc, ◌<◌, ◌≤◌, true, false, cond, not, ◌&&◌, List, [], ◌∷◌, ◌++◌, map, length, Some, refl, ap, sym, ◌∙◌, arith}
 use Rattle.std.specs.List.{filter, flat_map, AllByRecursion}
-use Rattle.gp_base.specs.Annotated.{plain}
+use Rattle.gp_base.specs.Annotated.{unannotated}
 use Rattle.gp_base.specs.Identities.{Identity}
 use Rattle.gp_base.proofs.SmallLemmas.{each_append, eq_itself, not_eq}
 use Rattle.gp_versions.specs.declared.span.Span.{Span}
@@ -81,7 +81,7 @@ module _ (change : Change) (carried : List Carried) (version : ℕ) (placed : Li
 
   -- the slots of all rows after the statement
   changed-kept : (place : ℕ) (spans : List Span)
-      → slots_from carried version (after place spans) place spans ≡ changed_slots change (slots_from carried version placed place spans) (map (row_of plain) (slotted_spans carried version spans))
+      → slots_from carried version (after place spans) place spans ≡ changed_slots change (slots_from carried version placed place spans) (map (row_of unannotated) (slotted_spans carried version spans))
   changed-kept place [] = refl
   changed-kept place (span ∷ spans) =
       let slot = slot_at place placed in
@@ -89,17 +89,17 @@ module _ (change : Change) (carried : List Carried) (version : ℕ) (placed : Li
       let slots = slots_from carried version placed (suc place) spans in
       let rows = slotted_spans carried version spans in
       let others = after (suc place) spans in
-      let rest : slots_from carried version others (suc place) spans ≡ changed_slots change slots (map (row_of plain) rows) = changed-kept (suc place) spans in
+      let rest : slots_from carried version others (suc place) spans ≡ changed_slots change slots (map (row_of unannotated) rows) = changed-kept (suc place) spans in
       let behind : slots_from carried version (entry place new ++ others) (suc place) spans ≡ slots_from carried version others (suc place) spans =
       slots-agree carried version (entry place new ++ others) others (suc place) spans (λ p late. entry-other place p new others (omega (arith, late))) in
       let here : slot_at place (entry place new ++ others) ≡ new = entry-here place new others (above-none place others (changed-behind place spans)) in
       elim (holds_at version span) as (λ h. cond (h && not (is_carried carried span.id)) (slot_at place (cond (h && not (is_carried carried span.id)) (entry place new) [] ++ others) ∷ slots_from carried version (cond (h && not (is_carried carried span.id)) (entry place new) [] ++ others) (suc place) spans)
       (slots_from carried version (cond (h && not (is_carried carried span.id)) (entry place new) [] ++ others) (suc place) spans)
       ≡ changed_slots change (cond (h && not (is_carried carried span.id)) (slot ∷ slots) slots)
-      (map (row_of plain) (filter (λ (other : Span). not (is_carried carried other.id)) (cond h (span ∷ spans_at version spans) (spans_at version spans))))) [
+      (map (row_of unannotated) (filter (λ (other : Span). not (is_carried carried other.id)) (cond h (span ∷ spans_at version spans) (spans_at version spans))))) [
         | true ↦ elim (not (is_carried carried span.id)) as (λ q. cond q (slot_at place (cond q (entry place new) [] ++ others) ∷ slots_from carried version (cond q (entry place new) [] ++ others) (suc place) spans)
             (slots_from carried version (cond q (entry place new) [] ++ others) (suc place) spans)
-            ≡ changed_slots change (cond q (slot ∷ slots) slots) (map (row_of plain) (cond q (span ∷ rows) rows))) [
+            ≡ changed_slots change (cond q (slot ∷ slots) slots) (map (row_of unannotated) (cond q (span ∷ rows) rows))) [
               | true ↦ λ i. here i ∷ (behind ∙ rest) i
               | false ↦ rest
             ]
@@ -126,8 +126,8 @@ module _ (change : Change) (carried : List Carried) (v : ℕ) (spans : List Span
   changed-places =
       made-places (row_entry change) carried v placed spans (passes (cond_of change)) places (λ p span none. ap (λ b. entry p (cond b (slot_seen change (Some span.row)) Same)) none) enough ∙ changed-made change carried v placed 0 spans
 
-  pub touched-places : length (flat_map (of_place (anywhere (row_touched change)) carried v placed spans) places) ≡ count_touched change (overlaid (slots_from carried v placed 0 spans) (slotted carried (rows_at plain v spans)))
+  pub touched-places : length (flat_map (of_place (anywhere (row_touched change)) carried v placed spans) places) ≡ count_touched change (overlaid (slots_from carried v placed 0 spans) (slotted carried (rows_at unannotated v spans)))
   touched-places =
-      ap length (places-made (row_touched change) carried v spans placed (passes (cond_of change)) places (λ span none. ap (λ b. cond b (row_of plain span ∷ []) []) none) enough
+      ap length (places-made (row_touched change) carried v spans placed (passes (cond_of change)) places (λ span none. ap (λ b. cond b (row_of unannotated span ∷ []) []) none) enough
       ∙ touched-made change (slots_from carried v placed 0 spans) (slotted_spans carried v spans)
       ∙ ap (λ (rows : List PlainRow). touched change (overlaid (slots_from carried v placed 0 spans) rows)) (sym (rows-spans carried v spans)))

@@ -1,11 +1,10 @@
 -- The writes of a commit: of different identities, and with the rows that the transaction wrote and sees.
-use Rattle.std.proofs.Common.{◌≡◌, ◌≢◌, ℕ, ◌+◌, ◌<◌, true, false, cond, not, ◌||◌, List, [], ◌∷◌, ◌++◌, map, drop, length, get_or, Option, Some, None, refl, ap, sym, ◌∙◌, subst, arith}
+use Rattle.std.proofs.Common.{◌≡◌, ◌≢◌, ℕ, ◌+◌, true, false, cond, not, ◌||◌, List, [], ◌∷◌, ◌++◌, map, drop, refl, ap, sym, ◌∙◌, subst}
 use Rattle.std.specs.List.{cons_option, filter, AllByRecursion}
-use Rattle.std.specs.Option.{option_to_list}
 use Rattle.std.proofs.lemmas.Bool.{or_from, or_parts, false_from_ne_true}
-use Rattle.std.proofs.lemmas.List.{append_assoc, drop-drop, map-append}
+use Rattle.std.proofs.lemmas.List.{map-append}
 use Rattle.gp_base.specs.declared.stored.Stored.{Stored}
-use Rattle.gp_base.specs.Annotated.{Annotated, plain}
+use Rattle.gp_base.specs.Annotated.{Annotated, unannotated}
 use Rattle.gp_base.specs.Identities.{Identity, same_identity}
 use Rattle.gp_base.specs.IdentityParts.{transaction_of}
 use Rattle.gp_versions.specs.declared.span.Span.{Span}
@@ -19,7 +18,7 @@ use Rattle.gp_txn.specs.declared.carried.Carried.{Carried}
 use Rattle.gp_txn.specs.declared.overlay.Slot.{Slot}
 use Rattle.gp_txn.specs.declared.overlay.Slot.TheVariants.{Same, Put, Dropped}
 use Rattle.gp_txn.specs.declared.overlay.TableWrites.{TableWrites}
-use Rattle.gp_txn.specs.Overlay.{Overlay, PlainRow, base_writes, carried_write, head_slot, is_carried, overlay_of, own_write, rows_below, slot_write, slot_writes, slotted_spans, table_writes}
+use Rattle.gp_txn.specs.Overlay.{Overlay, base_writes, carried_write, head_slot, is_carried, overlay_of, own_write, rows_below, slot_write, slot_writes, slotted_spans, table_writes}
 use Rattle.gp_txn.specs.Prepared.{AreInserted, AreWritesOf}
 use Rattle.gp_txn.specs.Rebasing.{carried_of, carried_over}
 use Rattle.gp_txn.specs.Transactions.{AreCarried, AreOthers, AreOwn, IsOwn, KeepsOwn}
@@ -35,26 +34,26 @@ not-same id other differ = false_from_ne_true (same_identity other id) (λ same.
     false-true : false ≡ true → ⊥
     false-true e = cc
 
-unwritten-cons : (id : Identity) (slot : Slot) (span : Span) (rest : List Write) → same_identity span.id id ≡ false → is_written rest id ≡ false → is_written (cons_option (slot_write slot (row_of plain span)) rest) id ≡ false
+unwritten-cons : (id : Identity) (slot : Slot) (span : Span) (rest : List Write) → same_identity span.id id ≡ false → is_written rest id ≡ false → is_written (cons_option (slot_write slot (row_of unannotated span)) rest) id ≡ false
 unwritten-cons id Same span rest other none = none
 unwritten-cons id (Put cells) span rest other none = or_from (same_identity span.id id) (is_written rest id) other none
 unwritten-cons id Dropped span rest other none = or_from (same_identity span.id id) (is_written rest id) other none
 
 -- an identity of none of the rows is not written
-unwritten : (id : Identity) (slots : List Slot) (spans : List Span) → AllByRecursion (λ (span : Span). same_identity id span.id ≡ false) spans → is_written (base_writes slots (map (row_of plain) spans)) id ≡ false
+unwritten : (id : Identity) (slots : List Slot) (spans : List Span) → AllByRecursion (λ (span : Span). same_identity id span.id ≡ false) spans → is_written (base_writes slots (map (row_of unannotated) spans)) id ≡ false
 unwritten id slots [] all = refl
 unwritten id slots (span ∷ spans) all =
-    unwritten-cons id (head_slot slots) span (base_writes (drop 1 slots) (map (row_of plain) spans)) (not-same id span.id all.0) (unwritten id (drop 1 slots) spans all.1)
+    unwritten-cons id (head_slot slots) span (base_writes (drop 1 slots) (map (row_of unannotated) spans)) (not-same id span.id all.0) (unwritten id (drop 1 slots) spans all.1)
 
-distinct-cons : (slot : Slot) (span : Span) (rest : List Write) → is_written rest span.id ≡ false → AreDistinct rest → AreDistinct (cons_option (slot_write slot (row_of plain span)) rest)
+distinct-cons : (slot : Slot) (span : Span) (rest : List Write) → is_written rest span.id ≡ false → AreDistinct rest → AreDistinct (cons_option (slot_write slot (row_of unannotated span)) rest)
 distinct-cons Same span rest none distinct = distinct
 distinct-cons (Put cells) span rest none distinct = (none, distinct)
 distinct-cons Dropped span rest none distinct = (none, distinct)
 
-distinct-base : (slots : List Slot) (spans : List Span) → AreOfDifferentRows spans → AreDistinct (base_writes slots (map (row_of plain) spans))
+distinct-base : (slots : List Slot) (spans : List Span) → AreOfDifferentRows spans → AreDistinct (base_writes slots (map (row_of unannotated) spans))
 distinct-base slots [] all = tt
 distinct-base slots (span ∷ spans) all =
-    distinct-cons (head_slot slots) span (base_writes (drop 1 slots) (map (row_of plain) spans)) (unwritten span.id (drop 1 slots) spans all.0) (distinct-base (drop 1 slots) spans all.1)
+    distinct-cons (head_slot slots) span (base_writes (drop 1 slots) (map (row_of unannotated) spans)) (unwritten span.id (drop 1 slots) spans all.0) (distinct-base (drop 1 slots) spans all.1)
 
 abbrev pub AreMadeBy : ℕ → List Stored → Type 0
 AreMadeBy t own = AllByRecursion (λ (stored : Stored). transaction_of stored.id ≡ t) own
@@ -79,15 +78,15 @@ distinct-append : (xs ys : List Write) → AreDistinct xs → AreDistinct ys →
 distinct-append [] ys left right across = right
 distinct-append (x ∷ xs) ys left right across = (unwritten-append x.id xs ys left.0 across.0, distinct-append xs ys left.1 right across.1)
 
-across-cons : (slot : Slot) (span : Span) (rest own : List Write) → is_written own span.id ≡ false → AreUnwritten own rest → AreUnwritten own (cons_option (slot_write slot (row_of plain span)) rest)
+across-cons : (slot : Slot) (span : Span) (rest own : List Write) → is_written own span.id ≡ false → AreUnwritten own rest → AreUnwritten own (cons_option (slot_write slot (row_of unannotated span)) rest)
 across-cons Same span rest own none all = all
 across-cons (Put cells) span rest own none all = (none, all)
 across-cons Dropped span rest own none all = (none, all)
 
-across-own : (t : ℕ) (slots : List Slot) (own : List Stored) (spans : List Span) → AreOthers t spans → AreMadeBy t own → AreUnwritten (map own_write own) (base_writes slots (map (row_of plain) spans))
+across-own : (t : ℕ) (slots : List Slot) (own : List Stored) (spans : List Span) → AreOthers t spans → AreMadeBy t own → AreUnwritten (map own_write own) (base_writes slots (map (row_of unannotated) spans))
 across-own t slots own [] others all = tt
 across-own t slots own (span ∷ spans) others all =
-    across-cons (head_slot slots) span (base_writes (drop 1 slots) (map (row_of plain) spans)) (map own_write own) (own-unwritten t span.id own others.0 all) (across-own t (drop 1 slots) own spans others.1 all)
+    across-cons (head_slot slots) span (base_writes (drop 1 slots) (map (row_of unannotated) spans)) (map own_write own) (own-unwritten t span.id own others.0 all) (across-own t (drop 1 slots) own spans others.1 all)
 
 pub others-held : (t v : ℕ) (spans : List Span) → AreOthers t spans → AreOthers t (spans_at v spans)
 others-held t v [] all = tt
@@ -114,10 +113,10 @@ module _ (carried : List Carried) where
         | false ↦ λ is. (is, all-uncarried spans)
       ] refl
 
-  across-carried : (slots : List Slot) (spans : List Span) → AllByRecursion IsUncarried spans → AreUnwritten (map carried_write carried) (base_writes slots (map (row_of plain) spans))
+  across-carried : (slots : List Slot) (spans : List Span) → AllByRecursion IsUncarried spans → AreUnwritten (map carried_write carried) (base_writes slots (map (row_of unannotated) spans))
   across-carried slots [] all = tt
   across-carried slots (span ∷ spans) all =
-      across-cons (head_slot slots) span (base_writes (drop 1 slots) (map (row_of plain) spans)) (map carried_write carried) (carried-written carried span.id ∙ all.0) (across-carried (drop 1 slots) spans all.1)
+      across-cons (head_slot slots) span (base_writes (drop 1 slots) (map (row_of unannotated) spans)) (map carried_write carried) (carried-written carried span.id ∙ all.0) (across-carried (drop 1 slots) spans all.1)
 
   differ-all : (span : Span) (spans : List Span) → AllByRecursion (λ (other : Span). same_identity span.id other.id ≡ false) spans → AllByRecursion (λ (other : Span). same_identity span.id other.id ≡ false) (unslotted spans)
   differ-all span spans all = all-filter (λ (other : Span). same_identity span.id other.id ≡ false) (λ (other : Span). not (is_carried carried other.id)) spans all
@@ -131,14 +130,14 @@ module _ (carried : List Carried) where
   others-slotted t v spans all = all-filter (λ (span : Span). transaction_of span.id ≢ t) (λ (span : Span). not (is_carried carried span.id)) (spans_at v spans) (others-held t v spans all)
 
 -- what holds of the identities of rows holds of each one that was written
-slot-all : (P : Identity → Type 0) (slot : Slot) (span : Span) (rest : List Write) → P span.id → AllByRecursion (λ (write : Write). P write.id) rest → AllByRecursion (λ (write : Write). P write.id) (cons_option (slot_write slot (row_of plain span)) rest)
+slot-all : (P : Identity → Type 0) (slot : Slot) (span : Span) (rest : List Write) → P span.id → AllByRecursion (λ (write : Write). P write.id) rest → AllByRecursion (λ (write : Write). P write.id) (cons_option (slot_write slot (row_of unannotated span)) rest)
 slot-all P Same span rest this all = all
 slot-all P (Put cells) span rest this all = (this, all)
 slot-all P Dropped span rest this all = (this, all)
 
-base-all : (P : Identity → Type 0) (slots : List Slot) (spans : List Span) → AllByRecursion (λ (span : Span). P span.id) spans → AllByRecursion (λ (write : Write). P write.id) (base_writes slots (map (row_of plain) spans))
+base-all : (P : Identity → Type 0) (slots : List Slot) (spans : List Span) → AllByRecursion (λ (span : Span). P span.id) spans → AllByRecursion (λ (write : Write). P write.id) (base_writes slots (map (row_of unannotated) spans))
 base-all P slots [] all = tt
-base-all P slots (span ∷ spans) all = slot-all P (head_slot slots) span (base_writes (drop 1 slots) (map (row_of plain) spans)) all.0 (base-all P (drop 1 slots) spans all.1)
+base-all P slots (span ∷ spans) all = slot-all P (head_slot slots) span (base_writes (drop 1 slots) (map (row_of unannotated) spans)) all.0 (base-all P (drop 1 slots) spans all.1)
 
 -- of a table
 pub slots-all : (P : Identity → Type 0) (writes : Overlay) (spans : List Span) → AllByRecursion (λ (span : Span). P span.id) spans → AllByRecursion (λ (write : Write). P write.id) (slot_writes writes (rows_below writes spans))
@@ -170,7 +169,7 @@ module _ (stored : TableWrites) (spans : List Span) (t : ℕ) (apart : NoOverlap
   abbrev held : List Span
   held = slotted_spans writes.carried writes.version spans
 
-  same-writes : base_writes writes.slots (map (row_of plain) held) ≡ slot_writes writes (rows_below writes spans)
+  same-writes : base_writes writes.slots (map (row_of unannotated) held) ≡ slot_writes writes (rows_below writes spans)
   same-writes = ap (base_writes writes.slots) (sym (rows-spans writes.carried writes.version spans))
 
   distinct-slots : AreDistinct (slot_writes writes (rows_below writes spans))

@@ -4,7 +4,7 @@ use Rattle.std.specs.Prelude.{nat_lt}
 use Rattle.std.specs.List.{filter_map}
 use Rattle.std.proofs.lemmas.Bool.{cases_lt, lt-ltb}
 use Rattle.gp_base.specs.declared.cell.Cell.{Cell}
-use Rattle.gp_base.specs.Annotated.{plain}
+use Rattle.gp_base.specs.Annotated.{unannotated}
 use Rattle.gp_base.specs.Identities.{Identity}
 use Rattle.gp_versions.specs.declared.span.Span.{Span}
 use Rattle.gp_versions.specs.declared.span.Write.{Write}
@@ -21,17 +21,17 @@ length-append : {X : Type 0} (xs ys : List X) → length (xs ++ ys) ≡ length x
 length-append [] ys = omega arith
 length-append (x ∷ xs) ys = omega (arith, length-append xs ys)
 
-begun-one : (version : ℕ) (id : Identity) (row : Option (List Cell)) (writes : List Write) → length (filter_map (begun version) writes) ≡ length (live_rows plain writes)
-    → length (filter_map (begun version) (record { id = id; row = row } ∷ writes)) ≡ length (live_rows plain (record { id = id; row = row } ∷ writes))
+begun-one : (version : ℕ) (id : Identity) (row : Option (List Cell)) (writes : List Write) → length (filter_map (begun version) writes) ≡ length (live_rows unannotated writes)
+    → length (filter_map (begun version) (record { id = id; row = row } ∷ writes)) ≡ length (live_rows unannotated (record { id = id; row = row } ∷ writes))
 begun-one version id None writes rest = rest
 begun-one version id (Some cells) writes rest = ap suc rest
 
-begun-count : (version : ℕ) (writes : List Write) → length (filter_map (begun version) writes) ≡ length (live_rows plain writes)
+begun-count : (version : ℕ) (writes : List Write) → length (filter_map (begun version) writes) ≡ length (live_rows unannotated writes)
 begun-count version [] = refl
 begun-count version (write ∷ writes) = begun-one version write.id write.row writes (begun-count version writes)
 
 -- a commit begins a span for each row that its writes leave
-pub spans-count : (version : ℕ) (writes : List Write) (spans : List Span) → length (after_commit version writes spans) ≡ length spans + length (live_rows plain writes)
+pub spans-count : (version : ℕ) (writes : List Write) (spans : List Span) → length (after_commit version writes spans) ≡ length spans + length (live_rows unannotated writes)
 spans-count version writes spans =
     length-append (map (ended version writes) spans) (filter_map (begun version) writes)
     ∙ ap (λ n. n + length (filter_map (begun version) writes)) (length-map (ended version writes) spans)
@@ -67,7 +67,7 @@ more-spans versions writes p (suc n) low =
     ]
 
 -- too many spans of the first tables are too many of all
-pub over-here : (versions : List Versions) (writes : ℕ → List Write) (place n left old new : ℕ) → old ≡ length (table_at place versions).spans → new ≡ length (live_rows plain (writes place))
+pub over-here : (versions : List Versions) (writes : ℕ → List Write) (place n left old new : ℕ) → old ≡ length (table_at place versions).spans → new ≡ length (live_rows unannotated (writes place))
     → left + spans_after versions writes place ≡ MAX_SPANS → place < n → left < old + new → true ≡ nat_lt MAX_SPANS (spans_after versions writes n)
 over-here versions writes place n left old new is-old is-new sum low over =
     sym (lt-ltb MAX_SPANS (spans_after versions writes n) (omega (arith, is-old, is-new, sum, over, more-spans versions writes (suc place) n low)))

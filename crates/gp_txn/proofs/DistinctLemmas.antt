@@ -4,7 +4,8 @@ use Rattle.std.proofs.Common.{◌≡◌, ◌≢◌, ℕ, suc, ◌<◌, ◌≤◌
 use Rattle.std.specs.List.{filter, flat_map, AllByRecursion}
 use Rattle.gp_base.specs.declared.cell.Cell.{Cell}
 use Rattle.gp_base.specs.Identities.{identity, no_sources}
-use Rattle.gp_base.specs.IdentityParts.{transaction_of, statement_of, number_of}
+use Rattle.gp_base.specs.IdentityParts.{transaction_of, statement_of}
+use Rattle.gp_base.specs.IdentityForms.{number_of}
 use Rattle.gp_base.specs.declared.token.Token.TheVariants.{Inserted}
 use Rattle.gp_base.specs.Annotated.{Annotations, Annotated, Database}
 use Rattle.gp_algebra.specs.Statements.{Branch, Select}

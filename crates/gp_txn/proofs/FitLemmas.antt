@@ -1,5 +1,5 @@
 -- What fits the tables of a catalogue can be applied: a checked statement, and a checked query.
-use Rattle.std.proofs.Common.{◌≡◌, ℕ, ◌^◌, true, ◌&&◌, ◌==◌, ltb, nat_lt, List, [], length}
+use Rattle.std.proofs.Common.{◌≡◌, ℕ, ◌^◌, true, ◌&&◌, ◌==◌, ltb, nat_lt, List, length}
 use Rattle.std.specs.List.{list_all}
 use Rattle.std.proofs.lemmas.Bool.{and_parts, and_from}
 use Rattle.gp_base.specs.declared.table.Table.{Table}

@@ -8,7 +8,7 @@ use Rattle.std.specs.declared.cmp.Ordering.TheVariants.{Less}
 use Rattle.std.proofs.lemmas.Bool.{cases_lt, false≢true, false_from_ne_true, or_right}
 use Rattle.std.proofs.lemmas.Cmp.{nat_cmp_total, tied_itself}
 use Rattle.std.proofs.Math.ListN.{get_or-eq_default}
-use Rattle.gp_base.specs.Annotated.{plain}
+use Rattle.gp_base.specs.Annotated.{unannotated}
 use Rattle.gp_base.specs.Identities.{Identity, identity_cmp, same_identity}
 use Rattle.gp_versions.specs.declared.span.Span.{Span}
 use Rattle.gp_versions.specs.declared.span.Write.{Write}
@@ -39,7 +39,7 @@ module _ (next : Identity → Option ℕ) where
   EndNext spans = AllByRecursion (λ (span : Span). span.to ≡ next span.id) spans
 
   abbrev Lists : List Slot → List Span → Type 0
-  Lists slots spans = (id : Identity) (version : ℕ) → next id ≡ Some version → is_written (base_writes slots (map (row_of plain) spans)) id ≡ true → IsAmong (record { id = id; version = version }) (slot_lates slots spans)
+  Lists slots spans = (id : Identity) (version : ℕ) → next id ≡ Some version → is_written (base_writes slots (map (row_of unannotated) spans)) id ≡ true → IsAmong (record { id = id; version = version }) (slot_lates slots spans)
 
   abbrev late_at : Span → Option ℕ → Option Late
   late_at span to = option_map (λ version. record { id = span.id; version = version }) to
@@ -61,10 +61,10 @@ module _ (next : Identity → Option ℕ) where
       ] refl written
 
   lists-slot : (slot : Slot) (span : Span) (slots : List Slot) (spans : List Span) → span.to ≡ next span.id → Lists slots spans → (id : Identity) (version : ℕ) → next id ≡ Some version
-      → is_written (cons_option (slot_write slot (row_of plain span)) (base_writes slots (map (row_of plain) spans))) id ≡ true → IsAmong (record { id = id; version = version }) (cons_option (late_of slot span) (slot_lates slots spans))
+      → is_written (cons_option (slot_write slot (row_of unannotated span)) (base_writes slots (map (row_of unannotated) spans))) id ≡ true → IsAmong (record { id = id; version = version }) (cons_option (late_of slot span) (slot_lates slots spans))
   lists-slot Same span slots spans ends more id version is written = more id version is written
-  lists-slot (Put cells) span slots spans ends more id version is written = among-here span (slot_lates slots spans) id version ends is (is_written (base_writes slots (map (row_of plain) spans)) id) written (more id version is)
-  lists-slot Dropped span slots spans ends more id version is written = among-here span (slot_lates slots spans) id version ends is (is_written (base_writes slots (map (row_of plain) spans)) id) written (more id version is)
+  lists-slot (Put cells) span slots spans ends more id version is written = among-here span (slot_lates slots spans) id version ends is (is_written (base_writes slots (map (row_of unannotated) spans)) id) written (more id version is)
+  lists-slot Dropped span slots spans ends more id version is written = among-here span (slot_lates slots spans) id version ends is (is_written (base_writes slots (map (row_of unannotated) spans)) id) written (more id version is)
 
   -- each row that the transaction and a later commit wrote is among them
   pub lists-all : (slots : List Slot) (spans : List Span) → EndNext spans → Lists slots spans
@@ -72,7 +72,7 @@ module _ (next : Identity → Option ℕ) where
   lists-all slots (span ∷ spans) ends id version is written = lists-slot (head_slot slots) span (drop 1 slots) spans ends.0 (lists-all (drop 1 slots) spans ends.1) id version is written
 
   abbrev IsLate : List Slot → List Span → Late → Type 0
-  IsLate slots spans late = (is_written (base_writes slots (map (row_of plain) spans)) late.id ≡ true) × (next late.id ≡ Some late.version)
+  IsLate slots spans late = (is_written (base_writes slots (map (row_of unannotated) spans)) late.id ≡ true) × (next late.id ≡ Some late.version)
 
   late-here : (span : Span) (to : Option ℕ) (late : Late) (rest : List Late) (b : Bool) → to ≡ next span.id → (IsAmong late rest → (b ≡ true) × (next late.id ≡ Some late.version)) → IsAmong late (cons_option (late_at span to) rest)
       → ((same_identity span.id late.id || b) ≡ true) × (next late.id ≡ Some late.version)
@@ -84,10 +84,10 @@ module _ (next : Identity → Option ℕ) where
   late-here span (Some version) late rest b ends more (inr among) = (or_right (same_identity span.id late.id) b (more among).0, (more among).1)
 
   late-slot : (slot : Slot) (span : Span) (slots : List Slot) (spans : List Span) (late : Late) → span.to ≡ next span.id → (IsAmong late (slot_lates slots spans) → IsLate slots spans late) → IsAmong late (cons_option (late_of slot span) (slot_lates slots spans))
-      → (is_written (cons_option (slot_write slot (row_of plain span)) (base_writes slots (map (row_of plain) spans))) late.id ≡ true) × (next late.id ≡ Some late.version)
+      → (is_written (cons_option (slot_write slot (row_of unannotated span)) (base_writes slots (map (row_of unannotated) spans))) late.id ≡ true) × (next late.id ≡ Some late.version)
   late-slot Same span slots spans late ends more among = more among
-  late-slot (Put cells) span slots spans late ends more among = late-here span span.to late (slot_lates slots spans) (is_written (base_writes slots (map (row_of plain) spans)) late.id) ends more among
-  late-slot Dropped span slots spans late ends more among = late-here span span.to late (slot_lates slots spans) (is_written (base_writes slots (map (row_of plain) spans)) late.id) ends more among
+  late-slot (Put cells) span slots spans late ends more among = late-here span span.to late (slot_lates slots spans) (is_written (base_writes slots (map (row_of unannotated) spans)) late.id) ends more among
+  late-slot Dropped span slots spans late ends more among = late-here span span.to late (slot_lates slots spans) (is_written (base_writes slots (map (row_of unannotated) spans)) late.id) ends more among
 
   -- the transaction and a later commit wrote each of them
   pub late-all : (slots : List Slot) (spans : List Span) (late : Late) → EndNext spans → IsAmong late (slot_lates slots spans) → IsLate slots spans late
@@ -205,7 +205,7 @@ module _ (table : Overlay) (spans : List Span) (apart : NoOverlap spans) (whole 
       all-filter (λ (span : Span). span.to ≡ after span.id) (λ (span : Span). not (is_carried table.carried span.id)) (spans_at table.version spans)
       (ends-turned after (spans_at table.version spans) (held-end table.version spans apart whole))
 
-  same-writes : base_writes table.slots (map (row_of plain) held) ≡ slot_writes table (rows_below table spans)
+  same-writes : base_writes table.slots (map (row_of unannotated) held) ≡ slot_writes table (rows_below table spans)
   same-writes = ap (base_writes table.slots) (sym (rows-spans table.carried table.version spans))
 
   slot-next : (late : Late) → IsAmong late (slot_lates table.slots held) → next late.id ≡ Some late.version

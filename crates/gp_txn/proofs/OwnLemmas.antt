@@ -5,7 +5,7 @@ use Rattle.std.proofs.lemmas.Bool.{or_from, or_parts, false_from_ne_true}
 use Rattle.std.proofs.lemmas.List.{map-append}
 use Rattle.gp_base.specs.declared.cell.Cell.{Cell}
 use Rattle.gp_base.specs.declared.stored.Stored.{Stored}
-use Rattle.gp_base.specs.Annotated.{plain}
+use Rattle.gp_base.specs.Annotated.{unannotated}
 use Rattle.gp_base.specs.Identities.{Identity, same_identity}
 use Rattle.gp_base.specs.IdentityParts.{transaction_of, statement_of}
 use Rattle.gp_versions.specs.declared.span.Span.{Span}
@@ -117,15 +117,15 @@ rows-distinct (stored ∷ own) differ = (none-written stored.id own differ.0, ro
 
 -- ---- INSERT
 
-own-made : (t k : ℕ) (new : List Stored) → AllByRecursion (IsMade plain t k) (map own_row new) → AllByRecursion (λ (stored : Stored). (transaction_of stored.id ≡ t) × (statement_of stored.id ≡ k)) new
+own-made : (t k : ℕ) (new : List Stored) → AllByRecursion (IsMade unannotated t k) (map own_row new) → AllByRecursion (λ (stored : Stored). (transaction_of stored.id ≡ t) × (statement_of stored.id ≡ k)) new
 own-made t k [] all = tt
 own-made t k (stored ∷ new) all = (all.0, own-made t k new all.1)
 
-pub new-rows : (t k : ℕ) (new : List Stored) → Pairwise RowsDiffer (map own_row new) → AllByRecursion (IsMade plain t k) (map own_row new) → AreNew t k new
+pub new-rows : (t k : ℕ) (new : List Stored) → Pairwise RowsDiffer (map own_row new) → AllByRecursion (IsMade unannotated t k) (map own_row new) → AreNew t k new
 new-rows t k new differ all = (own-made t k new all, rows-distinct new differ)
 
-own-earlier : (t last k : ℕ) (own : List Stored) → last < k → AllByRecursion (IsOwn t last) own → AllByRecursion (IsEarlier plain t k) (map own_row own)
-own-earlier t last k own later all = all-map own_row (IsOwn t last) (IsEarlier plain t k) (λ stored is mine. omega (arith, later, is.1)) own all
+own-earlier : (t last k : ℕ) (own : List Stored) → last < k → AllByRecursion (IsOwn t last) own → AllByRecursion (IsEarlier unannotated t k) (map own_row own)
+own-earlier t last k own later all = all-map own_row (IsOwn t last) (IsEarlier unannotated t k) (λ stored is mine. omega (arith, later, is.1)) own all
 
 -- the new rows are the transaction's own, and others than those before
 pub own-inserted : (t last k : ℕ) (own new : List Stored) → last < k → AreOwn t last own → AreNew t k new → AreOwn t k (own ++ new)
@@ -133,8 +133,8 @@ own-inserted t last k own new later mine made = (
   each_append (IsOwn t k) own new (all-weaker (IsOwn t last) (IsOwn t k) (λ stored is. (is.0, omega (arith, later, is.1))) own mine.0)
       (all-weaker (λ (stored : Stored). (transaction_of stored.id ≡ t) × (statement_of stored.id ≡ k)) (IsOwn t k) (λ stored is. (is.0, omega (arith, is.1))) new made.0),
   rows-distinct (own ++ new)
-      (rw (map-append own_row own new) (inserted-differ plain t k (map own_row own) (map own_row new) (distinct-rows own mine.1) (own-earlier t last k own later mine.0) (distinct-rows new made.1)
-      (all-map own_row (λ (stored : Stored). (transaction_of stored.id ≡ t) × (statement_of stored.id ≡ k)) (IsMade plain t k) (λ stored is. is) new made.0))),
+      (rw (map-append own_row own new) (inserted-differ unannotated t k (map own_row own) (map own_row new) (distinct-rows own mine.1) (own-earlier t last k own later mine.0) (distinct-rows new made.1)
+      (all-map own_row (λ (stored : Stored). (transaction_of stored.id ≡ t) × (statement_of stored.id ≡ k)) (IsMade unannotated t k) (λ stored is. is) new made.0))),
 )
 
 -- ---- all rows that a transaction sees
@@ -159,20 +159,20 @@ overlaid-differ slots [] differ = tt
 overlaid-differ slots (row ∷ base) differ =
     shown-differ (head_slot slots) row (overlaid (drop 1 slots) base) (all-overlaid (λ id. row.identity ≢ id) (drop 1 slots) base differ.0) (overlaid-differ (drop 1 slots) base differ.1)
 
-apart-spans : (id : Identity) (spans : List Span) → AllByRecursion (λ (other : Span). same_identity id other.id ≡ false) spans → AllByRecursion (λ (row : PlainRow). id ≢ row.identity) (map (row_of plain) spans)
+apart-spans : (id : Identity) (spans : List Span) → AllByRecursion (λ (other : Span). same_identity id other.id ≡ false) spans → AllByRecursion (λ (row : PlainRow). id ≢ row.identity) (map (row_of unannotated) spans)
 apart-spans id [] all = tt
 apart-spans id (span ∷ spans) all = (
   λ same. absurd (true-false (sym (subst (λ other. same_identity id other ≡ true) same (same-itself id)) ∙ all.0)),
   apart-spans id spans all.1,
 )
 
-spans-differ : (spans : List Span) → AreOfDifferentRows spans → Pairwise RowsDiffer (map (row_of plain) spans)
+spans-differ : (spans : List Span) → AreOfDifferentRows spans → Pairwise RowsDiffer (map (row_of unannotated) spans)
 spans-differ [] differ = tt
 spans-differ (span ∷ spans) differ = (apart-spans span.id spans differ.0, spans-differ spans differ.1)
 
-others-rows : (t v : ℕ) (spans : List Span) → AreOthers t spans → AllByRecursion (λ (row : PlainRow). transaction_of row.identity ≢ t) (rows_at plain v spans)
+others-rows : (t v : ℕ) (spans : List Span) → AreOthers t spans → AllByRecursion (λ (row : PlainRow). transaction_of row.identity ≢ t) (rows_at unannotated v spans)
 others-rows t v spans others =
-    all-map (row_of plain) (λ (span : Span). transaction_of span.id ≢ t) (λ (row : PlainRow). transaction_of row.identity ≢ t) (λ span is. is) (spans_at v spans)
+    all-map (row_of unannotated) (λ (span : Span). transaction_of span.id ≢ t) (λ (row : PlainRow). transaction_of row.identity ≢ t) (λ span is. is) (spans_at v spans)
     (all-filter (λ (span : Span). transaction_of span.id ≢ t) (holds_at v) spans others)
 
 other-apart : (t last : ℕ) (row : PlainRow) (own : List Stored) → transaction_of row.identity ≢ t → AllByRecursion (IsOwn t last) own → AllByRecursion (RowsDiffer row) (map own_row own)
@@ -214,15 +214,15 @@ slot-apart : (carried : List Carried) (id : Identity) → is_carried carried id 
 slot-apart carried id none = others-apart id carried (carried-written carried id ∙ none)
 
 -- no two rows of a table are of one identity
-pub view-differ : (t last : ℕ) (writes : TableWrites) (v : ℕ) (spans : List Span) → NoOverlap spans → AreOthers t spans → KeepsOwn t last writes → Pairwise RowsDiffer (view_rows (overlay_of spans writes) (rows_at plain v spans))
+pub view-differ : (t last : ℕ) (writes : TableWrites) (v : ℕ) (spans : List Span) → NoOverlap spans → AreOthers t spans → KeepsOwn t last writes → Pairwise RowsDiffer (view_rows (overlay_of spans writes) (rows_at unannotated v spans))
 view-differ t last writes v spans apart others keeps =
-    let base = slotted writes.carried (rows_at plain v spans) in
+    let base = slotted writes.carried (rows_at unannotated v spans) in
     let slots = overlaid (overlay_of spans writes).slots base in
     let rows = filter_map carried_row writes.carried in
     let own = map own_row writes.own in
-    let differ = pairwise-filter RowsDiffer (λ (row : PlainRow). not (is_carried writes.carried row.identity)) (rows_at plain v spans) (spans-differ (spans_at v spans) (held-differ v spans apart)) in
-    let other = all-filter (λ (row : PlainRow). transaction_of row.identity ≢ t) (λ (row : PlainRow). not (is_carried writes.carried row.identity)) (rows_at plain v spans) (others-rows t v spans others) in
-    let uncarried = all-overlaid (λ id. is_carried writes.carried id ≡ false) (overlay_of spans writes).slots base (all-slotted writes.carried (rows_at plain v spans)) in
+    let differ = pairwise-filter RowsDiffer (λ (row : PlainRow). not (is_carried writes.carried row.identity)) (rows_at unannotated v spans) (spans-differ (spans_at v spans) (held-differ v spans apart)) in
+    let other = all-filter (λ (row : PlainRow). transaction_of row.identity ≢ t) (λ (row : PlainRow). not (is_carried writes.carried row.identity)) (rows_at unannotated v spans) (others-rows t v spans others) in
+    let uncarried = all-overlaid (λ id. is_carried writes.carried id ≡ false) (overlay_of spans writes).slots base (all-slotted writes.carried (rows_at unannotated v spans)) in
     let behind = pairwise-append RowsDiffer rows own (carried-differ writes.carried keeps.carried.1) (distinct-rows writes.own keeps.own.1)
     (all-weaker (λ (row : PlainRow). transaction_of row.identity ≢ t) (λ row. AllByRecursion (RowsDiffer row) own) (λ row is. other-apart t last row writes.own is keeps.own.0) rows
     (all-carried (λ id. transaction_of id ≢ t) writes.carried keeps.carried.0)) in

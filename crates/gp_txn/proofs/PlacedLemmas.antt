@@ -1,28 +1,26 @@
 -- What a transaction keeps of a table, as slots of all rows of the version that its writes lie over.
-use Rattle.std.proofs.Common.{◌≡◌, ℕ, zero, suc, ◌+◌, ◌<◌, ◌≤◌, ◌==◌, Bool, true, false, cond, not, ◌&&◌, ◌||◌, leb, nat_lt, slice_get, List, [], ◌∷◌, ◌++◌, map, drop, length, Option, Some, None, refl, ap, sym, ◌∙◌, subst, arith, inl, inr}
+use Rattle.std.proofs.Common.{◌≡◌, ℕ, zero, suc, ◌+◌, ◌<◌, ◌≤◌, ◌==◌, Bool, true, false, cond, not, ◌&&◌, leb, nat_lt, slice_get, List, [], ◌∷◌, ◌++◌, map, drop, length, Option, Some, None, refl, ap, sym, ◌∙◌, subst, arith, inl, inr}
 use Rattle.std.specs.List.{cons_option, filter, filter_map, flat_map, AllByRecursion}
 use Rattle.std.specs.Option.{option_and_then, option_map}
 use Rattle.std.proofs.lemmas.Bool.{cases_lt, le-ltb, lt-leb, lt-ltb, or_from, or_parts}
 use Rattle.std.proofs.lemmas.List.{append_assoc, length-append}
 use Rattle.std.proofs.lemmas.Option.{slice_get_past}
 use Rattle.gp_base.specs.declared.cell.Cell.{Cell}
-use Rattle.gp_base.specs.Annotated.{plain}
-use Rattle.gp_base.proofs.SmallLemmas.{and_none, eq_itself, eq_turned, left_true, not_eq}
+use Rattle.gp_base.proofs.SmallLemmas.{eq_itself, eq_turned, left_true, not_eq}
 use Rattle.gp_versions.specs.declared.span.Span.{Span}
 use Rattle.gp_versions.specs.declared.span.Write.{Write}
 use Rattle.gp_versions.specs.Commits.{after_commit, begun, ended, is_open, is_written}
-use Rattle.gp_versions.specs.Spans.{holds_at, is_before_end, row_of, spans_at}
+use Rattle.gp_versions.specs.Spans.{holds_at, is_before_end, spans_at}
 use Rattle.gp_versions.proofs.SpanLemmas.{ended_from, ended_id, ended_to}
 use Rattle.gp_txn.specs.declared.carried.Carried.{Carried}
-use Rattle.gp_txn.specs.declared.conflict.Late.{Late}
 use Rattle.gp_txn.specs.declared.overlay.Placed.{Placed}
 use Rattle.gp_txn.specs.declared.overlay.Slot.{Slot}
-use Rattle.gp_txn.specs.declared.overlay.Slot.TheVariants.{Same, Put, Dropped}
+use Rattle.gp_txn.specs.declared.overlay.Slot.TheVariants.{Same}
 use Rattle.gp_txn.specs.declared.overlay.TableWrites.{TableWrites}
 use Rattle.gp_txn.specs.Ascending.{IsAscending, place_of}
 use Rattle.gp_txn.specs.Conflicts.{late_of, slot_lates}
 use Rattle.gp_txn.specs.Enough.{IsEnough, first_at, if_slotted, is_among, seek, slotted_at}
-use Rattle.gp_txn.specs.Overlay.{Overlay, PlainRow, base_writes, has_slot, head_slot, is_carried, overlaid, overlay_of, shown, slot_at, slot_write, slots_from, slotted_spans}
+use Rattle.gp_txn.specs.Overlay.{PlainRow, base_writes, has_slot, head_slot, is_carried, overlaid, overlay_of, shown, slot_at, slot_write, slots_from, slotted_spans}
 use Rattle.gp_txn.specs.Passes.{of_entry, of_place, of_row}
 use Rattle.gp_txn.proofs.PairLemmas.{all-weaker}
 

@@ -5,7 +5,7 @@ use Rattle.std.proofs.Math.Seq.{get_or-append_seam}
 use Rattle.std.specs.List.{filter, flat_map, list_all}
 use Rattle.std.proofs.lemmas.Bool.{and_parts, cases_lt, eq-eqb, eqb-true, ltb-true, or_left, or_right}
 use Rattle.gp_base.specs.declared.stored.Stored.{Stored}
-use Rattle.gp_base.specs.Annotated.{plain, Database}
+use Rattle.gp_base.specs.Annotated.{unannotated, Database}
 use Rattle.gp_algebra.specs.Statements.{Branch, Select}
 use Rattle.gp_algebra.specs.Answers.{Element, values, passes_where, joined, choices, chosen, answer_from, answer}
 use Rattle.gp_exec.specs.Choosing.{row_view}
@@ -20,33 +20,33 @@ use Rattle.gp_base.proofs.SmallLemmas.{flat_map-map}
 abbrev pub Agree : (ℕ → Bool) → Database (Unit {0}) → Database (Unit {0}) → Type 0
 Agree is_read db other = (p : ℕ) → is_read p ≡ true → other p ≡ map row_view (map stored_of (db p))
 
-rows-agree : (b : ℕ) (rest : List (Element (Unit {0}))) (rows : List PlainRow) → flat_map (λ row. map (joined plain b row) rest) (map row_view (map stored_of rows)) ≡ flat_map (λ row. map (joined plain b row) rest) rows
+rows-agree : (b : ℕ) (rest : List (Element (Unit {0}))) (rows : List PlainRow) → flat_map (λ row. map (joined unannotated b row) rest) (map row_view (map stored_of rows)) ≡ flat_map (λ row. map (joined unannotated b row) rest) rows
 rows-agree b rest rows =
-    flat_map-map (λ (row : PlainRow). map (joined plain b row) rest) row_view (map stored_of rows)
-    ∙ flat_map-map (λ (stored : Stored). map (joined plain b (row_view stored)) rest) stored_of rows
+    flat_map-map (λ (row : PlainRow). map (joined unannotated b row) rest) row_view (map stored_of rows)
+    ∙ flat_map-map (λ (stored : Stored). map (joined unannotated b (row_view stored)) rest) stored_of rows
 
 named-first : (place : ℕ) (places : List ℕ) → names_table place (place ∷ places) ≡ true
 named-first place places = ap (λ b. b || names_table place places) (eq-eqb place place refl)
 
-choices-agree : (b : ℕ) (places : List ℕ) (db other : Database (Unit {0})) → Agree (λ p. names_table p places) db other → choices plain b places other ≡ choices plain b places db
+choices-agree : (b : ℕ) (places : List ℕ) (db other : Database (Unit {0})) → Agree (λ p. names_table p places) db other → choices unannotated b places other ≡ choices unannotated b places db
 choices-agree b [] db other agree = refl
 choices-agree b (place ∷ places) db other agree =
-    ap (λ rows. flat_map (λ row. map (joined plain b row) (choices plain b places other)) rows) (agree place (named-first place places))
-    ∙ rows-agree b (choices plain b places other) (db place)
-    ∙ ap (λ (rest : List (Element (Unit {0}))). flat_map (λ row. map (joined plain b row) rest) (db place)) (choices-agree b places db other (λ p is. agree p (or_right (place == p) (names_table p places) is)))
+    ap (λ rows. flat_map (λ row. map (joined unannotated b row) (choices unannotated b places other)) rows) (agree place (named-first place places))
+    ∙ rows-agree b (choices unannotated b places other) (db place)
+    ∙ ap (λ (rest : List (Element (Unit {0}))). flat_map (λ row. map (joined unannotated b row) rest) (db place)) (choices-agree b places db other (λ p is. agree p (or_right (place == p) (names_table p places) is)))
 
-chosen-agree : (b : ℕ) (branch : Branch) (db other : Database (Unit {0})) → Agree (λ p. names_table p branch.from) db other → chosen plain b branch other ≡ chosen plain b branch db
+chosen-agree : (b : ℕ) (branch : Branch) (db other : Database (Unit {0})) → Agree (λ p. names_table p branch.from) db other → chosen unannotated b branch other ≡ chosen unannotated b branch db
 chosen-agree b branch db other agree =
     ap (λ (elements : List (Element (Unit {0}))). map (λ (e : Element (Unit {0})). record e { cells = values branch.items e.cells }) (filter (λ (e : Element (Unit {0})). passes_where branch.cond e.cells) elements)) (choices-agree b branch.from db other agree)
 
-answer_from-agree : (b : ℕ) (select : Select) (db other : Database (Unit {0})) → Agree (λ p. reads_table p select) db other → answer_from plain b select other ≡ answer_from plain b select db
+answer_from-agree : (b : ℕ) (select : Select) (db other : Database (Unit {0})) → Agree (λ p. reads_table p select) db other → answer_from unannotated b select other ≡ answer_from unannotated b select db
 answer_from-agree b [] db other agree = refl
 answer_from-agree b (branch ∷ select) db other agree =
     let here = chosen-agree b branch db other (λ p is. agree p (or_left (names_table p branch.from) (reads_table p select) is)) in
     let rest = answer_from-agree (suc b) select db other (λ p is. agree p (or_right (names_table p branch.from) (reads_table p select) is)) in
     cc (here, rest)
 
-pub answer-agree : (select : Select) (db other : Database (Unit {0})) → Agree (λ p. reads_table p select) db other → answer plain select other ≡ answer plain select db
+pub answer-agree : (select : Select) (db other : Database (Unit {0})) → Agree (λ p. reads_table p select) db other → answer unannotated select other ≡ answer unannotated select db
 answer-agree select db other agree = answer_from-agree 1 select db other agree
 
 -- ---- the tables that are read

@@ -9,7 +9,7 @@ use Rattle.std.proofs.lemmas.List.Elements.{filter-append, filter_map-append}
 use Rattle.std.proofs.lemmas.List.Folds.{list_any-append}
 use Rattle.gp_base.specs.declared.cell.Cell.{Cell}
 use Rattle.gp_base.specs.declared.stored.Stored.{Stored}
-use Rattle.gp_base.specs.Annotated.{plain}
+use Rattle.gp_base.specs.Annotated.{unannotated}
 use Rattle.gp_base.specs.Identities.{Identity, same_identity}
 use Rattle.gp_versions.specs.declared.span.Span.{Span}
 use Rattle.gp_versions.specs.declared.span.Write.{Write}
@@ -83,7 +83,7 @@ unmarked-slotted carried [] all = tt
 unmarked-slotted carried (row ∷ rows) all =
     elim (is_carried carried row.identity) as (λ b. AreUnmarked (cond (not b) (row ∷ slotted carried rows) (slotted carried rows))) [ true ↦ unmarked-slotted carried rows all.1 | false ↦ (all.0, unmarked-slotted carried rows all.1) ]
 
-unmarked-spans : (spans : List Span) → AreUnmarked (map (row_of plain) spans)
+unmarked-spans : (spans : List Span) → AreUnmarked (map (row_of unannotated) spans)
 unmarked-spans [] = tt
 unmarked-spans (span ∷ spans) = (refl, unmarked-spans spans)
 
@@ -171,11 +171,11 @@ marked-twice (row ∷ rows) = twice-one row.mark row (marked rows) refl (marked-
 pub marks-at : (table : Overlay) (spans : List Span) (version : ℕ) → marked (table_view table spans version) ≡ marked (view_rows table (rows_below table spans))
 marks-at table spans version =
     let below = rows_below table spans in
-    elim (version == table.version) as (λ same. (version == table.version) ≡ same → marked (cond same (view_rows table (rows_at plain version spans)) (refreshed table below (rows_at plain version spans))) ≡ marked (view_rows table below)) [
-      | true ↦ λ is. ap (λ v. marked (view_rows table (rows_at plain v spans))) (eqb-true version table.version is)
+    elim (version == table.version) as (λ same. (version == table.version) ≡ same → marked (cond same (view_rows table (rows_at unannotated version spans)) (refreshed table below (rows_at unannotated version spans))) ≡ marked (view_rows table below)) [
+      | true ↦ λ is. ap (λ v. marked (view_rows table (rows_at unannotated v spans))) (eqb-true version table.version is)
       | false ↦ λ is.
-          filter-append (λ (row : PlainRow). row.mark) (filter (λ row. is_none (base_of table below row.identity)) (rows_at plain version spans)) (marked (view_rows table below))
-          ∙ (λ i. all-unmarked (λ (row : PlainRow). is_none (base_of table below row.identity)) (rows_at plain version spans) (unmarked-spans (spans_at version spans)) i ++ marked-twice (view_rows table below) i)
+          filter-append (λ (row : PlainRow). row.mark) (filter (λ row. is_none (base_of table below row.identity)) (rows_at unannotated version spans)) (marked (view_rows table below))
+          ∙ (λ i. all-unmarked (λ (row : PlainRow). is_none (base_of table below row.identity)) (rows_at unannotated version spans) (unmarked-spans (spans_at version spans)) i ++ marked-twice (view_rows table below) i)
     ] refl
 
 -- ---- the rows of the table
@@ -198,21 +198,21 @@ module _ (version : ℕ) (stored : TableWrites) (spans : List Span) where
   over same = cond same stored (rebased version writes (rows_below writes spans))
 
   abbrev view_by : Bool → List PlainRow
-  view_by same = cond same (view_rows writes (rows_at plain version spans)) (refreshed writes (rows_below writes spans) (rows_at plain version spans))
+  view_by same = cond same (view_rows writes (rows_at unannotated version spans)) (refreshed writes (rows_below writes spans) (rows_at unannotated version spans))
 
-  view-by : (same : Bool) → view_by same ≡ view_rows (overlay_of spans (over same)) (rows_at plain version spans)
+  view-by : (same : Bool) → view_by same ≡ view_rows (overlay_of spans (over same)) (rows_at unannotated version spans)
   view-by true = refl
-  view-by false = sym (view-rebased version writes (rows_below writes spans) (unmarked-spans (spans_at writes.version spans)) spans (rows_at plain version spans))
+  view-by false = sym (view-rebased version writes (rows_below writes spans) (unmarked-spans (spans_at writes.version spans)) spans (rows_at unannotated version spans))
 
   -- they show what the transaction sees there
-  pub view-over : table_view writes spans version ≡ view_rows (overlay_of spans (writes_over version spans stored)) (rows_at plain version spans)
+  pub view-over : table_view writes spans version ≡ view_rows (overlay_of spans (writes_over version spans stored)) (rows_at unannotated version spans)
   view-over = view-by (version == writes.version)
 
-  base-by : (same : Bool) → (version == writes.version) ≡ same → (id : Identity) → base_of (overlay_of spans (over same)) (rows_at plain version spans) id ≡ base_of writes (rows_below writes spans) id
-  base-by true is id = ap (λ v. base_of writes (rows_at plain v spans) id) (eqb-true version writes.version is)
-  base-by false is id = base-rebased version writes (rows_below writes spans) spans (rows_at plain version spans) id
+  base-by : (same : Bool) → (version == writes.version) ≡ same → (id : Identity) → base_of (overlay_of spans (over same)) (rows_at unannotated version spans) id ≡ base_of writes (rows_below writes spans) id
+  base-by true is id = ap (λ v. base_of writes (rows_at unannotated v spans) id) (eqb-true version writes.version is)
+  base-by false is id = base-rebased version writes (rows_below writes spans) spans (rows_at unannotated version spans) id
 
-  pub base-over : (id : Identity) → base_of (overlay_of spans (writes_over version spans stored)) (rows_at plain version spans) id ≡ base_of writes (rows_below writes spans) id
+  pub base-over : (id : Identity) → base_of (overlay_of spans (writes_over version spans stored)) (rows_at unannotated version spans) id ≡ base_of writes (rows_below writes spans) id
   base-over id = base-by (version == writes.version) refl id
 
   version-by : (same : Bool) → (version == writes.version) ≡ same → (over same).version ≡ version
@@ -245,8 +245,8 @@ module _ (version : ℕ) (stored : TableWrites) (spans : List Span) where
 
   -- what is seen over what the code made for the version, if it made anything
   pub view-moved : (moved : Option TableWrites) → IsMoved version spans stored moved → view_rows (overlay_of spans (or_writes moved stored)) (rows_below (overlay_of spans (or_writes moved stored)) spans) ≡ table_view writes spans version
-  view-moved None is = rw is (ap (λ v. view_rows writes (rows_at plain v spans)) (sym (eqb-true version writes.version is)))
-  view-moved (Some moved) is = rw (is.1, is.0) (view-rebased version writes (rows_below writes spans) (unmarked-spans (spans_at writes.version spans)) spans (rows_at plain version spans))
+  view-moved None is = rw is (ap (λ v. view_rows writes (rows_at unannotated v spans)) (sym (eqb-true version writes.version is)))
+  view-moved (Some moved) is = rw (is.1, is.0) (view-rebased version writes (rows_below writes spans) (unmarked-spans (spans_at writes.version spans)) spans (rows_at unannotated version spans))
 
   -- what the code made for the version
   pub moved-is : (moved : Option TableWrites) → IsMoved version spans stored moved → or_writes moved stored ≡ writes_over version spans stored

@@ -5,8 +5,7 @@ use Rattle.std.specs.Option.{option_map}
 use Rattle.std.proofs.lemmas.Bool.{eq-eqb, le-ltb}
 use Rattle.std.proofs.lemmas.List.{length-append}
 use Rattle.gp_base.specs.declared.limit.TheConstants.{MAX_TABLE_ROWS}
-use Rattle.gp_base.specs.declared.stored.Stored.{Stored}
-use Rattle.gp_base.specs.Annotated.{plain}
+use Rattle.gp_base.specs.Annotated.{unannotated}
 use Rattle.gp_base.proofs.SmallLemmas.{length-map}
 use Rattle.gp_versions.specs.declared.span.Span.{Span}
 use Rattle.gp_versions.specs.Spans.{row_of, rows_at, spans_at}
@@ -48,7 +47,7 @@ view-few writes spans =
       length-append carried own,
       overlaid-few writes.slots (slotted writes.carried base),
       filter-few (λ (row : PlainRow). not (is_carried writes.carried row.identity)) base,
-      length-map (row_of plain) (spans_at writes.version spans),
+      length-map (row_of unannotated) (spans_at writes.version spans),
       at-few writes.version spans,
       carried-few writes.carried,
       length-map own_row writes.own,
@@ -58,6 +57,6 @@ view-few writes spans =
 pub room-enough : (version : ℕ) (writes : Overlay) (spans : List Span) (more : ℕ) → writes.version ≡ version → length spans + length writes.carried + length writes.own + more ≤ MAX_TABLE_ROWS
     → not (are_many (length (table_view writes spans version)) more) ≡ true
 room-enough version writes spans more same room =
-    ap (λ b. not (are_many (length (cond b (view_rows writes (rows_at plain version spans)) (refreshed writes (rows_below writes spans) (rows_at plain version spans)))) more)) (eq-eqb version writes.version (sym same))
-    ∙ ap (λ v. not (are_many (length (view_rows writes (rows_at plain v spans))) more)) (sym same)
+    ap (λ b. not (are_many (length (cond b (view_rows writes (rows_at unannotated version spans)) (refreshed writes (rows_below writes spans) (rows_at unannotated version spans)))) more)) (eq-eqb version writes.version (sym same))
+    ∙ ap (λ v. not (are_many (length (view_rows writes (rows_at unannotated v spans))) more)) (sym same)
     ∙ ap not (le-ltb MAX_TABLE_ROWS (length (view_rows writes (rows_below writes spans)) + more) (omega (arith, view-few writes spans, room)))

@@ -1,7 +1,7 @@
 -- The spans of the rows that have a slot.
 use Rattle.std.proofs.Common.{◌≡◌, ℕ, true, false, cond, not, List, ◌∷◌, map, ap, ◌∙◌}
 use Rattle.std.specs.List.{filter}
-use Rattle.gp_base.specs.Annotated.{plain}
+use Rattle.gp_base.specs.Annotated.{unannotated}
 use Rattle.gp_versions.specs.declared.span.Span.{Span}
 use Rattle.gp_versions.specs.Spans.{row_of, rows_at, spans_at}
 use Rattle.gp_txn.specs.declared.carried.Carried.{Carried}
@@ -20,5 +20,5 @@ module _ (carried : List Carried) (span : Span) (spans list : List Span) (is : l
   spans-passed passed = ap (free_spans carried) is ∙ ap (λ b. cond (not b) (span ∷ free_spans carried spans) (free_spans carried spans)) passed
 
 -- they are the rows of these spans
-pub rows-spans : (carried : List Carried) (v : ℕ) (spans : List Span) → slotted carried (rows_at plain v spans) ≡ map (row_of plain) (slotted_spans carried v spans)
-rows-spans carried v spans = filter-map (λ (row : PlainRow). not (is_carried carried row.identity)) (row_of plain) (spans_at v spans)
+pub rows-spans : (carried : List Carried) (v : ℕ) (spans : List Span) → slotted carried (rows_at unannotated v spans) ≡ map (row_of unannotated) (slotted_spans carried v spans)
+rows-spans carried v spans = filter-map (λ (row : PlainRow). not (is_carried carried row.identity)) (row_of unannotated) (spans_at v spans)

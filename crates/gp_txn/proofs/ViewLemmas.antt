@@ -1,11 +1,11 @@
 -- Loops that make the rows that a transaction sees, and that count them.
-use Rattle.std.proofs.Common.{◌≡◌, ℕ, ◌+◌, ◌≤◌, true, false, cond, List, [], ◌∷◌, ◌++◌, map, drop, length, get_or, refl, ap, sym, ◌∙◌, arith, add_assoc, Option, None}
+use Rattle.std.proofs.Common.{◌≡◌, ℕ, ◌+◌, ◌≤◌, cond, List, [], ◌∷◌, ◌++◌, map, drop, length, refl, ap, sym, ◌∙◌, arith, Option, None}
 use Rattle.std.specs.List.{filter_map, flat_map}
 use Rattle.std.specs.Option.{option_to_list}
-use Rattle.std.proofs.lemmas.List.{map-append, drop-drop, append_assoc, length-append}
+use Rattle.std.proofs.lemmas.List.{map-append, append_assoc, length-append}
 use Rattle.std.proofs.lemmas.List.Elements.{filter-append}
 use Rattle.gp_base.specs.declared.stored.Stored.{Stored}
-use Rattle.gp_base.specs.Annotated.{plain}
+use Rattle.gp_base.specs.Annotated.{unannotated}
 use Rattle.gp_expr.specs.Expressions.{Cond}
 use Rattle.gp_algebra.specs.Answers.{passes_where}
 use Rattle.gp_versions.specs.declared.span.Span.{Span}
@@ -13,7 +13,7 @@ use Rattle.gp_versions.specs.Spans.{row_of, rows_at}
 use Rattle.gp_txn.specs.declared.carried.Carried.{Carried}
 use Rattle.gp_txn.specs.declared.overlay.Slot.{Slot}
 use Rattle.gp_txn.specs.declared.overlay.Slot.TheVariants.{Same, Put, Dropped}
-use Rattle.gp_txn.specs.Overlay.{Overlay, PlainRow, carried_row, head_slot, is_carried, shown, slots_from, slotted, slotted_spans, overlaid, own_row, stored_of, view_rows}
+use Rattle.gp_txn.specs.Overlay.{Overlay, PlainRow, carried_row, head_slot, shown, slots_from, slotted, slotted_spans, overlaid, own_row, stored_of, view_rows}
 use Rattle.gp_txn.specs.Slots.{dropped_count}
 use Rattle.gp_txn.specs.declared.overlay.Placed.{Placed}
 use Rattle.gp_txn.specs.Ascending.{IsAscending, place_of}
@@ -32,11 +32,11 @@ wanted-all (row ∷ rows) = ap (λ (others : List PlainRow). row ∷ others) (wa
 wanted-append : (c : Option Cond) (xs ys : List PlainRow) → map stored_of (wanted c (xs ++ ys)) ≡ map stored_of (wanted c xs) ++ map stored_of (wanted c ys)
 wanted-append c xs ys = ap (λ (rows : List PlainRow). map stored_of rows) (filter-append (λ (row : PlainRow). passes_where c row.cells) xs ys) ∙ map-append stored_of (wanted c xs) (wanted c ys)
 
-pub wanted-made : (c : Option Cond) (slots : List Slot) (spans : List Span) → made_of (row_wanted c) slots spans ≡ map stored_of (wanted c (overlaid slots (map (row_of plain) spans)))
+pub wanted-made : (c : Option Cond) (slots : List Slot) (spans : List Span) → made_of (row_wanted c) slots spans ≡ map stored_of (wanted c (overlaid slots (map (row_of unannotated) spans)))
 wanted-made c slots [] = refl
 wanted-made c slots (span ∷ spans) =
-    ap (λ (rows : List Stored). map stored_of (wanted c (shown (head_slot slots) (row_of plain span))) ++ rows) (wanted-made c (drop 1 slots) spans)
-    ∙ sym (wanted-append c (shown (head_slot slots) (row_of plain span)) (overlaid (drop 1 slots) (map (row_of plain) spans)))
+    ap (λ (rows : List Stored). map stored_of (wanted c (shown (head_slot slots) (row_of unannotated span))) ++ rows) (wanted-made c (drop 1 slots) spans)
+    ∙ sym (wanted-append c (shown (head_slot slots) (row_of unannotated span)) (overlaid (drop 1 slots) (map (row_of unannotated) spans)))
 
 own-stored : (own : List Stored) → map stored_of (map own_row own) ≡ own
 own-stored [] = refl
@@ -78,15 +78,15 @@ length-dropped (Put cells) span = refl
 length-dropped Dropped span = refl
 
 -- the other rows are seen
-pub dropped-made : (slots : List Slot) (spans : List Span) → length (made_of row_dropped slots spans) + length (overlaid slots (map (row_of plain) spans)) ≡ length spans
+pub dropped-made : (slots : List Slot) (spans : List Span) → length (made_of row_dropped slots spans) + length (overlaid slots (map (row_of unannotated) spans)) ≡ length spans
 dropped-made slots [] = refl
 dropped-made slots (span ∷ spans) =
     omega (
       arith,
       length-append (row_dropped (head_slot slots) span) (made_of row_dropped (drop 1 slots) spans),
-      length-append (shown (head_slot slots) (row_of plain span)) (overlaid (drop 1 slots) (map (row_of plain) spans)),
+      length-append (shown (head_slot slots) (row_of unannotated span)) (overlaid (drop 1 slots) (map (row_of unannotated) spans)),
       length-dropped (head_slot slots) span,
-      length-shown (head_slot slots) (row_of plain span),
+      length-shown (head_slot slots) (row_of unannotated span),
       dropped-made (drop 1 slots) spans,
     )
 
@@ -96,14 +96,14 @@ dropped-few (Put cells) = omega arith
 dropped-few Dropped = omega arith
 
 pub dropped-entries : (carried : List Carried) (v : ℕ) (spans : List Span) (placed : List Placed) → IsAscending (map place_of placed)
-    → length (flat_map (of_entry row_dropped carried v spans) placed) + length (overlaid (slots_from carried v placed 0 spans) (slotted carried (rows_at plain v spans))) ≡ length (slotted_spans carried v spans)
+    → length (flat_map (of_entry row_dropped carried v spans) placed) + length (overlaid (slots_from carried v placed 0 spans) (slotted carried (rows_at unannotated v spans))) ≡ length (slotted_spans carried v spans)
 dropped-entries carried v spans placed ascend =
     (λ i. length (entries-made row_dropped carried v spans placed (λ span. refl) ascend i) + length (overlaid (slots_from carried v placed 0 spans) (rows-spans carried v spans i)))
     ∙ dropped-made (slots_from carried v placed 0 spans) (slotted_spans carried v spans)
 
 pub wanted-places : (c : Option Cond) (carried : List Carried) (v : ℕ) (spans : List Span) (placed : List Placed) (places : List ℕ) → IsEnough (passes_where c) placed v spans places
-    → flat_map (of_place (anywhere (row_wanted c)) carried v placed spans) places ≡ map stored_of (wanted c (overlaid (slots_from carried v placed 0 spans) (slotted carried (rows_at plain v spans))))
+    → flat_map (of_place (anywhere (row_wanted c)) carried v placed spans) places ≡ map stored_of (wanted c (overlaid (slots_from carried v placed 0 spans) (slotted carried (rows_at unannotated v spans))))
 wanted-places c carried v spans placed places enough =
-    places-made (row_wanted c) carried v spans placed (passes_where c) places (λ span none. ap (λ b. map stored_of (cond b (row_of plain span ∷ []) [])) none) enough
+    places-made (row_wanted c) carried v spans placed (passes_where c) places (λ span none. ap (λ b. map stored_of (cond b (row_of unannotated span ∷ []) [])) none) enough
     ∙ wanted-made c (slots_from carried v placed 0 spans) (slotted_spans carried v spans)
     ∙ ap (λ (rows : List PlainRow). map stored_of (wanted c (overlaid (slots_from carried v placed 0 spans) rows))) (sym (rows-spans carried v spans))

@@ -3,7 +3,7 @@ use Rattle.std.proofs.Common.{◌≡◌, ℕ, Bool, true, false, cond, List, [],
 use Rattle.std.specs.List.{filter, flat_map, list_all}
 use Rattle.std.proofs.lemmas.Bool.{and_parts}
 use Rattle.std.proofs.lemmas.List.{append-nil}
-use Rattle.gp_base.specs.Annotated.{plain, Database}
+use Rattle.gp_base.specs.Annotated.{unannotated, Database}
 use Rattle.gp_expr.specs.Expressions.{Cond}
 use Rattle.gp_expr.specs.ExpressionForms.{is_simple}
 use Rattle.gp_algebra.specs.Statements.{Branch, Select}
@@ -33,18 +33,18 @@ wanted_of c db place = wanted c (db place)
 all-wanted : (db : Database (Unit {0})) → wanted_of None db ≡ db
 all-wanted db = λ i place. wanted-all (db place) i
 
-branch-wanted : (branch : Branch) (from : List ℕ) (db : Database (Unit {0})) → branch.from ≡ from → answer plain (branch ∷ []) (wanted_of (table_where from branch.cond) db) ≡ answer plain (branch ∷ []) db
-branch-wanted branch [] db is = ap (answer plain (branch ∷ [])) (all-wanted db)
+branch-wanted : (branch : Branch) (from : List ℕ) (db : Database (Unit {0})) → branch.from ≡ from → answer unannotated (branch ∷ []) (wanted_of (table_where from branch.cond) db) ≡ answer unannotated (branch ∷ []) db
+branch-wanted branch [] db is = ap (answer unannotated (branch ∷ [])) (all-wanted db)
 branch-wanted branch (table ∷ []) db is =
     rw is (ap (λ (elements : List (Element (Unit {0}))). map (λ (e : Element (Unit {0})). record e { cells = values branch.items e.cells }) elements ++ [])
-    (tested-again (λ (row : PlainRow). passes_where branch.cond row.cells) (λ (e : Element (Unit {0})). passes_where branch.cond e.cells) (λ row. joined plain 1 row (no_choice plain 1))
+    (tested-again (λ (row : PlainRow). passes_where branch.cond row.cells) (λ (e : Element (Unit {0})). passes_where branch.cond e.cells) (λ row. joined unannotated 1 row (no_choice unannotated 1))
     (λ row. ap (passes_where branch.cond) (append-nil row.cells)) (db table)))
-branch-wanted branch (table ∷ other ∷ from) db is = ap (answer plain (branch ∷ [])) (all-wanted db)
+branch-wanted branch (table ∷ other ∷ from) db is = ap (answer unannotated (branch ∷ [])) (all-wanted db)
 
-pub answer-wanted : (select : Select) (db : Database (Unit {0})) → answer plain select (wanted_of (row_where select) db) ≡ answer plain select db
-answer-wanted [] db = ap (answer plain []) (all-wanted db)
+pub answer-wanted : (select : Select) (db : Database (Unit {0})) → answer unannotated select (wanted_of (row_where select) db) ≡ answer unannotated select db
+answer-wanted [] db = ap (answer unannotated []) (all-wanted db)
 answer-wanted (branch ∷ []) db = branch-wanted branch branch.from db refl
-answer-wanted (branch ∷ other ∷ select) db = ap (answer plain (branch ∷ other ∷ select)) (all-wanted db)
+answer-wanted (branch ∷ other ∷ select) db = ap (answer unannotated (branch ∷ other ∷ select)) (all-wanted db)
 
 -- ---- its condition
 

@@ -1,9 +1,9 @@
--- Part of the statement: what applying a statement to a running transaction answers.
+-- Machinery: what applying a statement to a running transaction answers.
 use Rattle.std.specs.Prelude.{◌≡◌, ℕ, ◌<◌, ◌≤◌, ◌^◌, Bool, true, false, ◌&&◌, nat_lt, List, length, Result, Ok, Err}
 use Rattle.std.specs.List.{list_all}
 use Rattle.gp_base.specs.declared.cell.Cell.{Cell}
 use Rattle.gp_base.specs.declared.row_id.TheConstants.{MAX_NODES}
-use Rattle.gp_base.specs.Annotated.{plain}
+use Rattle.gp_base.specs.Annotated.{unannotated}
 use Rattle.gp_expr.specs.ExpressionForms.{is_simple, cond_is_simple}
 use Rattle.gp_algebra.specs.Statements.{SetExpr, Branch, Select, Statement, insert, insert_select, update, delete, read}
 use Rattle.gp_algebra.specs.Simple.{select_is_simple}
@@ -39,15 +39,15 @@ is_applicable count (read select) = false
 -- ---- answers
 
 abbrev pub has_too_many_rows : ℕ → ℕ → Statement → List Versions → Writes → Bool
-has_too_many_rows k version statement versions old = is_over_rows plain MAX_TABLE_ROWS old.t k statement (view_at old.tables versions version)
+has_too_many_rows k version statement versions old = is_over_rows unannotated MAX_TABLE_ROWS old.t k statement (view_at old.tables versions version)
 
 abbrev pub has_too_many_nodes : ℕ → ℕ → Statement → List Versions → Writes → Bool
-has_too_many_nodes k version statement versions old = is_over_nodes plain MAX_NODES old.t k statement (view_at old.tables versions version)
+has_too_many_nodes k version statement versions old = is_over_nodes unannotated MAX_NODES old.t k statement (view_at old.tables versions version)
 
 -- it was applied, and this is the number of rows that it wrote
 pub record Wrote (k version : ℕ) (statement : Statement) (versions : List Versions) (old new : Writes) (count : ℕ) : Type 0 where
   pub applied : Applied k version statement versions old new
-  pub number : count ≡ length (wrote plain old.t k statement (view_at old.tables versions version))
+  pub number : count ≡ length (wrote unannotated old.t k statement (view_at old.tables versions version))
   pub few_rows : has_too_many_rows k version statement versions old ≡ false
   pub few_nodes : has_too_many_nodes k version statement versions old ≡ false
 

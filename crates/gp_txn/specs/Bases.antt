@@ -1,9 +1,9 @@
--- Part of the statement: the bases of the rows that a running transaction has written, and what it sees at another version than the one that its
+-- Machinery: the bases of the rows that a running transaction has written, and what it sees at another version than the one that its
 -- writes lie over. The base of a row is the version that the statement read which wrote the row first: a later statement that writes it again does
 -- not move it.
 use Rattle.std.specs.Prelude.{ℕ, Bool, ◌==◌, List, [], ◌∷◌, ◌++◌, filter, Option, Some, None, if◌then◌else◌}
 use Rattle.std.specs.Option.{is_none}
-use Rattle.gp_base.specs.Annotated.{plain}
+use Rattle.gp_base.specs.Annotated.{unannotated}
 use Rattle.gp_base.specs.Identities.{Identity, same_identity}
 use Rattle.gp_txn.specs.declared.carried.Carried.{Carried}
 use Rattle.gp_txn.specs.Overlay.{Overlay, PlainRow, rows_below, slot_writes, view_rows}
@@ -36,4 +36,4 @@ refreshed writes base rows = filter (λ row. is_none (base_of writes base row.id
 -- what it sees of a table at a version: in the order of its writes where they lie over the version
 abbrev pub table_view : Overlay → List Span → ℕ → List PlainRow
 table_view writes spans version =
-    if version == writes.version then view_rows writes (rows_at plain version spans) else refreshed writes (rows_below writes spans) (rows_at plain version spans)
+    if version == writes.version then view_rows writes (rows_at unannotated version spans) else refreshed writes (rows_below writes spans) (rows_at unannotated version spans)

@@ -1,4 +1,4 @@
--- Part of the statement: which row a commit is lost by. The first committer wins (Berenson and others, SIGMOD 1995): a commit is lost where a row that
+-- Machinery: which row a commit is lost by. The first committer wins (Berenson and others, SIGMOD 1995): a commit is lost where a row that
 -- the transaction updated or deleted was written by a commit later than the row's base. The span of a row with a slot holds the version that the
 -- statement read, and ends at the first commit that wrote the row; a row that is carried over is looked up by its identity.
 use Rattle.std.specs.Prelude.{◌≡◌, ◌⊎◌, ℕ, ◌<◌, false, List, [], ◌∷◌, ◌++◌, drop, Option, Some, None}

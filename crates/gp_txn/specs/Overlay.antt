@@ -1,11 +1,11 @@
--- Part of the statement: what a running transaction wrote of a table, over the rows of a version: a slot for each row that it had not written over
+-- Machinery: what a running transaction wrote of a table, over the rows of a version: a slot for each row that it had not written over
 -- an earlier version, in order, the rows that it wrote over earlier versions, and the rows that it inserted. It keeps only the slots of the rows that
 -- it wrote, each with the place of the row's span.
 use Rattle.std.specs.Prelude.{ℕ, suc, Bool, true, not, ◌&&◌, ◌==◌, List, [], ◌∷◌, ◌++◌, map, filter, drop, Option, Some, None, if◌then◌else◌}
 use Rattle.std.specs.List.{cons_option, filter_map, list_any}
 use Rattle.std.specs.Option.{option_map}
 use Rattle.gp_base.specs.declared.stored.Stored.{Stored}
-use Rattle.gp_base.specs.Annotated.{Annotated, plain}
+use Rattle.gp_base.specs.Annotated.{Annotated, unannotated}
 use Rattle.gp_base.specs.Identities.{Identity, same_identity}
 use Rattle.gp_txn.specs.declared.carried.Carried.{Carried}
 use Rattle.gp_txn.specs.declared.overlay.Placed.{Placed}
@@ -132,4 +132,4 @@ no_writes version = record { version = version; slots = []; carried = []; own = 
 
 -- the rows of the version that its writes of a table lie over
 abbrev pub rows_below : Overlay → List Span → List PlainRow
-rows_below writes spans = rows_at plain writes.version spans
+rows_below writes spans = rows_at unannotated writes.version spans

@@ -2,7 +2,7 @@
 use Rattle.std.specs.Prelude.{ℕ, List, [], ◌∷◌, map, Option, Some, None}
 use Rattle.std.specs.Option.{option_to_list}
 use Rattle.gp_base.specs.declared.stored.Stored.{Stored}
-use Rattle.gp_base.specs.Annotated.{plain}
+use Rattle.gp_base.specs.Annotated.{unannotated}
 use Rattle.gp_expr.specs.Expressions.{Cond}
 use Rattle.gp_versions.specs.declared.span.Span.{Span}
 use Rattle.gp_versions.specs.declared.span.Write.{Write}
@@ -36,7 +36,7 @@ of_entry make carried version spans placed = of_row make placed.slot (slotted_at
 
 -- what a commit writes of the row
 abbrev pub row_writes : Slot → Span → List Write
-row_writes slot span = option_to_list (slot_write slot (row_of plain span))
+row_writes slot span = option_to_list (slot_write slot (row_of unannotated span))
 
 -- the row, if a later commit wrote it
 abbrev pub row_lates : Slot → Span → List Late
@@ -50,11 +50,11 @@ row_dropped Dropped span = span ∷ []
 
 -- what is seen of it, if it is wanted
 abbrev pub row_wanted : Option Cond → Slot → Span → List Stored
-row_wanted cond slot span = map stored_of (wanted cond (shown slot (row_of plain span)))
+row_wanted cond slot span = map stored_of (wanted cond (shown slot (row_of unannotated span)))
 
 -- what is seen of it, if the statement writes it
 abbrev pub row_touched : Change → Slot → Span → List PlainRow
-row_touched change slot span = touched change (shown slot (row_of plain span))
+row_touched change slot span = touched change (shown slot (row_of unannotated span))
 
 -- what is kept of it after the statement
 abbrev pub row_entry : Change → ℕ → Slot → Span → List Placed

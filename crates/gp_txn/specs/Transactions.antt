@@ -1,9 +1,9 @@
--- Part of the statement: a running transaction. A transaction of the snapshot kind reads its begin version and its own writes. Each statement of a
+-- Machinery: a running transaction. A transaction of the snapshot kind reads its begin version and its own writes. Each statement of a
 -- read committed transaction reads the newest version at that statement, and the transaction's own writes.
 use Rattle.std.specs.Prelude.{◌≡◌, ◌≢◌, ◌⊎◌, ℕ, ◌≤◌, Bool, true, ◌==◌, ◌&&◌, List, [], map, slice_index_or, Option, if◌then◌else◌}
 use Rattle.std.specs.List.{AllByRecursion, list_any}
 use Rattle.gp_base.specs.declared.stored.Stored.{Stored}
-use Rattle.gp_base.specs.Annotated.{Database, plain}
+use Rattle.gp_base.specs.Annotated.{Database, unannotated}
 use Rattle.gp_base.specs.Identities.{Identity, same_identity}
 use Rattle.gp_base.specs.IdentityParts.{transaction_of, statement_of}
 use Rattle.gp_algebra.specs.Statements.{Statement}
@@ -40,7 +40,7 @@ table_at place versions = slice_index_or versions place no_table
 
 -- the rows of a version
 abbrev pub database_at : ℕ → List Versions → Database (Unit {0})
-database_at version versions place = rows_at plain version (table_at place versions).spans
+database_at version versions place = rows_at unannotated version (table_at place versions).spans
 
 -- its writes of a table, as slots of all rows of the version that they lie over
 abbrev pub overlay_at : ℕ → List TableWrites → List Versions → Overlay
@@ -118,10 +118,10 @@ pub record Applied (k version : ℕ) (statement : Statement) (versions : List Ve
   pub read_committed : new.read_committed ≡ old.read_committed
   pub begin : new.begin ≡ old.begin
   pub last : new.last ≡ k
-  pub view : (place : ℕ) → view_at new.tables versions version place ≡ step plain old.t k statement (view_at old.tables versions version) place
+  pub view : (place : ℕ) → view_at new.tables versions version place ≡ step unannotated old.t k statement (view_at old.tables versions version) place
   pub base : (place : ℕ) (id : Identity) → transaction_of id ≢ old.t
       → base_at new.tables versions place id
-      ≡ base_after version (has_written (wrote plain old.t k statement (view_at old.tables versions version)) place id) (base_at old.tables versions place id)
+      ≡ base_after version (has_written (wrote unannotated old.t k statement (view_at old.tables versions version)) place id) (base_at old.tables versions place id)
   -- the writes of each table lie over the version that they lay over, or over this one
   pub below : (place : ℕ) → ((writes_at place new.tables).version ≡ (writes_at place old.tables).version) ⊎ ((writes_at place new.tables).version ≡ version)
   pub there : HoldsThere old.tables versions → HoldsThere new.tables versions

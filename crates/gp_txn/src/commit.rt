@@ -2,7 +2,7 @@
 
 ghost use Rattle.std.specs.Prelude.{◌≡◌, ℕ, ◌<◌, ◌≤◌, IfErr, IfOk, None, OnErr, OnOk, length};
 ghost use Rattle.gp_base.specs.declared.catalog.TheConstants.{MAX_TABLES};
-ghost use Rattle.gp_txn.specs.Committing.{Commits, HasCause, commit_of, spans_left};
+ghost use Rattle.gp_txn.specs.Committing.{AreCommittable, AreCommitted, AreRefused, Commits, HasCause, HaveSameSpans, commit_of, spans_left};
 ghost use Rattle.gp_txn.specs.Conflicts.{IsFirstConflict, lates_at};
 ghost use Rattle.gp_base.specs.declared.limit.TheConstants.{MAX_SPANS};
 ghost use Rattle.gp_txn.specs.Prepared.{AreWritesOf, IsReady, prepared_at};
@@ -82,8 +82,7 @@ fn prepare_few(
     ensures distinct { IfOk result (λ all. (place : ℕ) → place < length versions.now
         → AreDistinct (prepared_at all.items place)) }
     ensures few { OnOk result (spans_left tables.now versions.now ≤ MAX_SPANS) }
-    ensures cause { IfErr result (λ stop. HasCause stop (length versions.now)
-        (lates_at tables.now versions.now) (spans_left tables.now versions.now)) }
+    ensures cause { IfErr result (λ stop. AreRefused stop tables.now versions.now) }
 {
     if is_full(tables, versions) {
         return Err(CommitStop::Full);
@@ -106,8 +105,7 @@ fn publish_prepared(
     ensures spans { OnOk result ((place : ℕ) → place < length versions.old
         → (table_at place versions.new).spans ≡ after_commit version
         (prepared_at prepared.old place) (table_at place versions.old).spans) }
-    ensures unchanged { OnErr result ((place : ℕ)
-        → (table_at place versions.new).spans ≡ (table_at place versions.old).spans) }
+    ensures unchanged { OnErr result (HaveSameSpans versions.old versions.new) }
 {
     reserve_all(versions, prepared)?;
     publish(alloc, versions, version, prepared);
@@ -123,22 +121,10 @@ fn commit_entered(
     versions: &mut [VersionTable],
     version: u32,
 ) -> Result<(), CommitStop>
-    requires fit { length versions.old ≤ length tables.now }
-    requires few { length versions.old ≤ MAX_TABLES }
-    requires own { (place : ℕ) → AreWritesOf t (writes_at place tables.now) }
-    requires others { (place : ℕ) → AreOthers t (table_at place versions.old).spans }
-    requires first { 1 ≤ version }
-    requires above { (place : ℕ) → AreBelow version (table_at place versions.old).spans }
-    ensures first { OnOk result
-        (IsFirstConflict (length versions.old) (lates_at tables.now versions.old) None) }
-    ensures few { OnOk result (spans_left tables.now versions.old ≤ MAX_SPANS) }
-    ensures spans { OnOk result ((place : ℕ) → place < length versions.old
-        → (table_at place versions.new).spans ≡ after_commit version
-        (commit_of tables.now versions.old place) (table_at place versions.old).spans) }
-    ensures cause { IfErr result (λ stop. HasCause stop (length versions.old)
-        (lates_at tables.now versions.old) (spans_left tables.now versions.old)) }
-    ensures unchanged { OnErr result ((place : ℕ)
-        → (table_at place versions.new).spans ≡ (table_at place versions.old).spans) }
+    requires ready { AreCommittable t version tables.now versions.old }
+    ensures made { OnOk result (AreCommitted version tables.now versions.old versions.new) }
+    ensures cause { IfErr result (λ stop. AreRefused stop tables.now versions.old) }
+    ensures unchanged { OnErr result (HaveSameSpans versions.old versions.new) }
 {
     check_conflict(tables, versions)?;
     let mut prepared = prepare_few(alloc, t, tables, versions)?;
@@ -154,22 +140,10 @@ fn commit_writes(
     versions: &mut [VersionTable],
     version: u32,
 ) -> Result<(), CommitStop>
-    requires fit { length versions.old ≤ length tables.now }
-    requires few { length versions.old ≤ MAX_TABLES }
-    requires own { (place : ℕ) → AreWritesOf t (writes_at place tables.now) }
-    requires others { (place : ℕ) → AreOthers t (table_at place versions.old).spans }
-    requires first { 1 ≤ version }
-    requires above { (place : ℕ) → AreBelow version (table_at place versions.old).spans }
-    ensures first { OnOk result
-        (IsFirstConflict (length versions.old) (lates_at tables.now versions.old) None) }
-    ensures few { OnOk result (spans_left tables.now versions.old ≤ MAX_SPANS) }
-    ensures spans { OnOk result ((place : ℕ) → place < length versions.old
-        → (table_at place versions.new).spans ≡ after_commit version
-        (commit_of tables.now versions.old place) (table_at place versions.old).spans) }
-    ensures cause { IfErr result (λ stop. HasCause stop (length versions.old)
-        (lates_at tables.now versions.old) (spans_left tables.now versions.old)) }
-    ensures unchanged { OnErr result ((place : ℕ)
-        → (table_at place versions.new).spans ≡ (table_at place versions.old).spans) }
+    requires ready { AreCommittable t version tables.now versions.old }
+    ensures made { OnOk result (AreCommitted version tables.now versions.old versions.new) }
+    ensures cause { IfErr result (λ stop. AreRefused stop tables.now versions.old) }
+    ensures unchanged { OnErr result (HaveSameSpans versions.old versions.new) }
 {
     enter_spans(tables, versions)?;
     commit_entered(alloc, t, tables, versions, version)?;
@@ -187,10 +161,8 @@ impl Active {
         requires above { (place : ℕ) → AreBelow version (table_at place versions.old).spans }
         requires others { HoldsOthers self.now.t versions.old }
         ensures ok { OnOk result (Commits version self.now versions.old versions.new) }
-        ensures cause { IfErr result (λ stop. HasCause stop (length versions.old)
-            (lates_at self.now.tables versions.old) (spans_left self.now.tables versions.old)) }
-        ensures unchanged { OnErr result ((place : ℕ)
-            → (table_at place versions.new).spans ≡ (table_at place versions.old).spans) }
+        ensures cause { IfErr result (λ stop. AreRefused stop self.now.tables versions.old) }
+        ensures unchanged { OnErr result (HaveSameSpans versions.old versions.new) }
     {
         commit_writes(self.alloc(), self.t(), self.tables(), versions, version)?;
         Ok(())

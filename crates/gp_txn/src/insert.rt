@@ -1,7 +1,7 @@
 //! The rows that an INSERT makes.
 
 ghost use Rattle.std.specs.Prelude.{◌≡◌, ◌<◌, ◌^◌, ◌∷◌, [], length, map, IfOk};
-ghost use Rattle.gp_base.specs.Annotated.{plain};
+ghost use Rattle.gp_base.specs.Annotated.{unannotated};
 ghost use Rattle.gp_base.specs.Identities.{identity, no_sources};
 ghost use Rattle.gp_algebra.specs.Effects.{given_from, made};
 ghost use Rattle.gp_exec.specs.Choosing.{chosen_view};
@@ -26,7 +26,7 @@ fn given_id(alloc: Global, t: u32, k: u32, n: u32) -> RowId
 /// The rows of a VALUES list of statement k, with their identities.
 pub fn given_rows(alloc: Global, t: u32, k: u32, rows: &[Row]) -> Result<Sequence<Stored>, NoMemory>
     requires { length rows.now < 2 ^ 32 }
-    ensures { IfOk result (λ new. map own_row new ≡ given_from plain t k 1 rows.now) }
+    ensures { IfOk result (λ new. map own_row new ≡ given_from unannotated t k 1 rows.now) }
 {
     let mut new = Sequence::new(alloc);
     let mut n = 0u32;
@@ -44,7 +44,7 @@ pub fn given_rows(alloc: Global, t: u32, k: u32, rows: &[Row]) -> Result<Sequenc
 /// The row that is inserted for an element of an answer.
 fn made_row(t: u32, k: u32, chosen: Chosen) -> Result<Stored, StmtStop>
     ensures { Makes (λ stored. own_row stored ∷ []) result
-        (made plain t k (chosen_view chosen) ∷ []) }
+        (made unannotated t k (chosen_view chosen) ∷ []) }
 {
     let Chosen { branch, ids, row } = chosen;
     match RowId::new(t, k, branch, ids.into_vec()) {
@@ -60,7 +60,7 @@ pub fn made_rows(
     k: u32,
     chosen: Vec<Chosen>,
 ) -> Result<Sequence<Stored>, StmtStop>
-    ensures { Makes (map own_row) result (map (made plain t k) (map chosen_view chosen.items)) }
+    ensures { Makes (map own_row) result (map (made unannotated t k) (map chosen_view chosen.items)) }
 {
     let mut new = Sequence::new(alloc);
     for one in chosen {

@@ -1,7 +1,7 @@
 //! The changes of a commit. Everything that can fail comes first.
 
 ghost use Rattle.std.specs.Prelude.{◌≡◌, ℕ, ◌<◌, ◌≤◌, IfOk, OnOk, length};
-ghost use Rattle.gp_txn.specs.Committing.{commit_of};
+ghost use Rattle.gp_txn.specs.Committing.{HaveSameSpans, commit_of};
 ghost use Rattle.gp_txn.specs.Overlay.{overlay_of, rows_below, table_writes};
 ghost use Rattle.gp_txn.specs.Prepared.{AreWritesOf, IsReady, prepared_at};
 ghost use Rattle.gp_txn.specs.Transactions.{AreOthers, table_at, writes_at};
@@ -71,8 +71,7 @@ fn reserve_one(table: &mut VersionTable, writes: &Writes) -> Result<(), NoMemory
 /// Makes room in each table for its writes.
 pub fn reserve_all(versions: &mut [VersionTable], prepared: &[Writes]) -> Result<(), NoMemory>
     requires { length versions.old ≡ length prepared.now }
-    ensures unchanged { (place : ℕ)
-        → (table_at place versions.new).spans ≡ (table_at place versions.old).spans }
+    ensures unchanged { HaveSameSpans versions.old versions.new }
     ensures room { OnOk result ((place : ℕ) → place < length versions.old
         → length (prepared_at prepared.now place) ≤ (table_at place versions.new).spare) }
 {

@@ -2,7 +2,7 @@
 
 ghost use Rattle.std.specs.Prelude.{◌≡◌, ◌<◌, ◌≤◌, ℕ, true, IfOk, get_or, [], length, map};
 ghost use Rattle.gp_base.specs.declared.catalog.TheConstants.{MAX_TABLES};
-ghost use Rattle.gp_base.specs.Annotated.{plain};
+ghost use Rattle.gp_base.specs.Annotated.{unannotated};
 ghost use Rattle.gp_algebra.specs.Answers.{answer};
 ghost use Rattle.gp_algebra.specs.Simple.{select_is_simple};
 ghost use Rattle.gp_algebra.specs.Views.{select_view};
@@ -78,7 +78,7 @@ impl Active {
         requires readable { is_readable (length versions.now) (select_view select.now) ≡ true }
         ensures apart { IfOk result (λ chosen. AreApart versions.now) }
         ensures rows { Chooses (λ found. map chosen_view found.items) result most
-            (answer plain (select_view select.now) (view_at self.now.tables versions.now version)) }
+            (answer unannotated (select_view select.now) (view_at self.now.tables versions.now version)) }
     {
         let views = self.views(select, version, versions)?;
         choose(self.alloc(), select, &views, most)
@@ -95,7 +95,7 @@ impl Active {
         requires few { length versions.now ≤ MAX_TABLES }
         requires readable { is_readable (length versions.now) (select_view select.now) ≡ true }
         ensures { Selects result MAX_ANSWER_ROWS
-            (answer plain (select_view select.now) (view_at self.now.tables versions.now version)) }
+            (answer unannotated (select_view select.now) (view_at self.now.tables versions.now version)) }
     {
         let chosen = self.chosen(select, version, versions, MAX_ANSWER_ROWS)?;
         Ok(rows_of(self.alloc(), chosen)?)

@@ -3,7 +3,7 @@
 ghost use Rattle.std.specs.Prelude.{◌≡◌, ◌≤◌, ◌+◌, ◌++◌, ◌∷◌, [], true, length, map, IfOk, OnOk, ◌<◌, ◌^◌};
 ghost use Rattle.std.specs.List.{filter_map};
 ghost use Rattle.std.specs.Option.{option_map, option_to_list};
-ghost use Rattle.gp_base.specs.Annotated.{plain};
+ghost use Rattle.gp_base.specs.Annotated.{unannotated};
 ghost use Rattle.gp_expr.specs.Views.{cond_view};
 ghost use Rattle.gp_algebra.specs.Answers.{passes_where};
 ghost use Rattle.gp_algebra.specs.Simple.{where_is_simple};
@@ -68,7 +68,7 @@ fn push_seen(
     requires { where_is_simple (option_map (λ c. cond_view c.now) cond) ≡ true }
     ensures { OnOk result (rows.new ≡ rows.old
         ++ map stored_of (wanted (option_map (λ c. cond_view c.now) cond.entry)
-        (shown (slot_or (option_map (λ slot. slot.now) slot.entry)) (row_of plain span.now)))) }
+        (shown (slot_or (option_map (λ slot. slot.now) slot.entry)) (row_of unannotated span.now)))) }
 {
     match seen(slot, &span.row) {
         Some(cells) if is_wanted(cond, cells) => {
@@ -120,7 +120,7 @@ fn seen_rows(
     ensures { IfOk result (λ rows. rows
         ≡ map stored_of (wanted (option_map (λ c. cond_view c.now) cond.entry)
         (overlaid (slots_from carried.now v slots.now 0 spans.now)
-        (slotted carried.now (rows_at plain v spans.now))))) }
+        (slotted carried.now (rows_at unannotated v spans.now))))) }
 {
     let mut rows = Sequence::new(alloc);
     let mut ahead = slots;
@@ -265,7 +265,7 @@ fn count_entry(placed: &Placed, carried: &CarriedRows, spans: &SpanList<'_>, v: 
 fn count_dropped(slots: &[Placed], carried: &CarriedRows, spans: &SpanList<'_>, v: u32) -> usize
     requires { IsAscending (map place_of slots.now) }
     ensures { result + length (overlaid (slots_from carried.now v slots.now 0 spans.now)
-        (slotted carried.now (rows_at plain v spans.now)))
+        (slotted carried.now (rows_at unannotated v spans.now)))
         ≡ length (slotted_spans carried.now v spans.now) }
 {
     let mut count = 0usize;
@@ -280,7 +280,7 @@ fn count_base(slots: &[Placed], carried: &CarriedRows, spans: &SpanList<'_>, v: 
     requires { IsAscending (map place_of slots.now) }
     ensures count { result
         ≡ length (overlaid (slots_from carried.now v slots.now 0 spans.now)
-        (slotted carried.now (rows_at plain v spans.now))) }
+        (slotted carried.now (rows_at unannotated v spans.now))) }
     ensures few { result < 2 ^ 60 }
 {
     count_slotted(carried, spans, v) - count_dropped(slots, carried, spans, v)

@@ -2,7 +2,7 @@
 //! nothing.
 
 ghost use Rattle.std.specs.Prelude.{◌≡◌, ◌≤◌, length, map, nat_lt};
-ghost use Rattle.gp_base.specs.Annotated.{plain};
+ghost use Rattle.gp_base.specs.Annotated.{unannotated};
 ghost use Rattle.gp_txn.specs.Committing.{commit_of, spans_left};
 ghost use Rattle.gp_txn.specs.Ascending.{IsAscending, place_of};
 ghost use Rattle.gp_txn.specs.Passes.{of_entry, row_writes};
@@ -31,7 +31,7 @@ fn count_put(slot: &Slot) -> usize
 /// How many rows a commit puts in place of the row at the place of a slot, if the row has a slot.
 fn count_entry(placed: &Placed, carried: &CarriedRows, spans: &SpanList<'_>, v: u32) -> usize
     ensures count { result ≡ length
-        (live_rows plain (of_entry row_writes carried.now v spans.now placed.now)) }
+        (live_rows unannotated (of_entry row_writes carried.now v spans.now placed.now)) }
     ensures few { result ≤ 1 }
 {
     match slotted(spans, carried, v, placed.place) {
@@ -43,9 +43,9 @@ fn count_entry(placed: &Placed, carried: &CarriedRows, spans: &SpanList<'_>, v: 
 /// How many rows a commit puts in place of the rows of version v that have a slot.
 fn count_base(slots: &[Placed], carried: &CarriedRows, spans: &SpanList<'_>, v: u32) -> usize
     requires { IsAscending (map place_of slots.now) }
-    ensures count { result ≡ length (live_rows plain (base_writes
+    ensures count { result ≡ length (live_rows unannotated (base_writes
         (slots_from carried.now v slots.now 0 spans.now)
-        (slotted carried.now (rows_at plain v spans.now)))) }
+        (slotted carried.now (rows_at unannotated v spans.now)))) }
     ensures few { result ≤ length slots.now }
 {
     let mut count = 0usize;
@@ -58,7 +58,7 @@ fn count_base(slots: &[Placed], carried: &CarriedRows, spans: &SpanList<'_>, v: 
 /// How many of the writes of a commit to a table have a row.
 fn count_live(writes: &TableWrites, spans: &SpanList<'_>) -> usize
     ensures { result ≡ length
-        (live_rows plain (table_writes (overlay_of spans.now writes.now)
+        (live_rows unannotated (table_writes (overlay_of spans.now writes.now)
         (rows_below (overlay_of spans.now writes.now) spans.now))) }
 {
     let carried = &writes.carried;

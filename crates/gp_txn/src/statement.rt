@@ -2,7 +2,7 @@
 
 ghost use Rattle.std.specs.Prelude.{◌≡◌, ◌<◌, ◌≤◌, ◌+◌, ◌++◌, ◌^◌, not, true, IfOk, MatchOption, length, map};
 ghost use Rattle.gp_base.specs.declared.catalog.TheConstants.{MAX_TABLES};
-ghost use Rattle.gp_base.specs.Annotated.{plain};
+ghost use Rattle.gp_base.specs.Annotated.{unannotated};
 ghost use Rattle.gp_algebra.specs.Answers.{answer};
 ghost use Rattle.gp_algebra.specs.Effects.{given_from, made};
 ghost use Rattle.gp_algebra.specs.Statements as s;
@@ -121,7 +121,7 @@ impl Active {
             (λ new. AreOwn self.now.t k ((writes_at table self.now.tables).own ++ new)) }
         ensures rows { Prepares result
             (length (view_at self.now.tables versions.now version table))
-            (given_from plain self.now.t k 1 rows.now) }
+            (given_from unannotated self.now.t k 1 rows.now) }
     {
         let has_room = self.has_room(table, version, versions, rows.len())?;
         if !has_room {
@@ -148,8 +148,8 @@ impl Active {
             (λ new. AreOwn self.now.t k ((writes_at table self.now.tables).own ++ new)) }
         ensures rows { Prepares result
             (length (view_at self.now.tables versions.now version table))
-            (map (made plain self.now.t k)
-            (answer plain (select_view select.now)
+            (map (made unannotated self.now.t k)
+            (answer unannotated (select_view select.now)
             (view_at self.now.tables versions.now version))) }
     {
         let Some(room) = self.room(table, version, versions)? else {

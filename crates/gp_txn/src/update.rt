@@ -2,7 +2,7 @@
 
 ghost use Rattle.std.specs.Prelude.{◌≡◌, ◌≤◌, ◌++◌, ◌∷◌, [], length, true, map, IfOk, OnOk, ◌<◌, ◌^◌};
 ghost use Rattle.std.specs.Option.{option_map, option_to_list};
-ghost use Rattle.gp_base.specs.Annotated.{plain};
+ghost use Rattle.gp_base.specs.Annotated.{unannotated};
 ghost use Rattle.gp_expr.specs.Values as values;
 ghost use Rattle.gp_versions.specs.Spans.{rows_at};
 ghost use Rattle.gp_txn.specs.Changes.{change_is_simple, change_view, cond_of};
@@ -177,7 +177,7 @@ fn changed_slots(
         (change_view change.now) carried.now v slots.now 0 spans.now) }
     ensures count { IfOk result (λ new. new.count ≡ count_touched (change_view change.now)
         (overlaid (slots_from carried.now v slots.now 0 spans.now)
-        (slotted carried.now (rows_at plain v spans.now)))) }
+        (slotted carried.now (rows_at unannotated v spans.now)))) }
     ensures few { IfOk result (λ new. new.count ≤ length places.now) }
 {
     let mut new = Vec::new(alloc);

@@ -2,7 +2,7 @@
 
 ghost use Rattle.std.specs.Prelude.{◌≡◌, ◌++◌, IfOk, OnOk, map};
 ghost use Rattle.std.specs.Option.{option_to_list};
-ghost use Rattle.gp_base.specs.Annotated.{plain};
+ghost use Rattle.gp_base.specs.Annotated.{unannotated};
 ghost use Rattle.gp_txn.specs.Ascending.{IsAscending, place_of};
 ghost use Rattle.gp_txn.specs.Overlay.{base_writes, carried_write, overlay_of, own_write, rows_below, slot_write, slot_writes, slots_from, slotted, table_writes};
 ghost use Rattle.gp_txn.specs.Passes.{of_entry, row_writes};
@@ -26,7 +26,7 @@ fn put(id: &RowId, cells: &Row) -> Result<Write, NoMemory>
 
 /// What a commit writes of a row with this slot.
 fn slot_write(slot: &Slot, span: &Span) -> Result<Option<Write>, NoMemory>
-    ensures { IfOk result (λ write. write ≡ slot_write slot.now (row_of plain span.now)) }
+    ensures { IfOk result (λ write. write ≡ slot_write slot.now (row_of unannotated span.now)) }
 {
     match slot {
         Slot::Same => Ok(None),
@@ -41,7 +41,7 @@ fn slot_write(slot: &Slot, span: &Span) -> Result<Option<Write>, NoMemory>
 /// Adds what a commit writes of a row with this slot.
 fn push_write(writes: &mut Vec<Write>, slot: &Slot, span: &Span) -> Result<(), NoMemory>
     ensures { OnOk result (writes.new.items ≡ writes.old.items
-        ++ option_to_list (slot_write slot.now (row_of plain span.now))) }
+        ++ option_to_list (slot_write slot.now (row_of unannotated span.now))) }
 {
     if let Some(write) = slot_write(slot, span)? {
         writes.push(write)?;
@@ -77,7 +77,7 @@ fn base_writes(
     requires { IsAscending (map place_of slots.now) }
     ensures { IfOk result (λ writes. writes.items ≡ base_writes
         (slots_from carried.now v slots.now 0 spans.now)
-        (slotted carried.now (rows_at plain v spans.now))) }
+        (slotted carried.now (rows_at unannotated v spans.now))) }
 {
     let mut writes = Vec::new(alloc);
     for placed in slots {

@@ -8,7 +8,8 @@ use Rattle.gp_versions.specs.declared.key.By.TheVariants as variant
 use Rattle.gp_versions.specs.declared.span.Span.{Span}
 use Rattle.gp_versions.specs.Chains.{AreChained, AreIndexes, IsIndex, IsLast, up_to}
 use Rattle.gp_versions.specs.Keys.{key_of_cell, keys_by}
-use Rattle.gp_versions.specs.Places.{among, holds_with, places_where}
+use Rattle.gp_versions.specs.Places.{holds_with, places_where}
+use Rattle.gp_versions.specs.Search.{among}
 use Rattle.gp_versions.proofs.PlaceLemmas.{no-key, places-begin, places-step}
 
 -- ---- walks

@@ -11,7 +11,7 @@ use Rattle.gp_versions.specs.declared.span.Span.{Span}
 use Rattle.gp_versions.specs.declared.span.Write.{Write}
 use Rattle.gp_versions.specs.Commits.{after_commit, begun, ended, is_open, is_written}
 use Rattle.gp_versions.specs.Listed.{IsListed, IsWhere, end_or, greater, held, is_some_open, later_of, listed, newest_end, open_places}
-use Rattle.gp_versions.specs.Places.{among, is_where}
+use Rattle.gp_versions.specs.Search.{among, is_where}
 use Rattle.gp_versions.specs.Spans.{holds_at, is_before_end, spans_at}
 use Rattle.gp_versions.proofs.PlaceLemmas.{all-range, among-append, among-narrower, listed-among, listed-first, places-first, range-more}
 use Rattle.gp_versions.proofs.SpanLemmas.{ended_from, ended_to}

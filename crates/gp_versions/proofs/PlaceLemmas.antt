@@ -17,7 +17,8 @@ use Rattle.gp_versions.specs.declared.key.By.TheVariants as variant
 use Rattle.gp_versions.specs.declared.span.Span.{Span}
 use Rattle.gp_versions.specs.Keys.{key_by, key_of_cell, keys_by}
 use Rattle.gp_versions.specs.Listed.{listed}
-use Rattle.gp_versions.specs.Places.{among, are_equal, cell_at, holds_with, is_where, places_where}
+use Rattle.gp_versions.specs.Places.{are_equal, cell_at, holds_with, places_where}
+use Rattle.gp_versions.specs.Search.{among, is_where}
 use Rattle.gp_versions.specs.Spans.{holds_at}
 
 -- ---- ranges

@@ -1,4 +1,4 @@
--- Part of the statement: what a commit does to the row versions of a table. It ends the open spans of the identities that it wrote, and begins a
+-- Machinery: what a commit does to the row versions of a table. It ends the open spans of the identities that it wrote, and begins a
 -- span for each of its writes that has a row. No row version is changed or removed otherwise.
 use Rattle.std.specs.Prelude.{◌≡◌, ℕ, ◌<◌, Bool, true, false, ◌&&◌, List, [], ◌∷◌, ◌++◌, map, filter, Option, Some, None, if◌then◌else◌, not}
 use Rattle.std.specs.List.{list_any, AllByRecursion, filter_map}

@@ -6,7 +6,8 @@ use Rattle.std.specs.List.{fold}
 use Rattle.gp_base.specs.declared.cell.Cell.{Cell}
 use Rattle.gp_base.specs.declared.cell.Cell.TheVariants as cell
 use Rattle.gp_base.specs.Identities.{Identity, Sources, identity, no_sources, source}
-use Rattle.gp_base.specs.IdentityParts.{number_of, statement_of, transaction_of}
+use Rattle.gp_base.specs.IdentityParts.{statement_of, transaction_of}
+use Rattle.gp_base.specs.IdentityForms.{number_of}
 use Rattle.gp_versions.specs.declared.key.By.{By}
 use Rattle.gp_versions.specs.declared.key.By.TheVariants as variant
 use Rattle.gp_versions.specs.declared.key.Key.{Key}

@@ -2,6 +2,7 @@ pub mod Chains
 pub mod Commits
 pub mod Listed
 pub mod Places
+pub mod Search
 pub mod Keys
 pub mod SpanCodes
 pub mod Spans

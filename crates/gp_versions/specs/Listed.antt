@@ -5,7 +5,7 @@ use Rattle.std.specs.List.{AllByRecursion, filter_map, range_with_len}
 use Rattle.gp_versions.specs.declared.current.Current.{Current}
 use Rattle.gp_versions.specs.declared.span.Span.{Span}
 use Rattle.gp_versions.specs.Commits.{is_open}
-use Rattle.gp_versions.specs.Places.{among}
+use Rattle.gp_versions.specs.Search.{among}
 use Rattle.gp_versions.specs.Spans.{holds_at}
 
 -- the spans at these places

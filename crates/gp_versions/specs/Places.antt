@@ -1,11 +1,9 @@
--- Part of the statement: the places of spans in the list of a table, which are numbered from 0.
-use Rattle.std.specs.Prelude.{ℕ, zero, suc, Bool, false, ◌&&◌, List, [], ◌∷◌, filter, get_or, map, slice_get, Option, Some, None, if◌then◌else◌}
+-- Machinery: the places of spans in the list of a table, which are numbered from 0: of those that hold a version, and of those with a cell.
+use Rattle.std.specs.Prelude.{ℕ, zero, suc, Bool, false, ◌&&◌, List, [], ◌∷◌, get_or, map, if◌then◌else◌}
 use Rattle.std.specs.Ordering.{nat_cmp, int_cmp, is_eq}
 use Rattle.std.specs.Cmp.Lexicographic.{slice_cmp}
 use Rattle.gp_base.specs.declared.cell.Cell.{Cell}
 use Rattle.gp_base.specs.declared.cell.Cell.TheVariants as cell
-use Rattle.gp_versions.specs.declared.places.InColumn.{InColumn}
-use Rattle.gp_versions.specs.declared.places.Sought.{Sought}
 use Rattle.gp_versions.specs.declared.span.Span.{Span}
 use Rattle.gp_versions.specs.Spans.{holds_at}
 
@@ -36,22 +34,3 @@ holds_with v column x span = holds_at v span && are_equal (cell_at column span.r
 -- the places of those that do
 abbrev pub places_with : ℕ → ℕ → Cell → List Span → List ℕ
 places_with v column x spans = places_where (holds_with v column x) spans
-
--- ---- how they are found
-
--- whether there is a span, and this is true of it
-abbrev pub is_where : (Span → Bool) → Option Span → Bool
-is_where p None = false
-is_where p (Some span) = p span
-
--- those of the places with a span of which this is true
-abbrev pub among : (Span → Bool) → List Span → List ℕ → List ℕ
-among p spans places = filter (λ place. is_where p (slice_get spans place)) places
-
--- whether the span holds the version, and has the cell if one is given
-abbrev pub sought_at : ℕ → Option InColumn → Span → Bool
-sought_at v None span = holds_at v span
-sought_at v (Some own) span = holds_with v own.column own.cell.now span
-
-abbrev pub is_sought : Sought → Span → Bool
-is_sought sought span = sought_at sought.v sought.own span

@@ -1,4 +1,4 @@
--- Part of the statement: what holds of the spans of a table, and the spans of other rows.
+-- Machinery: what holds of the spans of a table, and the spans of other rows.
 use Rattle.std.specs.Prelude.{◌≡◌, ◌⊎◌, ℕ, ◌<◌, ◌≤◌, true, false, List, [], ◌∷◌, Option, Some, None, IsSomeAnd, nat_le, nat_lt, if◌then◌else◌}
 use Rattle.std.specs.List.{AllByRecursion}
 use Rattle.gp_base.specs.Identities.{Identity, same_identity}

@@ -3,7 +3,7 @@
 ghost use Rattle.std.specs.Prelude.{◌≡◌};
 ghost use Rattle.std.specs.List.{fold};
 ghost use Rattle.gp_base.specs.CellForms.{cell_view};
-ghost use Rattle.gp_base.specs.IdentityParts.{sources_of};
+ghost use Rattle.gp_base.specs.IdentityForms.{sources_of};
 ghost use Rattle.gp_versions.specs.Keys.{folded_cell, folded_over, folded_over_all, key_by, key_of, key_of_cell, mixed};
 
 use crate::places::cell_at;

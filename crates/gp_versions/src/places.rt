@@ -1,9 +1,10 @@
-//! The places of spans in the list of a table.
+//! Finds the places of spans in the list of a table.
 
 ghost use Rattle.std.specs.Prelude.{◌≡◌, ◌-◌, ◌++◌, ◌≤◌, OnOk, length, slice_get};
 ghost use Rattle.std.specs.List.{range_with_len};
 ghost use Rattle.gp_base.specs.CellForms.{cell_view};
 ghost use Rattle.gp_versions.specs.Places as p;
+ghost use Rattle.gp_versions.specs.Search as search;
 
 use crate::span::Span;
 use gp_base::{Cell, CellRef, NoMemory, Row};
@@ -48,7 +49,7 @@ fn are_equal(cell: CellRef<'_>, other: CellRef<'_>) -> bool
 
 /// Whether the span is sought.
 fn is_sought(span: &Span, sought: &Sought<'_>) -> bool
-    ensures { result ≡ p.is_sought sought.now span.now }
+    ensures { result ≡ search.is_sought sought.now span.now }
 {
     match sought.own {
         None => span.holds(sought.v),
@@ -60,7 +61,7 @@ fn is_sought(span: &Span, sought: &Sought<'_>) -> bool
 
 /// Whether there is a span at the place, and it is sought.
 fn is_sought_at(spans: &[Span], place: u32, sought: &Sought<'_>) -> bool
-    ensures { result ≡ p.is_where (p.is_sought sought.now) (slice_get spans.now place) }
+    ensures { result ≡ search.is_where (search.is_sought sought.now) (slice_get spans.now place) }
 {
     match spans.get(place as usize) {
         Some(span) => is_sought(span, sought),
@@ -76,7 +77,7 @@ pub fn push_listed(
     sought: &Sought<'_>,
 ) -> Result<(), NoMemory>
     ensures { OnOk result (found.new.items
-        ≡ found.old.items ++ p.among (p.is_sought sought.now) spans.now places.now) }
+        ≡ found.old.items ++ search.among (search.is_sought sought.now) spans.now places.now) }
 {
     for place in places {
         if is_sought_at(spans, *place, sought) {
@@ -95,7 +96,7 @@ pub fn push_from(
 ) -> Result<(), NoMemory>
     requires { from ≤ length spans.now }
     ensures { OnOk result (found.new.items ≡ found.old.items
-        ++ p.among (p.is_sought sought.now) spans.now (range_with_len from (length spans.now - from))) }
+        ++ search.among (search.is_sought sought.now) spans.now (range_with_len from (length spans.now - from))) }
 {
     let Ok(first) = u32::try_from(from) else {
         return Err(NoMemory);

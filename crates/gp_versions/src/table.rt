@@ -4,7 +4,7 @@ ghost use Rattle.std.specs.Prelude.{◌≡◌, ℕ, ◌+◌, ◌-◌, ◌++◌, 
 ghost use Rattle.std.specs.List.{range_with_len};
 ghost use Rattle.std.specs.List.Sorted.{IsPermutation, IsSortedByKey};
 ghost use Rattle.std.specs.Option.{option_cmp};
-ghost use Rattle.gp_base.specs.Annotated.{plain};
+ghost use Rattle.gp_base.specs.Annotated.{unannotated};
 ghost use Rattle.gp_versions.specs.Commits.{AreBelow, AreDistinct, after_commit, live_rows, unwritten_rows};
 ghost use Rattle.gp_versions.specs.Spans.{rows_at, span_cmp, spans_at};
 ghost use Rattle.gp_versions.specs.TableSpans.{AreWhole, NoOverlap, written_after};
@@ -192,10 +192,10 @@ impl VersionTable {
         requires room { length writes ≤ self.old.spare }
         ensures spans { self.new.spans ≡ after_commit version writes self.old.spans }
         ensures older { (v : ℕ) → v < version
-            → rows_at plain v self.new.spans ≡ rows_at plain v self.old.spans }
-        ensures newest { rows_at plain version self.new.spans
-            ≡ unwritten_rows writes (rows_at plain (version - 1) self.old.spans)
-            ++ live_rows plain writes }
+            → rows_at unannotated v self.new.spans ≡ rows_at unannotated v self.old.spans }
+        ensures newest { rows_at unannotated version self.new.spans
+            ≡ unwritten_rows writes (rows_at unannotated (version - 1) self.old.spans)
+            ++ live_rows unannotated writes }
         ensures below { AreBelow (version + 1) self.new.spans }
     {
         commit_spans(&mut self.spans, &self.chains, version, writes);

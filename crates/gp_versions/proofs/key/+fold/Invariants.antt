@@ -1,6 +1,6 @@
 use Rattle.std.proofs.Common.{◌+◌, ◌*◌}
 use Rattle.gp_base.specs.Identities.{nodes, nodes_in}
-use Rattle.gp_base.specs.IdentityParts.{sources_of}
+use Rattle.gp_base.specs.IdentityForms.{sources_of}
 use Rattle.gp_versions.proofs.key.+fold.Given as goal
 
 abbrev pub decreases-fold_id : goal.decreases-fold_id

@@ -1,7 +1,7 @@
 use Rattle.std.proofs.Common.{[], ◌∷◌, ◌++◌, ◌-◌, ap, sym, ◌∙◌, arith}
 use Rattle.std.specs.List.{range_with_len}
 use Rattle.std.proofs.lemmas.List.{append_assoc}
-use Rattle.gp_versions.specs.Places.{among, is_sought}
+use Rattle.gp_versions.specs.Search.{among, is_sought}
 use Rattle.gp_versions.proofs.PlaceLemmas.{among-append, range-next}
 use Rattle.gp_versions.proofs.places.push_from.Goals as goal
 

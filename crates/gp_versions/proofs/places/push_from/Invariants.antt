@@ -1,6 +1,6 @@
 use Rattle.std.proofs.Common.{◌≡◌, ◌++◌, ◌-◌}
 use Rattle.std.specs.List.{range_with_len}
-use Rattle.gp_versions.specs.Places.{among, is_sought}
+use Rattle.gp_versions.specs.Search.{among, is_sought}
 use Rattle.gp_versions.proofs.places.push_from.Given as goal
 
 abbrev pub invariant-loop-place : goal.invariant-loop-place

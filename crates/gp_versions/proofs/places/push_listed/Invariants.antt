@@ -1,5 +1,5 @@
 use Rattle.std.proofs.Common.{◌≡◌, ◌++◌, take}
-use Rattle.gp_versions.specs.Places.{among, is_sought}
+use Rattle.gp_versions.specs.Search.{among, is_sought}
 use Rattle.gp_versions.proofs.places.push_listed.Given as goal
 
 abbrev pub invariant-loop-place : goal.invariant-loop-place

@@ -10,5 +10,5 @@ returns-clause-ok c =
     let old = c.args.versions.now in
     let done = c.in_ok-commit_writes.ensures in
     commits-of c.args.version c.args.self.now old c.commit_writes.new.versions c.requires.first c.tables.ensures.own c.requires.others c.requires.above c.commit_writes.auto.versions
-    (λ place low. done.spans place low ∙ (λ i. after_commit c.args.version (commit_of (c.tables.ensures.tables i) old place) (table_at place old).spans))
-    c.tables.result.now c.tables.ensures.tables done.first done.few
+    (λ place low. done.made.spans place low ∙ (λ i. after_commit c.args.version (commit_of (c.tables.ensures.tables i) old place) (table_at place old).spans))
+    c.tables.result.now c.tables.ensures.tables done.made.first done.made.few

@@ -1,6 +1,6 @@
 use Rattle.std.proofs.Common.{◌++◌, List, map}
 use Rattle.gp_base.specs.declared.stored.Stored.{Stored}
-use Rattle.gp_base.specs.Annotated.{plain}
+use Rattle.gp_base.specs.Annotated.{unannotated}
 use Rattle.gp_algebra.specs.Answers.{answer}
 use Rattle.gp_algebra.specs.Effects.{made}
 use Rattle.gp_algebra.specs.Views.{select_view}
@@ -15,6 +15,6 @@ returns-clause-own c =
     let select = select_view c.args.select.now in
     let own = (writes_at c.args.table c.args.self.now.tables).own in
     let rows = rw (c.t.ensures.t, c.in_ok-chosen.ensures.rows.0) at c.made_rows.ensures in
-    when-made (λ (new : List Stored). AreOwn t c.args.k (own ++ new)) c.made_rows.result (map (made plain t c.args.k) (answer plain select (view_at c.args.self.now.tables c.args.versions.now c.args.version))) rows
+    when-made (λ (new : List Stored). AreOwn t c.args.k (own ++ new)) c.made_rows.result (map (made unannotated t c.args.k) (answer unannotated select (view_at c.args.self.now.tables c.args.versions.now c.args.version))) rows
     (λ new are. own-inserted t c.args.self.now.last c.args.k own new c.requires.later (c.t.ensures.own c.args.table).own
     (made-new c.args.k c.args.version select c.args.self.now c.args.versions.now new c.t.ensures.own c.requires.others c.in_ok-chosen.ensures.apart are))

@@ -4,7 +4,8 @@ use Rattle.std.proofs.lemmas.List.{length-map}
 use Rattle.gp_versions.specs.declared.key.By.TheVariants as variant
 use Rattle.gp_versions.specs.Chains.{entered}
 use Rattle.gp_versions.specs.Keys.{key_by}
-use Rattle.gp_versions.specs.Places.{among, holds_with}
+use Rattle.gp_versions.specs.Places.{holds_with}
+use Rattle.gp_versions.specs.Search.{among}
 use Rattle.gp_versions.proofs.PlaceLemmas.{among-parts, places-first}
 use Rattle.gp_versions.proofs.columns.ColumnIndex.places.Goals as goal
 

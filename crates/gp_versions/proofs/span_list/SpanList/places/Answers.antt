@@ -1,7 +1,8 @@
 use Rattle.std.proofs.Common.{◌++◌, ◌-◌, ap, length, subst, sym, ◌∙◌}
 use Rattle.std.specs.List.{range_with_len}
 use Rattle.gp_versions.specs.Listed.{IsWhere}
-use Rattle.gp_versions.specs.Places.{among, places_at}
+use Rattle.gp_versions.specs.Places.{places_at}
+use Rattle.gp_versions.specs.Search.{among}
 use Rattle.gp_versions.specs.Spans.{holds_at}
 use Rattle.gp_versions.proofs.PlaceLemmas.{among-parts}
 use Rattle.gp_versions.proofs.span_list.SpanList.places.Goals as goal

@@ -1,5 +1,5 @@
 use Rattle.std.proofs.Common.{◌+◌, subst, sym, ap, ◌∙◌}
-use Rattle.gp_base.specs.Annotated.{plain}
+use Rattle.gp_base.specs.Annotated.{unannotated}
 use Rattle.gp_versions.specs.Chains.{AreIndexes, IsChained}
 use Rattle.gp_versions.specs.Commits.{AreBelow, after_commit}
 use Rattle.gp_versions.specs.Listed.{IsCurrent}
@@ -26,13 +26,13 @@ invariant_of-self c =
 
 pub returns-clause-older : goal.returns-clause-older
 returns-clause-older c = λ v early.
-    ap (rows_at plain v) (c.commit_spans.ensures ∙ ap (λ (k : Versions). after_commit c.args.version c.args.writes k.spans) c.self.view_is)
-    ∙ rows-before plain v c.args.version c.args.writes c.args.self.now.spans early
+    ap (rows_at unannotated v) (c.commit_spans.ensures ∙ ap (λ (k : Versions). after_commit c.args.version c.args.writes k.spans) c.self.view_is)
+    ∙ rows-before unannotated v c.args.version c.args.writes c.args.self.now.spans early
 
 pub returns-clause-newest : goal.returns-clause-newest
 returns-clause-newest c =
-    ap (rows_at plain c.args.version) (c.commit_spans.ensures ∙ ap (λ (k : Versions). after_commit c.args.version c.args.writes k.spans) c.self.view_is)
-    ∙ rows-new-at plain c.args.version c.args.writes c.args.self.now.spans c.requires.first c.requires.above
+    ap (rows_at unannotated c.args.version) (c.commit_spans.ensures ∙ ap (λ (k : Versions). after_commit c.args.version c.args.writes k.spans) c.self.view_is)
+    ∙ rows-new-at unannotated c.args.version c.args.writes c.args.self.now.spans c.requires.first c.requires.above
 
 pub returns-clause-below : goal.returns-clause-below
 returns-clause-below c =
