@@ -18,7 +18,8 @@ use Rattle.gp_rewrite.proofs.FitLemmas.{delete_is_simple, update_is_simple}
 use Rattle.gp_rewrite.proofs.FormLemmas.{query_answers, rewritten_step}
 use Rattle.gp_rewrite.proofs.ReadLemmas.{query_reads, rewritten_reads}
 use Rattle.gp_rewrite.proofs.SoundLemmas.{query_sound, rewritten_sound}
-use Rattle.gp_compose.specs.Composed.{after, as_of, commit, composed, current, current_before, is_target, last_write, moved, onto, published, step_of, steps_of, writes}
+use Rattle.gp_compose.specs.Composed.{after, as_of, commit, composed, current, current_before, last_write, moved, onto, published, step_of, writes}
+use Rattle.gp_compose.specs.StepForms.{is_target, steps_of}
 use Rattle.gp_compose.specs.Composing.{looking, looking_program, published_table}
 use Rattle.gp_compose.proofs.ComposedLemmas.{writes_is}
 use Rattle.gp_compose.proofs.StepLists.{AreWithin, Stands, here, read_append, rising_append, sound_append, stands_among, stands_behind, stands_front, stands_table, steps_append, within_append}

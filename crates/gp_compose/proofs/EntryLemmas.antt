@@ -7,13 +7,11 @@ use Rattle.gp_base.specs.declared.table.Table.{Table}
 use Rattle.gp_algebra.specs.Statements.{Statement}
 use Rattle.gp_algebra.specs.Fitting.{statement_fits}
 use Rattle.gp_machine.specs.Entries as m
-use Rattle.gp_machine.specs.Entries.{statement_at, statement_count, version_of, versions_in}
+use Rattle.gp_machine.specs.Entries.{statement_at, statement_count}
 use Rattle.gp_log.proofs.EntryLemmas.{log-pushed}
 use Rattle.gp_log.specs.LogFitting.{statements_fit}
-use Rattle.gp_log.specs.Logs.{entry_view, log_view, what_view}
+use Rattle.gp_log.specs.Logs.{entry_view, log_view}
 use Rattle.gp_log.specs.declared.entry.Entry.{Entry}
-use Rattle.gp_log.specs.declared.entry.What.{What}
-use Rattle.gp_log.specs.declared.entry.What.TheVariants as w
 use Rattle.gp_compose.specs.Composition.{own_fits, own_statement, ran_more}
 use Rattle.gp_base.proofs.SmallLemmas.{eq_itself}
 use Rattle.std.proofs.lemmas.Bool.{and_parts}

@@ -16,8 +16,10 @@ use Rattle.gp_machine.specs.Questions.{log_refusal, needed_version}
 use Rattle.gp_machine.proofs.AskedLemmas.{asked}
 use Rattle.gp_log.specs.Sessions.{KeepsSessions}
 use Rattle.gp_log.proofs.KeptSessions.{read_before, rising}
-use Rattle.gp_rewrite.specs.Rewriting.{branch_of, made_of, made_onto, product_of, product_onto, query_of, rewritten, selected_by, union_onto}
-use Rattle.gp_compose.specs.Composed.{composed, current, current_before, last_write, moved, onto, program_at, published, step_of, steps_of, writes}
+use Rattle.gp_rewrite.specs.Rewriting.{branch_of, made_of, made_onto, product_of, query_of, rewritten, selected_by}
+use Rattle.gp_rewrite.specs.RewritingForms.{product_onto, union_onto}
+use Rattle.gp_compose.specs.Composed.{composed, current, current_before, last_write, moved, onto, program_at, published, step_of, writes}
+use Rattle.gp_compose.specs.StepForms.{steps_of}
 use Rattle.gp_base.proofs.SmallLemmas.{each_append}
 
 -- ---- versions up to one
@@ -150,7 +152,7 @@ module _ (n : ℕ) (columns : ℕ → ℕ) (log : Log) (t : ℕ) where
 
 -- ---- the programs of states
 
-needed_scans : (columns : ℕ → ℕ) (entries : List Entry) → KeepsSessions entries → (point : y.State) → IsAsked entries point → (select : Select) (scan : ScanAt) →
+needed_scans : (columns : ℕ → ℕ) (entries : List Entry) → KeepsSessions entries → (point : y.Point) → IsAsked entries point → (select : Select) (scan : ScanAt) →
     Contains (annotated_program_scans (program_at columns entries point select)) scan → scan.version ≤ needed_version entries point
 needed_scans columns entries is (y.as_of version) (to_version l) select scan among =
     each_contained (IsUpTo version) (annotated_query_scans (query_of (λ table. q.scan table version) select)) (query_up_to version (λ table. q.scan table version) (λ table. (omega arith, tt)) select) scan among
@@ -161,11 +163,11 @@ needed_scans columns entries is (y.after t k) (to_statement {version = version} 
     each_contained (IsUpTo needed) (annotated_program_scans (program_at columns entries (y.after t k) select))
     (program_up_to needed columns log t k (query_of (current log t k) select) within
     (query_up_to needed (current log t k) (λ table. current_up_to needed columns log t k table within) select)) scan among
-needed_scans columns entries is (y.State.commit t) (to_commit {version = version} made) select scan among =
+needed_scans columns entries is (y.Point.commit t) (to_commit {version = version} made) select scan among =
     let log = log_of entries in
     let before : ℕ = version_before (version_of t entries) in
     let within : ReadUpTo log t (statement_count t entries) before = λ j l. up_to j version made (read_before entries is t version j made l) in
-    each_contained (IsUpTo before) (annotated_program_scans (program_at columns entries (y.State.commit t) select))
+    each_contained (IsUpTo before) (annotated_program_scans (program_at columns entries (y.Point.commit t) select))
     (program_up_to before columns log t (statement_count t entries) (query_of (published log t before) select) within
     (query_up_to before (published log t before) (λ table. published_up_to before columns log t before table within (omega arith)) select)) scan among
   where
@@ -173,6 +175,6 @@ needed_scans columns entries is (y.State.commit t) (to_commit {version = version
     up_to j zero made l = absurd (omega arith)
     up_to j (suc w) made l = subst (λ o. statement_version t j entries ≤ version_before o) (sym made) (omega arith)
 
-pub scans_are_needed : (columns : ℕ → ℕ) (entries : List Entry) → KeepsSessions entries → (point : y.State) → log_refusal entries point ≡ None → (select : Select) (scan : ScanAt) →
+pub scans_are_needed : (columns : ℕ → ℕ) (entries : List Entry) → KeepsSessions entries → (point : y.Point) → log_refusal entries point ≡ None → (select : Select) (scan : ScanAt) →
     Contains (annotated_program_scans (program_at columns entries point select)) scan → scan.version ≤ needed_version entries point
 scans_are_needed columns entries is point known select scan among = needed_scans columns entries is point (asked entries point known) select scan among

@@ -1,5 +1,5 @@
 -- Lists with a query for each table.
-use Rattle.std.proofs.Common.{◌≡◌, ℕ, zero, suc, ◌+◌, ◌<◌, List, [], ◌∷◌, ◌++◌, length, map, sym, ap, ◌∙◌, subst, arith, ⊎_elim}
+use Rattle.std.proofs.Common.{◌≡◌, ℕ, ◌+◌, ◌<◌, List, [], ◌∷◌, ◌++◌, length, map, sym, ap, ◌∙◌, subst, arith, ⊎_elim}
 use Rattle.std.proofs.Math.Seq.{get_or-append_seam}
 use Rattle.std.proofs.lemmas.Bool.{cases_lt}
 use Rattle.std.proofs.lemmas.List.{get_or_append_left, length-append, length-map, map-append}
@@ -7,7 +7,7 @@ use Rattle.gp_algebra.specs.AnnotatedQueries as q
 use Rattle.gp_algebra.specs.AnnotatedQueries.{Query}
 use Rattle.gp_algebra.specs.QueryViews.{annotated_view}
 use Rattle.gp_algebra.specs.declared.annotated.AQuery.{AQuery}
-use Rattle.gp_rewrite.specs.Rewriting.{query_at}
+use Rattle.gp_rewrite.specs.RewritingForms.{query_at}
 use Rattle.gp_compose.specs.Composition.{AreTables}
 
 pub no-tables : (query : ℕ → Query) → AreTables 0 query []

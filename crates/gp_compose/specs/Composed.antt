@@ -1,7 +1,8 @@
 -- Part of the statement: the statements of a transaction as one program. Each statement that writes a table is a step, over the current query of each
 -- table: the step that wrote the table last, or a scan of the version that the statement reads. Where a statement reads another version than the one
 -- before, PUBLISH moves what the transaction wrote onto it. What a COMMIT published is PUBLISH onto the version before the commit.
-use Rattle.std.specs.Prelude.{ℕ, zero, suc, ◌==◌, Bool, false, List, [], ◌∷◌, ◌++◌, Option, Some, None, if◌then◌else◌}
+use Rattle.std.specs.Prelude.{ℕ, zero, suc, ◌==◌, Bool, false, List, [], ◌∷◌, ◌++◌, Option, Some, None, option_and_then, if◌then◌else◌}
+use Rattle.std.specs.Option.{option_map, option_map_or, option_to_list}
 use Rattle.gp_grammar.specs.Syntax as y
 use Rattle.gp_algebra.specs.Statements.{Statement, Select, target}
 use Rattle.gp_algebra.specs.AnnotatedQueries as q
@@ -12,13 +13,9 @@ use Rattle.gp_rewrite.specs.Rewriting.{rewritten, query_of}
 
 -- ---- which statement wrote a table last
 
-abbrev pub is_target : Option ℕ → ℕ → Bool
-is_target None table = false
-is_target (Some own) table = table == own
-
+-- a number without a statement writes nothing
 abbrev pub writes : Option Statement → ℕ → Bool
-writes None table = false
-writes (Some statement) table = is_target (target statement) table
+writes statement table = option_map_or (λ own. table == own) (option_and_then target statement) false
 
 -- among the first statements of the transaction, this many
 abbrev pub last_write : Log → ℕ → ℕ → ℕ → Option ℕ
@@ -48,14 +45,11 @@ current_before log t k table = moved (log.version t k) (log.version t (suc k)) t
 
 -- ---- steps, given the number of columns of each table
 
-abbrev pub steps_of : (ℕ → ℕ) → ℕ → ℕ → (ℕ → Query) → Statement → Option ℕ → List QueryStep
-steps_of columns t k tables statement None = []
-steps_of columns t k tables statement (Some table) = record { j = k; table = table; query = rewritten columns t k statement tables } ∷ []
-
 -- the step of a statement, if it writes a table
 abbrev pub step_of : (ℕ → ℕ) → ℕ → ℕ → (ℕ → Query) → Option Statement → List QueryStep
 step_of columns t k tables None = []
-step_of columns t k tables (Some statement) = steps_of columns t k tables statement (target statement)
+step_of columns t k tables (Some statement) =
+    option_to_list (option_map (λ table. record { j = k; table = table; query = rewritten columns t k statement tables }) (target statement))
 
 -- the steps of the first statements, this many; a step has the number of its statement
 abbrev pub composed : (ℕ → ℕ) → Log → ℕ → ℕ → List QueryStep
@@ -82,7 +76,7 @@ abbrev pub as_of : ℕ → Select → Program
 as_of version select = record { steps = []; last = query_of (λ table. q.scan table version) select }
 
 -- the program of a state
-abbrev pub program_at : (ℕ → ℕ) → List Entry → y.State → Select → Program
+abbrev pub program_at : (ℕ → ℕ) → List Entry → y.Point → Select → Program
 program_at columns entries (y.as_of version) select = as_of version select
 program_at columns entries (y.after t k) select = after columns (log_of entries) t k select
-program_at columns entries (y.State.commit t) select = commit columns (log_of entries) t (version_before (version_of t entries)) select
+program_at columns entries (y.Point.commit t) select = commit columns (log_of entries) t (version_before (version_of t entries)) select

@@ -9,7 +9,8 @@ use Rattle.gp_machine.specs.Entries.{Entry, Created, Began, Ran, Committed, Ende
 use Rattle.gp_log.specs.Contents.{entries, tables}
 use Rattle.gp_log.specs.Logs.{Logged, entry_view}
 use Rattle.gp_log.specs.declared.entry.Entry as code
-use Rattle.gp_rewrite.specs.Rewriting.{query_at, rewritten}
+use Rattle.gp_rewrite.specs.Rewriting.{rewritten}
+use Rattle.gp_rewrite.specs.RewritingForms.{query_at}
 use Rattle.gp_compose.specs.Composed.{composed, current, current_before, last_write}
 
 -- the statement of an entry, if it is one of the transaction

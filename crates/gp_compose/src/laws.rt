@@ -35,7 +35,7 @@ pub fn composed_programs_mean_the_states<M>()
     ensures answers { (domain : Annotations M) → IsMonoid domain → (catalogue : List Table)
         (entries : List Entry) → statements_fit catalogue entries ≡ true
         → (env : Environment M) → AreVersions catalogue env
-        → (point : y.State) (select : Select) → select_fits catalogue select ≡ true
+        → (point : y.Point) (select : Select) → select_fits catalogue select ≡ true
         → map unmarked
         (program_meaning domain env (program_at (width_of catalogue) entries point select))
         ≡ map of_element (answer domain select (at_point domain entries point env)) }
@@ -80,15 +80,15 @@ pub fn looking_programs_give_the_rows<M>()
 /// does the query.
 pub fn composed_programs_are_well_built()
     ensures programs { (catalogue : List Table) (entries : List Entry)
-        → statements_fit catalogue entries ≡ true → (point : y.State)
+        → statements_fit catalogue entries ≡ true → (point : y.Point)
         → ((t k : ℕ) → point ≡ y.after t k → 0 < t)
-        → ((t : ℕ) → point ≡ y.State.commit t → 0 < t)
+        → ((t : ℕ) → point ≡ y.Point.commit t → 0 < t)
         → (select : Select) → select_fits catalogue select ≡ true
         → IsWellBuilt (width_of catalogue)
         (program_at (width_of catalogue) entries point select) }
     ensures asked { (catalogue : List Table) (entries : List Entry)
         → statements_fit catalogue entries ≡ true
-        → (point : y.State) → log_refusal entries point ≡ None
+        → (point : y.Point) → log_refusal entries point ≡ None
         → (select : Select) → select_fits catalogue select ≡ true
         → IsWellBuilt (width_of catalogue)
         (program_at (width_of catalogue) entries point select) }
@@ -103,7 +103,7 @@ pub fn composed_programs_are_well_built()
 /// later versions are not needed either.
 pub fn composed_programs_scan_what_is_needed()
     ensures { (entries : List Entry) → KeepsSessions entries
-        → (columns : ℕ → ℕ) (point : y.State) → log_refusal entries point ≡ None
+        → (columns : ℕ → ℕ) (point : y.Point) → log_refusal entries point ≡ None
         → (select : Select) (scan : ScanAt)
         → Contains (annotated_program_scans (program_at columns entries point select)) scan
         → scan.version ≤ needed_version entries point }

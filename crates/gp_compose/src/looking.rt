@@ -1,17 +1,13 @@
 //! Programs of the rows by which one looks at a statement.
 
-ghost use Rattle.std.specs.Prelude.{◌≡◌, ◌<◌, ◌≤◌, ◌+◌, ◌^◌, Some, suc, true, length, map, IfOk};
+ghost use Rattle.std.specs.Prelude.{◌≡◌, ◌<◌, ◌+◌, ◌^◌, length, map, IfOk};
 ghost use Rattle.gp_algebra.specs.AnnotatedQueries as q;
 ghost use Rattle.gp_algebra.specs.QueryViews.{annotated_program_view, annotated_view};
 ghost use Rattle.gp_algebra.specs.Views.{statement_view};
 ghost use Rattle.gp_expr.specs.Views.{cond_view};
-ghost use Rattle.gp_machine.specs.Entries as m;
-ghost use Rattle.gp_log.specs.Contents.{entries, tables};
-ghost use Rattle.gp_log.specs.LogFitting.{statements_fit};
-ghost use Rattle.gp_machine.specs.Questions.{is_known};
-ghost use Rattle.gp_rewrite.specs.Rewriting.{query_at};
+ghost use Rattle.gp_rewrite.specs.RewritingForms.{query_at};
 ghost use Rattle.gp_compose.specs.Composing as c;
-ghost use Rattle.gp_compose.specs.Composing.{looking_in};
+ghost use Rattle.gp_compose.specs.Composing.{HasStatement, looking_in};
 ghost use Rattle.gp_compose.specs.Composition.{HasTable};
 
 use crate::state_check::begin_version;
@@ -63,17 +59,12 @@ pub fn looked(
     before: u32,
     stmt: &Stmt,
 ) -> Result<AProgram, NoMemory>
-    requires known { is_known t (entries log.now) ≡ true }
+    requires statement { HasStatement log.now t before (statement_view stmt.now) }
     requires more { before + 1 < 2 ^ 32 }
-    requires most { suc before ≤ m.statement_count t (entries log.now) }
-    requires here { m.statement_at t (suc before) (entries log.now)
-        ≡ Some (statement_view stmt.now) }
-    requires statements { statements_fit (tables log.now) (entries log.now) ≡ true }
     ensures { IfOk result (λ program. annotated_program_view program
         ≡ looking_in log.now t before (statement_view stmt.now)) }
 {
-    // A catalogue has few tables. That is known of it where it is asked for their number.
-    let _count = log.catalog().len();
+    log.bounds();
     let k = before + 1;
     let mut parts = composed(alloc, log, t, begin_version(log, t), before)?;
     parts.move_to(alloc, log.version_read_by(t, k))?;

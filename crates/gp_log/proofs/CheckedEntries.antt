@@ -7,7 +7,8 @@ use Rattle.gp_grammar.specs.Syntax as y
 use Rattle.gp_grammar.specs.Syntax.{Command, is_statement}
 use Rattle.gp_algebra.specs.Statements.{Statement}
 use Rattle.gp_check.specs.Checking.{checked}
-use Rattle.gp_machine.specs.Actions.{Action, Begin, Commit, Create, Rollback, Run, action_of, allowed}
+use Rattle.gp_machine.specs.ActionForms.{Action, Begin, Commit, Create, Rollback, Run, action_of, allowed_to}
+use Rattle.gp_machine.proofs.ActionLemmas.{allowed-is}
 use Rattle.gp_machine.specs.Entries.{Began, Entry, Ran, statement_count, statements_in, transactions_in}
 use Rattle.gp_machine.specs.Event.{count_refusal}
 use Rattle.gp_log.specs.Discipline.{Disorder, Does, Flaw, creating, doing, next_entry, running, transaction_in}
@@ -37,7 +38,7 @@ module _ (older : List Entry) (line session : ℕ) (command : Command) (t : ℕ)
   no_begin true level e = cc
   no_begin false level e = cc
 
-  was_run : (active : Option ℕ) (done : Action) → Gives (doing parameters older line session (allowed active done)) → WasRun done
+  was_run : (active : Option ℕ) (done : Action) → Gives (doing parameters older line session (allowed_to active done)) → WasRun done
   was_run None (Create table) e =
       absurd (no_table (nat_le parameters.tables (length (tables_in older))) table (parameters.created (tables_in older) table) e)
   was_run None (Begin level) e = absurd (no_begin (nat_le parameters.transactions (transactions_in older)) level e)
@@ -66,4 +67,5 @@ module _ (older : List Entry) (line session : ℕ) (command : Command) (t : ℕ)
   pub was_checked : next_entry parameters older line session (Does command) ≡ Ok (Ran line session command t statement)
       → (is_statement command ≡ true) × (checked (tables_in older) command ≡ Ok statement)
   was_checked follows =
-      let was = was_run (transaction_in session older) (action_of command) follows in (kind command was.0, was.1)
+      let was = was_run (transaction_in session older) (action_of command) (subst (λ may. Gives (doing parameters older line session may)) (allowed-is (transaction_in session older) command) follows) in
+      (kind command was.0, was.1)

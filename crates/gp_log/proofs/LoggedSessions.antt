@@ -1,15 +1,19 @@
 -- A log that keeps the rules of its entries keeps its sessions.
-use Rattle.std.proofs.Common.{◌≡◌, ℕ, suc, Bool, true, false, cond, List, [], ◌∷◌, Option, Some, None, refl, ap}
+use Rattle.std.proofs.Common.{◌≡◌, ℕ, suc, Bool, true, false, cond, List, [], ◌∷◌, Option, Some, None, refl, ap, subst}
+use Rattle.std.specs.Option.{ok_or, option_map}
 use Rattle.std.specs.Prelude.{nat_le, length, Result, Ok, Err}
 use Rattle.gp_base.specs.declared.refusal.Refusal.{Refusal}
 use Rattle.gp_base.specs.declared.table.Table.{Table}
+use Rattle.gp_grammar.specs.Syntax as y
 use Rattle.gp_grammar.specs.Syntax.{Command}
 use Rattle.gp_algebra.specs.Statements.{Statement}
-use Rattle.gp_machine.specs.Actions.{Action, Begin, Commit, Create, Rollback, Run, action_of, allowed}
+use Rattle.gp_machine.proofs.ActionLemmas.{allowed-is}
+use Rattle.gp_machine.specs.Actions.{allowed}
+use Rattle.gp_machine.specs.ActionForms.{Action, Begin, Commit, Create, Rollback, Run, action_of, allowed_to}
 use Rattle.gp_machine.specs.Entries.{Entry, RolledBack, Lost, Created, Began, Ran, Committed, Ended, statement_count, statements_in, transactions_in}
 use Rattle.gp_machine.specs.Event.{count_refusal}
 use Rattle.gp_machine.specs.Parameters.{Parameters}
-use Rattle.gp_log.specs.Discipline.{Flaw, Disorder, Unchecked, IsLog, IsNext, creating, doing, losing, running, transaction_in}
+use Rattle.gp_log.specs.Discipline.{Flaw, Disorder, Unchecked, IsLog, IsNext, creating, doing, running, transaction_in}
 use Rattle.gp_log.specs.LogFacts.{tables_in}
 use Rattle.gp_log.specs.Sessions.{KeepsSessions}
 
@@ -34,13 +38,15 @@ module _ (parameters : Parameters) where
       two true kind e = absurd (refused_accepted Disorder (Began line session t level) e)
       two false kind e = same (suc (transactions_in older)) kind e
 
-      go : (o : Option ℕ) (kind : Bool) → doing parameters older line session (allowed o (Begin kind)) ≡ Ok (Began line session t level) → t ≡ suc (transactions_in older)
+      go : (o : Option ℕ) (kind : Bool) → doing parameters older line session (allowed o (y.begin kind)) ≡ Ok (Began line session t level) → t ≡ suc (transactions_in older)
       go None kind e = two (nat_le parameters.transactions (transactions_in older)) kind e
       go (Some u) kind e = absurd (refused_accepted Disorder (Began line session t level) e)
 
   -- a statement is of the transaction of its session
   ran_is : (older : List Entry) (line session : ℕ) (command : Command) (t : ℕ) (statement : Statement) → IsNext parameters older (Ran line session command t statement) → transaction_in session older ≡ Some t
-  ran_is older line session command t statement next = go (transaction_in session older) (action_of command) next.follows
+  ran_is older line session command t statement next =
+      go (transaction_in session older) (action_of command)
+      (subst (λ may. doing parameters older line session may ≡ Ok (Ran line session command t statement)) (allowed-is (transaction_in session older) command) next.follows)
     where
       created : (table : Table) (o : Option Refusal) → creating parameters older line session table o ≡ accepted (Ran line session command t statement) → ⊥
       created table (Some refusal) e = cc
@@ -59,7 +65,7 @@ module _ (parameters : Parameters) where
       runs u other None (Err refusal) e = absurd (refused_accepted Unchecked (Ran line session command t statement) e)
       runs u other None (Ok found) e = cc
 
-      go : (o : Option ℕ) (a : Action) → doing parameters older line session (allowed o a) ≡ Ok (Ran line session command t statement) → o ≡ Some t
+      go : (o : Option ℕ) (a : Action) → doing parameters older line session (allowed_to o a) ≡ Ok (Ran line session command t statement) → o ≡ Some t
       go None (Create table) e = absurd (creates (nat_le parameters.tables (length (tables_in older))) table (parameters.created (tables_in older) table) e)
       go None (Begin level) e = absurd (begins (nat_le parameters.transactions (transactions_in older)) (suc (transactions_in older)) level e)
       go None Commit e = absurd (refused_accepted Disorder (Ran line session command t statement) e)
@@ -79,30 +85,30 @@ module _ (parameters : Parameters) where
       same : (u : ℕ) → accepted (Committed line session u) ≡ accepted (Committed line session t) → u ≡ t
       same u e = cc
 
-      go : (o : Option ℕ) → doing parameters older line session (allowed o Commit) ≡ Ok (Committed line session t) → o ≡ Some t
+      go : (o : Option ℕ) → doing parameters older line session (allowed o y.Command.commit) ≡ Ok (Committed line session t) → o ≡ Some t
       go None e = absurd (refused_accepted Disorder (Committed line session t) e)
       go (Some u) e = ap Some (same u e)
 
 module _ (parameters : Parameters) (older : List Entry) (line session : ℕ) where
   -- CREATE TABLE
-  created_free : (table : Table) (entry : Entry) (o : Option ℕ) → doing parameters older line session (allowed o (Create table)) ≡ Ok entry → o ≡ None
+  created_free : (table : Table) (entry : Entry) (o : Option ℕ) → doing parameters older line session (allowed o (y.create table)) ≡ Ok entry → o ≡ None
   created_free table entry None e = refl
   created_free table entry (Some t) e = absurd cc
 
   -- BEGIN
-  began_free : (level : Bool) (entry : Entry) (o : Option ℕ) → doing parameters older line session (allowed o (Begin level)) ≡ Ok entry → o ≡ None
+  began_free : (level : Bool) (entry : Entry) (o : Option ℕ) → doing parameters older line session (allowed o (y.begin level)) ≡ Ok entry → o ≡ None
   began_free level entry None e = refl
   began_free level entry (Some u) e = absurd cc
 
   -- the end of a transaction
-  rolled_in : (t : ℕ) (o : Option ℕ) → doing parameters older line session (allowed o Rollback) ≡ Ok (Ended line session RolledBack t) → o ≡ Some t
+  rolled_in : (t : ℕ) (o : Option ℕ) → doing parameters older line session (allowed o y.rollback) ≡ Ok (Ended line session RolledBack t) → o ≡ Some t
   rolled_in t None e = absurd cc
   rolled_in t (Some u) e = ap Some (is e)
     where
       is : accepted (Ended line session RolledBack u) ≡ accepted (Ended line session RolledBack t) → u ≡ t
       is e = cc
 
-  lost_in : (t : ℕ) (o : Option ℕ) → losing parameters older line session o ≡ Ok (Ended line session Lost t) → o ≡ Some t
+  lost_in : (t : ℕ) (o : Option ℕ) → ok_or (option_map (Ended line session Lost) o) Disorder ≡ Ok (Ended line session Lost t) → o ≡ Some t
   lost_in t None e = absurd cc
   lost_in t (Some u) e = ap Some (is e)
     where

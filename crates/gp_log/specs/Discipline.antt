@@ -1,13 +1,14 @@
 -- Part of the statement: which lines a log can have. What a line may do depends on the log before it alone: on whether its session has a transaction,
 -- on the counts, and on the tables. An engine accepts exactly such lines, but for its limits on rows, identities and answers, and for conflicts.
 use Rattle.std.specs.Prelude.{◌≡◌, ℕ, zero, suc, ◌<◌, ◌≤◌, ◌&&◌, ◌||◌, nat_le, List, [], ◌∷◌, length, Option, Some, None, Result, Ok, Err, if◌then◌else◌, ◌==◌}
+use Rattle.std.specs.Option.{ok_or, option_map, option_map_or}
 use Rattle.gp_base.specs.declared.refusal.Refusal.{Refusal}
 use Rattle.gp_base.specs.declared.table.Table.{Table}
 use Rattle.gp_grammar.specs.declared.limits.TheConstants.{MAX_SESSION}
 use Rattle.gp_grammar.specs.Syntax as y
 use Rattle.gp_grammar.specs.Syntax.{Command}
 use Rattle.gp_algebra.specs.Statements.{Statement}
-use Rattle.gp_machine.specs.Actions.{Allowed, Creates, Begins, Commits, RollsBack, Runs, action_of, allowed}
+use Rattle.gp_machine.specs.Actions.{Allowed, Creates, Begins, Commits, RollsBack, Runs, allowed}
 use Rattle.gp_machine.specs.Entries.{Entry, RolledBack, Lost, Created, Began, Ran, Committed, Ended, at_newest, is_begin, is_end, line_of, session_of, transaction_of, transactions_in, statements_in, statement_count}
 use Rattle.gp_machine.specs.Event.{count_refusal}
 use Rattle.gp_machine.specs.Parameters.{Parameters}
@@ -45,8 +46,7 @@ pub data Flaw : Type 0 where
 module _ (parameters : Parameters) (older : List Entry) (line session : ℕ) where
   -- CREATE TABLE, by the refusal of its names
   abbrev pub creating : Table → Option Refusal → Result Entry Flaw
-  creating table (Some refusal) = Err Unchecked
-  creating table None = Ok (Created line session table)
+  creating table refusal = option_map_or (λ _. Err Unchecked) refusal (Ok (Created line session table))
 
   -- a statement, by the refusal of the counts, and by the check
   abbrev pub running : ℕ → Command → Option Refusal → Result Statement Refusal → Result Entry Flaw
@@ -66,14 +66,10 @@ module _ (parameters : Parameters) (older : List Entry) (line session : ℕ) whe
   doing (Ok (Runs t command)) =
       running t command (count_refusal parameters (statement_count t older) (statements_in older)) (parameters.checked (tables_in older) command)
 
-  abbrev pub losing : Option ℕ → Result Entry Flaw
-  losing None = Err Disorder
-  losing (Some t) = Ok (Ended line session Lost t)
-
   -- the entry of a line, or why it cannot be next
   abbrev pub next_entry : Said → Result Entry Flaw
-  next_entry (Does command) = doing (allowed (transaction_in session older) (action_of command))
-  next_entry Loses = losing (transaction_in session older)
+  next_entry (Does command) = doing (allowed (transaction_in session older) command)
+  next_entry Loses = ok_or (option_map (Ended line session Lost) (transaction_in session older)) Disorder
 
 -- ---- whole logs
 

@@ -3,6 +3,8 @@
 ghost use Rattle.std.specs.Prelude.{◌≡◌, ◌<◌, ◌≤◌, ◌+◌, ◌-◌, ◌^◌, ◌++◌, ◌∷◌, [], OnOk, OnErr, IsOk, if◌then◌else◌, true, false, length, slice_get, take, vec_capacity, vec_len, Some};
 ghost use Rattle.std.specs.Option.{option_map};
 ghost use Rattle.gp_algebra.specs.Views.{statement_view};
+ghost use Rattle.gp_base.specs.declared.catalog.TheConstants.{MAX_TABLES};
+ghost use Rattle.gp_base.specs.CatalogForms.{HaveDifferentNames};
 ghost use Rattle.gp_log.specs.Contents.{entries, tables};
 ghost use Rattle.gp_log.specs.LogFacts.{tables_in};
 ghost use Rattle.gp_log.specs.LogCounts.{numbered, open_in, version_at};
@@ -180,6 +182,19 @@ impl Log {
         ensures { result.now ≡ tables self.now }
     {
         &self.catalog
+    }
+
+    /// What holds of every log, for a proof that needs it: its tables are few and have different names, and its commits and its
+    /// transactions are numbered by 32 bits. It does nothing.
+    pub fn bounds(&self)
+        ensures tables { length (tables self.now) ≤ MAX_TABLES }
+        ensures names { HaveDifferentNames (tables self.now) }
+        ensures commits { versions_in (entries self.now) < 2 ^ 32 }
+        ensures transactions { transactions_in (entries self.now) < 2 ^ 32 }
+    {
+        let _commits = self.commits();
+        let _transactions = self.transactions();
+        let _tables = self.catalog.len();
     }
 
     /// The transactions that have not ended.

@@ -28,7 +28,7 @@ has_statement t k entries e = go (nat_lt 0 k) (nat_le k (statement_count t entri
     go false b is e = absurd (some_none _ e)
 
 -- a point that the log does not refuse is one that may be asked about
-pub asked : (entries : List Entry) (point : y.State) → log_refusal entries point ≡ None → IsAsked entries point
+pub asked : (entries : List Entry) (point : y.Point) → log_refusal entries point ≡ None → IsAsked entries point
 asked entries (y.as_of version) e = go (nat_le version (versions_in entries)) refl e
   where
     go : (b : Bool) → nat_le version (versions_in entries) ≡ b → cond b None (Some (E23 (versions_in entries))) ≡ None → IsAsked entries (y.as_of version)
@@ -38,4 +38,4 @@ asked entries (y.after t k) e =
     let parts = none_parts (transaction_refusal t entries) (statement_refusal t k entries) e in
     let made = made_version t entries parts.0 in
     to_statement {version = made.0} made.1 (has_statement t k entries parts.1)
-asked entries (y.State.commit t) e = let made = made_version t entries e in to_commit {version = made.0} made.1
+asked entries (y.Point.commit t) e = let made = made_version t entries e in to_commit {version = made.0} made.1

@@ -12,15 +12,16 @@ use Rattle.gp_grammar.specs.Syntax.{Command}
 use Rattle.gp_machine.proofs.CommitLemmas.{IsMadeBy, all_sound}
 use Rattle.gp_machine.proofs.Distinct.{each_weaker}
 use Rattle.gp_machine.proofs.ReachedLemmas.{all_reached, event_reached, start_reached}
-use Rattle.gp_machine.specs.Actions.{Action, Begin, Commit, Create, Rollback, Run, action_of}
+use Rattle.gp_machine.specs.ActionForms.{Action, Begin, Commit, Create, Rollback, Run, action_of, answered}
 use Rattle.gp_machine.specs.Committers.{CommittedBy}
 use Rattle.gp_machine.specs.Conflicts.{Conflict}
 use Rattle.gp_machine.specs.Entries.{Committed, Entry, committer_of, log_of, statements_in, transactions_in, version_of, versions_in}
-use Rattle.gp_machine.specs.Event.{Line, after, answered, beginning, committing, conflict_of, count_refusal, creating, creation_refusal, event, is_full, ran, refusal_of, running, start_now}
+use Rattle.gp_machine.specs.Event.{Line, after, beginning, committing, conflict_of, count_refusal, creating, creation_refusal, event, is_full, ran, refusal_of, running, start_now}
 use Rattle.gp_machine.specs.Parameters.{Parameters}
 use Rattle.gp_machine.specs.Reached.{IsReached}
 use Rattle.gp_machine.specs.State.{Active, State, start}
 use Rattle.gp_base.proofs.SmallLemmas.{eq_itself, eq_not}
+use Rattle.gp_machine.proofs.ActionLemmas.{event-answered}
 
 -- each version is the one that its transaction made
 abbrev pub CommitOnce : List Entry → Type 0
@@ -49,7 +50,8 @@ commit_once line session t entries unfinished once u l =
 
 module _ {M : Type 0} (domain : Annotations M) (parameters : Parameters) where
   event_once : (state : State M) (line session : ℕ) (command : Command) → IsReached domain parameters state → CommitOnce state.entries → CommitOnce (event domain parameters state line session command).0.entries
-  event_once state line session command reached once = go (state.active session) refl (action_of command)
+  event_once state line session command reached once =
+      subst (λ outcome. CommitOnce outcome.0.entries) (sym (event-answered domain parameters state line session command)) (go (state.active session) refl (action_of command))
     where
       create_it : (table : Table) (refusal : Option Refusal) → CommitOnce (creating state line session table refusal).0.entries
       create_it table (Some refusal) = once

@@ -6,7 +6,7 @@ use Rattle.std.proofs.lemmas.Bool.{false≢true, and_parts, eqb-true, not-true, 
 use Rattle.gp_algebra.specs.Answers.{Element, answer}
 use Rattle.gp_algebra.specs.Effects.{Written, given_from, made, written_in, wrote}
 use Rattle.gp_algebra.specs.Statements.{Statement, delete, insert, insert_select, read, update}
-use Rattle.gp_base.specs.Annotated.{Annotated, Annotations, Database, Environment, plain}
+use Rattle.gp_base.specs.Annotated.{Annotated, Annotations, Database, Environment, unannotated}
 use Rattle.gp_base.specs.Identities.{Identity, same_identity}
 use Rattle.gp_base.specs.IdentityParts.{transaction_of}
 use Rattle.gp_base.specs.declared.cell.Cell.{Cell}
@@ -24,7 +24,7 @@ use Rattle.gp_machine.proofs.SpanLaws.{each_span, plain_spans_rows, spans_apart,
 use Rattle.gp_machine.proofs.SpanOrder.{next_bounds, next_upto}
 use Rattle.gp_machine.proofs.StepViews.{is_written_in}
 use Rattle.gp_machine.proofs.ViewLemmas.{holds_others}
-use Rattle.gp_machine.specs.Actions.{action_of}
+use Rattle.gp_machine.specs.ActionForms.{action_of}
 use Rattle.gp_machine.specs.Bases.{Based, is_new, pairs, with_base}
 use Rattle.gp_machine.specs.Committed.{is_written}
 use Rattle.gp_machine.specs.Conflicts.{Conflict, least_conflict}
@@ -166,7 +166,7 @@ no_write : (id : Identity) (v : ℕ) (spans : List Span) → AllByRecursion (λ 
 no_write id v [] each = refl
 no_write id v (span ∷ spans) each = ap (λ b. cond b (least (least (later v span.from) (later_end v span.to)) (written_after id v spans)) (written_after id v spans)) each.0 ∙ no_write id v spans each.1
 
-module _ (log : Log) (committed : Environment (Unit {0})) (written : ℕ → List Written) (history : IsHistory plain log committed written) (active : Active (Unit {0})) (over : IsOver plain log committed active)
+module _ (log : Log) (committed : Environment (Unit {0})) (written : ℕ → List Written) (history : IsHistory unannotated log committed written) (active : Active (Unit {0})) (over : IsOver unannotated log committed active)
     (kept : Kept) (represented : (place : ℕ) → kept.spans place ≡ spans_of log.versions committed written place)
     (begun : ℕ) (overlay : Overlay) (runs : RepresentsActive kept.spans begun overlay active) where
   abbrev last : ℕ
@@ -180,17 +180,17 @@ module _ (log : Log) (committed : Environment (Unit {0})) (written : ℕ → Lis
   read_each =
       subst (λ (seen : Seen (Unit {0})). AllByRecursion (λ (based : Based). (based.base ≤ last) × ((transaction_of based.pair.identity ≡ active.transaction) ⊎ (holds based.pair.identity (committed based.base based.pair.table) ≡ true))) seen.written) (sym over.seen)
       (each_weaker _ _ (λ based b. (let l = over.read b.number b.within in omega (arith, b.base), b.read)) _
-      (bases_read plain log committed written history active.transaction active.statements (active_clean plain log committed written history active over)))
+      (bases_read unannotated log committed written history active.transaction active.statements (active_clean unannotated log committed written history active over)))
 
   bases : HaveOneBase wrote_all
-  bases = subst (λ (seen : Seen (Unit {0})). HaveOneBase seen.written) (sym over.seen) (one_base plain log committed written history active.transaction active.statements)
+  bases = subst (λ (seen : Seen (Unit {0})). HaveOneBase seen.written) (sym over.seen) (one_base unannotated log committed written history active.transaction active.statements)
 
   -- no span is of a row that the transaction made
   other_spans : (place : ℕ) → AllByRecursion (λ (span : Span). transaction_of span.id ≢ active.transaction) (kept.spans place)
   other_spans place =
       subst (AllByRecursion (λ (span : Span). transaction_of span.id ≢ active.transaction)) (sym (represented place))
       (each_span last committed written place (λ span. transaction_of span.id ≢ active.transaction) (λ row. transaction_of row.identity ≢ active.transaction) (λ from row l n. n)
-      (λ v l. made_by_others plain log committed written history active over v l place) last (omega arith))
+      (λ v l. made_by_others unannotated log committed written history active over v l place) last (omega arith))
 
   -- so a row of its own has no next write
   own_unwritten : (place : ℕ) (id : Identity) (base : ℕ) → transaction_of id ≡ active.transaction → written_after id base (kept.spans place) ≡ None
@@ -203,26 +203,26 @@ module _ (log : Log) (committed : Environment (Unit {0})) (written : ℕ → Lis
       ] refl
 
   -- the spans hold the rows of each version
-  held_rows : (version place : ℕ) → version ≤ last → as_of plain kept.spans version place ≡ committed version place
-  held_rows version place l = ap (rows_at plain version) (represented place) ∙ plain_spans_rows log committed written history version place l
+  held_rows : (version place : ℕ) → version ≤ last → as_of unannotated kept.spans version place ≡ committed version place
+  held_rows version place l = ap (rows_at unannotated version) (represented place) ∙ plain_spans_rows log committed written history version place l
 
   -- the next write of a row of a version
   next_is : (place base : ℕ) (id : Identity) → base ≤ last → holds id (committed base place) ≡ true → written_after id base (kept.spans place) ≡ next_written written place id base (last - base)
   next_is place base id within held =
       ap (written_after id base) (represented place)
-      ∙ holds_own (λ id. written_after id base (spans_of last committed written place) ≡ next_written written place id base (last - base)) id (rows_at plain base (spans_of last committed written place))
-      (each_map _ (λ (span : Span). written_after span.id base (spans_of last committed written place) ≡ next_written written place span.id base (last - base)) (row_of plain) (λ span is. is) (spans_at base (spans_of last committed written place))
+      ∙ holds_own (λ id. written_after id base (spans_of last committed written place) ≡ next_written written place id base (last - base)) id (rows_at unannotated base (spans_of last committed written place))
+      (each_map _ (λ (span : Span). written_after span.id base (spans_of last committed written place) ≡ next_written written place span.id base (last - base)) (row_of unannotated) (λ span is. is) (spans_at base (spans_of last committed written place))
       (each_both _ _ _ (λ span a b. a ∙ b) (spans_at base (spans_of last committed written place))
-      (held-end base (spans_of last committed written place) (spans_apart plain log committed written history place) (spans_whole last committed written place))
+      (held-end base (spans_of last committed written place) (spans_apart unannotated log committed written history place) (spans_whole last committed written place))
       (each_filter _ (λ (span : Span). (v : ℕ) → v ≤ last → holds_at v span ≡ true → span.to ≡ next_written written place span.id v (last - v)) (holds_at base) (λ span there right. right base within there)
       (spans_of last committed written place) (spans_end committed written last place))))
-      (ap (holds id) (sym (ap (rows_at plain base) (represented place)) ∙ held_rows base place within) ∙ held)
+      (ap (holds id) (sym (ap (rows_at unannotated base) (represented place)) ∙ held_rows base place within) ∙ held)
 
   -- a row that a version wrote is none of the transaction's own
   others_wrote : (place v : ℕ) (id : Identity) → 0 < v → v ≤ last → is_written place id (written v) ≡ true → transaction_of id ≢ active.transaction
   others_wrote place zero id p l there own = absurd (omega arith)
   others_wrote place (suc u) id p l there own =
-      let by = committed_own plain log committed written history u place id l there in
+      let by = committed_own unannotated log committed written history u place id l there in
       over.unfinished by.0 by.1 (sym by.2 ∙ own)
 
   -- a row that the transaction wrote and a version after its base too: its next write
@@ -295,13 +295,13 @@ module _ (log : Log) (committed : Environment (Unit {0})) (written : ℕ → Lis
       go (Some conflict) (Some other) is shows = ap Some (least_once written last wrote_all conflict other bases (shown_least conflict shows) (least_conflict_is written last wrote_all other is))
 
 -- so an engine that finds it by its spans finds the conflict of the history
-pub found : (parameters : Parameters) (state : State (Unit {0})) (kept : Kept) → Represents kept state → IsReached plain parameters state → (session : ℕ) (conflict : Overlay → Option Conflict)
+pub found : (parameters : Parameters) (state : State (Unit {0})) (kept : Kept) → Represents kept state → IsReached unannotated parameters state → (session : ℕ) (conflict : Overlay → Option Conflict)
     → ((overlay : Overlay) → kept.sessions session ≡ Some overlay → ShowsConflict kept overlay (conflict overlay)) → FindsConflict kept state session conflict
 found parameters state kept represents reached session conflict shows overlay active f e runs =
-    shown_is (log_of state.entries) state.committed state.written reached.history active (active_over plain parameters state reached session active e) kept represents.spans (begin_version active.transaction state.entries) overlay runs (conflict overlay) (shows overlay f)
+    shown_is (log_of state.entries) state.committed state.written reached.history active (active_over unannotated parameters state reached session active e) kept represents.spans (begin_version active.transaction state.entries) overlay runs (conflict overlay) (shows overlay f)
 
 pub line_shown : (parameters : Parameters) (line : Line) (kept new : Kept) (answer : Reply) (conflict : Overlay → Option Conflict)
     → ((overlay : Overlay) → kept.sessions line.session ≡ Some overlay → ShowsConflict kept overlay (conflict overlay))
     → Answers parameters kept line.number line.session new answer conflict (kept.sessions line.session) (action_of line.command) → Follows parameters kept new line answer
 line_shown parameters line kept new answer conflict shows answers =
-    line_follows parameters line kept new answer conflict (λ lines represents. found parameters (after plain parameters start lines) kept represents (all_reached plain parameters lines) line.session conflict shows) answers
+    line_follows parameters line kept new answer conflict (λ lines represents. found parameters (after unannotated parameters start lines) kept represents (all_reached unannotated parameters lines) line.session conflict shows) answers

@@ -100,10 +100,10 @@ module _ {M : Type 0} (domain : Annotations M) (parameters : Parameters) (state 
       subst (λ o. SameBag (cleared (at_commit domain (log_of state.entries) t (version_before o) (annotated_versions domain state.entries spans)) table) (at_version o state.committed table)) (sym known) held
 
   -- the answer at each state that may be asked about is the one that the history held, with identities and annotations
-  pub simulated : (point : y.State) → IsAsked state.entries point → (query : Select) → SameBag (answer domain query (at_point domain state.entries point (annotated_versions domain state.entries spans))) (answer domain query (held_at state point))
+  pub simulated : (point : y.Point) → IsAsked state.entries point → (query : Select) → SameBag (answer domain query (at_point domain state.entries point (annotated_versions domain state.entries spans))) (answer domain query (held_at state point))
   simulated (y.as_of v) (to_version l) query = answer_same domain query _ _ (versions_held domain (log_of state.entries) state.committed state.written unstopped.history spans are v l)
   simulated (y.after t k) (to_statement {version = v} e l) query = answer_same domain query _ _ (after_held t k v e l)
-  simulated (y.State.commit t) (to_commit {version = v} e) query = through (same_from _ _ (sym (answer_cleared domain 1 query _))) (answer_same domain query _ _ (commit_held t v e))
+  simulated (y.Point.commit t) (to_commit {version = v} e) query = through (same_from _ _ (sym (answer_cleared domain 1 query _))) (answer_same domain query _ _ (commit_held t v e))
 
   -- ---- no stop comes
 

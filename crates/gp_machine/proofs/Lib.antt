@@ -1,3 +1,4 @@
+pub mod ActionLemmas
 pub mod ActiveLemmas
 mod AnnotationLemmas
 pub mod AskedLemmas

@@ -5,7 +5,7 @@ use Rattle.std.specs.List.{filter}
 use Rattle.std.specs.Option.{is_none}
 use Rattle.std.proofs.lemmas.List.Elements.{filter-append}
 use Rattle.gp_algebra.specs.Effects.{Written}
-use Rattle.gp_base.specs.Annotated.{Annotated, Environment, plain}
+use Rattle.gp_base.specs.Annotated.{Annotated, Environment, unannotated}
 use Rattle.gp_machine.proofs.ActiveLemmas.{IsOver, active_kept, active_over, active_version, made_by_others}
 use Rattle.gp_machine.proofs.BaseLemmas.{base_or_none}
 use Rattle.gp_machine.proofs.Distinct.{each_all, each_filter, each_weaker, filter_each, filter_every, filter_none}
@@ -27,37 +27,37 @@ use Rattle.std.proofs.lemmas.Bool.{both_ways, eqb-true}
 
 -- in another version than the one that the writes of the table lie over
 pub view_there : (spans : ℕ → List Span) (overlay : Overlay) (version place : ℕ) → version ≢ overlay.version place
-    → view_at spans overlay version place ≡ filter (λ row. is_none (base_in spans overlay place row.identity)) (as_of plain spans version place) ++ filter (λ row. row.mark) (view_of spans overlay place)
-view_there spans overlay version place n = ap (λ b. cond b (view_of spans overlay place) (filter (λ row. is_none (base_in spans overlay place row.identity)) (as_of plain spans version place) ++ filter (λ row. row.mark) (view_of spans overlay place))) (eq_not version (overlay.version place) n)
+    → view_at spans overlay version place ≡ filter (λ row. is_none (base_in spans overlay place row.identity)) (as_of unannotated spans version place) ++ filter (λ row. row.mark) (view_of spans overlay place)
+view_there spans overlay version place n = ap (λ b. cond b (view_of spans overlay place) (filter (λ row. is_none (base_in spans overlay place row.identity)) (as_of unannotated spans version place) ++ filter (λ row. row.mark) (view_of spans overlay place))) (eq_not version (overlay.version place) n)
 
 -- the marked rows are the same in each version
 pub marks_of_view : (spans : ℕ → List Span) (overlay : Overlay) (version place : ℕ) → filter (λ row. row.mark) (view_at spans overlay version place) ≡ filter (λ row. row.mark) (view_of spans overlay place)
 marks_of_view spans overlay version place =
-    elim (version == overlay.version place) as (λ b. filter (λ row. row.mark) (cond b (view_of spans overlay place) (filter (λ row. is_none (base_in spans overlay place row.identity)) (as_of plain spans version place) ++ filter (λ row. row.mark) (view_of spans overlay place)))
+    elim (version == overlay.version place) as (λ b. filter (λ row. row.mark) (cond b (view_of spans overlay place) (filter (λ row. is_none (base_in spans overlay place row.identity)) (as_of unannotated spans version place) ++ filter (λ row. row.mark) (view_of spans overlay place)))
     ≡ filter (λ row. row.mark) (view_of spans overlay place)) [
       | true ↦ refl
       | false ↦
-          filter-append (λ (row : Annotated (Unit {0})). row.mark) (filter (λ row. is_none (base_in spans overlay place row.identity)) (as_of plain spans version place)) (filter (λ row. row.mark) (view_of spans overlay place))
+          filter-append (λ (row : Annotated (Unit {0})). row.mark) (filter (λ row. is_none (base_in spans overlay place row.identity)) (as_of unannotated spans version place)) (filter (λ row. row.mark) (view_of spans overlay place))
           ∙ (λ i. none i ++ twice i)
     ]
   where
-    none : filter (λ (row : Annotated (Unit {0})). row.mark) (filter (λ row. is_none (base_in spans overlay place row.identity)) (as_of plain spans version place)) ≡ []
-    none = filter_none _ _ (each_filter _ (λ row. row.mark ≡ false) _ (λ row e f. f) (as_of plain spans version place)
-        (each_map _ (λ span. Unit {0}) (row_of plain) (λ span e. refl) (spans_at version (spans place)) (each_all _ (λ span. tt) (spans_at version (spans place)))))
+    none : filter (λ (row : Annotated (Unit {0})). row.mark) (filter (λ row. is_none (base_in spans overlay place row.identity)) (as_of unannotated spans version place)) ≡ []
+    none = filter_none _ _ (each_filter _ (λ row. row.mark ≡ false) _ (λ row e f. f) (as_of unannotated spans version place)
+        (each_map _ (λ span. Unit {0}) (row_of unannotated) (λ span e. refl) (spans_at version (spans place)) (each_all _ (λ span. tt) (spans_at version (spans place)))))
 
     twice : filter (λ (row : Annotated (Unit {0})). row.mark) (filter (λ row. row.mark) (view_of spans overlay place)) ≡ filter (λ row. row.mark) (view_of spans overlay place)
     twice = filter_every _ _ (each_filter _ (λ row. Unit {0}) _ (λ row e f. e) (view_of spans overlay place) (each_all _ (λ row. tt) (view_of spans overlay place)))
 
-module _ (log : Log) (committed : Environment (Unit {0})) (written : ℕ → List Written) (history : IsHistory plain log committed written) (active : Active (Unit {0})) (over : IsOver plain log committed active)
+module _ (log : Log) (committed : Environment (Unit {0})) (written : ℕ → List Written) (history : IsHistory unannotated log committed written) (active : Active (Unit {0})) (over : IsOver unannotated log committed active)
     (spans : ℕ → List Span) (begun : ℕ) (overlay : Overlay) (runs : RepresentsActive spans begun overlay active) where
   -- the marked rows are those that the transaction wrote
   pub marked_are : (place : ℕ) → filter (λ row. row.mark) (view_of spans overlay place) ≡ filter (λ row. is_written place row.identity (pairs active.seen.written)) (active.seen.view place)
   marked_are place =
       sym (marks_of_view spans overlay active.version place) ∙ ap (filter (λ (row : Annotated (Unit {0})). row.mark)) (runs.view place)
-      ∙ filter_each _ _ (active.seen.view place) (active_kept plain log committed written history active over place).marks
+      ∙ filter_each _ _ (active.seen.view place) (active_kept unannotated log committed written history active over place).marks
 
   -- what is shown in a version that is not before the last one that it read is what it reads there
-  pub shown_at : (version : ℕ) → active.version ≤ version → version ≤ log.versions → ((place : ℕ) → as_of plain spans version place ≡ committed version place) → (place : ℕ)
+  pub shown_at : (version : ℕ) → active.version ≤ version → version ≤ log.versions → ((place : ℕ) → as_of unannotated spans version place ≡ committed version place) → (place : ℕ)
       → view_at spans overlay version place ≡ started active.version version (committed version) active.seen place
   shown_at version later within held place =
       elim (version == active.version) as (λ b. (version == active.version) ≡ b
@@ -71,17 +71,17 @@ module _ (log : Log) (committed : Environment (Unit {0})) (written : ℕ → Lis
       different : (version == active.version) ≡ false → version ≢ active.version
       different f same = absurd (both_ways (version == active.version) f (ap (λ v. v == active.version) same ∙ eq_itself active.version))
 
-      unwritten : filter (λ row. is_none (base_in spans overlay place row.identity)) (as_of plain spans version place) ≡ filter (λ row. not (is_written place row.identity (pairs active.seen.written))) (committed version place)
+      unwritten : filter (λ row. is_none (base_in spans overlay place row.identity)) (as_of unannotated spans version place) ≡ filter (λ row. not (is_written place row.identity (pairs active.seen.written))) (committed version place)
       unwritten =
           ap (filter (λ (row : Annotated (Unit {0})). is_none (base_in spans overlay place row.identity))) (held place)
           ∙ filter_each _ _ (committed version place)
           (each_weaker _ _ (λ row n. ap is_none (runs.base place row.identity (λ own. n (own ∙ runs.transaction))) ∙ base_or_none place row.identity active.seen.written)
-          (committed version place) (made_by_others plain log committed written history active over version within place))
+          (committed version place) (made_by_others unannotated log committed written history active over version within place))
 
-module _ (parameters : Parameters) (state : State (Unit {0})) (reached : IsReached plain parameters state) (session : ℕ) (active : Active (Unit {0})) (e : state.active session ≡ Some active)
+module _ (parameters : Parameters) (state : State (Unit {0})) (reached : IsReached unannotated parameters state) (session : ℕ) (active : Active (Unit {0})) (e : state.active session ≡ Some active)
     (spans : ℕ → List Span) (overlay : Overlay) (runs : RepresentsActive spans (begin_version active.transaction state.entries) overlay active) where
-  over : IsOver plain (log_of state.entries) state.committed active
-  over = active_over plain parameters state reached session active e
+  over : IsOver unannotated (log_of state.entries) state.committed active
+  over = active_over unannotated parameters state reached session active e
 
   -- the version of the next statement
   pub now_is : (newest : ℕ) → newest ≡ versions_in state.entries → version_to_read overlay newest ≡ version_now state active
@@ -95,7 +95,7 @@ module _ (parameters : Parameters) (state : State (Unit {0})) (reached : IsReach
   not_before = go active.read_committed
     where
       go : (b : Bool) → active.version ≤ cond b (versions_in state.entries) active.version
-      go true = active_version plain parameters state reached session active e
+      go true = active_version unannotated parameters state reached session active e
       go false = omega arith
 
   pub now_within : version_now state active ≤ versions_in state.entries
@@ -103,10 +103,10 @@ module _ (parameters : Parameters) (state : State (Unit {0})) (reached : IsReach
     where
       go : (b : Bool) → cond b (versions_in state.entries) active.version ≤ versions_in state.entries
       go true = omega arith
-      go false = active_version plain parameters state reached session active e
+      go false = active_version unannotated parameters state reached session active e
 
   -- what is shown there is what the transaction reads before its next statement
-  pub start_shown : ((place : ℕ) → as_of plain spans (version_now state active) place ≡ state.committed (version_now state active) place) → (place : ℕ)
+  pub start_shown : ((place : ℕ) → as_of unannotated spans (version_now state active) place ≡ state.committed (version_now state active) place) → (place : ℕ)
       → view_at spans overlay (version_now state active) place ≡ start_now state active place
   start_shown held place =
       shown_at (log_of state.entries) state.committed state.written reached.history active over spans (begin_version active.transaction state.entries) overlay runs (version_now state active) not_before now_within held place

@@ -5,7 +5,7 @@ use Rattle.std.specs.Prelude.{◌&&◌, ◌==◌, not}
 use Rattle.std.specs.List.{filter}
 use Rattle.std.specs.Option.{option_or}
 use Rattle.std.proofs.lemmas.List.{map-append}
-use Rattle.gp_base.specs.Annotated.{Annotations, Annotated, Database, Environment, plain}
+use Rattle.gp_base.specs.Annotated.{Annotations, Annotated, Database, Environment, unannotated}
 use Rattle.gp_base.specs.Identities.{Identity, same_identity}
 use Rattle.gp_grammar.specs.Syntax as y
 use Rattle.gp_algebra.specs.Answers.{answer, cells_of}
@@ -78,13 +78,13 @@ module _ {M N : Type 0} (domain : Annotations M) (other : Annotations N) (h : M 
       (b last) (run other log t (log.statement_count t) b) (b before)
       (are last) (run_reannotated log t (log.statement_count t)) (are before)
 
-  pub at_point_reannotated : (entries : List Entry) (point : y.State) → Reannotates h (at_point domain entries point a) (at_point other entries point b)
+  pub at_point_reannotated : (entries : List Entry) (point : y.Point) → Reannotates h (at_point domain entries point a) (at_point other entries point b)
   at_point_reannotated entries (y.as_of version) = are version
   at_point_reannotated entries (y.after t k) = run_reannotated (log_of entries) t k
-  at_point_reannotated entries (y.State.commit t) = at_commit_reannotated (log_of entries) t (version_before (version_of t entries))
+  at_point_reannotated entries (y.Point.commit t) = at_commit_reannotated (log_of entries) t (version_before (version_of t entries))
 
   -- the rows of an answer
-  pub cells_reannotated : (entries : List Entry) (point : y.State) (select : Select)
+  pub cells_reannotated : (entries : List Entry) (point : y.Point) (select : Select)
       → cells_of (answer other select (at_point other entries point b)) ≡ cells_of (answer domain select (at_point domain entries point a))
   cells_reannotated entries point select =
       ap cells_of (answer_reannotated domain other h keeps select (at_point domain entries point a) (at_point other entries point b) (at_point_reannotated entries point))
@@ -109,22 +109,22 @@ module _ {M N : Type 0} (domain : Annotations M) (other : Annotations N) (h : M 
 -- ---- rows without their annotations
 
 -- forgetting annotations keeps one, products and tokens, whatever they are
-pub forgotten_keeps : {M : Type 0} (domain : Annotations M) → IsHomomorphism domain plain forgotten
+pub forgotten_keeps : {M : Type 0} (domain : Annotations M) → IsHomomorphism domain unannotated forgotten
 forgotten_keeps domain = record { one = refl; times = λ a b. refl; token = λ token. refl }
 
 module _ {M N : Type 0} (domain : Annotations M) (other : Annotations N) where
   -- both are the states over the same rows without annotations
-  pub rows_agree : (entries : List Entry) (point : y.State) (a : Environment M) (b : Environment N) → ((version : ℕ) → AreEqualButForAnnotations (a version) (b version))
+  pub rows_agree : (entries : List Entry) (point : y.Point) (a : Environment M) (b : Environment N) → ((version : ℕ) → AreEqualButForAnnotations (a version) (b version))
       → AreEqualButForAnnotations (at_point domain entries point a) (at_point other entries point b)
   rows_agree entries point a b same table =
-      sym (at_point_reannotated other plain forgotten (forgotten_keeps other) b (λ version. database_reannotated forgotten (a version)) (λ version table. sym (same version table)) entries point table)
-      ∙ at_point_reannotated domain plain forgotten (forgotten_keeps domain) a (λ version. database_reannotated forgotten (a version)) (λ version table. refl) entries point table
+      sym (at_point_reannotated other unannotated forgotten (forgotten_keeps other) b (λ version. database_reannotated forgotten (a version)) (λ version table. sym (same version table)) entries point table)
+      ∙ at_point_reannotated domain unannotated forgotten (forgotten_keeps domain) a (λ version. database_reannotated forgotten (a version)) (λ version table. refl) entries point table
 
 -- the states that a history held
-pub held_reannotated : {M N : Type 0} (h : M → N) (state : State M) (point : y.State) → Reannotates h (held_at state point) (held_at (state_reannotated h state) point)
+pub held_reannotated : {M N : Type 0} (h : M → N) (state : State M) (point : y.Point) → Reannotates h (held_at state point) (held_at (state_reannotated h state) point)
 held_reannotated h state (y.as_of version) table = refl
 held_reannotated h state (y.after t k) table = refl
-held_reannotated h state (y.State.commit t) table = go (version_of t state.entries)
+held_reannotated h state (y.Point.commit t) table = go (version_of t state.entries)
   where
     go : (version : Option ℕ) → at_version version (state_reannotated h state).committed table ≡ map (reannotated h) (at_version version state.committed table)
     go None = refl

@@ -8,7 +8,7 @@ use Rattle.gp_base.proofs.Bags.{SameBag, as_long}
 use Rattle.gp_base.proofs.Permutations.{permuted}
 use Rattle.gp_algebra.specs.Answers.{Element, answer}
 use Rattle.gp_algebra.specs.Statements.{Select}
-use Rattle.gp_base.specs.Annotated.{Annotated, Annotations, plain}
+use Rattle.gp_base.specs.Annotated.{Annotated, Annotations, unannotated}
 use Rattle.gp_base.specs.declared.refusal.Refusal.{Refusal}
 use Rattle.gp_base.specs.declared.refusal.Refusal.TheVariants.{E24, E27}
 use Rattle.gp_machine.proofs.AskedLemmas.{asked}
@@ -32,15 +32,15 @@ pub finish : {M : Type 0} (domain : Annotations M) (parameters : Parameters) (xs
 finish domain parameters xs ys same = elim (nat_lt parameters.answer (length ys)) as (λ b. AreAlike (given (cond b (Some E27) None) xs) (given (cond b (Some E27) None) ys)) [ true ↦ refl | false ↦ permuted xs ys same ]
 
 module _ {M : Type 0} (domain : Annotations M) (parameters : Parameters) (state : State M) (unstopped : IsUnstopped domain parameters state) (spans : ℕ → List Span) (are : (table : ℕ) → SameBag (spans table) (state_spans state table)) where
-  pub never_own : (point : y.State) → IsAsked state.entries point → own_stop domain parameters state.entries point (annotated_versions domain state.entries spans) ≡ None
+  pub never_own : (point : y.Point) → IsAsked state.entries point → own_stop domain parameters state.entries point (annotated_versions domain state.entries spans) ≡ None
   never_own (y.as_of version) (to_version l) = refl
   never_own (y.after t k) (to_statement {version = version} e l) = ap (option_map stop_refusal) (committed_stops domain parameters state unstopped spans are t k version e l)
-  never_own (y.State.commit t) (to_commit {version = version} e) = ap (option_map stop_refusal) (committed_stops domain parameters state unstopped spans are t (statement_count t state.entries) version e (omega arith))
+  never_own (y.Point.commit t) (to_commit {version = version} e) = ap (option_map stop_refusal) (committed_stops domain parameters state unstopped spans are t (statement_count t state.entries) version e (omega arith))
 
-  needed : (point : y.State) → IsAsked state.entries point → needed_version state.entries point ≤ versions_in state.entries
+  needed : (point : y.Point) → IsAsked state.entries point → needed_version state.entries point ≤ versions_in state.entries
   needed (y.as_of version) (to_version l) = l
   needed (y.after t k) (to_statement {version = version} e l) = versions_le t k state.entries
-  needed (y.State.commit t) (to_commit {version = version} e) =
+  needed (y.Point.commit t) (to_commit {version = version} e) =
       let i = version_is t version state.entries e in
       let w = i.within in
       subst (λ o. version_before o ≤ versions_in state.entries) (sym (e ∙ ap Some i.is)) (omega arith)
@@ -61,7 +61,7 @@ module _ {M : Type 0} (domain : Annotations M) (parameters : Parameters) (state 
         (option_or (option_map stop_refusal (never_stops domain parameters state unstopped spans are u (statement_count (committer_of (suc u) state.entries) state.entries) u (omega arith) (omega arith) l (omega arith) i))
         (never_differs (length state.catalogue) (suc u) l i))
 
-    pub annotated_alike : (point : y.State) (query : Select) → AreAlike (annotated_answer domain parameters agree state.catalogue state.entries spans point query) (held_answer domain parameters state point query)
+    pub annotated_alike : (point : y.Point) (query : Select) → AreAlike (annotated_answer domain parameters agree state.catalogue state.entries spans point query) (held_answer domain parameters state point query)
     annotated_alike point query = go (log_refusal state.entries point) refl
       where
         go : (refusal : Option Refusal) → log_refusal state.entries point ≡ refusal →
@@ -75,17 +75,17 @@ module _ {M : Type 0} (domain : Annotations M) (parameters : Parameters) (state 
             (finish domain parameters (answer domain query (at_point domain state.entries point (annotated_versions domain state.entries spans))) (answer domain query (held_at state point)) same)
 
 -- without annotations the rows of the spans are enough
-pub rows_alike : (parameters : Parameters) (state : State (Unit {0})) → IsUnstopped plain parameters state → (spans : ℕ → List Span) → ((table : ℕ) → SameBag (spans table) (state_spans state table)) → (point : y.State) (query : Select)
-    → AreAlike (rows_answer parameters state.entries spans point query) (held_answer plain parameters state point query)
+pub rows_alike : (parameters : Parameters) (state : State (Unit {0})) → IsUnstopped unannotated parameters state → (spans : ℕ → List Span) → ((table : ℕ) → SameBag (spans table) (state_spans state table)) → (point : y.Point) (query : Select)
+    → AreAlike (rows_answer parameters state.entries spans point query) (held_answer unannotated parameters state point query)
 rows_alike parameters state unstopped spans are point query = go (log_refusal state.entries point) refl
   where
     go : (refusal : Option Refusal) → log_refusal state.entries point ≡ refusal →
-        AreAlike (given (option_or refusal (option_or (own_stop plain parameters state.entries point (as_of plain spans)) (answer_refusal plain parameters (answer plain query (at_point plain state.entries point (as_of plain spans)))))) (answer plain query (at_point plain state.entries point (as_of plain spans))))
-        (given (option_or refusal (answer_refusal plain parameters (answer plain query (held_at state point)))) (answer plain query (held_at state point)))
+        AreAlike (given (option_or refusal (option_or (own_stop unannotated parameters state.entries point (as_of unannotated spans)) (answer_refusal unannotated parameters (answer unannotated query (at_point unannotated state.entries point (as_of unannotated spans)))))) (answer unannotated query (at_point unannotated state.entries point (as_of unannotated spans))))
+        (given (option_or refusal (answer_refusal unannotated parameters (answer unannotated query (held_at state point)))) (answer unannotated query (held_at state point)))
     go (Some refusal) e = refl
     go None e =
         let a = asked state.entries point e in
-        let same = simulated plain parameters state unstopped spans are point a query in
-        let stop : own_stop plain parameters state.entries point (as_of plain spans) ≡ None = never_own plain parameters state unstopped spans are point a in
-        let long : length (answer plain query (at_point plain state.entries point (as_of plain spans))) ≡ length (answer plain query (held_at state point)) = as_long same in
-        rw (stop, long) (finish plain parameters (answer plain query (at_point plain state.entries point (as_of plain spans))) (answer plain query (held_at state point)) same)
+        let same = simulated unannotated parameters state unstopped spans are point a query in
+        let stop : own_stop unannotated parameters state.entries point (as_of unannotated spans) ≡ None = never_own unannotated parameters state unstopped spans are point a in
+        let long : length (answer unannotated query (at_point unannotated state.entries point (as_of unannotated spans))) ≡ length (answer unannotated query (held_at state point)) = as_long same in
+        rw (stop, long) (finish unannotated parameters (answer unannotated query (at_point unannotated state.entries point (as_of unannotated spans))) (answer unannotated query (held_at state point)) same)

@@ -5,7 +5,7 @@ use Rattle.std.specs.List.{filter}
 use Rattle.std.specs.Option.{is_none}
 use Rattle.gp_algebra.specs.Effects.{step, wrote}
 use Rattle.gp_algebra.specs.Statements.{Statement}
-use Rattle.gp_base.specs.Annotated.{Database, plain}
+use Rattle.gp_base.specs.Annotated.{Database, unannotated}
 use Rattle.gp_base.specs.declared.table.Table.{Table}
 use Rattle.gp_grammar.specs.Syntax.{Command}
 use Rattle.gp_machine.proofs.ActiveLemmas.{active_over, active_version}
@@ -33,13 +33,13 @@ use Rattle.gp_base.proofs.SmallLemmas.{eq_itself, eq_not}
 
 -- the spans hold the same rows of the versions up to this one
 abbrev KeepVersions : (ℕ → List Span) → (ℕ → List Span) → ℕ → Type 0
-KeepVersions old new versions = (version place : ℕ) → version ≤ versions → as_of plain new version place ≡ as_of plain old version place
+KeepVersions old new versions = (version place : ℕ) → version ≤ versions → as_of unannotated new version place ≡ as_of unannotated old version place
 
 -- the spans that an engine keeps hold the rows of each version
-pub committed_rows : (parameters : Parameters) (state : State (Unit {0})) (kept : Kept) → Represents kept state → IsReached plain parameters state → (version place : ℕ) → version ≤ versions_in state.entries
-    → as_of plain kept.spans version place ≡ state.committed version place
+pub committed_rows : (parameters : Parameters) (state : State (Unit {0})) (kept : Kept) → Represents kept state → IsReached unannotated parameters state → (version place : ℕ) → version ≤ versions_in state.entries
+    → as_of unannotated kept.spans version place ≡ state.committed version place
 committed_rows parameters state kept represents reached version place l =
-    ap (rows_at plain version) (represents.spans place) ∙ plain_spans_rows (log_of state.entries) state.committed state.written reached.history version place l
+    ap (rows_at unannotated version) (represents.spans place) ∙ plain_spans_rows (log_of state.entries) state.committed state.written reached.history version place l
 
 -- spans that say the same of the versions up to the one that a transaction read last keep what the others keep
 pub runs_kept : (old new : ℕ → List Span) (versions begun : ℕ) (overlay : Overlay) (active : Active (Unit {0})) → KeepVersions old new versions → active.version ≤ versions → RepresentsActive old begun overlay active → RepresentsActive new begun overlay active
@@ -79,9 +79,9 @@ frame session o a old new entries later sessions active same begun here all othe
           (λ b e. begun other b (λ eq. absurd (both_ways (other == session) is (ap (λ n. n == session) eq ∙ eq_itself session))) e) (all other)
     ]) refl
 
-module _ (parameters : Parameters) (state : State (Unit {0})) (kept : Kept) (represents : Represents kept state) (reached : IsReached plain parameters state) (line session : ℕ) where
+module _ (parameters : Parameters) (state : State (Unit {0})) (kept : Kept) (represents : Represents kept state) (reached : IsReached unannotated parameters state) (line session : ℕ) where
   within : (other : ℕ) (b : Active (Unit {0})) → state.active other ≡ Some b → b.version ≤ versions_in state.entries
-  within other b e = active_version plain parameters state reached other b e
+  within other b e = active_version unannotated parameters state reached other b e
 
   -- CREATE TABLE changes no session
   pub created_represented : (table : Table)
@@ -121,7 +121,7 @@ module _ (parameters : Parameters) (state : State (Unit {0})) (kept : Kept) (rep
           version = λ place. subst (λ v. overlay.version place ≤ v) at (new.version place);
           view = λ place.
               ap (λ v. view_at kept.spans overlay v place) (sym at) ∙ new.view place
-              ∙ ap (λ v. as_of plain kept.spans v place) at ∙ committed_rows parameters state kept represents reached (versions_in state.entries) place (omega arith);
+              ∙ ap (λ v. as_of unannotated kept.spans v place) at ∙ committed_rows parameters state kept represents reached (versions_in state.entries) place (omega arith);
           base = new.base;
         }) represents.sessions;
   }
@@ -141,7 +141,7 @@ module _ (parameters : Parameters) (state : State (Unit {0})) (kept : Kept) (rep
     -- a statement: the writes of this session alone
     pub accepted_represented : (command : Command) (statement : Statement) (new : Overlay) → Applied statement kept.spans (version_to_read overlay kept.versions) overlay new
         → Represents (record kept { entries = Ran line session command overlay.transaction statement ∷ kept.entries; statements = suc kept.statements; sessions = with_value session (Some new) kept.sessions })
-        (accepted plain state line session active command statement)
+        (accepted unannotated state line session active command statement)
     accepted_represented command statement new applied = record {
       catalogue = represents.catalogue;
       entries = λ i. Ran line session command (runs.transaction i) statement ∷ represents.entries i;
@@ -150,7 +150,7 @@ module _ (parameters : Parameters) (state : State (Unit {0})) (kept : Kept) (rep
       statements = ap suc represents.statements;
       rows = represents.rows;
       spans = represents.spans;
-      sessions = frame session (Some new) (Some (record active { version = version_now state active; statements = suc active.statements; seen = seen_next plain state line session active command statement }))
+      sessions = frame session (Some new) (Some (record active { version = version_now state active; statements = suc active.statements; seen = seen_next unannotated state line session active command statement }))
           kept.spans kept.spans state.entries (Ran line session command active.transaction statement ∷ state.entries) kept.sessions state.active (λ v place l. refl) (λ other b n f. (refl, within other b f))
           (record {
             transaction = applied.transaction ∙ runs.transaction;
@@ -158,11 +158,11 @@ module _ (parameters : Parameters) (state : State (Unit {0})) (kept : Kept) (rep
             begin = applied.begin ∙ runs.begin;
             statements = applied.statements ∙ ap suc runs.statements;
             version = λ place. subst (λ v. new.version place ≤ v) now (applied.version place);
-            view = λ place. ap (λ v. view_at kept.spans new v place) (sym now) ∙ applied.view place ∙ (λ i. step plain (runs.transaction i) (suc (runs.statements i)) statement (start_seen i) place);
+            view = λ place. ap (λ v. view_at kept.spans new v place) (sym now) ∙ applied.view place ∙ (λ i. step unannotated (runs.transaction i) (suc (runs.statements i)) statement (start_seen i) place);
             base = λ place id other.
                 applied.base place id (λ f. other (f ∙ sym applied.transaction))
-                ∙ (λ i. base_after (now i) place id (wrote plain (runs.transaction i) (suc (runs.statements i)) statement (start_seen i)) (runs.base place id (λ f. other (f ∙ sym applied.transaction)) i))
-                ∙ sym (base_more place id (version_now state active) active.seen.written (wrote plain active.transaction (suc active.statements) statement (start_now state active)));
+                ∙ (λ i. base_after (now i) place id (wrote unannotated (runs.transaction i) (suc (runs.statements i)) statement (start_seen i)) (runs.base place id (λ f. other (f ∙ sym applied.transaction)) i))
+                ∙ sym (base_more place id (version_now state active) active.seen.written (wrote unannotated active.transaction (suc active.statements) statement (start_now state active)));
           }) represents.sessions;
     }
 
@@ -206,11 +206,11 @@ module _ (parameters : Parameters) (state : State (Unit {0})) (kept : Kept) (rep
         exact : (place : ℕ) → after_commit (suc kept.versions) (writes place) (kept.spans place) ≡ spans_of (suc (versions_in state.entries)) next.committed next.written place
         exact place =
             ap (λ n. after_commit (suc n) (writes place) (kept.spans place)) represents.versions
-            ∙ commit_spans (log_of state.entries) state.committed state.written reached.history active (active_over plain parameters state reached session active e) kept.spans (begin_version active.transaction state.entries) overlay place (writes place) (represents.spans place) runs (are place)
+            ∙ commit_spans (log_of state.entries) state.committed state.written reached.history active (active_over unannotated parameters state reached session active e) kept.spans (begin_version active.transaction state.entries) overlay place (writes place) (represents.spans place) runs (are place)
 
         same : KeepVersions kept.spans (λ place. after_commit (suc kept.versions) (writes place) (kept.spans place)) (versions_in state.entries)
         same version place l =
-            ap (rows_at plain version) (exact place)
-            ∙ plain_spans_rows (log_of next.entries) next.committed next.written (published_reached plain parameters state line session Lost active e reached won).history version place (omega arith)
+            ap (rows_at unannotated version) (exact place)
+            ∙ plain_spans_rows (log_of next.entries) next.committed next.written (published_reached unannotated parameters state line session Lost active e reached won).history version place (omega arith)
             ∙ ap (λ (db : Database (Unit {0})). db place) (at_other (suc (versions_in state.entries)) (next_version (state.committed (versions_in state.entries)) active.seen.view (pairs active.seen.written)) state.committed version (λ is. omega arith))
             ∙ sym (committed_rows parameters state kept represents reached version place l)

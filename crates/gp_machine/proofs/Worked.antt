@@ -144,7 +144,7 @@ conflict_reads = refl
 lost_question : log_refusal left.entries (y.after 3 1) ≡ Some (E21 3 Lost)
 lost_question = refl
 
-unknown_question : log_refusal left.entries (y.State.commit 4) ≡ Some (E20 4)
+unknown_question : log_refusal left.entries (y.Point.commit 4) ≡ Some (E20 4)
 unknown_question = refl
 
 missing_statement : log_refusal left.entries (y.after 2 2) ≡ Some (E22 2 1)

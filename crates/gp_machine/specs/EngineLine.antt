@@ -4,7 +4,7 @@ use Rattle.gp_base.specs.declared.limit.Limit.TheVariants as limit
 use Rattle.gp_base.specs.declared.refusal.Refusal.{Refusal}
 use Rattle.gp_base.specs.declared.refusal.Refusal.TheVariants.{E11, E14}
 use Rattle.gp_base.specs.declared.table.Table.{Table}
-use Rattle.gp_base.specs.Annotated.{plain}
+use Rattle.gp_base.specs.Annotated.{unannotated}
 use Rattle.gp_grammar.specs.Syntax.{Command}
 use Rattle.gp_versions.specs.declared.span.Write.{Write}
 use Rattle.gp_versions.specs.Commits.{after_commit}
@@ -16,7 +16,8 @@ use Rattle.gp_algebra.specs.Statements.{Statement}
 use Rattle.gp_machine.specs.declared.reply.Reply.{Reply}
 use Rattle.gp_machine.specs.declared.reply.Reply.TheVariants as reply
 use Rattle.gp_machine.specs.Actions as allow
-use Rattle.gp_machine.specs.Actions.{Action, Allowed, allowed}
+use Rattle.gp_machine.specs.Actions.{Allowed}
+use Rattle.gp_machine.specs.ActionForms.{Action, allowed_to}
 use Rattle.gp_machine.specs.Conflicts.{Conflict, written_cmp}
 use Rattle.gp_machine.specs.Entries.{begin_version, End, RolledBack, Lost, Created, Began, Ran, Committed, Ended, committer_of}
 use Rattle.gp_machine.specs.Event.{Line, line_event, after, conflict_of, name_at, creation_refusal, count_refusal, refusal_of, reply_of}
@@ -71,14 +72,14 @@ module _ (parameters : Parameters) (kept : Kept) (line session : ℕ) (new : Kep
         statements = suc kept.statements;
         sessions = with_value session (Some after) kept.sessions;
       })
-      × (answer ≡ reply_of plain overlay.transaction (suc overlay.statements) statement (view_at kept.spans overlay (now overlay)))
+      × (answer ≡ reply_of unannotated overlay.transaction (suc overlay.statements) statement (view_at kept.spans overlay (now overlay)))
 
   -- a statement, by the first count that it passes, and by the check
   abbrev pub RunsStatement : Overlay → Command → Option Refusal → Result Statement Refusal → Type 0
   RunsStatement overlay command (Some refusal) checked = Refuses refusal
   RunsStatement overlay command None (Err refusal) = Refuses refusal
   RunsStatement overlay command None (Ok statement) =
-      Applies overlay command statement (refusal_of plain parameters kept.catalogue overlay.transaction (suc overlay.statements) statement (view_at kept.spans overlay (now overlay)))
+      Applies overlay command statement (refusal_of unannotated parameters kept.catalogue overlay.transaction (suc overlay.statements) statement (view_at kept.spans overlay (now overlay)))
 
   abbrev pub Ends : Overlay → End → Reply → Type 0
   Ends overlay end expected =
@@ -114,7 +115,7 @@ module _ (parameters : Parameters) (kept : Kept) (line session : ℕ) (new : Kep
 
   -- what an action does in a session with these writes, or without a transaction
   abbrev pub Answers : (Overlay → Option Conflict) → Option Overlay → Action → Type 0
-  Answers conflict overlay action = Does conflict (allowed overlay action)
+  Answers conflict overlay action = Does conflict (allowed_to overlay action)
 
 -- where an engine represents a state, it finds the conflict that the commit of a session would be lost by
 abbrev pub FindsConflict : Kept → State (Unit {0}) → ℕ → (Overlay → Option Conflict) → Type 0
@@ -137,6 +138,6 @@ ShowsConflict kept overlay (Some conflict) =
 -- state that they leave with this one, and its answer is the reply.
 abbrev pub Follows : Parameters → Kept → Kept → Line → Reply → Type 0
 Follows parameters old new line answer =
-    (lines : List Line) → Represents old (after plain parameters start lines)
-    → Represents new (after plain parameters start (lines ++ line ∷ []))
-    × (answer ≡ (line_event plain parameters (after plain parameters start lines) line).1)
+    (lines : List Line) → Represents old (after unannotated parameters start lines)
+    → Represents new (after unannotated parameters start (lines ++ line ∷ []))
+    × (answer ≡ (line_event unannotated parameters (after unannotated parameters start lines) line).1)

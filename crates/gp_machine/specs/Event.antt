@@ -15,7 +15,7 @@ use Rattle.gp_algebra.specs.Answers.{answer, cells_of}
 use Rattle.gp_algebra.specs.Effects.{wrote, is_over_rows, is_over_nodes}
 use Rattle.gp_machine.specs.declared.reply.Reply.{Reply}
 use Rattle.gp_machine.specs.declared.reply.Reply.TheVariants as reply
-use Rattle.gp_machine.specs.Actions.{Action, Allowed, Creates, Begins, Commits, RollsBack, Runs, action_of, allowed}
+use Rattle.gp_machine.specs.Actions.{Allowed, Creates, Begins, Commits, RollsBack, Runs, allowed}
 use Rattle.gp_machine.specs.Bases.{pairs}
 use Rattle.gp_machine.specs.Committed.{is_written, next_version}
 use Rattle.gp_machine.specs.Conflicts.{Conflict, least_conflict}
@@ -202,13 +202,9 @@ module _ {M : Type 0} (domain : Annotations M) (parameters : Parameters) where
   doing state line session (Ok (Runs active command)) =
       running domain state line session active command parameters (count_refusal parameters active.statements (statements_in state.entries)) (parameters.checked state.catalogue command)
 
-  -- what an action does in a session with this transaction, or without one
-  abbrev pub answered : State M → ℕ → ℕ → Option (Active M) → Action → State M × Reply
-  answered state line session active action = doing state line session (allowed active action)
-
   -- what the command of a line does in a session, and the reply to it
   abbrev pub event : State M → ℕ → ℕ → Command → State M × Reply
-  event state line session command = answered state line session (state.active session) (action_of command)
+  event state line session command = doing state line session (allowed (state.active session) command)
 
   abbrev pub line_event : State M → Line → State M × Reply
   line_event state line = event state line.number line.session line.command

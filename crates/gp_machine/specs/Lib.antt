@@ -1,3 +1,4 @@
+pub mod ActionForms
 pub mod Actions
 pub mod Annotating
 pub mod Bases

@@ -10,10 +10,10 @@ use Rattle.gp_algebra.specs.Answers.{Element}
 use Rattle.gp_machine.specs.Entries.{Entry, statement_count, version_of, versions_in}
 
 -- The log has it: the version was committed; the transaction made a version, and has this many statements.
-pub data IsAsked : List Entry → y.State → Type 0 where
+pub data IsAsked : List Entry → y.Point → Type 0 where
   to_version : {entries : List Entry} {version : ℕ} → version ≤ versions_in entries → IsAsked entries (y.as_of version)
   to_statement : {entries : List Entry} {t k version : ℕ} → version_of t entries ≡ Some version → k ≤ statement_count t entries → IsAsked entries (y.after t k)
-  to_commit : {entries : List Entry} {t version : ℕ} → version_of t entries ≡ Some version → IsAsked entries (y.State.commit t)
+  to_commit : {entries : List Entry} {t version : ℕ} → version_of t entries ≡ Some version → IsAsked entries (y.Point.commit t)
 
 -- the same refusal, or the same elements in any order
 abbrev pub AreAlike : {M : Type 0} → Result (List (Element M)) Refusal → Result (List (Element M)) Refusal → Type 0

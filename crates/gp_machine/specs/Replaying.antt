@@ -1,7 +1,7 @@
 -- Part of the statement: the commits of a log made again, whatever a history held. Each transaction that made a version runs its statements again, each
 -- on the version that it reads, over the versions made so far, and its commit makes the next one, unless it stops.
-use Rattle.std.specs.Prelude.{ℕ, zero, suc, ◌+◌, nat_lt, Bool, true, false, List, [], Option, Some, None}
-use Rattle.std.specs.Option.{option_or}
+use Rattle.std.specs.Prelude.{ℕ, zero, suc, ◌+◌, nat_lt, Bool, List, [], Option, Some, None, if◌then◌else◌}
+use Rattle.std.specs.Option.{option_map, option_or}
 use Rattle.gp_base.specs.Annotated.{Annotations, Environment}
 use Rattle.gp_algebra.specs.Effects.{Written}
 use Rattle.gp_machine.specs.Bases.{Based, pairs, with_bases}
@@ -30,10 +30,8 @@ pub data ReplayStop : Type 0 where
 
 -- by the stop of the run, then by the conflict, then by whether the rows are too many
 abbrev pub first_stop : ℕ → Option RunStop → Option Conflict → Bool → Option ReplayStop
-first_stop version (Some stop) conflict full = Some (Passes stop)
-first_stop version None (Some conflict) full = Some (Loses version conflict)
-first_stop version None None true = Some Fills
-first_stop version None None false = None
+first_stop version stop conflict full =
+    option_or (option_map Passes stop) (option_or (option_map (Loses version) conflict) (if full then Some Fills else None))
 
 -- the versions after a commit, given the number of tables and of the versions before, and what its transaction reads and wrote
 abbrev pub remade : {M : Type 0} → ℕ → ℕ → Seen M → Replay M → Replay M

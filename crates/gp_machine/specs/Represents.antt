@@ -3,7 +3,7 @@
 use Rattle.std.specs.Prelude.{◌≡◌, ◌≢◌, ◌≤◌, ℕ, suc, ◌==◌, ◌&&◌, Bool, List, [], ◌∷◌, ◌++◌, map, filter, Option, Some, None, if◌then◌else◌}
 use Rattle.std.specs.Option.{is_none, is_some}
 use Rattle.gp_base.specs.declared.table.Table.{Table}
-use Rattle.gp_base.specs.Annotated.{Database, plain}
+use Rattle.gp_base.specs.Annotated.{Database, unannotated}
 use Rattle.gp_base.specs.Identities.{Identity, same_identity}
 use Rattle.gp_base.specs.IdentityParts.{transaction_of}
 use Rattle.gp_versions.specs.declared.span.Span.{Span}
@@ -49,7 +49,7 @@ pub record Kept : Type 0 where
 
 -- the rows of the version that its writes of each table lie over, and what the transaction reads there
 abbrev pub rows_below : (ℕ → List Span) → Overlay → PlainDatabase
-rows_below spans overlay place = as_of plain spans (overlay.version place) place
+rows_below spans overlay place = as_of unannotated spans (overlay.version place) place
 
 abbrev pub view_of : (ℕ → List Span) → Overlay → PlainDatabase
 view_of spans overlay = overlay.shown (rows_below spans overlay)
@@ -62,7 +62,7 @@ base_in spans overlay = overlay.base (rows_below spans overlay)
 abbrev pub view_at : (ℕ → List Span) → Overlay → ℕ → PlainDatabase
 view_at spans overlay version place =
     if version == overlay.version place then view_of spans overlay place
-    else filter (λ row. is_none (base_in spans overlay place row.identity)) (as_of plain spans version place) ++ filter (λ row. row.mark) (view_of spans overlay place)
+    else filter (λ row. is_none (base_in spans overlay place row.identity)) (as_of unannotated spans version place) ++ filter (λ row. row.mark) (view_of spans overlay place)
 
 -- the version that its next statement reads, given the newest one
 abbrev pub version_to_read : Overlay → ℕ → ℕ
@@ -123,7 +123,7 @@ kept_start = record {
 pub record IsNew (spans : ℕ → List Span) (overlay : Overlay) : Type 0 where
   pub version : (place : ℕ) → overlay.version place ≤ overlay.begin
   pub statements : overlay.statements ≡ 0
-  pub view : (place : ℕ) → view_at spans overlay overlay.begin place ≡ as_of plain spans overlay.begin place
+  pub view : (place : ℕ) → view_at spans overlay overlay.begin place ≡ as_of unannotated spans overlay.begin place
   pub base : (place : ℕ) (id : Identity) → transaction_of id ≢ overlay.transaction → base_in spans overlay place id ≡ None
 
 -- the base of a row after a statement that wrote these rows
@@ -138,13 +138,13 @@ pub record Applied (statement : Statement) (spans : ℕ → List Span) (now : �
   pub begin : new.begin ≡ old.begin
   pub version : (place : ℕ) → new.version place ≤ now
   pub statements : new.statements ≡ suc old.statements
-  pub view : (place : ℕ) → view_at spans new now place ≡ step plain old.transaction (suc old.statements) statement (view_at spans old now) place
+  pub view : (place : ℕ) → view_at spans new now place ≡ step unannotated old.transaction (suc old.statements) statement (view_at spans old now) place
   pub base : (place : ℕ) (id : Identity) → transaction_of id ≢ old.transaction
       → base_in spans new place id
-      ≡ base_after now place id (wrote plain old.transaction (suc old.statements) statement (view_at spans old now)) (base_in spans old place id)
+      ≡ base_after now place id (wrote unannotated old.transaction (suc old.statements) statement (view_at spans old now)) (base_in spans old place id)
 
 -- The writes of a commit to a table. Of the rows that other transactions made, they are those that the transaction has written, and they leave the
 -- marked rows of what it reads, in the same order.
 pub record AreWritesOf (spans : ℕ → List Span) (overlay : Overlay) (place : ℕ) (writes : List Write) : Type 0 where
   pub names : (id : Identity) → transaction_of id ≢ overlay.transaction → versions.is_written writes id ≡ is_some (base_in spans overlay place id)
-  pub rows : live_rows plain writes ≡ map unmarked (filter (λ row. row.mark) (view_of spans overlay place))
+  pub rows : live_rows unannotated writes ≡ map unmarked (filter (λ row. row.mark) (view_of spans overlay place))

@@ -5,7 +5,7 @@ ghost use Rattle.std.specs.Prelude.{Bool, ◌≡◌, ◌≢◌, ℕ, zero, suc, 
 ghost use Rattle.std.specs.List.{AllByRecursion};
 ghost use Rattle.std.specs.List.Sorted.{IsPermutation};
 ghost use Rattle.gp_base.specs.declared.table.Table.{Table};
-ghost use Rattle.gp_base.specs.Annotated.{Annotated, Annotations, Database, Environment, plain};
+ghost use Rattle.gp_base.specs.Annotated.{Annotated, Annotations, Database, Environment, unannotated};
 ghost use Rattle.gp_base.specs.Identities.{Identity};
 ghost use Rattle.gp_base.specs.IdentityParts.{transaction_of};
 ghost use Rattle.gp_grammar.specs.Syntax as y;
@@ -18,7 +18,7 @@ ghost use Rattle.gp_algebra.specs.Reannotation.{IsHomomorphism, forgotten, reann
 ghost use Rattle.gp_algebra.specs.Answers.{answer};
 ghost use Rattle.gp_algebra.specs.Statements.{Select, Statement};
 ghost use Rattle.gp_machine.specs.declared.reply.Reply.{Reply};
-ghost use Rattle.gp_machine.specs.Actions.{action_of};
+ghost use Rattle.gp_machine.specs.ActionForms.{action_of};
 ghost use Rattle.gp_machine.specs.Annotating.{annotated, annotated_versions, computed};
 ghost use Rattle.gp_machine.specs.QuestionForms.{AreAlike, IsAsked, identified};
 ghost use Rattle.gp_machine.specs.Bases.{Based, pairs};
@@ -156,8 +156,8 @@ pub fn engines_follow_the_history()
     ensures start { Represents kept_start start }
     ensures line { (parameters : Parameters) (line : Line) (old new : Kept) (answer : Reply)
         (conflict : Overlay → Option Conflict)
-        → ((lines : List Line) → Represents old (after plain parameters start lines)
-        → FindsConflict old (after plain parameters start lines) line.session conflict)
+        → ((lines : List Line) → Represents old (after unannotated parameters start lines)
+        → FindsConflict old (after unannotated parameters start lines) line.session conflict)
         → Answers parameters old line.number line.session new answer conflict
         (old.sessions line.session) (action_of line.command)
         → Follows parameters old new line answer }
@@ -185,7 +185,7 @@ pub fn annotations_change_no_reply<M, N>()
         → IsHomomorphism domain other h → (parameters : Parameters) (lines : List Line)
         → after other parameters start lines ≡ state_reannotated h (after domain parameters start lines) }
     ensures forgetting { (domain : Annotations M) (parameters : Parameters) (lines : List Line)
-        → after plain parameters start lines
+        → after unannotated parameters start lines
         ≡ state_reannotated forgotten (after domain parameters start lines) }
     ensures spans { (h : M → N) (state : State M) (table : ℕ)
         → state_spans (state_reannotated h state) table ≡ state_spans state table }
@@ -200,19 +200,19 @@ pub fn annotations_change_no_row<M, N>()
     ensures points { (domain : Annotations M) (other : Annotations N) (h : M → N)
         → IsHomomorphism domain other h
         → (versions : Environment M) (others : Environment N) → AreReannotated h versions others
-        → (entries : List Entry) (point : y.State) → IsReannotated h
+        → (entries : List Entry) (point : y.Point) → IsReannotated h
         (at_point domain entries point versions) (at_point other entries point others) }
     ensures stops { (domain : Annotations M) (other : Annotations N) (h : M → N)
         → IsHomomorphism domain other h
         → (versions : Environment M) (others : Environment N) → AreReannotated h versions others
         → (parameters : Parameters) (log : Log) (t k : ℕ)
         → run_stop other parameters log t k others ≡ run_stop domain parameters log t k versions }
-    ensures held { (h : M → N) (state : State M) (point : y.State)
+    ensures held { (h : M → N) (state : State M) (point : y.Point)
         → IsReannotated h (held_at state point) (held_at (state_reannotated h state) point) }
     ensures rows { (domain : Annotations M) (other : Annotations N)
         (versions : Environment M) (others : Environment N)
         → ((version : ℕ) → AreEqualButForAnnotations (versions version) (others version))
-        → (entries : List Entry) (point : y.State) → AreEqualButForAnnotations
+        → (entries : List Entry) (point : y.Point) → AreEqualButForAnnotations
         (at_point domain entries point versions) (at_point other entries point others) }
 {}
 
@@ -223,7 +223,7 @@ pub fn spans_hold_the_versions<M>()
     ensures rows { (domain : Annotations M) (parameters : Parameters) (state : State M)
         → IsReached domain parameters state
         → (version table : ℕ) → version ≤ versions_in state.entries
-        → as_of plain (state_spans state) version table
+        → as_of unannotated (state_spans state) version table
         ≡ map (reannotated forgotten) (state.committed version table) }
     ensures annotated { (domain : Annotations M) (parameters : Parameters) (state : State M)
         → IsReached domain parameters state
@@ -283,7 +283,7 @@ pub fn logs_and_spans_hold_the_history<M>()
     ensures answers { (domain : Annotations M) (parameters : Parameters) (lines : List Line)
         (spans : ℕ → List Span) → ((table : ℕ)
         → IsPermutation (spans table) (state_spans (after domain parameters start lines) table))
-        → (point : y.State) → IsAsked (after domain parameters start lines).entries point
+        → (point : y.Point) → IsAsked (after domain parameters start lines).entries point
         → (query : Select) → IsPermutation
         (answer domain query (at_point domain (after domain parameters start lines).entries point
         (annotated_versions domain (after domain parameters start lines).entries spans)))
@@ -311,12 +311,12 @@ pub fn logs_and_spans_hold_the_history<M>()
 /// Without annotations, the rows of the spans do, and no version need be computed.
 pub fn spans_answer_without_annotations()
     ensures answers { (parameters : Parameters) (lines : List Line) (spans : ℕ → List Span) → ((table : ℕ)
-        → IsPermutation (spans table) (state_spans (after plain parameters start lines) table))
-        → (point : y.State) → IsAsked (after plain parameters start lines).entries point
+        → IsPermutation (spans table) (state_spans (after unannotated parameters start lines) table))
+        → (point : y.Point) → IsAsked (after unannotated parameters start lines).entries point
         → (query : Select) → IsPermutation
-        (answer plain query
-        (at_point plain (after plain parameters start lines).entries point (as_of plain spans)))
-        (answer plain query (held_at (after plain parameters start lines) point)) }
+        (answer unannotated query
+        (at_point unannotated (after unannotated parameters start lines).entries point (as_of unannotated spans)))
+        (answer unannotated query (held_at (after unannotated parameters start lines) point)) }
 {}
 
 /// No count passes its limit, and so the log has few lines.
@@ -348,15 +348,15 @@ pub fn questions_are_answered_by_the_history<M>()
         → (agree : List (Annotated M) → List (Annotated M) → Bool)
         → ((rows others : List (Annotated M))
         → IsPermutation (identified rows) (identified others) → agree rows others ≡ true)
-        → (point : y.State) (query : Select) → AreAlike
+        → (point : y.Point) (query : Select) → AreAlike
         (annotated_answer domain parameters agree (after domain parameters start lines).catalogue
         (after domain parameters start lines).entries spans point query)
         (held_answer domain parameters (after domain parameters start lines) point query) }
     ensures rows { (parameters : Parameters) (lines : List Line) (spans : ℕ → List Span) → ((table : ℕ)
-        → IsPermutation (spans table) (state_spans (after plain parameters start lines) table))
-        → (point : y.State) (query : Select) → AreAlike
-        (rows_answer parameters (after plain parameters start lines).entries spans point query)
-        (held_answer plain parameters (after plain parameters start lines) point query) }
+        → IsPermutation (spans table) (state_spans (after unannotated parameters start lines) table))
+        → (point : y.Point) (query : Select) → AreAlike
+        (rows_answer parameters (after unannotated parameters start lines).entries spans point query)
+        (held_answer unannotated parameters (after unannotated parameters start lines) point query) }
 {}
 
 /// The commits of a history, made again from its log alone, are that history: none stops, and the row versions are its own
@@ -398,7 +398,7 @@ pub fn unstopped_histories_answer_their_questions<M>()
     ensures elements { (domain : Annotations M) (parameters : Parameters) (state : State M)
         → IsUnstopped domain parameters state → (spans : ℕ → List Span)
         → ((table : ℕ) → IsPermutation (spans table) (state_spans state table))
-        → (point : y.State) → IsAsked state.entries point → (query : Select) → IsPermutation
+        → (point : y.Point) → IsAsked state.entries point → (query : Select) → IsPermutation
         (answer domain query (at_point domain state.entries point
         (annotated_versions domain state.entries spans)))
         (answer domain query (held_at state point)) }
@@ -408,15 +408,15 @@ pub fn unstopped_histories_answer_their_questions<M>()
         → (agree : List (Annotated M) → List (Annotated M) → Bool)
         → ((rows others : List (Annotated M))
         → IsPermutation (identified rows) (identified others) → agree rows others ≡ true)
-        → (point : y.State) (query : Select) → AreAlike
+        → (point : y.Point) (query : Select) → AreAlike
         (annotated_answer domain parameters agree state.catalogue state.entries spans point query)
         (held_answer domain parameters state point query) }
-    ensures rows { (parameters : Parameters) (state : State (Unit {0})) → IsUnstopped plain parameters state
+    ensures rows { (parameters : Parameters) (state : State (Unit {0})) → IsUnstopped unannotated parameters state
         → (spans : ℕ → List Span)
         → ((table : ℕ) → IsPermutation (spans table) (state_spans state table))
-        → (point : y.State) (query : Select) → AreAlike
+        → (point : y.Point) (query : Select) → AreAlike
         (rows_answer parameters state.entries spans point query)
-        (held_answer plain parameters state point query) }
+        (held_answer unannotated parameters state point query) }
 {}
 
 /// Annotations decide nothing where commits are made again: a homomorphism of annotations changes neither the first stop (`stops`)

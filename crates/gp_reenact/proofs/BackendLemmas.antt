@@ -8,7 +8,7 @@ use Rattle.gp_base.specs.declared.cell.Cell.{Cell}
 use Rattle.gp_base.specs.declared.refusal.Refusal.{Refusal}
 use Rattle.gp_base.specs.declared.refusal.Refusal.TheVariants.{E25, E26, E27}
 use Rattle.gp_base.specs.declared.row_id.TheConstants.{MAX_NODES}
-use Rattle.gp_base.specs.Annotated.{plain}
+use Rattle.gp_base.specs.Annotated.{unannotated}
 use Rattle.gp_grammar.specs.Syntax as y
 use Rattle.gp_algebra.specs.declared.plain.ScanAt.{ScanAt}
 use Rattle.gp_algebra.specs.Answers.{answer}
@@ -30,7 +30,7 @@ use Rattle.gp_machine.specs.Questions.{answer_refusal, given, log_refusal, own_s
 use Rattle.gp_reenact.specs.Encoding as travel
 use Rattle.gp_reenact.specs.Travel as travels
 use Rattle.gp_versions.specs.Spans.{Versions}
-use Rattle.gp_reenact.specs.Backends.{GivesOver, IsGivenOver, IsStop, ReenactsBy, RefusedBy}
+use Rattle.gp_reenact.specs.Backends.{GivesOver, IsGivenOver, ReenactsBy, RefusedBy}
 use Rattle.gp_reenact.specs.declared.error.ReenactStop.{ReenactStop}
 use Rattle.gp_reenact.specs.declared.error.ReenactStop.TheVariants.{Refused, NoMemory}
 use Rattle.gp_reenact.specs.Reenacting.{Reenacts, RunsOver, spans_of, stopped, transaction_at}
@@ -83,10 +83,10 @@ module _ (program : PlainProgram) (past : PlainEnvironment) where
       go (Err exec.Answer) runs = (sym stop ∙ runs.0, subst (λ n. MAX_ANSWER_ROWS < n) (sym as_many) runs.1)
       go (Err exec.NoMemory) runs = tt
 
-module _ {X : Type 0} (view : X → List (List Cell)) (entries : List Entry) (versions : List Versions) (point : y.State) (select : Select) (program : PlainProgram)
+module _ {X : Type 0} (view : X → List (List Cell)) (entries : List Entry) (versions : List Versions) (point : y.Point) (select : Select) (program : PlainProgram)
     (replays : log_refusal entries point ≡ None → Replays entries versions point select program) where
   abbrev past : PlainEnvironment
-  past = travel.encoded (travels.as_of plain versions)
+  past = travel.encoded (travels.as_of unannotated versions)
 
   abbrev answer_is : Result X ReenactStop → Type 0
   answer_is result = Reenacts view result (rows_answer parameters entries (spans_of versions) point select)
@@ -99,8 +99,8 @@ module _ {X : Type 0} (view : X → List (List Cell)) (entries : List Entry) (ve
 
   refused : (refusal : Refusal) (expected : Option Refusal) → log_refusal entries point ≡ expected → RefusedBy Executes refusal expected (transaction_at point) program past → answer_is (Err (Refused refusal))
   refused refusal (Some expected) is same =
-      let elements = answer plain select (at_point plain entries point (machine.as_of plain (spans_of versions))) in
-      let rest = option_or (own_stop plain parameters entries point (machine.as_of plain (spans_of versions))) (answer_refusal plain parameters elements) in
+      let elements = answer unannotated select (at_point unannotated entries point (machine.as_of unannotated (spans_of versions))) in
+      let rest = option_or (own_stop unannotated parameters entries point (machine.as_of unannotated (spans_of versions))) (answer_refusal unannotated parameters elements) in
       subst (λ d. Reenacts view (Err (Refused refusal)) (given (option_or d rest) elements)) (sym is) same
   refused refusal None is by =
       subst answer_is (ap Err (sym by.is)) (stop_is view entries versions point select program (replays is) by.stop (executed_stop by.stop (runs_over_same program past (Err by.stop) by.given)))

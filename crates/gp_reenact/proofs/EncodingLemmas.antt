@@ -2,7 +2,7 @@
 use Rattle.std.proofs.Common.{◌≡◌, ℕ, zero, suc, ◌==◌, ◌&&◌, true, false, cond, List, [], ◌∷◌, map, refl, ap, sym, ◌∙◌, arith}
 use Rattle.std.proofs.lemmas.Bool.{and_parts, eqb-true, eq-eqb}
 use Rattle.gp_base.specs.declared.cell.Cell.{Cell}
-use Rattle.gp_base.specs.Annotated.{Annotations, plain}
+use Rattle.gp_base.specs.Annotated.{Annotations, unannotated}
 use Rattle.gp_algebra.specs.declared.plain.ScanAt.{ScanAt}
 use Rattle.gp_algebra.specs.Scans.{AgreeOn}
 use Rattle.gp_exec.specs.Running.{scanned_rows}
@@ -11,13 +11,13 @@ use Rattle.gp_versions.specs.Spans.{Versions, row_of}
 use Rattle.gp_reenact.specs.Encoding.{encoded, encoded_row}
 use Rattle.gp_reenact.specs.Travel.{as_of, scans_at}
 
-pub rows-plain : {M : Type 0} → (domain : Annotations M) (spans : List Span) → map encoded_row (map (row_of domain) spans) ≡ map encoded_row (map (row_of plain) spans)
+pub rows-plain : {M : Type 0} → (domain : Annotations M) (spans : List Span) → map encoded_row (map (row_of domain) spans) ≡ map encoded_row (map (row_of unannotated) spans)
 rows-plain domain [] = refl
-rows-plain domain (span ∷ spans) = ap (λ (rows : List (List Cell)). encoded_row (row_of plain span) ∷ rows) (rows-plain domain spans)
+rows-plain domain (span ∷ spans) = ap (λ (rows : List (List Cell)). encoded_row (row_of unannotated span) ∷ rows) (rows-plain domain spans)
 
 module _ (versions : List Versions) where
   abbrev rows_in : ℕ → ℕ → List (List Cell)
-  rows_in = encoded (as_of plain versions)
+  rows_in = encoded (as_of unannotated versions)
 
   found-first : (at : ScanAt) (others : List ScanAt) → scanned_rows (scans_at versions (at ∷ others)) at.version at.table ≡ rows_in at.version at.table
   found-first at others = rw (eq-eqb at.version at.version refl, eq-eqb at.table at.table refl) refl

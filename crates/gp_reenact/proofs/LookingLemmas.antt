@@ -11,7 +11,7 @@ use Rattle.gp_base.specs.declared.cell.Cell.TheVariants as cell
 use Rattle.gp_base.specs.declared.refusal.Refusal.{Refusal}
 use Rattle.gp_base.specs.declared.refusal.Refusal.TheVariants.{E20, E21, E22, E27}
 use Rattle.gp_base.specs.declared.row_id.TheConstants.{MAX_NODES}
-use Rattle.gp_base.specs.Annotated.{Annotated, Database, monomials, plain}
+use Rattle.gp_base.specs.Annotated.{Annotated, Database, monomials, unannotated}
 use Rattle.gp_base.specs.Identities.{Sources, no_sources, source}
 use Rattle.gp_base.specs.Tokens.{Monomial}
 use Rattle.gp_base.proofs.SmallLemmas.{filter-map, map-map, some_none}
@@ -75,8 +75,8 @@ use Rattle.gp_reenact.proofs.StepStops.{env_is, forgets, forgetting, monoid, non
 
 -- a program that gives these rows over the row versions, and stops, in the run of transaction t, where this says
 pub record Gives (versions : List Versions) (t : ℕ) (own : Option Refusal) (rows : List (List Cell)) (program : p.PlainProgram) : Type 0 where
-  pub gives : p.program_meaning (travel.encoded (travels.as_of plain versions)) program ≡ rows
-  pub stops : own ≡ option_map (refusal_at t) (program_stop MAX_TABLE_ROWS MAX_NODES (travel.encoded (travels.as_of plain versions)) program)
+  pub gives : p.program_meaning (travel.encoded (travels.as_of unannotated versions)) program ≡ rows
+  pub stops : own ≡ option_map (refusal_at t) (program_stop MAX_TABLE_ROWS MAX_NODES (travel.encoded (travels.as_of unannotated versions)) program)
 
 -- what is found: the rows, in any order, or the refusal that is due
 abbrev Finds : {X : Type 0} → (X → List (List Cell)) → Result X ReenactStop → Result (List (List Cell)) Refusal → Type 0
@@ -89,7 +89,7 @@ Finds view (Err NoMemory) expected = Unit {0}
 module _ {X : Type 0} (view : X → List (List Cell)) (versions : List Versions) (t : ℕ) (refusal own : Option Refusal) (list : List (List Cell)) (program : p.PlainProgram)
     (is_given : refusal ≡ None → Gives versions t own list program) where
   abbrev env : p.PlainEnvironment
-  env = travel.encoded (travels.as_of plain versions)
+  env = travel.encoded (travels.as_of unannotated versions)
 
   abbrev expected : Result (List (List Cell)) Refusal
   expected = given (option_or refusal (option_or own (cond (nat_lt MAX_ANSWER_ROWS (length list)) (Some E27) None))) list
@@ -203,29 +203,29 @@ module _ (entries : List Entry) (versions : List Versions) (fit : statements_fit
 
   module _ (select : Select) (fits : select_fits (tables_in entries) select ≡ true) (t k : ℕ) where
     saw_gives : saw_refusal t k entries ≡ None
-        → Gives versions t (option_map stop_refusal (run_stop plain parameters (log_of entries) t k (machine.as_of plain (spans_of versions))))
-        (cells_of (answer plain select (run plain (log_of entries) t k (machine.as_of plain (spans_of versions))))) (saw_program entries t k select)
+        → Gives versions t (option_map stop_refusal (run_stop unannotated parameters (log_of entries) t k (machine.as_of unannotated (spans_of versions))))
+        (cells_of (answer unannotated select (run unannotated (log_of entries) t k (machine.as_of unannotated (spans_of versions))))) (saw_program entries t k select)
     saw_gives known =
         let whole = plain_program (width_of (tables_in entries)) false (program_at (width_of (tables_in entries)) entries (y.after t k) select) in
         let ordered = program_ordered whole (plain_saw_built entries fit select fits t k known) in
-        let past = travel.encoded (travels.as_of plain versions) in
+        let past = travel.encoded (travels.as_of unannotated versions) in
         let built = seen_built entries fit select fits t k (known_of t k entries known) in
         record {
           gives = merged_is past whole ordered ∙ gives entries versions select fit spans_fit fits (y.after t k) built;
           stops =
-              run_refused plain parameters (log_of entries) t (machine.as_of plain (spans_of versions)) k
+              run_refused unannotated parameters (log_of entries) t (machine.as_of unannotated (spans_of versions)) k
               ∙ ap (option_map (refusal_at t))
               (sym (steps_stop_is entries versions fit spans_fit t k (program_at (width_of (tables_in entries)) entries (y.after t k) select).last built.steps)
               ∙ sym (merged_stop MAX_TABLE_ROWS MAX_NODES past whole ordered));
         }
 
     pub saw_executes : {X : Type 0} (view : X → List (List Cell)) (result : Result X ReenactStop)
-        → ReenactsBy view Executes result (saw_refusal t k entries) t (saw_program entries t k select) (travel.encoded (travels.as_of plain versions))
+        → ReenactsBy view Executes result (saw_refusal t k entries) t (saw_program entries t k select) (travel.encoded (travels.as_of unannotated versions))
         → Reenacts view result (saw_answer parameters entries (spans_of versions) t k select)
     saw_executes view result by =
-        let elements = answer plain select (run plain (log_of entries) t k (machine.as_of plain (spans_of versions))) in
+        let elements = answer unannotated select (run unannotated (log_of entries) t k (machine.as_of unannotated (spans_of versions))) in
         let refusal = saw_refusal t k entries in
-        let own = option_map stop_refusal (run_stop plain parameters (log_of entries) t k (machine.as_of plain (spans_of versions))) in
+        let own = option_map stop_refusal (run_stop unannotated parameters (log_of entries) t k (machine.as_of unannotated (spans_of versions))) in
         finds_reenacts view elements (option_or refusal (option_or own (cond (nat_lt MAX_ANSWER_ROWS (length elements)) (Some E27) None))) result
         (subst (λ b. Finds view result (given (option_or refusal (option_or own (cond b (Some E27) None))) (cells_of elements))) (counted view elements)
         (executed_finds view versions t refusal own (cells_of elements) (saw_program entries t k select) saw_gives result by))
@@ -247,9 +247,9 @@ module _ (entries : List Entry) (versions : List Versions) (fit : statements_fit
   forgotten_rows all = map-map system_row (reannotated forgotten) all
 
   looked_reannotated : (t k : ℕ) (statement : Statement) (c : Database Monomial) (d : Database (Unit {0})) → Reannotates forgotten c d
-      → looked_at plain t k statement d ≡ map (reannotated forgotten) (looked_at monomials t k statement c)
-  looked_reannotated t k (insert table tuples) c d same = step_reannotated monomials plain forgotten forgetting t k (insert table tuples) c d same table
-  looked_reannotated t k (insert_select table select) c d same = step_reannotated monomials plain forgotten forgetting t k (insert_select table select) c d same table
+      → looked_at unannotated t k statement d ≡ map (reannotated forgotten) (looked_at monomials t k statement c)
+  looked_reannotated t k (insert table tuples) c d same = step_reannotated monomials unannotated forgotten forgetting t k (insert table tuples) c d same table
+  looked_reannotated t k (insert_select table select) c d same = step_reannotated monomials unannotated forgotten forgetting t k (insert_select table select) c d same table
   looked_reannotated t k (update table sets x) c d same =
       ap (filter (λ (row : Annotated (Unit {0})). passes x row.cells)) (same table) ∙ filter-map (λ (row : Annotated (Unit {0})). passes x row.cells) (reannotated forgotten) (c table)
   looked_reannotated t k (delete table x) c d same =
@@ -263,7 +263,7 @@ module _ (entries : List Entry) (versions : List Versions) (fit : statements_fit
     look_built : IsTableProgram (width_of (tables_in entries)) table whole_look
     look_built = looking_built entries fit t k table statement known here is
 
-    looking_gives : p.program_meaning (travel.encoded (travels.as_of plain versions)) (plain_program (width_of (tables_in entries)) false whole_look)
+    looking_gives : p.program_meaning (travel.encoded (travels.as_of unannotated versions)) (plain_program (width_of (tables_in entries)) false whole_look)
         ≡ map system_row (looked_rows parameters entries (spans_of versions) t k statement)
     looking_gives =
         let past = machine.as_of monomials (spans_of versions) in
@@ -278,26 +278,26 @@ module _ (entries : List Entry) (versions : List Versions) (fit : statements_fit
         ∙ scanned_rows looked
         ∙ sym (forgotten_rows looked)
         ∙ ap (map system_row)
-        (sym (looked_reannotated t (suc k) statement (run_before monomials (log_of entries) t k past) (run_before plain (log_of entries) t k (machine.as_of plain (spans_of versions)))
-        (before_reannotated monomials plain forgotten forgetting past (machine.as_of plain (spans_of versions)) (forgets versions) (log_of entries) t k)))
+        (sym (looked_reannotated t (suc k) statement (run_before monomials (log_of entries) t k past) (run_before unannotated (log_of entries) t k (machine.as_of unannotated (spans_of versions)))
+        (before_reannotated monomials unannotated forgotten forgetting past (machine.as_of unannotated (spans_of versions)) (forgets versions) (log_of entries) t k)))
 
-    looked_gives : Gives versions t (option_map stop_refusal (run_stop plain parameters (log_of entries) t (suc k) (machine.as_of plain (spans_of versions))))
+    looked_gives : Gives versions t (option_map stop_refusal (run_stop unannotated parameters (log_of entries) t (suc k) (machine.as_of unannotated (spans_of versions))))
         (map system_row (looked_rows parameters entries (spans_of versions) t k statement)) (looked_program entries t k statement)
     looked_gives =
         let whole = plain_program (width_of (tables_in entries)) false whole_look in
         let ordered = program_ordered whole (plain_looking_built entries fit t k table statement known here is) in
-        let past = travel.encoded (travels.as_of plain versions) in
+        let past = travel.encoded (travels.as_of unannotated versions) in
         record {
           gives = merged_is past whole ordered ∙ looking_gives;
           stops =
-              run_refused plain parameters (log_of entries) t (machine.as_of plain (spans_of versions)) (suc k)
+              run_refused unannotated parameters (log_of entries) t (machine.as_of unannotated (spans_of versions)) (suc k)
               ∙ ap (option_map (refusal_at t))
               (sym (steps_stop_is entries versions fit spans_fit t (suc k) whole_look.last look_built.steps)
               ∙ sym (merged_stop MAX_TABLE_ROWS MAX_NODES past whole ordered));
         }
 
     abbrev past_rows : p.PlainEnvironment
-    past_rows = travel.encoded (travels.as_of plain versions)
+    past_rows = travel.encoded (travels.as_of unannotated versions)
 
     abbrev own_refusal : Option Refusal
     own_refusal = looked_refusal parameters entries (spans_of versions) t k statement
@@ -321,11 +321,11 @@ module _ (entries : List Entry) (versions : List Versions) (fit : statements_fit
     look_stopped view exec.NoMemory runs = tt
 
   module _ (t k : ℕ) (statement : Statement) (known : is_known t entries ≡ true) (here : statement_at t (suc k) entries ≡ Some statement) (does : writes statement ≡ true) where
-    pub looked_found : {X : Type 0} (view : X → List (List Cell)) (found : X) → EndsInTable view (Ok found) (looked_program entries t k statement) (travel.encoded (travels.as_of plain versions))
+    pub looked_found : {X : Type 0} (view : X → List (List Cell)) (found : X) → EndsInTable view (Ok found) (looked_program entries t k statement) (travel.encoded (travels.as_of unannotated versions))
         → Looks view (Ok found) (looked_answer parameters entries (spans_of versions) t k statement)
     looked_found view found runs = let own = table_of entries fit statement does in look_found t k own.0 statement known here own.1 view found runs
 
-    pub looked_stopped : {X : Type 0} (view : X → List (List Cell)) (stop : ExecStop) → EndsInTable view (Err stop) (looked_program entries t k statement) (travel.encoded (travels.as_of plain versions))
+    pub looked_stopped : {X : Type 0} (view : X → List (List Cell)) (stop : ExecStop) → EndsInTable view (Err stop) (looked_program entries t k statement) (travel.encoded (travels.as_of unannotated versions))
         → Looks view (Err (stopped t stop)) (looked_answer parameters entries (spans_of versions) t k statement)
     looked_stopped view stop runs = let own = table_of entries fit statement does in look_stopped t k own.0 statement known here own.1 view stop runs
 
@@ -361,6 +361,6 @@ refusals_same t k version entries made some =
 pub saw_reenacts : (bounds : Parameters) (entries : List Entry) (spans : ℕ → List Span) (t k version : ℕ) (query : Select) → version_of t entries ≡ Some version → 0 < k
     → saw_answer bounds entries spans t k query ≡ rows_answer bounds entries spans (y.after t k) query
 saw_reenacts bounds entries spans t k version query made some =
-    let elements = answer plain query (run plain (log_of entries) t k (machine.as_of plain spans)) in
-    let own = option_map stop_refusal (run_stop plain bounds (log_of entries) t k (machine.as_of plain spans)) in
-    ap (λ refusal. given (option_or refusal (option_or own (answer_refusal plain bounds elements))) elements) (refusals_same t k version entries made some)
+    let elements = answer unannotated query (run unannotated (log_of entries) t k (machine.as_of unannotated spans)) in
+    let own = option_map stop_refusal (run_stop unannotated bounds (log_of entries) t k (machine.as_of unannotated spans)) in
+    ap (λ refusal. given (option_or refusal (option_or own (answer_refusal unannotated bounds elements))) elements) (refusals_same t k version entries made some)

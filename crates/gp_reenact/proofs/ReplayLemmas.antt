@@ -9,7 +9,7 @@ use Rattle.gp_base.specs.declared.cell.Cell.{Cell}
 use Rattle.gp_base.specs.declared.refusal.Refusal.{Refusal}
 use Rattle.gp_base.specs.declared.refusal.Refusal.TheVariants.{E25, E26, E27}
 use Rattle.gp_base.specs.declared.row_id.TheConstants.{MAX_NODES}
-use Rattle.gp_base.specs.Annotated.{Annotations, Database, Environment, monomials, plain}
+use Rattle.gp_base.specs.Annotated.{Annotations, Database, Environment, monomials, unannotated}
 use Rattle.gp_base.specs.Tokens.{Monomial}
 use Rattle.gp_grammar.specs.Syntax as y
 use Rattle.gp_algebra.specs.AnnotatedQueries as q
@@ -48,7 +48,6 @@ use Rattle.gp_prov.proofs.BuiltLemmas.{program_built}
 use Rattle.gp_prov.proofs.MeaningLemmas.{HaveWidths, answers_are}
 use Rattle.gp_reenact.specs.Encoding as travel
 use Rattle.gp_reenact.specs.Travel as travels
-use Rattle.gp_reenact.specs.Travel.{no_table}
 use Rattle.gp_merge.proofs.BuiltLemmas.{merged_built}
 use Rattle.gp_merge.proofs.Orders.{program_ordered}
 use Rattle.gp_merge.proofs.RebuildingLemmas.{merged_is}
@@ -97,20 +96,20 @@ module _ {M : Type 0} (domain : Annotations M) (bounds : Parameters) (log : Log)
 -- ---- answers
 
 -- a program that gives the rows of a state, and stops where its run does
-pub record Replays (entries : List Entry) (versions : List Versions) (point : y.State) (select : Select) (program : p.PlainProgram) : Type 0 where
+pub record Replays (entries : List Entry) (versions : List Versions) (point : y.Point) (select : Select) (program : p.PlainProgram) : Type 0 where
   pub known : log_refusal entries point ≡ None
-  pub gives : p.program_meaning (travel.encoded (travels.as_of plain versions)) program
-      ≡ cells_of (answer plain select (at_point plain entries point (machine.as_of plain (spans_of versions))))
-  pub stops : own_stop plain parameters entries point (machine.as_of plain (spans_of versions))
-      ≡ option_map (refusal_at (transaction_at point)) (program_stop MAX_TABLE_ROWS MAX_NODES (travel.encoded (travels.as_of plain versions)) program)
+  pub gives : p.program_meaning (travel.encoded (travels.as_of unannotated versions)) program
+      ≡ cells_of (answer unannotated select (at_point unannotated entries point (machine.as_of unannotated (spans_of versions))))
+  pub stops : own_stop unannotated parameters entries point (machine.as_of unannotated (spans_of versions))
+      ≡ option_map (refusal_at (transaction_at point)) (program_stop MAX_TABLE_ROWS MAX_NODES (travel.encoded (travels.as_of unannotated versions)) program)
 
-module _ {X : Type 0} (view : X → List (List Cell)) (entries : List Entry) (versions : List Versions) (point : y.State) (select : Select) (program : p.PlainProgram)
+module _ {X : Type 0} (view : X → List (List Cell)) (entries : List Entry) (versions : List Versions) (point : y.Point) (select : Select) (program : p.PlainProgram)
     (replays : Replays entries versions point select program) where
   abbrev env : p.PlainEnvironment
-  env = travel.encoded (travels.as_of plain versions)
+  env = travel.encoded (travels.as_of unannotated versions)
 
   abbrev elements : List (Element (Unit {0}))
-  elements = answer plain select (at_point plain entries point (machine.as_of plain (spans_of versions)))
+  elements = answer unannotated select (at_point unannotated entries point (machine.as_of unannotated (spans_of versions)))
 
   abbrev expected : Result (List (Element (Unit {0}))) Refusal
   expected = rows_answer parameters entries (spans_of versions) point select
@@ -143,9 +142,9 @@ module _ {X : Type 0} (view : X → List (List Cell)) (entries : List Entry) (ve
 
 -- the run of a program that has asked for all that it scans
 pub runs_over : {X : Type 0} (view : X → List (List Cell)) (result : Result X ExecStop) (scanned : Env) (versions : List Versions) (program : p.PlainProgram)
-    → p.program_meaning (environment_view scanned) program ≡ p.program_meaning (travel.encoded (travels.as_of plain versions)) program
-    → program_stop MAX_TABLE_ROWS MAX_NODES (environment_view scanned) program ≡ program_stop MAX_TABLE_ROWS MAX_NODES (travel.encoded (travels.as_of plain versions)) program
-    → Runs view result scanned program → RunsOver view result (travel.encoded (travels.as_of plain versions)) program
+    → p.program_meaning (environment_view scanned) program ≡ p.program_meaning (travel.encoded (travels.as_of unannotated versions)) program
+    → program_stop MAX_TABLE_ROWS MAX_NODES (environment_view scanned) program ≡ program_stop MAX_TABLE_ROWS MAX_NODES (travel.encoded (travels.as_of unannotated versions)) program
+    → Runs view result scanned program → RunsOver view result (travel.encoded (travels.as_of unannotated versions)) program
 runs_over view (Ok found) scanned versions program same_rows same_stop runs =
     (sym same_stop ∙ runs.0, (subst (λ rows. IsPermutation (view found) rows) same_rows runs.1.0, subst (λ rows. length rows ≤ MAX_ANSWER_ROWS) same_rows runs.1.1))
 runs_over view (Err (exec.Rows j)) scanned versions program same_rows same_stop runs = sym same_stop ∙ runs
@@ -168,7 +167,7 @@ cells_out {M = M} made chosen same =
 -- ---- the program of a state
 
 -- the plain program of a state is well built, and so is the merged one
-module _ (entries : List Entry) (select : Select) (fit : statements_fit (tables_in entries) entries ≡ true) (fits : select_fits (tables_in entries) select ≡ true) (point : y.State)
+module _ (entries : List Entry) (select : Select) (fit : statements_fit (tables_in entries) entries ≡ true) (fits : select_fits (tables_in entries) select ≡ true) (point : y.Point)
     (known : log_refusal entries point ≡ None) (prov : Bool) where
   pub plain_is_built : is_well_built (plain_program (width_of (tables_in entries)) prov (program_at (width_of (tables_in entries)) entries point select)) ≡ true
   plain_is_built =
@@ -188,9 +187,9 @@ module _ (entries : List Entry) (versions : List Versions) (select : Select) (fi
   past = machine.as_of monomials (spans_of versions)
 
   abbrev plain_past : Environment (Unit {0})
-  plain_past = machine.as_of plain (spans_of versions)
+  plain_past = machine.as_of unannotated (spans_of versions)
 
-  abbrev program : y.State → q.Program
+  abbrev program : y.Point → q.Program
   program point = program_at columns entries point select
 
   wide : (version : ℕ) → AreAsWide columns (past version)
@@ -199,36 +198,36 @@ module _ (entries : List Entry) (versions : List Versions) (select : Select) (fi
   widths : HaveWidths columns past
   widths version table = wide version table
 
-  built : (point : y.State) → log_refusal entries point ≡ None → IsWellBuilt columns (program point)
+  built : (point : y.Point) → log_refusal entries point ≡ None → IsWellBuilt columns (program point)
   built point known = asked_program_is_built (tables_in entries) entries fit point known select fits
 
-  pub gives : (point : y.State) → IsWellBuilt columns (program point)
-      → p.program_meaning (travel.encoded (travels.as_of plain versions)) (plain_program columns false (program point)) ≡ cells_of (answer plain select (at_point plain entries point plain_past))
+  pub gives : (point : y.Point) → IsWellBuilt columns (program point)
+      → p.program_meaning (travel.encoded (travels.as_of unannotated versions)) (plain_program columns false (program point)) ≡ cells_of (answer unannotated select (at_point unannotated entries point plain_past))
   gives point is_built =
       ap (λ env. p.program_meaning env (plain_program columns false (program point))) (env_is versions)
       ∙ answers_are columns false past widths (program point) is_built
       ∙ cells_out (qm.program_meaning monomials past (program point)) (answer monomials select (at_point monomials entries point past))
       (program_is monomials monoid (tables_in entries) entries fit past wide (none_marked versions) point select fits)
-      ∙ sym (cells_reannotated monomials plain forgotten forgetting past plain_past (forgets versions) entries point select)
+      ∙ sym (cells_reannotated monomials unannotated forgotten forgetting past plain_past (forgets versions) entries point select)
 
-  stops : (point : y.State) → log_refusal entries point ≡ None
-      → own_stop plain parameters entries point plain_past
-      ≡ option_map (refusal_at (transaction_at point)) (program_stop MAX_TABLE_ROWS MAX_NODES (travel.encoded (travels.as_of plain versions)) (plain_program columns false (program point)))
+  stops : (point : y.Point) → log_refusal entries point ≡ None
+      → own_stop unannotated parameters entries point plain_past
+      ≡ option_map (refusal_at (transaction_at point)) (program_stop MAX_TABLE_ROWS MAX_NODES (travel.encoded (travels.as_of unannotated versions)) (plain_program columns false (program point)))
   stops (y.as_of version) known = refl
   stops (y.after t k) known =
-      run_refused plain parameters (log_of entries) t plain_past k
+      run_refused unannotated parameters (log_of entries) t plain_past k
       ∙ ap (option_map (refusal_at t)) (sym (steps_stop_is entries versions fit spans_fit t k (program (y.after t k)).last (built (y.after t k) known).steps))
-  stops (y.State.commit t) known =
-      run_refused plain parameters (log_of entries) t plain_past (statement_count t entries)
-      ∙ ap (option_map (refusal_at t)) (sym (steps_stop_is entries versions fit spans_fit t (statement_count t entries) (program (y.State.commit t)).last (built (y.State.commit t) known).steps))
+  stops (y.Point.commit t) known =
+      run_refused unannotated parameters (log_of entries) t plain_past (statement_count t entries)
+      ∙ ap (option_map (refusal_at t)) (sym (steps_stop_is entries versions fit spans_fit t (statement_count t entries) (program (y.Point.commit t)).last (built (y.Point.commit t) known).steps))
 
   -- the merged program replays the state
-  pub planned_replays : (point : y.State) (planned : p.PlainProgram) → planned ≡ merged_at false entries point select → log_refusal entries point ≡ None
+  pub planned_replays : (point : y.Point) (planned : p.PlainProgram) → planned ≡ merged_at false entries point select → log_refusal entries point ≡ None
       → Replays entries versions point select planned
   planned_replays point planned is known =
       let whole = plain_program columns false (program point) in
       let is_built = plain_is_built entries select fit fits point known false in
-      let past = travel.encoded (travels.as_of plain versions) in
+      let past = travel.encoded (travels.as_of unannotated versions) in
       subst (λ (planned : p.PlainProgram). Replays entries versions point select planned) (sym is)
       (record {
         known = known;

@@ -3,7 +3,7 @@ use Rattle.std.proofs.Common.{◌≡◌, ℕ, true, false, List, [], ◌∷◌, 
 use Rattle.std.specs.List.{AllByRecursion}
 use Rattle.std.specs.Option.{option_map}
 use Rattle.gp_base.specs.declared.row_id.TheConstants.{MAX_NODES}
-use Rattle.gp_base.specs.Annotated.{Environment, monomials, plain}
+use Rattle.gp_base.specs.Annotated.{Environment, monomials, unannotated}
 use Rattle.gp_base.specs.Tokens.{Monomial}
 use Rattle.gp_base.proofs.ProductLaws.{times-associative, times-one}
 use Rattle.gp_algebra.specs.AnnotatedQueries as q
@@ -40,10 +40,10 @@ use Rattle.gp_base.proofs.SmallLemmas.{map-map}
 
 module _ (versions : List Versions) where
   -- the two encodings agree where there is no provenance
-  pub env_is : travel.encoded (travels.as_of plain versions) ≡ enc.encoded false (machine.as_of monomials (spans_of versions))
+  pub env_is : travel.encoded (travels.as_of unannotated versions) ≡ enc.encoded false (machine.as_of monomials (spans_of versions))
   env_is = λ i. λ version table. sym (rows-plain monomials (spans_at version (spans_of versions table))) i
 
-  pub forgets : VersionsReannotate forgotten (machine.as_of monomials (spans_of versions)) (machine.as_of plain (spans_of versions))
+  pub forgets : VersionsReannotate forgotten (machine.as_of monomials (spans_of versions)) (machine.as_of unannotated (spans_of versions))
   forgets version table = sym (map-map (reannotated forgotten) (row_of monomials) (spans_at version (spans_of versions table)))
 
   -- no transaction has written a past version
@@ -57,7 +57,7 @@ module _ (versions : List Versions) where
 pub monoid : IsMonoid monomials
 monoid = record { right_one = times-one; associative = times-associative }
 
-pub forgetting : IsHomomorphism monomials plain forgotten
+pub forgetting : IsHomomorphism monomials unannotated forgotten
 forgetting = record { one = refl; times = λ a b. refl; token = λ token. refl }
 
 module _ (entries : List Entry) (versions : List Versions) (fit : statements_fit (tables_in entries) entries ≡ true) (spans_fit : SpansFit (tables_in entries) (spans_of versions)) where
@@ -69,8 +69,8 @@ module _ (entries : List Entry) (versions : List Versions) (fit : statements_fit
 
   -- the steps of a transaction stop where its run does
   pub steps_stop_is : (t k : ℕ) (last : q.Query) → HasSteps (width_of (tables_in entries)) (record { steps = composed (width_of (tables_in entries)) (log_of entries) t k; last = last })
-      → program_stop MAX_TABLE_ROWS MAX_NODES (travel.encoded (travels.as_of plain versions)) (plain_program (width_of (tables_in entries)) false (record { steps = composed (width_of (tables_in entries)) (log_of entries) t k; last = last }))
-      ≡ option_map step_stop (run_stop plain parameters (log_of entries) t k (machine.as_of plain (spans_of versions)))
+      → program_stop MAX_TABLE_ROWS MAX_NODES (travel.encoded (travels.as_of unannotated versions)) (plain_program (width_of (tables_in entries)) false (record { steps = composed (width_of (tables_in entries)) (log_of entries) t k; last = last }))
+      ≡ option_map step_stop (run_stop unannotated parameters (log_of entries) t k (machine.as_of unannotated (spans_of versions)))
   steps_stop_is t k last has =
       let columns : ℕ → ℕ = width_of (tables_in entries) in
       let past : Environment Monomial = machine.as_of monomials (spans_of versions) in
@@ -81,4 +81,4 @@ module _ (entries : List Entry) (versions : List Versions) (fit : statements_fit
       (gives_run false columns (step_table steps) (log_of entries) t past k
       (λ j table statement within is writes_it. composed_step_is monomials monoid (tables_in entries) entries fit past past_wide (none_marked versions) t k j table statement within is writes_it)
       (λ j. rows_between false (columns (step_table steps j)) (steps_are columns false past past_widths (record { steps = steps; last = last }) has j)))
-      ∙ ap (option_map step_stop) (sym (run_stop_reannotated monomials plain forgotten forgetting past (machine.as_of plain (spans_of versions)) (forgets versions) parameters (log_of entries) t k))
+      ∙ ap (option_map step_stop) (sym (run_stop_reannotated monomials unannotated forgotten forgetting past (machine.as_of unannotated (spans_of versions)) (forgets versions) parameters (log_of entries) t k))

@@ -33,9 +33,10 @@ use Rattle.gp_machine.specs.Runs.{run, run_before, stepped}
 use Rattle.gp_machine.proofs.Distinct.{each_weaker}
 use Rattle.gp_log.specs.LogFitting.{statements_fit}
 use Rattle.gp_rewrite.specs.Rewriting.{rewritten}
-use Rattle.gp_compose.specs.Composed.{composed, current_before, is_target, step_of, steps_of, writes}
+use Rattle.gp_compose.specs.Composed.{composed, current_before, step_of, writes}
+use Rattle.gp_compose.specs.StepForms.{is_target, steps_of}
 use Rattle.gp_prov.specs.Encoding.{encoded, encoded_row, noted}
-use Rattle.gp_prov.specs.ToPlain.{plain, plain_program, plain_step}
+use Rattle.gp_prov.specs.ToPlain.{plain_query, plain_program, plain_step}
 use Rattle.gp_reenact.proofs.HeldLemmas.{AreHeld, FitsIfSome, HasUserCells, IsHeld, held_refreshed, held_step, logged_fits, user_given, user_made}
 use Rattle.gp_base.proofs.SmallLemmas.{each_append, eq_itself}
 
@@ -153,7 +154,7 @@ module _ (prov : Bool) (columns of_step : ℕ → ℕ) (log : Log) (t : ℕ) (en
 
   -- its rows, given those of the steps before
   abbrev rows_by : ℕ → Statement → List (List Cell)
-  rows_by k statement = meaning (after_steps k) (encoded prov env) (plain columns of_step prov (rewritten columns t (suc k) statement (current_before log t k)))
+  rows_by k statement = meaning (after_steps k) (encoded prov env) (plain_query columns of_step prov (rewritten columns t (suc k) statement (current_before log t k)))
 
   more_steps : (k : ℕ) → plain_steps (suc k) ≡ plain_steps k ++ next_steps k (log.statement t (suc k))
   more_steps k = map-append (plain_step columns of_step prov) (composed columns log t k) (step_of columns t (suc k) (current_before log t k) (log.statement t (suc k)))

@@ -5,7 +5,7 @@ use Rattle.gp_base.specs.declared.cell.Cell.TheVariants as cell
 use Rattle.gp_base.specs.declared.refusal.Refusal.{Refusal}
 use Rattle.gp_base.specs.declared.limit.TheConstants.{MAX_TABLE_ROWS}
 use Rattle.gp_base.specs.declared.row_id.TheConstants.{MAX_NODES}
-use Rattle.gp_base.specs.Annotated.{Annotated, plain}
+use Rattle.gp_base.specs.Annotated.{Annotated, unannotated}
 use Rattle.gp_algebra.specs.Plain.{PlainEnvironment, PlainProgram, program_meaning}
 use Rattle.gp_algebra.specs.Statements.{Select, Statement, width_of}
 use Rattle.gp_algebra.specs.Stops.{ancestry, program_stop, rows}
@@ -38,7 +38,7 @@ system_row row = row.cells ++ cell.Id row.identity ∷ cell.Mark row.mark ∷ []
 module _ (parameters : Parameters) (entries : List Entry) (spans : ℕ → List Span) (t k : ℕ) (statement : Statement) where
   -- the rows by which one looks at statement k + 1 of a transaction
   abbrev pub looked_rows : List (Annotated (Unit {0}))
-  looked_rows = looked_at plain t (suc k) statement (run_before plain (log_of entries) t k (as_of plain spans))
+  looked_rows = looked_at unannotated t (suc k) statement (run_before unannotated (log_of entries) t k (as_of unannotated spans))
 
   abbrev pub looked_answer : Result (List (List Cell)) Refusal
   looked_answer = given (looked_refusal parameters entries spans t k statement) (map system_row looked_rows)

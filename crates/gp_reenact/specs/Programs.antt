@@ -10,5 +10,5 @@ use Rattle.gp_merge.specs.Merging.{merged}
 use Rattle.gp_prov.specs.ToPlain.{plain_program}
 
 -- the program of a query over a state; with provenance, its rows end in their monomials
-abbrev pub merged_at : Bool → List Entry → y.State → Select → PlainProgram
+abbrev pub merged_at : Bool → List Entry → y.Point → Select → PlainProgram
 merged_at prov entries point select = merged (plain_program (width_of (tables_in entries)) prov (program_at (width_of (tables_in entries)) entries point select))

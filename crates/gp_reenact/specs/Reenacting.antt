@@ -52,10 +52,10 @@ RunsOver view (Err exec.NoMemory) env program = Unit {0}
 -- ---- refusals
 
 -- the transaction of a state; a version has none
-abbrev pub transaction_at : y.State → ℕ
+abbrev pub transaction_at : y.Point → ℕ
 transaction_at (y.as_of version) = zero
 transaction_at (y.after t k) = t
-transaction_at (y.State.commit t) = t
+transaction_at (y.Point.commit t) = t
 
 -- the refusal of a state whose program stops; a step has the number of its statement
 abbrev pub stopped : ℕ → ExecStop → ReenactStop

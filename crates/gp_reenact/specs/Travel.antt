@@ -1,6 +1,6 @@
 -- Part of the statement: the past versions of all tables as an environment.
 use Rattle.std.specs.Prelude.{List, [], map, slice_index_or}
-use Rattle.gp_base.specs.Annotated.{Annotations, Environment, plain}
+use Rattle.gp_base.specs.Annotated.{Annotations, Environment, unannotated}
 use Rattle.gp_algebra.specs.declared.plain.ScanAt.{ScanAt}
 use Rattle.gp_exec.specs.declared.env.Scanned.{Scanned}
 use Rattle.gp_versions.specs.Spans.{Versions, rows_at}
@@ -16,7 +16,7 @@ as_of domain versions version table = rows_at domain version (slice_index_or ver
 
 -- a table in a version, with its rows
 abbrev pub scanned : List Versions → ScanAt → Scanned
-scanned versions at = record { at = at; rows = encoded (as_of plain versions) at.version at.table }
+scanned versions at = record { at = at; rows = encoded (as_of unannotated versions) at.version at.table }
 
 abbrev pub scans_at : List Versions → List ScanAt → List Scanned
 scans_at versions scans = map (scanned versions) scans

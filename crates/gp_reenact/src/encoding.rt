@@ -1,7 +1,7 @@
 //! Rows of the plain algebra.
 
 ghost use Rattle.std.specs.Prelude.{◌≡◌, map, IfOk};
-ghost use Rattle.gp_base.specs.Annotated.{plain};
+ghost use Rattle.gp_base.specs.Annotated.{unannotated};
 ghost use Rattle.gp_versions.specs.Spans.{row_of, rows_at};
 ghost use Rattle.gp_reenact.specs.Encoding.{encoded_row};
 
@@ -11,7 +11,7 @@ use std::alloc::Global;
 
 /// The row of a span, then its identity, then the mark NO.
 fn encoded_row(alloc: Global, span: &Span) -> Result<Row, NoMemory>
-    ensures { IfOk result (λ row. row ≡ encoded_row (row_of plain span.now)) }
+    ensures { IfOk result (λ row. row ≡ encoded_row (row_of unannotated span.now)) }
 {
     let cells = span.row.cells();
     let mut row = Row::with_capacity(alloc, cells.len().saturating_add(2))?;
@@ -30,7 +30,7 @@ pub fn encoded_rows(
     version: u32,
 ) -> Result<Sequence<Row>, NoMemory>
     ensures { IfOk result
-        (λ rows. rows ≡ map encoded_row (rows_at plain version table.now.spans)) }
+        (λ rows. rows ≡ map encoded_row (rows_at unannotated version table.now.spans)) }
 {
     let mut rows = Sequence::new(alloc);
     for span in table.as_of(version) {

@@ -1,7 +1,7 @@
 //! Environments of past versions.
 
 ghost use Rattle.std.specs.Prelude.{◌≡◌, IfOk};
-ghost use Rattle.gp_base.specs.Annotated.{plain};
+ghost use Rattle.gp_base.specs.Annotated.{unannotated};
 ghost use Rattle.gp_algebra.specs.Scans.{AgreeOn};
 ghost use Rattle.gp_exec.specs.Running.{environment_view};
 ghost use Rattle.gp_reenact.specs.Encoding.{encoded};
@@ -32,7 +32,7 @@ fn scanned(alloc: Global, versions: &[VersionTable], at: ScanAt) -> Result<Scann
 pub fn env_at(alloc: Global, versions: &[VersionTable], scans: &[ScanAt]) -> Result<Env, NoMemory>
     ensures scans { IfOk result (λ env. env.scans ≡ scans_at versions.now scans.now) }
     ensures agree { IfOk result (λ env. AgreeOn scans.now
-        (environment_view env) (encoded (as_of plain versions.now))) }
+        (environment_view env) (encoded (as_of unannotated versions.now))) }
 {
     let mut found = Sequence::new(alloc);
     for at in scans {

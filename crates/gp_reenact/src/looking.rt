@@ -1,17 +1,16 @@
 //! What any transaction saw, and the rows by which one looks at a statement of it, whatever became of the transaction.
 
-ghost use Rattle.std.specs.Prelude.{◌≡◌, ◌<◌, ◌≤◌, ◌+◌, ◌^◌, Some, None, suc, true};
+ghost use Rattle.std.specs.Prelude.{◌≡◌, ◌<◌, ◌+◌, ◌^◌, None, true};
 ghost use Rattle.gp_algebra.specs.PlainViews.{program_view};
 ghost use Rattle.gp_algebra.specs.Views.{select_view, statement_view};
 ghost use Rattle.gp_algebra.specs.WellBuilt.{is_well_built};
-ghost use Rattle.gp_compose.specs.Composing.{QueryFits};
+ghost use Rattle.gp_compose.specs.Composing.{HasStatement, QueryFits};
 ghost use Rattle.gp_compose.specs.Seen as s;
 ghost use Rattle.gp_log.specs.Contents.{entries, tables};
-ghost use Rattle.gp_log.specs.LogFitting.{SpansFit, statements_fit};
+ghost use Rattle.gp_log.specs.LogFitting.{SpansFit};
 ghost use Rattle.gp_log.specs.Parameters.{parameters};
-ghost use Rattle.gp_machine.specs.Entries as m;
 ghost use Rattle.gp_machine.specs.Questions.{is_known};
-ghost use Rattle.gp_base.specs.Annotated.{plain};
+ghost use Rattle.gp_base.specs.Annotated.{unannotated};
 ghost use Rattle.gp_reenact.specs.Encoding.{encoded};
 ghost use Rattle.gp_reenact.specs.Travel.{as_of};
 ghost use Rattle.gp_reenact.specs.Backends.{ReenactsBy};
@@ -76,8 +75,7 @@ fn number_of(log: &Log, t: u64) -> u32
     requires { is_known t (entries log.now) ≡ true }
     ensures { result ≡ t }
 {
-    // A log numbers its transactions by 32 bits. That is known of it where it is asked for their number.
-    let _count = log.transactions();
+    log.bounds();
     t as u32
 }
 
@@ -95,7 +93,7 @@ fn saw_by<B: Backend>(
     ensures { ReenactsBy (λ rows. rows.items) (B.gives backend.now) result
         (s.saw_refusal t k (entries log.now)) t
         (saw_program (entries log.now) t k (select_view select.now))
-        (encoded (as_of plain versions.now)) }
+        (encoded (as_of unannotated versions.now)) }
 {
     let planned = planned_saw(alloc, log, t, k, select)?;
     match rows_over(alloc, versions, &planned, backend) {
@@ -133,13 +131,9 @@ fn planned_look(
     before: u32,
     stmt: &Stmt,
 ) -> Result<PProgram, ReenactStop>
-    requires known { is_known t (entries log.now) ≡ true }
+    requires statement { HasStatement log.now t before (statement_view stmt.now) }
     requires more { before + 1 < 2 ^ 32 }
-    requires most { suc before ≤ m.statement_count t (entries log.now) }
-    requires here { m.statement_at t (suc before) (entries log.now)
-        ≡ Some (statement_view stmt.now) }
     requires writes { s.writes (statement_view stmt.now) ≡ true }
-    requires statements { statements_fit (tables log.now) (entries log.now) ≡ true }
     ensures { Plans program_view result None
         (looked_program (entries log.now) t before (statement_view stmt.now)) }
 {
@@ -155,7 +149,7 @@ fn table_over(
 ) -> Result<Vec<Row>, ExecStop>
     requires { is_well_built (program_view program.now) ≡ true }
     ensures { EndsInTable (λ found. found.items) result (program_view program.now)
-        (encoded (as_of plain versions.now)) }
+        (encoded (as_of unannotated versions.now)) }
 {
     // The scans that are asked for suffice. The call does nothing.
     asked_scans_suffice();
@@ -177,13 +171,9 @@ pub fn looked(
     before: u32,
     stmt: &Stmt,
 ) -> Result<Vec<Row>, ReenactStop>
-    requires known { is_known t (entries log.now) ≡ true }
+    requires statement { HasStatement log.now t before (statement_view stmt.now) }
     requires more { before + 1 < 2 ^ 32 }
-    requires most { suc before ≤ m.statement_count t (entries log.now) }
-    requires here { m.statement_at t (suc before) (entries log.now)
-        ≡ Some (statement_view stmt.now) }
     requires writes { s.writes (statement_view stmt.now) ≡ true }
-    requires statements { statements_fit (tables log.now) (entries log.now) ≡ true }
     requires spans { SpansFit (tables log.now) (spans_of versions.now) }
     ensures { Looks (λ rows. rows.items) result (looked_answer parameters (entries log.now)
         (spans_of versions.now) t before (statement_view stmt.now)) }

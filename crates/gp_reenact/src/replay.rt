@@ -1,15 +1,15 @@
 //! Programs of states, run over past versions.
 
 ghost use Rattle.std.specs.Prelude.{◌≡◌, true, false, None};
-ghost use Rattle.gp_base.specs.Annotated.{plain};
-ghost use Rattle.gp_syntax.specs.Views.{state_view};
+ghost use Rattle.gp_base.specs.Annotated.{unannotated};
+ghost use Rattle.gp_syntax.specs.Views.{point_view};
 ghost use Rattle.gp_algebra.specs.Statements.{width_of};
 ghost use Rattle.gp_algebra.specs.PlainViews.{program_view};
 ghost use Rattle.gp_algebra.specs.QueryViews.{annotated_program_view};
 ghost use Rattle.gp_algebra.specs.Views.{select_view};
 ghost use Rattle.gp_algebra.specs.WellBuilt.{is_well_built};
 ghost use Rattle.gp_compose.specs.Composing.{QueryFits};
-ghost use Rattle.gp_log.specs.Contents.{entries, tables};
+ghost use Rattle.gp_log.specs.Contents.{HasPoint, entries, tables};
 ghost use Rattle.gp_log.specs.Parameters.{parameters};
 ghost use Rattle.gp_log.specs.LogFitting.{SpansFit};
 ghost use Rattle.gp_machine.specs.Questions as m;
@@ -32,14 +32,14 @@ use gp_exec::{Backend, ExecStop, Plain};
 use gp_log::Log;
 use gp_merge::merge;
 use gp_prov::to_plain;
-use gp_syntax::State;
+use gp_syntax::Point;
 use gp_versions::VersionTable;
 use std::alloc::Global;
 
 /// The refusal of a state that the log does not have: E20 if no transaction has the number, E21 if it did not commit, E22 if it has
 /// no such statement, E23 if there is no such version.
-pub fn log_refusal(log: &Log, state: State) -> Option<Refusal>
-    ensures { result ≡ m.log_refusal (entries log.now) (state_view state) }
+pub fn log_refusal(log: &Log, state: Point) -> Option<Refusal>
+    ensures { result ≡ m.log_refusal (entries log.now) (point_view state) }
 {
     match check_state(log, state) {
         Ok(()) => None,
@@ -56,7 +56,7 @@ pub(crate) fn rows_over<B: Backend>(
 ) -> Result<Vec<Row>, ExecStop>
     requires { is_well_built (program_view program.now) ≡ true }
     ensures { GivesOver (λ found. found.items) (B.gives backend.now) result
-        (program_view program.now) (encoded (as_of plain versions.now)) }
+        (program_view program.now) (encoded (as_of unannotated versions.now)) }
 {
     let asked = scans(alloc, program)?;
     let env = env_at(alloc, versions, &asked)?;
@@ -64,15 +64,14 @@ pub(crate) fn rows_over<B: Backend>(
 }
 
 /// The transaction of a state that the log has, or 0 for a version.
-fn transaction_at(log: &Log, state: State) -> u32
-    requires { m.log_refusal (entries log.now) (state_view state) ≡ None }
-    ensures { result ≡ r.transaction_at (state_view state) }
+fn transaction_at(log: &Log, state: Point) -> u32
+    requires { HasPoint log.now (point_view state) }
+    ensures { result ≡ r.transaction_at (point_view state) }
 {
-    // A log numbers its transactions by 32 bits. That is known of it where it is asked for their number.
-    let _count = log.transactions();
+    log.bounds();
     match state {
-        State::AsOf { .. } => 0,
-        State::After { t, .. } | State::Commit { t } => t as u32,
+        Point::AsOf { .. } => 0,
+        Point::After { t, .. } | Point::Commit { t } => t as u32,
     }
 }
 
@@ -109,13 +108,13 @@ pub(crate) fn merged_program(
 pub fn planned(
     alloc: Global,
     log: &Log,
-    state: State,
+    state: Point,
     select: &Select,
     with_prov: bool,
 ) -> Result<PProgram, ReenactStop>
     requires { QueryFits log.now (select_view select.now) }
-    ensures { Plans program_view result (m.log_refusal (entries log.now) (state_view state))
-        (merged_at with_prov (entries log.now) (state_view state) (select_view select.now)) }
+    ensures { Plans program_view result (m.log_refusal (entries log.now) (point_view state))
+        (merged_at with_prov (entries log.now) (point_view state) (select_view select.now)) }
 {
     // What may fail borrows the program, which has many parts: each way out that owns it lets them all go.
     match program(alloc, log, state, select) {
@@ -131,15 +130,15 @@ pub fn reenact_by<B: Backend>(
     alloc: Global,
     log: &Log,
     versions: &[VersionTable],
-    state: State,
+    state: Point,
     select: &Select,
     backend: &B,
 ) -> Result<Vec<Row>, ReenactStop>
     requires { QueryFits log.now (select_view select.now) }
     ensures { ReenactsBy (λ rows. rows.items) (B.gives backend.now) result
-        (m.log_refusal (entries log.now) (state_view state)) (r.transaction_at (state_view state))
-        (merged_at false (entries log.now) (state_view state) (select_view select.now))
-        (encoded (as_of plain versions.now)) }
+        (m.log_refusal (entries log.now) (point_view state)) (r.transaction_at (point_view state))
+        (merged_at false (entries log.now) (point_view state) (select_view select.now))
+        (encoded (as_of unannotated versions.now)) }
 {
     let plain = planned(alloc, log, state, select, false)?;
     match rows_over(alloc, versions, &plain, backend) {
@@ -158,14 +157,14 @@ pub fn reenact(
     alloc: Global,
     log: &Log,
     versions: &[VersionTable],
-    state: State,
+    state: Point,
     select: &Select,
 ) -> Result<Vec<Row>, ReenactStop>
     requires query { QueryFits log.now (select_view select.now) }
     requires spans { SpansFit (tables log.now) (spans_of versions.now) }
     ensures { Reenacts (λ rows. rows.items) result
         (rows_answer parameters (entries log.now) (spans_of versions.now)
-        (state_view state) (select_view select.now)) }
+        (point_view state) (select_view select.now)) }
 {
     reenact_by(alloc, log, versions, state, select, &Plain)
 }

@@ -1,7 +1,7 @@
 //! Laws of the definitions that contracts cite. Each function does nothing: its postconditions are the laws.
 
 ghost use Rattle.std.specs.Prelude.{◌≡◌, ℕ, List, Contains};
-ghost use Rattle.gp_base.specs.Annotated.{Annotations, plain};
+ghost use Rattle.gp_base.specs.Annotated.{Annotations, unannotated};
 ghost use Rattle.gp_algebra.specs.declared.plain.ScanAt.{ScanAt};
 ghost use Rattle.gp_algebra.specs.Plain.{PlainProgram, program_meaning};
 ghost use Rattle.gp_algebra.specs.Scans.{program_scans};
@@ -16,7 +16,7 @@ ghost use Rattle.gp_reenact.specs.Travel.{as_of, scans_at};
 pub fn annotations_are_left_out<M>()
     ensures left_out { (domain : Annotations M) (versions : List Versions) (version table : ℕ)
         → encoded (as_of domain versions) version table
-        ≡ encoded (as_of plain versions) version table }
+        ≡ encoded (as_of unannotated versions) version table }
 {}
 
 /// If all scans of a program are asked, its rows and its stop are those over all past versions.
@@ -25,10 +25,10 @@ pub fn asked_scans_suffice()
         (program : PlainProgram) → env.scans ≡ scans_at versions scans
         → ((scan : ScanAt) → Contains (program_scans program) scan → Contains scans scan)
         → program_meaning (environment_view env) program
-        ≡ program_meaning (encoded (as_of plain versions)) program }
+        ≡ program_meaning (encoded (as_of unannotated versions)) program }
     ensures stop { (most_rows most_nodes : ℕ) (versions : List Versions) (scans : List ScanAt)
         (env : Env) (program : PlainProgram) → env.scans ≡ scans_at versions scans
         → ((scan : ScanAt) → Contains (program_scans program) scan → Contains scans scan)
         → program_stop most_rows most_nodes (environment_view env) program
-        ≡ program_stop most_rows most_nodes (encoded (as_of plain versions)) program }
+        ≡ program_stop most_rows most_nodes (encoded (as_of unannotated versions)) program }
 {}

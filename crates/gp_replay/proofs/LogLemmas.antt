@@ -26,7 +26,7 @@ use Rattle.gp_log.specs.declared.entry.Entry.{Entry}
 use Rattle.gp_log.proofs.LineCommands.{parsed-reads}
 use Rattle.gp_dumpline.specs.Said.{IsSaid}
 use Rattle.gp_dumpline.proofs.SaidLaws.{commit-said, said-command}
-use Rattle.gp_dump.specs.Dumps.{AreReadable}
+use Rattle.gp_dump.specs.WholeDumps.{AreReadable}
 use Rattle.gp_replay.specs.Differences.{command_in, line_in, lines_in}
 use Rattle.gp_replay.specs.Running.{CanRun, CanRunAll}
 

@@ -1,13 +1,14 @@
 -- Laws of the histories of scripts.
 use Rattle.std.proofs.Common.{◌≡◌, ℕ, false, List, [], ◌∷◌, ◌++◌, map, Result, Ok, Err, refl, sym, ap, ◌∙◌}
-use Rattle.gp_base.specs.Annotated.{Annotations, plain}
+use Rattle.gp_base.specs.Annotated.{Annotations, unannotated}
 use Rattle.gp_base.specs.declared.refusal.Refusal.{Refusal}
 use Rattle.gp_grammar.specs.Syntax.{ScriptLine}
 use Rattle.gp_grammar.specs.LineReading.{Fault}
 use Rattle.gp_grammar.specs.Reading.{script_line_of}
-use Rattle.gp_syntax.specs.Lines.{numbers_of, script_lines}
+use Rattle.gp_syntax.specs.Lines.{script_lines}
+use Rattle.gp_syntax.specs.LineForms.{numbers_of}
 use Rattle.gp_algebra.specs.Reannotation.{IsHomomorphism, forgotten}
-use Rattle.gp_machine.specs.Actions.{Action, Begin, Commit, Create, Rollback, Run, action_of}
+use Rattle.gp_machine.specs.ActionForms.{Action, Begin, Commit, Create, Rollback, Run, action_of}
 use Rattle.gp_machine.specs.Event.{Line, after, event, line_event}
 use Rattle.gp_machine.specs.Recorded.{is_recorded}
 use Rattle.gp_machine.specs.Replies.{is_lost}
@@ -54,25 +55,25 @@ module _ {M : Type 0} (domain : Annotations M) where
 
   -- a line gets the same reply with and without annotations
   abbrev pub Forgets : Type 0
-  Forgets = (state : State M) (line : Line) → line_event plain parameters (state_reannotated forgotten state) line ≡ outcome_reannotated forgotten (line_event domain parameters state line)
+  Forgets = (state : State M) (line : Line) → line_event unannotated parameters (state_reannotated forgotten state) line ≡ outcome_reannotated forgotten (line_event domain parameters state line)
 
-  pub forgetting : IsHomomorphism domain plain forgotten
+  pub forgetting : IsHomomorphism domain unannotated forgotten
   forgetting = record { one = refl; times = λ a b. refl; token = λ token. refl }
 
   outcome-same : Forgets → (state : State M) (number : ℕ) (read : Result ScriptLine Fault)
-      → outcome_of plain (state_reannotated forgotten state) number read ≡ outcome_reannotated forgotten (outcome_of domain state number read)
+      → outcome_of unannotated (state_reannotated forgotten state) number read ≡ outcome_reannotated forgotten (outcome_of domain state number read)
   outcome-same forgets state number (Err fault) = refl
   outcome-same forgets state number (Ok line) = forgets state (record { number = number; session = line.session; command = line.command })
 
-  pub replies-same : Forgets → (state : State M) (lines : List (ℕ × List ℕ)) → replies_from domain state lines ≡ replies_from plain (state_reannotated forgotten state) lines
+  pub replies-same : Forgets → (state : State M) (lines : List (ℕ × List ℕ)) → replies_from domain state lines ≡ replies_from unannotated (state_reannotated forgotten state) lines
   replies-same forgets state [] = refl
   replies-same forgets state (line ∷ lines) =
       let outcome = line_outcome domain state line in
       ap (λ (replies : List NumberedReply). record { number = line.0; tables = outcome.0.catalogue; reply = outcome.1 } ∷ replies) (replies-same forgets outcome.0 lines)
-      ∙ ap (λ (next : State (Unit {0}) × Reply). record { number = line.0; tables = next.0.catalogue; reply = next.1 } ∷ replies_from plain next.0 lines)
+      ∙ ap (λ (next : State (Unit {0}) × Reply). record { number = line.0; tables = next.0.catalogue; reply = next.1 } ∷ replies_from unannotated next.0 lines)
       (sym (outcome-same forgets state line.0 (script_line_of line.1)))
 
 pub states-same : {M : Type 0} (domain : Annotations M) (script : List ℕ)
-    → after plain parameters start (lines_read (script_lines script)) ≡ state_reannotated forgotten (after domain parameters start (lines_read (script_lines script)))
-    → final_state plain script ≡ state_reannotated forgotten (final_state domain script)
-states-same domain script same = after-lines plain (script_lines script) start ∙ same ∙ ap (state_reannotated forgotten) (sym (after-lines domain (script_lines script) start))
+    → after unannotated parameters start (lines_read (script_lines script)) ≡ state_reannotated forgotten (after domain parameters start (lines_read (script_lines script)))
+    → final_state unannotated script ≡ state_reannotated forgotten (final_state domain script)
+states-same domain script same = after-lines unannotated (script_lines script) start ∙ same ∙ ap (state_reannotated forgotten) (sym (after-lines domain (script_lines script) start))

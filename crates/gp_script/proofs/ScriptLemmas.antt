@@ -3,7 +3,7 @@ use Rattle.std.proofs.Common.{Some, Result, Ok, Err, length, ◌≡◌, ℕ, Boo
 use Rattle.std.specs.Prelude.{OnErr}
 use Rattle.std.proofs.lemmas.List.{append-nil}
 use Rattle.std.proofs.Math.Seq.{take-append_seam}
-use Rattle.gp_base.specs.Annotated.{plain}
+use Rattle.gp_base.specs.Annotated.{unannotated}
 use Rattle.gp_base.specs.declared.refusal.Refusal.{Refusal}
 use Rattle.gp_base.specs.declared.table.Table.{Table}
 use Rattle.gp_grammar.specs.Syntax.{ScriptLine}
@@ -57,8 +57,8 @@ starts script engine lines represented whole = record {
   all = whole;
   reached = refl;
   represented = represented;
-  text_so_far = ap (λ (ls : List (ℕ × List ℕ)). replies_text (replies_from plain start ls)) whole;
-  refused_so_far = ap (λ (ls : List (ℕ × List ℕ)). has_refusal (replies_from plain start ls)) whole;
+  text_so_far = ap (λ (ls : List (ℕ × List ℕ)). replies_text (replies_from unannotated start ls)) whole;
+  refused_so_far = ap (λ (ls : List (ℕ × List ℕ)). has_refusal (replies_from unannotated start ls)) whole;
 }
 
 or-again : (a b c : Bool) → ((a || b) || c) ≡ (a || (b || c))
@@ -66,15 +66,15 @@ or-again true b c = refl
 or-again false b c = refl
 
 -- one line after some
-state-next : (state : State (Unit {0})) (before : List (ℕ × List ℕ)) (line : ℕ × List ℕ) → state_after plain state (before ++ line ∷ []) ≡ (line_outcome plain (state_after plain state before) line).0
+state-next : (state : State (Unit {0})) (before : List (ℕ × List ℕ)) (line : ℕ × List ℕ) → state_after unannotated state (before ++ line ∷ []) ≡ (line_outcome unannotated (state_after unannotated state before) line).0
 state-next state [] line = refl
-state-next state (first ∷ before) line = state-next (line_outcome plain state first).0 before line
+state-next state (first ∷ before) line = state-next (line_outcome unannotated state first).0 before line
 
 -- the state that the first lines of a script leave
-run-part : (script : List ℕ) (engine : Engine) (before lines : List (ℕ × List ℕ)) → before ++ lines ≡ script_lines script → IsEngineOf engine (state_after plain start before) → HasRun script engine
+run-part : (script : List ℕ) (engine : Engine) (before lines : List (ℕ × List ℕ)) → before ++ lines ≡ script_lines script → IsEngineOf engine (state_after unannotated start before) → HasRun script engine
 run-part script engine before lines all represented =
     let part : before ≡ take (length before) (script_lines script) = sym (take-append_seam before lines) ∙ ap (take (length before)) all in
-    record { lines = length before; state = subst (λ (ls : List (ℕ × List ℕ)). IsEngineOf engine (state_after plain start ls)) part represented }
+    record { lines = length before; state = subst (λ (ls : List (ℕ × List ℕ)). IsEngineOf engine (state_after unannotated start ls)) part represented }
 
 -- memory ran out before a line was answered
 pub stops_before : (script : List ℕ) (engine new : Engine) (lines : List (ℕ × List ℕ)) (text : List ℕ) (refused : Bool) → IsProgress script engine lines text refused
@@ -87,8 +87,8 @@ stops_before script engine new lines text refused way same =
 pub stops_after : (script : List ℕ) (engine new : Engine) (line : ℕ × List ℕ) (lines : List (ℕ × List ℕ)) (text : List ℕ) (refused : Bool) (reply : Reply)
     → IsProgress script engine (line ∷ lines) text refused → FollowsLine engine new line.0 line.1 reply → HasRun script new
 stops_after script engine new line lines text refused reply way follows =
-    let next : state_after plain start (way.before ++ line ∷ []) ≡ (line_outcome plain way.state line).0 =
-    state-next start way.before line ∙ ap (λ (state : State (Unit {0})). (line_outcome plain state line).0) way.reached in
+    let next : state_after unannotated start (way.before ++ line ∷ []) ≡ (line_outcome unannotated way.state line).0 =
+    state-next start way.before line ∙ ap (λ (state : State (Unit {0})). (line_outcome unannotated state line).0) way.reached in
     run-part script new (way.before ++ line ∷ []) lines (append_assoc way.before (line ∷ []) lines ∙ way.all)
     (subst (λ (state : State (Unit {0})). IsEngineOf new state) (sym next) (follows.state way.state way.represented))
 
@@ -97,17 +97,17 @@ pub goes_on : (script : List ℕ) (engine new : Engine) (line : ℕ × List ℕ)
     → IsProgress script engine (line ∷ lines) text refused → FollowsLine engine new line.0 line.1 reply
     → IsProgress script new lines (text ++ line_text line.0 (tables_of new) reply) (refused || is_refusal reply)
 goes_on script engine new line lines text refused reply way follows =
-    let outcome = line_outcome plain way.state line in
+    let outcome = line_outcome unannotated way.state line in
     let reply_is : reply ≡ outcome.1 = follows.reply way.state way.represented in
     let next : IsEngineOf new outcome.0 = follows.state way.state way.represented in
-    let rest = replies_from plain outcome.0 lines in
+    let rest = replies_from unannotated outcome.0 lines in
     let line-is : line_text line.0 (tables_of new) reply ≡ line_text line.0 outcome.0.catalogue outcome.1 =
     ap (λ (t : List Table). line_text line.0 t reply) next.kept.catalogue ∙ ap (λ (r : Reply). line_text line.0 outcome.0.catalogue r) reply_is in
     record {
       state = outcome.0;
       before = way.before ++ line ∷ [];
       all = append_assoc way.before (line ∷ []) lines ∙ way.all;
-      reached = state-next start way.before line ∙ ap (λ (state : State (Unit {0})). (line_outcome plain state line).0) way.reached;
+      reached = state-next start way.before line ∙ ap (λ (state : State (Unit {0})). (line_outcome unannotated state line).0) way.reached;
       represented = next;
       text_so_far = append_assoc text (line_text line.0 (tables_of new) reply) (replies_text rest) ∙ ap (λ (l : List ℕ). text ++ (l ++ replies_text rest)) line-is ∙ way.text_so_far;
       refused_so_far = or-again refused (is_refusal reply) (has_refusal rest) ∙ ap (λ (r : Reply). refused || (is_refusal r || has_refusal rest)) reply_is ∙ way.refused_so_far;
@@ -117,12 +117,12 @@ goes_on script engine new line lines text refused reply way follows =
 pub record IsDone (script : List ℕ) (left : Engine) (written : List ℕ) (fails : Bool) : Type 0 where
   pub text : written ≡ replies_text (replies_of script)
   pub refused : fails ≡ has_refusal (replies_of script)
-  pub engine : IsEngineOf left (final_state plain script)
+  pub engine : IsEngineOf left (final_state unannotated script)
 
 pub ends : (script : List ℕ) (engine : Engine) (text : List ℕ) (refused : Bool) → IsProgress script engine [] text refused → IsDone script engine text refused
 ends script engine text refused way = record {
   text = sym (append-nil text) ∙ way.text_so_far;
   refused = sym (or_nothing refused) ∙ way.refused_so_far;
   engine = subst (λ (state : State (Unit {0})). IsEngineOf engine state)
-      (sym way.reached ∙ ap (state_after plain start) (sym (append-nil way.before) ∙ way.all)) way.represented;
+      (sym way.reached ∙ ap (state_after unannotated start) (sym (append-nil way.before) ∙ way.all)) way.represented;
 }

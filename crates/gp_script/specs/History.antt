@@ -4,7 +4,7 @@
 use Rattle.std.specs.Prelude.{ℕ, Bool, List, [], ◌∷◌, Result, Ok, Err}
 use Rattle.std.specs.List.{flat_map, list_any}
 use Rattle.gp_base.specs.declared.table.Table.{Table}
-use Rattle.gp_base.specs.Annotated.{Annotations, plain}
+use Rattle.gp_base.specs.Annotated.{Annotations, unannotated}
 use Rattle.gp_grammar.specs.CommandGrammar.{IsScriptLine}
 use Rattle.gp_grammar.specs.Limits.{line_shape}
 use Rattle.gp_grammar.specs.LineReading.{Fault, AreReadAs}
@@ -56,7 +56,7 @@ module _ {M : Type 0} (domain : Annotations M) where
 
 -- the replies of a history, in order
 abbrev pub replies_to : List ReadLine → List NumberedReply
-replies_to lines = replies_along plain start lines
+replies_to lines = replies_along unannotated start lines
 
 -- the text of a reply, with the number of its line
 abbrev pub numbered_text : NumberedReply → List ℕ

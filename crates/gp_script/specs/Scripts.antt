@@ -1,15 +1,15 @@
--- Machinery: the history of a script as a function of its bytes, by the parser. It is the one of the lines that the script is read as.
+-- Machinery: the history of a script as a function of its bytes, by the parser: the one of the lines that the script is read as.
 use Rattle.std.specs.Prelude.{ℕ, List, [], ◌∷◌, Result, Ok, Err}
 use Rattle.std.specs.List.{flat_map}
-use Rattle.gp_base.specs.Annotated.{Annotations, plain}
+use Rattle.gp_base.specs.Annotated.{Annotations}
 use Rattle.gp_grammar.specs.LineReading.{Fault}
 use Rattle.gp_grammar.specs.Reading.{read_lines, script_line_of}
 use Rattle.gp_grammar.specs.Syntax.{ScriptLine}
 use Rattle.gp_syntax.specs.Lines.{script_lines}
 use Rattle.gp_machine.specs.declared.reply.Reply.{Reply}
 use Rattle.gp_machine.specs.Event.{Line}
-use Rattle.gp_machine.specs.State.{State, start}
-use Rattle.gp_script.specs.History.{NumberedReply, ReadLine, outcome_of}
+use Rattle.gp_machine.specs.State.{State}
+use Rattle.gp_script.specs.History.{NumberedReply, ReadLine, last_state, outcome_of, replies_along, replies_to, state_along}
 
 -- the lines that a script is read as
 abbrev pub lines_as_read : List ℕ → List ReadLine
@@ -22,18 +22,14 @@ module _ {M : Type 0} (domain : Annotations M) where
 
   -- the replies to these lines, and the state that they leave
   abbrev pub replies_from : State M → List (ℕ × List ℕ) → List NumberedReply
-  replies_from state [] = []
-  replies_from state (line ∷ lines) =
-      let next = line_outcome state line in
-      record { number = line.0; tables = next.0.catalogue; reply = next.1 } ∷ replies_from next.0 lines
+  replies_from state lines = replies_along domain state (read_lines script_line_of lines)
 
   abbrev pub state_after : State M → List (ℕ × List ℕ) → State M
-  state_after state [] = state
-  state_after state (line ∷ lines) = state_after (line_outcome state line).0 lines
+  state_after state lines = state_along domain state (read_lines script_line_of lines)
 
   -- the state that a script leaves
   abbrev pub final_state : List ℕ → State M
-  final_state script = state_after start (script_lines script)
+  final_state script = last_state domain (lines_as_read script)
 
 -- the line that is read as this, if it is read
 abbrev pub line_read : ℕ → Result ScriptLine Fault → List Line
@@ -46,4 +42,4 @@ lines_read lines = flat_map (λ (line : ℕ × List ℕ). line_read line.0 (scri
 
 -- the replies to the lines of a script, in order
 abbrev pub replies_of : List ℕ → List NumberedReply
-replies_of script = replies_from plain start (script_lines script)
+replies_of script = replies_to (lines_as_read script)

@@ -1,9 +1,10 @@
 //! Laws of the histories of scripts. The functions do nothing: their postconditions are the laws, and they cite laws of the history machine.
 
 ghost use Rattle.std.specs.Prelude.{◌≡◌, ℕ, ◌≤◌, false, List, length, map};
-ghost use Rattle.gp_base.specs.Annotated.{Annotations, plain};
+ghost use Rattle.gp_base.specs.Annotated.{Annotations, unannotated};
 ghost use Rattle.gp_base.specs.declared.refusal.Refusal.{Refusal};
-ghost use Rattle.gp_syntax.specs.Lines.{numbers_of, script_lines};
+ghost use Rattle.gp_syntax.specs.Lines.{script_lines};
+ghost use Rattle.gp_syntax.specs.LineForms.{numbers_of};
 ghost use Rattle.gp_algebra.specs.Reannotation.{forgotten};
 ghost use Rattle.gp_machine.specs.Event.{after};
 ghost use Rattle.gp_machine.specs.Replies.{is_lost};
@@ -53,7 +54,7 @@ pub fn replies_have_no_annotations<M>()
     ensures replies { (domain : Annotations M) (script : List ℕ)
         → replies_from domain start (script_lines script) ≡ replies_of script }
     ensures state { (domain : Annotations M) (script : List ℕ)
-        → final_state plain script ≡ state_reannotated forgotten (final_state domain script) }
+        → final_state unannotated script ≡ state_reannotated forgotten (final_state domain script) }
 {
     annotations_change_no_reply::<M, ()>()
 }

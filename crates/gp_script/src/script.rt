@@ -1,7 +1,7 @@
 //! A whole script: every line that is neither blank nor a comment gets its reply.
 
 ghost use Rattle.std.specs.Prelude.{◌≡◌, ◌≤◌, IfOk, OnErr, OnOk, length};
-ghost use Rattle.gp_base.specs.Annotated.{plain};
+ghost use Rattle.gp_base.specs.Annotated.{unannotated};
 ghost use Rattle.gp_machine.specs.State.{start};
 ghost use Rattle.gp_engine.specs.Engine.{IsEngineOf, IsUnchanged};
 ghost use Rattle.gp_script.specs.Answering.{FollowsLine};
@@ -55,7 +55,7 @@ pub fn run_script(alloc: Global, script: &[u8], engine: &mut Engine) -> Result<O
         output.text.items ≡ replies_text (replies_of script.now)) }
     ensures refused { IfOk result (λ output.
         output.refused ≡ has_refusal (replies_of script.now)) }
-    ensures engine { OnOk result (IsEngineOf engine.new (final_state plain script.now)) }
+    ensures engine { OnOk result (IsEngineOf engine.new (final_state unannotated script.now)) }
     ensures err { OnErr result (HasRun script.now engine.new) }
 {
     let mut text = Vec::new(alloc);

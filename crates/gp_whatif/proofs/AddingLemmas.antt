@@ -5,7 +5,7 @@ use Rattle.std.specs.List.{AllByRecursion}
 use Rattle.std.proofs.lemmas.Bool.Decides.{nat_tests}
 use Rattle.std.proofs.lemmas.List.{length-append}
 use Rattle.std.proofs.lemmas.Option.{slice_get_within, same_Some}
-use Rattle.gp_base.specs.Catalogs.{HaveDifferentNames}
+use Rattle.gp_base.specs.CatalogForms.{HaveDifferentNames}
 use Rattle.gp_base.specs.declared.catalog.TheConstants.{MAX_TABLES}
 use Rattle.gp_algebra.specs.Statements.{Statement}
 use Rattle.gp_grammar.specs.Syntax.{Command}

@@ -8,7 +8,8 @@ use Rattle.std.proofs.lemmas.List.{append-nil, get_or_append_left, get_or_at, le
 use Rattle.std.proofs.lemmas.List.Sums.{position_or_len_is}
 use Rattle.std.proofs.lemmas.Option.{get_or_from_slice_get, slice_get_within}
 use Rattle.std.proofs.lemmas.Slice.Eq.{bytes_eq-Decides}
-use Rattle.gp_base.specs.Catalogs.{HaveDifferentNames, place_of, table_names}
+use Rattle.gp_base.specs.Catalogs.{place_of, table_names}
+use Rattle.gp_base.specs.CatalogForms.{HaveDifferentNames}
 use Rattle.gp_base.specs.declared.catalog.TheConstants.{MAX_TABLES}
 use Rattle.gp_base.specs.declared.table.Table.{Table}
 use Rattle.gp_algebra.specs.Statements.{Statement}

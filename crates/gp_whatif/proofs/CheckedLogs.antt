@@ -9,7 +9,7 @@ use Rattle.gp_grammar.specs.Syntax.{Bytes, Command, LogChange}
 use Rattle.gp_algebra.specs.Statements as s
 use Rattle.gp_algebra.specs.Statements.{Statement}
 use Rattle.gp_check.specs.Checking.{checked, refused_by}
-use Rattle.gp_check.specs.Faults.{block_columns_fault, block_types, block_where_is_typed, first_refusal, or_else, query_tables_fault, table_fault, tables_fault}
+use Rattle.gp_check.specs.Faults.{block_columns_fault, block_types, block_where_is_typed, first_refusal, query_tables_fault, table_fault, tables_fault}
 use Rattle.gp_check.specs.Meaning.{branch_of, number_of_table, select_of, set_of, where_of}
 use Rattle.gp_check.specs.Scopes.{target_scope}
 use Rattle.gp_check.proofs.FittingLemmas.{accepted}
@@ -32,9 +32,9 @@ IsSame one other = one ≡ other
 nothing_checked : (tables : List Table) (name : Bytes) → table_fault tables name ≡ None → IsSame (checked tables (nothing_from name)) (Ok (nothing_at (number_of_table tables name)))
 unfolding block_columns_fault block_types block_where_is_typed branch_of
 nothing_checked tables name none =
-    ap (λ (fault : Option Refusal). refused_by (or_else (or_else (or_else fault None) None) None) (nothing_at (number_of_table tables name))) none
+    ap (λ (fault : Option Refusal). refused_by (option_or (option_or (option_or fault None) None) None) (nothing_at (number_of_table tables name))) none
 
-first_none : (one other : Option Refusal) → or_else one other ≡ None → one ≡ None
+first_none : (one other : Option Refusal) → option_or one other ≡ None → one ≡ None
 first_none None other e = refl
 first_none (Some refusal) other e = absurd cc
 

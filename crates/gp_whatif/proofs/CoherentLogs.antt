@@ -10,7 +10,9 @@ use Rattle.gp_algebra.specs.Fitting.{statement_fits}
 use Rattle.gp_algebra.specs.Statements.{Statement, insert, insert_select, update, delete, read}
 use Rattle.gp_grammar.specs.Syntax as y
 use Rattle.gp_grammar.specs.Syntax.{Command, LogChange}
-use Rattle.gp_machine.specs.Actions.{Action, Begin, Commit, Create, Rollback, Run, action_of}
+use Rattle.gp_machine.specs.ActionForms.{Action, Begin, Commit, Create, Rollback, Run, action_of}
+use Rattle.gp_machine.specs.ActionForms as a
+use Rattle.gp_machine.proofs.ActionLemmas.{event-answered}
 use Rattle.gp_machine.specs.Conflicts.{Conflict}
 use Rattle.gp_machine.specs.Entries.{End, Entry, Created, Began, Ran, Committed, Ended, Lost, RolledBack, statements_in, transactions_in, line_of, session_of}
 use Rattle.gp_machine.specs.Event as e
@@ -237,7 +239,7 @@ module _ {M : Type 0} (domain : Annotations M) (parameters : Parameters) (checks
           ran command statement (checks state.catalogue command statement is)
           (refusal_of domain parameters state.catalogue active.transaction (suc active.statements) statement (start_now state active))
 
-    answered : (active : Option (Active M)) → state.active session ≡ active → (action : Action) → HasLog (e.answered domain parameters state line session active action).0
+    answered : (active : Option (Active M)) → state.active session ≡ active → (action : Action) → HasLog (a.answered domain parameters state line session active action).0
     answered None free (Create table) = creating table (creation_refusal parameters state.catalogue table) free
     answered None free (Begin read_committed) = beginning read_committed (nat_le parameters.transactions (transactions_in state.entries)) free
     answered None free Commit = has
@@ -253,7 +255,9 @@ module _ {M : Type 0} (domain : Annotations M) (parameters : Parameters) (checks
   logged : (state : State M) (lines : List Line) → HasLog state → HasLog (after domain parameters state lines)
   logged state [] has = has
   logged state (line ∷ lines) has =
-      logged (line_event domain parameters state line).0 lines (answered state line.number line.session has (state.active line.session) refl (action_of line.command))
+      logged (line_event domain parameters state line).0 lines
+      (subst (λ outcome. HasLog outcome.0) (sym (event-answered domain parameters state line.number line.session line.command))
+      (answered state line.number line.session has (state.active line.session) refl (action_of line.command)))
 
   pub history_coherent : (lines : List Line) → IsCoherent (after domain parameters start lines).entries
   history_coherent lines =

@@ -5,7 +5,7 @@ use Rattle.std.specs.List.{filter}
 use Rattle.std.specs.Option.{option_or}
 use Rattle.std.proofs.lemmas.Bool.{le-ltb, lt-ltb}
 use Rattle.std.proofs.Math.ListN.{get_or-eq_default}
-use Rattle.gp_base.specs.Annotated.{plain}
+use Rattle.gp_base.specs.Annotated.{unannotated}
 use Rattle.gp_algebra.specs.Statements.{Statement}
 use Rattle.gp_versions.specs.Commits.{AreDistinct}
 use Rattle.gp_versions.specs.Spans.{Versions, rows_at}
@@ -58,7 +58,7 @@ stays : (entries : List Entry) (u more : ℕ) (expected : m.ReplayStop) → stop
 stays entries u zero expected e = let is : zero + u ≡ u = omega arith in ap (stop_upto entries) is ∙ e
 stays entries u (suc more) expected e =
     let is : suc more + u ≡ suc (more + u) = omega arith in
-    ap (stop_upto entries) is ∙ ap (λ s. option_or s (version_stop plain (log_of entries) parameters (length (tables_in entries)) (more + u))) (stays entries u more expected e)
+    ap (stop_upto entries) is ∙ ap (λ s. option_or s (version_stop unannotated (log_of entries) parameters (length (tables_in entries)) (more + u))) (stays entries u more expected e)
 
 pub stops_stay : (entries : List Entry) (u n : ℕ) → u ≤ n → (stop : ReplayStop) → Stops stop (stop_upto entries u) → Stops stop (stop_upto entries n)
 stops_stay entries u n l stop e = by stop e
@@ -100,20 +100,20 @@ module _ (entries : List Entry) (ok : IsReplayable entries) (u : ℕ) (within : 
   n = statement_count t entries
 
   abbrev again : Seen (Unit {0})
-  again = rerun plain log t replay.committed
+  again = rerun unannotated log t replay.committed
 
   order : CommitsInOrder log
   order = commits_in_order entries ok.sessions
 
   again_seen : again ≡ seen_upto entries u n
-  again_seen = again_is plain log tables parameters order u within (history entries ok u within versions made)
+  again_seen = again_is unannotated log tables parameters order u within (history entries ok u within versions made)
 
   -- ---- the stop of the run
 
-  run_stops : (s : RunStop) (k : ℕ) → k ≤ n → run_stop plain parameters log t k replay.committed ≡ Some s → stop_upto entries (suc u) ≡ Some (m.Passes s)
+  run_stops : (s : RunStop) (k : ℕ) → k ≤ n → run_stop unannotated parameters log t k replay.committed ≡ Some s → stop_upto entries (suc u) ≡ Some (m.Passes s)
   run_stops s k l e =
       let is : (n - k) + k ≡ n = omega arith in
-      let last : run_stop plain parameters log t n replay.committed ≡ Some s = ap (λ j. run_stop plain parameters log t j replay.committed) (sym is) ∙ stop_stays entries ok u within versions made k (n - k) s e in
+      let last : run_stop unannotated parameters log t n replay.committed ≡ Some s = ap (λ j. run_stop unannotated parameters log t j replay.committed) (sym is) ∙ stop_stays entries ok u within versions made k (n - k) s e in
       λ i. option_or (made.unstopped i) (first_stop (suc u) (last i) (least_conflict replay.written u again.written) (nat_lt parameters.published (replay.rows + published_rows again tables)))
 
   pub statement_stops : (k : ℕ) (l : k < n) (statement : Statement) (is : statement_at t (suc k) entries ≡ Some statement) (old : Writes) (ran : HasRun entries u versions k old)
@@ -148,7 +148,7 @@ module _ (entries : List Entry) (ok : IsReplayable entries) (u : ℕ) (within : 
     nothing place high =
         ran.view place
         ∙ seen_beyond (tables_in entries) place (subst (λ n. n ≤ place) made.count high) entries ok.fits u t n replay.committed
-        (λ k l. sym (held entries ok u within versions made (statement_version t k entries) place (order.order u k within l)) ∙ ap (rows_at plain (statement_version t k entries)) (no_spans versions place high))
+        (λ k l. sym (held entries ok u within versions made (statement_version t k entries) place (order.order u k within l)) ∙ ap (rows_at unannotated (statement_version t k entries)) (no_spans versions place high))
         n (omega arith)
 
     -- ---- the conflict
@@ -172,7 +172,7 @@ module _ (entries : List Entry) (ok : IsReplayable entries) (u : ℕ) (within : 
 
     -- ---- how many rows
 
-    counted : (count : ℕ) → count_spans versions count ≡ spans_made plain log tables u count
+    counted : (count : ℕ) → count_spans versions count ≡ spans_made unannotated log tables u count
     counted zero = refl
     counted (suc place) = λ i. counted place i + length (made.spans place i)
 
@@ -185,7 +185,7 @@ module _ (entries : List Entry) (ok : IsReplayable entries) (u : ℕ) (within : 
     left_is : spans_left writes.tables versions ≡ replay.rows + published_rows again tables
     left_is =
         (λ i. count_spans versions (made.count i) + count_rows (commit_of writes.tables versions) (made.count i))
-        ∙ (λ i. (counted tables ∙ sym (rows_made plain log tables u)) i + commit-count writes versions (published_rows again) refl marked_is tables i)
+        ∙ (λ i. (counted tables ∙ sym (rows_made unannotated log tables u)) i + commit-count writes versions (published_rows again) refl marked_is tables i)
 
     -- ---- the outcomes
 
@@ -198,7 +198,7 @@ module _ (entries : List Entry) (ok : IsReplayable entries) (u : ℕ) (within : 
     pub committed : (new : List Versions) → length new ≡ length versions → txn.Commits (suc u) writes versions new → IsMade entries (suc u) new
     committed new same commits = record {
       count = same ∙ made.count;
-      unstopped = none_due commits.first false (le-ltb MAX_SPANS (replay.rows + published_rows again tables) (subst (λ n. n ≤ MAX_SPANS) left_is commits.few));
+      unstopped = none_due commits.made.first false (le-ltb MAX_SPANS (replay.rows + published_rows again tables) (subst (λ n. n ≤ MAX_SPANS) left_is commits.made.few));
       spans = λ place.
           spans-everywhere (suc u) writes versions new same commits ran.there (statement_version t n entries) nothing place
           ∙ commit_spans cut replay.committed replay.written (history entries ok u within versions made) active (over_at entries ok u within versions made writes.read_committed n (omega arith)) (spans_of versions) writes.begin overlay place

@@ -4,7 +4,7 @@ use Rattle.std.specs.Prelude.{◌==◌, ◌&&◌, nat_lt, Ok}
 use Rattle.std.specs.Option.{option_map_or, option_or}
 use Rattle.std.proofs.lemmas.Bool.{and_parts, eqb-true, false≢true, ne_eqb}
 use Rattle.std.proofs.lemmas.Option.{same_Some}
-use Rattle.gp_base.specs.Annotated.{Environment, plain}
+use Rattle.gp_base.specs.Annotated.{Environment, unannotated}
 use Rattle.gp_base.specs.declared.table.Table.{Table}
 use Rattle.gp_grammar.specs.Syntax as y
 use Rattle.gp_grammar.specs.Syntax.{Command}
@@ -154,60 +154,60 @@ record SameRun (log other : Log) (t : ℕ) : Type 0 where
 
 module _ (log other : Log) (tables : ℕ) where
   module _ (t : ℕ) (same : SameRun log other t) (versions : Environment (Unit {0})) where
-    run_same : (k : ℕ) → run plain other t k versions ≡ run plain log t k versions
+    run_same : (k : ℕ) → run unannotated other t k versions ≡ run unannotated log t k versions
     run_same zero = ap versions (same.version zero)
-    run_same (suc k) = λ i. stepped plain t (suc k) (same.statement (suc k) i) (refreshed (same.version k i) (same.version (suc k) i) versions (run_same k i))
+    run_same (suc k) = λ i. stepped unannotated t (suc k) (same.statement (suc k) i) (refreshed (same.version k i) (same.version (suc k) i) versions (run_same k i))
 
-    before_same : (k : ℕ) → run_before plain other t k versions ≡ run_before plain log t k versions
+    before_same : (k : ℕ) → run_before unannotated other t k versions ≡ run_before unannotated log t k versions
     before_same k = λ i. refreshed (same.version k i) (same.version (suc k) i) versions (run_same k i)
 
-    written_same : (k : ℕ) → run_written plain other t k versions ≡ run_written plain log t k versions
+    written_same : (k : ℕ) → run_written unannotated other t k versions ≡ run_written unannotated log t k versions
     written_same zero = refl
-    written_same (suc k) = λ i. with_bases (same.version (suc k) i) (written_same k i) (wrote_by plain t (suc k) (same.statement (suc k) i) (before_same k i))
+    written_same (suc k) = λ i. with_bases (same.version (suc k) i) (written_same k i) (wrote_by unannotated t (suc k) (same.statement (suc k) i) (before_same k i))
 
-    stop_same : (k : ℕ) → run_stop plain parameters other t k versions ≡ run_stop plain parameters log t k versions
+    stop_same : (k : ℕ) → run_stop unannotated parameters other t k versions ≡ run_stop unannotated parameters log t k versions
     stop_same zero = refl
-    stop_same (suc k) = λ i. option_or (stop_same k i) (statement_stop plain parameters t (suc k) (same.statement (suc k) i) (before_same k i))
+    stop_same (suc k) = λ i. option_or (stop_same k i) (statement_stop unannotated parameters t (suc k) (same.statement (suc k) i) (before_same k i))
 
     abbrev seen_of : Log → ℕ → Seen (Unit {0})
-    seen_of own n = record { view = run plain own t n versions; written = run_written plain own t n versions }
+    seen_of own n = record { view = run unannotated own t n versions; written = run_written unannotated own t n versions }
 
     both_same : (n : ℕ) → seen_of other n ≡ seen_of log n
     both_same n = λ i. record { view = run_same n i; written = written_same n i }
 
-    rerun_same : rerun plain other t versions ≡ rerun plain log t versions
+    rerun_same : rerun unannotated other t versions ≡ rerun unannotated log t versions
     rerun_same = ap (seen_of other) same.count ∙ both_same (log.statement_count t)
 
-    last_same : run_stop plain parameters other t (other.statement_count t) versions ≡ run_stop plain parameters log t (log.statement_count t) versions
-    last_same = ap (λ n. run_stop plain parameters other t n versions) same.count ∙ stop_same (log.statement_count t)
+    last_same : run_stop unannotated parameters other t (other.statement_count t) versions ≡ run_stop unannotated parameters log t (log.statement_count t) versions
+    last_same = ap (λ n. run_stop unannotated parameters other t n versions) same.count ∙ stop_same (log.statement_count t)
 
   abbrev SameMakers : ℕ → Type 0
   SameMakers u = (v : ℕ) → v < u → (other.committer (suc v) ≡ log.committer (suc v)) × SameRun log other (log.committer (suc v))
 
   -- given the versions before
-  module _ (u : ℕ) (is : other.committer (suc u) ≡ log.committer (suc u)) (same : SameRun log other (log.committer (suc u))) (before : replayed plain other tables u ≡ replayed plain log tables u) where
+  module _ (u : ℕ) (is : other.committer (suc u) ≡ log.committer (suc u)) (same : SameRun log other (log.committer (suc u))) (before : replayed unannotated other tables u ≡ replayed unannotated log tables u) where
     abbrev t : ℕ
     t = log.committer (suc u)
 
-    seen_same : rerun plain other (other.committer (suc u)) (replayed plain other tables u).committed ≡ rerun plain log t (replayed plain log tables u).committed
-    seen_same = (λ i. rerun plain other (is i) (before i).committed) ∙ rerun_same t same (replayed plain log tables u).committed
+    seen_same : rerun unannotated other (other.committer (suc u)) (replayed unannotated other tables u).committed ≡ rerun unannotated log t (replayed unannotated log tables u).committed
+    seen_same = (λ i. rerun unannotated other (is i) (before i).committed) ∙ rerun_same t same (replayed unannotated log tables u).committed
 
-    next_same : replayed plain other tables (suc u) ≡ replayed plain log tables (suc u)
+    next_same : replayed unannotated other tables (suc u) ≡ replayed unannotated log tables (suc u)
     next_same = λ i. remade tables u (seen_same i) (before i)
 
-    run_stop_same : run_stop plain parameters other (other.committer (suc u)) (other.statement_count (other.committer (suc u))) (replayed plain other tables u).committed
-        ≡ run_stop plain parameters log t (log.statement_count t) (replayed plain log tables u).committed
-    run_stop_same = (λ i. run_stop plain parameters other (is i) (other.statement_count (is i)) (before i).committed) ∙ last_same t same (replayed plain log tables u).committed
+    run_stop_same : run_stop unannotated parameters other (other.committer (suc u)) (other.statement_count (other.committer (suc u))) (replayed unannotated other tables u).committed
+        ≡ run_stop unannotated parameters log t (log.statement_count t) (replayed unannotated log tables u).committed
+    run_stop_same = (λ i. run_stop unannotated parameters other (is i) (other.statement_count (is i)) (before i).committed) ∙ last_same t same (replayed unannotated log tables u).committed
 
-    version_stop_same : version_stop plain other parameters tables u ≡ version_stop plain log parameters tables u
+    version_stop_same : version_stop unannotated other parameters tables u ≡ version_stop unannotated log parameters tables u
     version_stop_same = λ i.
         first_stop (suc u) (run_stop_same i) (least_conflict (before i).written u (seen_same i).written) (nat_lt parameters.published ((before i).rows + published_rows (seen_same i) tables))
 
-  replayed_same : (u : ℕ) → SameMakers u → replayed plain other tables u ≡ replayed plain log tables u
+  replayed_same : (u : ℕ) → SameMakers u → replayed unannotated other tables u ≡ replayed unannotated log tables u
   replayed_same zero makers = refl
   replayed_same (suc u) makers = let maker = makers u (omega arith) in next_same u maker.0 maker.1 (replayed_same u (λ v l. makers v (omega arith)))
 
-  replay_stop_same : (u : ℕ) → SameMakers u → replay_stop plain other parameters tables u ≡ replay_stop plain log parameters tables u
+  replay_stop_same : (u : ℕ) → SameMakers u → replay_stop unannotated other parameters tables u ≡ replay_stop unannotated log parameters tables u
   replay_stop_same zero makers = refl
   replay_stop_same (suc u) makers =
       let maker = makers u (omega arith) in
@@ -244,13 +244,13 @@ module _ (entries new : List Entry) (keeps : KeepsSessions entries) (t k version
 
   pub dropped_stops : (u : ℕ) → u < version → stop_upto new u ≡ stop_upto entries u
   dropped_stops u l =
-      ap (λ (tables : List Table). replay_stop plain (log_of new) parameters (length tables) u) same_tables
+      ap (λ (tables : List Table). replay_stop unannotated (log_of new) parameters (length tables) u) same_tables
       ∙ replay_stop_same (log_of entries) (log_of new) (length (tables_in entries)) u (makers u l)
 
   dropped_spans : (u : ℕ) → u < version → (place : ℕ)
-      → replayed_spans plain (log_of new) (length (tables_in new)) u place ≡ replayed_spans plain (log_of entries) (length (tables_in entries)) u place
+      → replayed_spans unannotated (log_of new) (length (tables_in new)) u place ≡ replayed_spans unannotated (log_of entries) (length (tables_in entries)) u place
   dropped_spans u l place =
-      ap (λ (tables : List Table). replayed_spans plain (log_of new) (length tables) u place) same_tables
+      ap (λ (tables : List Table). replayed_spans unannotated (log_of new) (length tables) u place) same_tables
       ∙ ap (λ (r : Replay (Unit {0})). spans_of u r.committed r.written place) (replayed_same (log_of entries) (log_of new) (length (tables_in entries)) u (makers u l))
 
   pub dropped_made : (u : ℕ) → u < version → (versions : List Versions) → IsMade entries u versions → IsMade new u versions

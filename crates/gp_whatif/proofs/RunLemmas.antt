@@ -2,7 +2,7 @@
 use Rattle.std.proofs.Common.{◌≡◌, ℕ, zero, suc, ◌+◌, ◌<◌, ◌≤◌, Bool, true, false, cond, List, length, Option, Some, None, refl, sym, ap, ◌∙◌, subst, arith, ⊎_elim, inl}
 use Rattle.std.specs.Prelude.{◌==◌}
 use Rattle.std.specs.Option.{option_or}
-use Rattle.gp_base.specs.Annotated.{Database, plain}
+use Rattle.gp_base.specs.Annotated.{Database, unannotated}
 use Rattle.gp_base.specs.declared.row_id.TheConstants.{MAX_NODES}
 use Rattle.gp_base.specs.Identities.{Identity}
 use Rattle.gp_algebra.specs.Effects.{Written, step, wrote, is_over_rows, is_over_nodes}
@@ -65,10 +65,10 @@ pub view_same : (versions : List Versions) (writes : Writes) (k version place : 
 view_same versions writes k version place =
     elim (version == (writes_at place writes.tables).version) as (λ b. (version == (writes_at place writes.tables).version) ≡ b
     → cond b (view_rows (overlay_at place writes.tables versions) (rows_below (overlay_at place writes.tables versions) (table_at place versions).spans))
-    (refreshed (overlay_at place writes.tables versions) (rows_below (overlay_at place writes.tables versions) (table_at place versions).spans) (rows_at plain version (table_at place versions).spans))
-    ≡ cond b (view_rows (overlay_at place writes.tables versions) (rows_at plain version (table_at place versions).spans))
-    (refreshed (overlay_at place writes.tables versions) (rows_below (overlay_at place writes.tables versions) (table_at place versions).spans) (rows_at plain version (table_at place versions).spans))) [
-      | true ↦ λ is. ap (λ v. view_rows (overlay_at place writes.tables versions) (rows_at plain v (table_at place versions).spans)) (sym (eqb-true version (writes_at place writes.tables).version is))
+    (refreshed (overlay_at place writes.tables versions) (rows_below (overlay_at place writes.tables versions) (table_at place versions).spans) (rows_at unannotated version (table_at place versions).spans))
+    ≡ cond b (view_rows (overlay_at place writes.tables versions) (rows_at unannotated version (table_at place versions).spans))
+    (refreshed (overlay_at place writes.tables versions) (rows_below (overlay_at place writes.tables versions) (table_at place versions).spans) (rows_at unannotated version (table_at place versions).spans))) [
+      | true ↦ λ is. ap (λ v. view_rows (overlay_at place writes.tables versions) (rows_at unannotated v (table_at place versions).spans)) (sym (eqb-true version (writes_at place writes.tables).version is))
       | false ↦ λ is. refl
     ] refl
 
@@ -126,21 +126,21 @@ module _ (entries : List Entry) (ok : IsReplayable entries) (u : ℕ) (within : 
   order : CommitsInOrder log
   order = commits_in_order entries ok.sessions
 
-  pub history : IsHistory plain cut replay.committed replay.written
-  history = history_made plain log tables parameters order u (omega arith) made.unstopped
+  pub history : IsHistory unannotated cut replay.committed replay.written
+  history = history_made unannotated log tables parameters order u (omega arith) made.unstopped
 
   reads : (k : ℕ) → k ≤ n → statement_version t k entries ≤ u
   reads k l = order.order u k within l
 
   -- the spans hold the versions made so far
-  pub held : (v place : ℕ) → v ≤ u → rows_at plain v (spans_of versions place) ≡ replay.committed v place
-  held v place l = ap (rows_at plain v) (made.spans place) ∙ plain_spans_rows cut replay.committed replay.written history v place l
+  pub held : (v place : ℕ) → v ≤ u → rows_at unannotated v (spans_of versions place) ≡ replay.committed v place
+  held v place l = ap (rows_at unannotated v) (made.spans place) ∙ plain_spans_rows cut replay.committed replay.written history v place l
 
   -- after its first k statements
   abbrev pub active_at : Bool → ℕ → Active (Unit {0})
   active_at read_committed k = record { transaction = t; read_committed = read_committed; version = statement_version t k entries; statements = k; seen = seen_upto entries u k }
 
-  pub over_at : (read_committed : Bool) (k : ℕ) → k ≤ n → IsOver plain cut replay.committed (active_at read_committed k)
+  pub over_at : (read_committed : Bool) (k : ℕ) → k ≤ n → IsOver unannotated cut replay.committed (active_at read_committed k)
   over_at read_committed k l = record {
     seen = refl;
     version = refl;
@@ -156,7 +156,7 @@ module _ (entries : List Entry) (ok : IsReplayable entries) (u : ℕ) (within : 
   others place = subst (AreOthers t) (sym (made.spans place)) (others_spans cut replay.committed replay.written history (active_at false n) (over_at false n (omega arith)) place)
 
   pub apart : (place : ℕ) → NoOverlap (table_at place versions).spans
-  apart place = subst NoOverlap (sym (made.spans place)) (spans_apart plain cut replay.committed replay.written history place)
+  apart place = subst NoOverlap (sym (made.spans place)) (spans_apart unannotated cut replay.committed replay.written history place)
 
   pub whole : (place : ℕ) → AreWhole (table_at place versions).spans
   whole place = subst AreWhole (sym (made.spans place)) (spans_whole u replay.committed replay.written place)
@@ -194,7 +194,7 @@ module _ (entries : List Entry) (ok : IsReplayable entries) (u : ℕ) (within : 
     now = statement_version t (suc k) entries
 
     abbrev start : Database (Unit {0})
-    start = start_by plain cut t k replay.committed
+    start = start_by unannotated cut t k replay.committed
 
     -- it sees there what the history machine has it read
     seen_before : view_at old.tables versions now ≡ start
@@ -203,16 +203,16 @@ module _ (entries : List Entry) (ok : IsReplayable entries) (u : ℕ) (within : 
         ∙ shown_at cut replay.committed replay.written history (active_at old.read_committed k) (over_at old.read_committed k (omega arith)) (spans_of versions) old.begin (overlay_of (spans_of versions) old k) (represents k old ran)
         now (order.later u k within more) (reads (suc k) more) (λ place. held now place (reads (suc k) more)) place) i
 
-    stop_is : run_stop plain parameters log t (suc k) replay.committed ≡ statement_stop plain parameters t (suc k) (Some statement) start
+    stop_is : run_stop unannotated parameters log t (suc k) replay.committed ≡ statement_stop unannotated parameters t (suc k) (Some statement) start
     stop_is =
-        (λ i. option_or (ran.unstopped i) (statement_stop plain parameters t (suc k) (is i) (run_before plain log t k replay.committed)))
-        ∙ ap (statement_stop plain parameters t (suc k) (Some statement)) (before_again plain log tables parameters order u within history k more)
+        (λ i. option_or (ran.unstopped i) (statement_stop unannotated parameters t (suc k) (is i) (run_before unannotated log t k replay.committed)))
+        ∙ ap (statement_stop unannotated parameters t (suc k) (Some statement)) (before_again unannotated log tables parameters order u within history k more)
 
-    rows_is : (b : Bool) → has_too_many_rows (suc k) now statement versions old ≡ b → is_over_rows plain MAX_TABLE_ROWS t (suc k) statement start ≡ b
-    rows_is b e = sym (λ i. is_over_rows plain MAX_TABLE_ROWS (ran.t_is i) (suc k) statement (seen_before i)) ∙ e
+    rows_is : (b : Bool) → has_too_many_rows (suc k) now statement versions old ≡ b → is_over_rows unannotated MAX_TABLE_ROWS t (suc k) statement start ≡ b
+    rows_is b e = sym (λ i. is_over_rows unannotated MAX_TABLE_ROWS (ran.t_is i) (suc k) statement (seen_before i)) ∙ e
 
-    nodes_is : (b : Bool) → has_too_many_nodes (suc k) now statement versions old ≡ b → is_over_nodes plain MAX_NODES t (suc k) statement start ≡ b
-    nodes_is b e = sym (λ i. is_over_nodes plain MAX_NODES (ran.t_is i) (suc k) statement (seen_before i)) ∙ e
+    nodes_is : (b : Bool) → has_too_many_nodes (suc k) now statement versions old ≡ b → is_over_nodes unannotated MAX_NODES t (suc k) statement start ≡ b
+    nodes_is b e = sym (λ i. is_over_nodes unannotated MAX_NODES (ran.t_is i) (suc k) statement (seen_before i)) ∙ e
 
     abbrev stop_by : Bool → Bool → Option RunStop
     stop_by a b = cond a (Some (OverRows t (suc k))) (cond b (Some (OverNodes t (suc k))) None)
@@ -225,27 +225,27 @@ module _ (entries : List Entry) (ok : IsReplayable entries) (u : ℕ) (within : 
           (λ same. let before = ran.below place in let later = order.later u k within more in omega arith)
           (λ here. omega arith) (r.below place);
       view = λ place.
-          r.view place ∙ (λ i. step plain (ran.t_is i) (suc k) statement (seen_before i) place) ∙ sym (ap (λ s. stepped plain t (suc k) s start place) is);
+          r.view place ∙ (λ i. step unannotated (ran.t_is i) (suc k) statement (seen_before i) place) ∙ sym (ap (λ s. stepped unannotated t (suc k) s start place) is);
       base = λ place id other.
           r.base place id (λ own. other (own ∙ ran.t_is))
-          ∙ (λ i. base_after now (has_written (wrote plain (ran.t_is i) (suc k) statement (seen_before i)) place id) (ran.base place id other i))
-          ∙ base_same now place id (wrote plain t (suc k) statement start) (base_among place id (seen_upto entries u k).written)
-          ∙ sym (ap (λ s. base_among place id (with_bases now (seen_upto entries u k).written (wrote_by plain t (suc k) s start))) is
-          ∙ base_more place id now (seen_upto entries u k).written (wrote plain t (suc k) statement start));
+          ∙ (λ i. base_after now (has_written (wrote unannotated (ran.t_is i) (suc k) statement (seen_before i)) place id) (ran.base place id other i))
+          ∙ base_same now place id (wrote unannotated t (suc k) statement start) (base_among place id (seen_upto entries u k).written)
+          ∙ sym (ap (λ s. base_among place id (with_bases now (seen_upto entries u k).written (wrote_by unannotated t (suc k) s start))) is
+          ∙ base_more place id now (seen_upto entries u k).written (wrote unannotated t (suc k) statement start));
       there = r.there ran.there;
       unstopped = stop_is ∙ (λ i. stop_by (rows_is false r.few_rows i) (nodes_is false r.few_nodes i));
     }
 
-    pub over_rows : has_too_many_rows (suc k) now statement versions old ≡ true → run_stop plain parameters log t (suc k) replay.committed ≡ Some (OverRows t (suc k))
-    over_rows many = stop_is ∙ ap (λ b. stop_by b (is_over_nodes plain MAX_NODES t (suc k) statement start)) (rows_is true many)
+    pub over_rows : has_too_many_rows (suc k) now statement versions old ≡ true → run_stop unannotated parameters log t (suc k) replay.committed ≡ Some (OverRows t (suc k))
+    over_rows many = stop_is ∙ ap (λ b. stop_by b (is_over_nodes unannotated MAX_NODES t (suc k) statement start)) (rows_is true many)
 
-    pub over_nodes : has_too_many_rows (suc k) now statement versions old ≡ false → has_too_many_nodes (suc k) now statement versions old ≡ true → run_stop plain parameters log t (suc k) replay.committed ≡ Some (OverNodes t (suc k))
+    pub over_nodes : has_too_many_rows (suc k) now statement versions old ≡ false → has_too_many_nodes (suc k) now statement versions old ≡ true → run_stop unannotated parameters log t (suc k) replay.committed ≡ Some (OverNodes t (suc k))
     over_nodes few many = stop_is ∙ (λ i. stop_by (rows_is false few i) (nodes_is true many i))
 
   -- a run that stops stays stopped
-  pub stop_stays : (k more : ℕ) (stop : RunStop) → run_stop plain parameters log t k replay.committed ≡ Some stop → run_stop plain parameters log t (more + k) replay.committed ≡ Some stop
-  stop_stays k zero stop e = let is : zero + k ≡ k = omega arith in ap (λ n. run_stop plain parameters log t n replay.committed) is ∙ e
+  pub stop_stays : (k more : ℕ) (stop : RunStop) → run_stop unannotated parameters log t k replay.committed ≡ Some stop → run_stop unannotated parameters log t (more + k) replay.committed ≡ Some stop
+  stop_stays k zero stop e = let is : zero + k ≡ k = omega arith in ap (λ n. run_stop unannotated parameters log t n replay.committed) is ∙ e
   stop_stays k (suc more) stop e =
       let is : suc more + k ≡ suc (more + k) = omega arith in
-      ap (λ n. run_stop plain parameters log t n replay.committed) is
-      ∙ ap (λ s. option_or s (statement_stop plain parameters t (suc (more + k)) (log.statement t (suc (more + k))) (run_before plain log t (more + k) replay.committed))) (stop_stays k more stop e)
+      ap (λ n. run_stop unannotated parameters log t n replay.committed) is
+      ∙ ap (λ s. option_or s (statement_stop unannotated parameters t (suc (more + k)) (log.statement t (suc (more + k))) (run_before unannotated log t (more + k) replay.committed))) (stop_stays k more stop e)

@@ -1,6 +1,7 @@
 -- Part of the statement: a log with one statement of a transaction that committed dropped, replaced or added.
 use Rattle.std.specs.Prelude.{ℕ, suc, ◌+◌, ◌==◌, ◌&&◌, ◌||◌, nat_le, Bool, List, [], ◌∷◌, map, Option, Some, None, Result, Ok, Err, if◌then◌else◌}
-use Rattle.std.specs.Option.{option_or}
+use Rattle.std.specs.Option.{option_map_or, option_or}
+use Rattle.std.specs.Result.{result_map_both}
 use Rattle.gp_base.specs.declared.cell.Cell.TheVariants as cell
 use Rattle.gp_base.specs.declared.limit.Limit.TheVariants as limit
 use Rattle.gp_base.specs.declared.refusal.Refusal.{Refusal}
@@ -9,7 +10,7 @@ use Rattle.gp_base.specs.declared.table.Table.{Table}
 use Rattle.gp_expr.specs.Expressions.{constant}
 use Rattle.gp_grammar.specs.Syntax as y
 use Rattle.gp_grammar.specs.Syntax.{Command, LogChange}
-use Rattle.gp_algebra.specs.Statements.{Statement, insert, insert_select, update, delete, read}
+use Rattle.gp_algebra.specs.Statements.{Statement, read, target}
 use Rattle.gp_machine.specs.Entries.{Entry, Created, Began, Ran, Committed, Ended, at_newest, is_begin, is_of, is_statement, is_statement_at, line_of, session_of, statement_count}
 use Rattle.gp_machine.specs.Parameters.{Parameters}
 use Rattle.gp_machine.specs.Questions.{statement_refusal, transaction_refusal}
@@ -33,11 +34,7 @@ dropped_command (y.Command.delete table cond) = nothing_from table
 dropped_command command = command
 
 abbrev pub dropped_statement : Statement → Statement
-dropped_statement (insert table rows) = nothing_at table
-dropped_statement (insert_select table select) = nothing_at table
-dropped_statement (update table sets cond) = nothing_at table
-dropped_statement (delete table cond) = nothing_at table
-dropped_statement (read select) = read select
+dropped_statement statement = option_map_or nothing_at (target statement) statement
 
 -- ---- the places of a log
 
@@ -84,9 +81,7 @@ with_added t command statement (entry ∷ older) =
 module _ (parameters : Parameters) (entries : List Entry) where
   -- by the refusal of the log, and by the check, which gives the statement that is put into the log
   abbrev pub rewritten : {A : Type 0} → Option Refusal → Result A Refusal → (A → List Entry) → Result (List Entry) Refusal
-  rewritten (Some refusal) checked put = Err refusal
-  rewritten None (Err refusal) put = Err refusal
-  rewritten None (Ok given) put = Ok (put given)
+  rewritten refusal checked put = option_map_or Err refusal (result_map_both put (λ own. own) checked)
 
   abbrev pub steps_refusal : ℕ → Option Refusal
   steps_refusal t = if nat_le parameters.steps (statement_count t entries) then Some (E14 limit.Steps) else None

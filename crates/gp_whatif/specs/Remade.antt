@@ -1,6 +1,6 @@
 -- Machinery: a transaction that runs again.
 use Rattle.std.specs.Prelude.{◌≡◌, ◌≢◌, ◌⊎◌, ℕ, suc, ◌≤◌, Bool, true, false, List, length, None}
-use Rattle.gp_base.specs.Annotated.{plain}
+use Rattle.gp_base.specs.Annotated.{unannotated}
 use Rattle.gp_base.specs.Identities.{Identity}
 use Rattle.gp_base.specs.IdentityParts.{transaction_of}
 use Rattle.gp_algebra.specs.Effects.{step, wrote}
@@ -33,10 +33,10 @@ can_run count statement = is_applicable count statement
 pub record Ran (k version : ℕ) (statement : Statement) (versions : List Versions) (old new : Writes) : Type 0 where
   pub t : new.t ≡ old.t
   pub last : new.last ≤ k
-  pub view : (place : ℕ) → view_at new.tables versions version place ≡ step plain old.t k statement (view_at old.tables versions version) place
+  pub view : (place : ℕ) → view_at new.tables versions version place ≡ step unannotated old.t k statement (view_at old.tables versions version) place
   pub base : (place : ℕ) (id : Identity) → transaction_of id ≢ old.t
       → base_at new.tables versions place id
-      ≡ base_after version (has_written (wrote plain old.t k statement (view_at old.tables versions version)) place id) (base_at old.tables versions place id)
+      ≡ base_after version (has_written (wrote unannotated old.t k statement (view_at old.tables versions version)) place id) (base_at old.tables versions place id)
   pub below : (place : ℕ) → ((writes_at place new.tables).version ≡ (writes_at place old.tables).version) ⊎ ((writes_at place new.tables).version ≡ version)
   pub there : HoldsThere old.tables versions → HoldsThere new.tables versions
   pub few_rows : has_too_many_rows k version statement versions old ≡ false
@@ -55,11 +55,11 @@ StopsAt Full k version statement versions old = ⊥
 
 -- the versions made so far, this many
 abbrev pub made_upto : List Entry → ℕ → Replay (Unit {0})
-made_upto entries u = replayed plain (log_of entries) (length (tables_in entries)) u
+made_upto entries u = replayed unannotated (log_of entries) (length (tables_in entries)) u
 
 -- what it has read and written over them after its first k statements
 abbrev pub seen_upto : List Entry → ℕ → ℕ → Seen (Unit {0})
-seen_upto entries u k = seen_by plain (upto_version u (log_of entries)) (committer_of (suc u) entries) k (made_upto entries u).committed
+seen_upto entries u k = seen_by unannotated (upto_version u (log_of entries)) (committer_of (suc u) entries) k (made_upto entries u).committed
 
 -- it has run these statements over these row versions
 pub record HasRun (entries : List Entry) (u : ℕ) (versions : List Versions) (k : ℕ) (writes : Writes) : Type 0 where
@@ -73,4 +73,4 @@ pub record HasRun (entries : List Entry) (u : ℕ) (versions : List Versions) (k
   pub base : (place : ℕ) (id : Identity) → transaction_of id ≢ committer_of (suc u) entries
       → base_at writes.tables versions place id ≡ base_among place id (seen_upto entries u k).written
   pub there : HoldsThere writes.tables versions
-  pub unstopped : run_stop plain parameters (log_of entries) (committer_of (suc u) entries) k (made_upto entries u).committed ≡ None
+  pub unstopped : run_stop unannotated parameters (log_of entries) (committer_of (suc u) entries) k (made_upto entries u).committed ≡ None

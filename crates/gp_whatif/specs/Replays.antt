@@ -1,6 +1,6 @@
 -- Part of the statement: what a replay of a log answers.
 use Rattle.std.specs.Prelude.{◌≡◌, ℕ, true, List, [], ◌∷◌, length, Option, Some, None}
-use Rattle.gp_base.specs.Annotated.{plain}
+use Rattle.gp_base.specs.Annotated.{unannotated}
 use Rattle.gp_versions.specs.Spans.{Versions}
 use Rattle.gp_txn.specs.Transactions.{table_at}
 use Rattle.gp_machine.specs.Entries.{Entry, Ran, log_of}
@@ -34,7 +34,7 @@ pub record IsCoherent (entries : List Entry) : Type 0 where
 
 -- the first stop of the commits of a log, up to this version
 abbrev pub stop_upto : List Entry → ℕ → Option m.ReplayStop
-stop_upto entries u = replay_stop plain (log_of entries) parameters (length (tables_in entries)) u
+stop_upto entries u = replay_stop unannotated (log_of entries) parameters (length (tables_in entries)) u
 
 -- what stops; running out of memory may stop any replay
 abbrev pub Stops : ReplayStop → Option m.ReplayStop → Type 0
@@ -49,4 +49,4 @@ pub record IsMade (entries : List Entry) (u : ℕ) (versions : List Versions) : 
   -- one for each table
   pub count : length versions ≡ length (tables_in entries)
   pub unstopped : stop_upto entries u ≡ None
-  pub spans : (place : ℕ) → (table_at place versions).spans ≡ replayed_spans plain (log_of entries) (length (tables_in entries)) u place
+  pub spans : (place : ℕ) → (table_at place versions).spans ≡ replayed_spans unannotated (log_of entries) (length (tables_in entries)) u place

@@ -1,6 +1,6 @@
 //! Changed logs: a statement of a transaction that committed is dropped, replaced or added.
 
-ghost use Rattle.std.specs.Prelude.{◌≡◌, ◌<◌, ◌≤◌, ◌+◌, ◌^◌, ◌++◌, ℕ, true, IfOk, OnOk, length, map, suc, take};
+ghost use Rattle.std.specs.Prelude.{◌≡◌, ◌<◌, ◌≤◌, ◌+◌, ◌^◌, ◌++◌, ℕ, true, IfOk, OnOk, length, suc, take};
 ghost use Rattle.gp_algebra.specs.Views.{statement_view};
 ghost use Rattle.gp_check.specs.Checking.{checked};
 ghost use Rattle.gp_check.specs.Valid.{change_is_valid, is_valid, tables_are_valid};
@@ -17,9 +17,8 @@ ghost use Rattle.gp_log.specs.LogFacts.{tables_in};
 ghost use Rattle.gp_log.specs.Logs.{entry_view, log_view};
 ghost use Rattle.gp_whatif.specs.Changed as c;
 ghost use Rattle.gp_whatif.specs.Changed.{changed, doubled, dropped_command, dropped_statement, is_step_of, steps_refusal, tables_before, with_added, with_other};
-ghost use Rattle.gp_whatif.specs.ChangedForms.{CanDouble};
 ghost use Rattle.gp_whatif.specs.Changing.{Changes, IsChecked, IsLastStep, IsRefused, Numbers, SameStep, edited, is_last, is_own, step_of};
-ghost use Rattle.gp_whatif.specs.Replays.{IsReplayable};
+ghost use Rattle.gp_whatif.specs.Remaking as r;
 
 use crate::copying::copy_command;
 use crate::doubling::{copy_run, copy_stmt, doubled};
@@ -151,8 +150,7 @@ fn tables_upto(alloc: Global, log: &Log, place: u32) -> Result<Catalog, NoMemory
     requires { place ≤ length log.now.entries }
     ensures { IfOk result (λ catalog. catalog ≡ tables_in (log_view (take place log.now.entries))) }
 {
-    // Its tables are few and have different names. That is known of them where it is asked for their number.
-    let _count = log.catalog().len();
+    log.bounds();
     let mut catalog = Catalog::new(alloc);
     for before in 0..place {
         add_created(&mut catalog, &log.entry(before).what)?;
@@ -303,12 +301,11 @@ fn copy_replaced(
 
 /// The log with statement k of a transaction dropped.
 fn with_dropped(alloc: Global, log: &Log, t: u32, k: u32) -> Result<Log, NoMemory>
-    requires lines { CanDouble (entries log.now) }
+    requires lines { r.CanDouble log.now }
     ensures { IfOk result (λ new. entries new ≡ with_other t k dropped_command dropped_statement
-        (map c.doubled (entries log.now))) }
+        (r.doubled log.now)) }
 {
-    // Its tables are few and have different names. That is known of them where it is asked for their number.
-    let _count = log.catalog().len();
+    log.bounds();
     let mut new = Log::new(alloc);
     for place in 0..log.len() {
         let entry = copy_dropped(alloc, log.entry(place), t, k)?;
@@ -326,13 +323,11 @@ fn with_replaced(
     command: &Command,
     stmt: &Stmt,
 ) -> Result<Log, NoMemory>
-    requires lines { CanDouble (entries log.now) }
-    ensures { IfOk result (λ new. entries new
-        ≡ with_other t k (λ own. command_view command.now) (λ own. statement_view stmt.now)
-        (map c.doubled (entries log.now))) }
+    requires lines { r.CanDouble log.now }
+    ensures { IfOk result (λ new. entries new ≡ with_other t k (λ own. command_view command.now)
+        (λ own. statement_view stmt.now) (r.doubled log.now)) }
 {
-    // Its tables are few and have different names. That is known of them where it is asked for their number.
-    let _count = log.catalog().len();
+    log.bounds();
     let mut new = Log::new(alloc);
     for place in 0..log.len() {
         let entry = copy_replaced(alloc, log.entry(place), t, k, command, stmt)?;
@@ -398,19 +393,17 @@ fn with_extra(
     command: &Command,
     stmt: &Stmt,
 ) -> Result<Log, NoMemory>
-    requires lines { CanDouble (entries log.now) }
+    requires lines { r.CanDouble log.now }
     requires few { m.statement_count t (entries log.now) < MAX_STEPS }
     requires last { IsLastStep t log.now.entries (length log.now.entries) last }
-    ensures { IfOk result (λ new. entries new
-        ≡ with_added t (command_view command.now) (statement_view stmt.now)
-        (map c.doubled (entries log.now))) }
+    ensures { IfOk result (λ new. entries new ≡ with_added t (command_view command.now)
+        (statement_view stmt.now) (r.doubled log.now)) }
 {
     if log.len() == u32::MAX {
         // One entry more could not be counted.
         return Err(NoMemory);
     }
-    // Its tables are few and have different names. That is known of them where it is asked for their number.
-    let _count = log.catalog().len();
+    log.bounds();
     let k = log.statement_count(t) + 1;
     let mut new = Log::new(alloc);
     for place in 0..log.len() {
@@ -444,10 +437,9 @@ fn checked_at(alloc: Global, log: &Log, place: u32, command: &Command) -> Result
 
 /// The log with statement k of a transaction dropped, if they are there.
 fn drop_statement(alloc: Global, log: &Log, t: u64, k: u64) -> Result<Log, ChangeStop>
-    requires lines { CanDouble (entries log.now) }
-    ensures changed { Changes result (changed parameters (entries log.now) (y.drop t k)) }
-    ensures replayable { IsReplayable (entries log.now)
-        → IfOk result (λ new. IsReplayable (entries new)) }
+    requires lines { r.CanDouble log.now }
+    ensures changed { Changes result (r.changed log.now (y.drop t k)) }
+    ensures replayable { r.IsReplayable log.now → IfOk result r.IsReplayable }
 {
     let t = committed(log, t)?;
     let k = numbered(log, t, k)?;
@@ -462,13 +454,12 @@ fn replace_statement(
     k: u64,
     command: &Command,
 ) -> Result<Log, ChangeStop>
-    requires lines { CanDouble (entries log.now) }
+    requires lines { r.CanDouble log.now }
     requires statement { is_statement (command_view command.now) ≡ true }
-    ensures changed { Changes result (changed parameters (entries log.now)
-        (y.replace t k (command_view command.now))) }
-    ensures replayable { IsReplayable (entries log.now) → tables_are_valid (tables log.now) ≡ true
-        → is_valid (command_view command.now) ≡ true
-        → IfOk result (λ new. IsReplayable (entries new)) }
+    ensures changed { Changes result (r.changed log.now (y.replace t k
+        (command_view command.now))) }
+    ensures replayable { r.IsReplayable log.now → tables_are_valid (tables log.now) ≡ true
+        → is_valid (command_view command.now) ≡ true → IfOk result r.IsReplayable }
 {
     let t = committed(log, t)?;
     let k = numbered(log, t, k)?;
@@ -478,13 +469,11 @@ fn replace_statement(
 
 /// The log with a statement added to a transaction, if it is there and has room, and the check takes the statement.
 fn add_statement(alloc: Global, log: &Log, t: u64, command: &Command) -> Result<Log, ChangeStop>
-    requires lines { CanDouble (entries log.now) }
+    requires lines { r.CanDouble log.now }
     requires statement { is_statement (command_view command.now) ≡ true }
-    ensures changed { Changes result (changed parameters (entries log.now)
-        (y.add t (command_view command.now))) }
-    ensures replayable { IsReplayable (entries log.now) → tables_are_valid (tables log.now) ≡ true
-        → is_valid (command_view command.now) ≡ true
-        → IfOk result (λ new. IsReplayable (entries new)) }
+    ensures changed { Changes result (r.changed log.now (y.add t (command_view command.now))) }
+    ensures replayable { r.IsReplayable log.now → tables_are_valid (tables log.now) ≡ true
+        → is_valid (command_view command.now) ≡ true → IfOk result r.IsReplayable }
 {
     let t = committed(log, t)?;
     check_steps(log, t)?;
@@ -505,12 +494,11 @@ fn add_statement(alloc: Global, log: &Log, t: u64, command: &Command) -> Result<
 /// statement that is dropped or replaced, E14 if it has [`gp_log::MAX_STEPS`] statements where one is added; and then the
 /// first refusal of the [check](gp_check::check) of the new statement against the tables that were created before its line.
 pub fn change(alloc: Global, log: &Log, change: &LogChange) -> Result<Log, ChangeStop>
-    requires lines { CanDouble (entries log.now) }
+    requires lines { r.CanDouble log.now }
     requires statement { has_statement (change_view change.now) ≡ true }
-    ensures changed { Changes result (changed parameters (entries log.now) (change_view change.now)) }
-    ensures replayable { IsReplayable (entries log.now) → tables_are_valid (tables log.now) ≡ true
-        → change_is_valid (change_view change.now) ≡ true
-        → IfOk result (λ new. IsReplayable (entries new)) }
+    ensures changed { Changes result (r.changed log.now (change_view change.now)) }
+    ensures replayable { r.IsReplayable log.now → tables_are_valid (tables log.now) ≡ true
+        → change_is_valid (change_view change.now) ≡ true → IfOk result r.IsReplayable }
 {
     match change {
         LogChange::Drop { t, k } => drop_statement(alloc, log, *t, *k),

@@ -4,10 +4,10 @@ ghost use Rattle.std.specs.Prelude.{◌≡◌, ◌<◌, ◌≤◌, ◌+◌, ◌^
 ghost use Rattle.gp_base.specs.declared.catalog.TheConstants.{MAX_TABLES};
 ghost use Rattle.gp_algebra.specs.Views.{statement_view};
 ghost use Rattle.gp_txn.specs.Transactions.{HoldsOthers, table_at};
-ghost use Rattle.gp_machine.specs.Entries.{begin_version, committer_of, statement_count, transactions_in, versions_in};
-ghost use Rattle.gp_whatif.specs.Remade.{HasRun, Ran, StopsAt, can_run};
-ghost use Rattle.gp_whatif.specs.Replays.{IsMade, IsReplayable, Stops, stop_upto};
-ghost use Rattle.gp_log.specs.Contents.{entries};
+ghost use Rattle.gp_machine.specs.Entries.{begin_version, transactions_in};
+ghost use Rattle.gp_whatif.specs.Remade.{Ran, StopsAt, can_run};
+ghost use Rattle.gp_log.specs.Contents.{commits, entries};
+ghost use Rattle.gp_whatif.specs.Remaking as r;
 
 use crate::error::ReplayStop;
 use gp_algebra::Stmt;
@@ -58,17 +58,13 @@ fn run_next(
     ran: u32,
     versions: &mut [VersionTable],
 ) -> Result<(), ReplayStop>
-    requires few { length versions.old ≤ MAX_TABLES }
-    requires replayable { IsReplayable (entries log.now) }
-    requires within { before < versions_in (entries log.now) }
-    requires made { IsMade (entries log.now) before versions.old }
-    requires more { ran < statement_count
-        (committer_of (suc before) (entries log.now)) (entries log.now) }
+    requires next { r.HasNext log.now before versions.old }
+    requires more { ran < r.maker_statements log.now before }
     requires few_statements { ran + 1 < 2 ^ 32 }
-    requires ran { HasRun (entries log.now) before versions.old ran active.old }
+    requires ran { r.HasRun log.now before versions.old ran active.old }
     ensures unchanged { versions.new ≡ versions.old }
-    ensures ran { OnOk result (HasRun (entries log.now) before versions.old (suc ran) active.new) }
-    ensures stop { IfErr result (λ stop. Stops stop (stop_upto (entries log.now) (suc before))) }
+    ensures ran { OnOk result (r.HasRun log.now before versions.old (suc ran) active.new) }
+    ensures stop { IfErr result (r.IsStopOf log.now (suc before)) }
 {
     let t = active.t();
     let k = ran + 1;
@@ -97,15 +93,11 @@ fn run_again(
     before: u32,
     versions: &mut [VersionTable],
 ) -> Result<Active, ReplayStop>
-    requires few { length versions.old ≤ MAX_TABLES }
-    requires replayable { IsReplayable (entries log.now) }
-    requires within { before < versions_in (entries log.now) }
-    requires few_versions { before + 1 < 2 ^ 32 }
-    requires made { IsMade (entries log.now) before versions.old }
+    requires next { r.HasNext log.now before versions.old }
     ensures unchanged { versions.new ≡ versions.old }
-    ensures ran { IfOk result (λ active. HasRun (entries log.now) before versions.old
-        (statement_count (committer_of (suc before) (entries log.now)) (entries log.now)) active) }
-    ensures stop { IfErr result (λ stop. Stops stop (stop_upto (entries log.now) (suc before))) }
+    ensures ran { IfOk result (λ active. r.HasRun log.now before versions.old
+        (r.maker_statements log.now before) active) }
+    ensures stop { IfErr result (r.IsStopOf log.now (suc before)) }
 {
     let t = log.maker(before + 1);
     // The log tells which version each statement reads, so the kind of the transaction is not asked for.
@@ -123,16 +115,11 @@ fn commit_again(
     before: u32,
     versions: &mut [VersionTable],
 ) -> Result<(), ReplayStop>
-    requires few { length versions.old ≤ MAX_TABLES }
-    requires replayable { IsReplayable (entries log.now) }
-    requires within { before < versions_in (entries log.now) }
-    requires few_versions { before + 1 < 2 ^ 32 }
-    requires made { IsMade (entries log.now) before versions.old }
-    requires ran { HasRun (entries log.now) before versions.old
-        (statement_count (committer_of (suc before) (entries log.now))
-        (entries log.now)) active.now }
-    ensures made { OnOk result (IsMade (entries log.now) (suc before) versions.new) }
-    ensures stop { IfErr result (λ stop. Stops stop (stop_upto (entries log.now) (suc before))) }
+    requires next { r.HasNext log.now before versions.old }
+    requires ran { r.HasRun log.now before versions.old (r.maker_statements log.now before)
+        active.now }
+    ensures made { OnOk result (r.IsMade log.now (suc before) versions.new) }
+    ensures stop { IfErr result (r.IsStopOf log.now (suc before)) }
 {
     // The rows that it inserted are its own. That is known of it where it is asked for its number.
     let _t = active.t();
@@ -172,13 +159,9 @@ pub fn make_version(
     before: u32,
     versions: &mut [VersionTable],
 ) -> Result<(), ReplayStop>
-    requires few { length versions.old ≤ MAX_TABLES }
-    requires replayable { IsReplayable (entries log.now) }
-    requires within { before < versions_in (entries log.now) }
-    requires few_versions { before + 1 < 2 ^ 32 }
-    requires made { IsMade (entries log.now) before versions.old }
-    ensures made { OnOk result (IsMade (entries log.now) (suc before) versions.new) }
-    ensures stop { IfErr result (λ stop. Stops stop (stop_upto (entries log.now) (suc before))) }
+    requires next { r.HasNext log.now before versions.old }
+    ensures made { OnOk result (r.IsMade log.now (suc before) versions.new) }
+    ensures stop { IfErr result (r.IsStopOf log.now (suc before)) }
 {
     let active = run_again(alloc, log, before, versions)?;
     commit_again(&active, log, before, versions)
@@ -200,7 +183,7 @@ fn empty_tables(alloc: Global, count: u32) -> Result<Vec<VersionTable>, NoMemory
 /// No versions of a log.
 pub fn none_made(alloc: Global, log: &Log) -> Result<Made, NoMemory>
     ensures count { IfOk result (λ made. made.count ≡ 0) }
-    ensures made { IfOk result (λ made. IsMade (entries log.now) 0 made.versions.items) }
+    ensures made { IfOk result (λ made. r.IsMade log.now 0 made.versions.items) }
 {
     Ok(Made {
         count: 0,
@@ -210,16 +193,13 @@ pub fn none_made(alloc: Global, log: &Log) -> Result<Made, NoMemory>
 
 /// Makes the other commits of a log again, behind its first ones, as [`replay`] does.
 pub fn replay_from(alloc: Global, log: &Log, made: Made) -> Result<Vec<VersionTable>, ReplayStop>
-    requires replayable { IsReplayable (entries log.now) }
-    requires within { made.count ≤ versions_in (entries log.now) }
-    requires made { IsMade (entries log.now) made.count made.versions.items }
-    ensures made { IfOk result (λ versions. IsMade (entries log.now)
-        (versions_in (entries log.now)) versions.items) }
-    ensures stop { IfErr result (λ stop. Stops stop
-        (stop_upto (entries log.now) (versions_in (entries log.now)))) }
+    requires replayable { r.IsReplayable log.now }
+    requires within { made.count ≤ commits log.now }
+    requires made { r.IsMade log.now made.count made.versions.items }
+    ensures made { IfOk result (λ versions. r.IsMade log.now (commits log.now) versions.items) }
+    ensures stop { IfErr result (r.IsStopOf log.now (commits log.now)) }
 {
-    // Its tables are few. That is known of them where it is asked for their number.
-    let _count = log.catalog().len();
+    log.bounds();
     let Made {
         count,
         mut versions,
@@ -238,11 +218,9 @@ pub fn replay_from(alloc: Global, log: &Log, made: Made) -> Result<Vec<VersionTa
 /// or makes an identity of too many nodes, by the first such statement, and in one statement the rows first; else the
 /// commit is lost; else there would be too many row versions. Transactions that did not commit are not run.
 pub fn replay(alloc: Global, log: &Log) -> Result<Vec<VersionTable>, ReplayStop>
-    requires { IsReplayable (entries log.now) }
-    ensures made { IfOk result (λ versions. IsMade (entries log.now)
-        (versions_in (entries log.now)) versions.items) }
-    ensures stop { IfErr result (λ stop. Stops stop
-        (stop_upto (entries log.now) (versions_in (entries log.now)))) }
+    requires { r.IsReplayable log.now }
+    ensures made { IfOk result (λ versions. r.IsMade log.now (commits log.now) versions.items) }
+    ensures stop { IfErr result (r.IsStopOf log.now (commits log.now)) }
 {
     let made = none_made(alloc, log)?;
     replay_from(alloc, log, made)

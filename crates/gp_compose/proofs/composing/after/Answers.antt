@@ -1,4 +1,3 @@
-use Rattle.std.proofs.Common.{rules}
 use Rattle.gp_compose.proofs.composing.after.Goals as goal
 
 pub returns : goal.returns

@@ -1,7 +1,7 @@
 use Rattle.std.proofs.Common.{map, get_or}
 use Rattle.std.specs.Prelude.{None}
 use Rattle.gp_algebra.specs.QueryViews.{annotated_view}
-use Rattle.gp_rewrite.specs.Rewriting.{query_at}
+use Rattle.gp_rewrite.specs.RewritingForms.{query_at}
 use Rattle.gp_compose.specs.Composed.{onto}
 use Rattle.gp_compose.specs.Composition.{AreTables}
 use Rattle.gp_compose.proofs.tables.all_onto.Given as goal

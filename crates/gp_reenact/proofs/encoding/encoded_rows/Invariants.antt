@@ -1,9 +1,9 @@
 use Rattle.std.proofs.Common.{◌≡◌, ◌++◌, map}
-use Rattle.gp_base.specs.Annotated.{plain}
+use Rattle.gp_base.specs.Annotated.{unannotated}
 use Rattle.gp_versions.specs.Spans.{row_of, rows_at}
 use Rattle.gp_reenact.specs.Encoding.{encoded_row}
 use Rattle.gp_reenact.proofs.encoding.encoded_rows.Given as goal
 
 -- the spans that remain give the other rows
 abbrev pub invariant-loop-span : goal.invariant-loop-span
-invariant-loop-span l = l.rows ++ map encoded_row (map (row_of plain) l.span-iterator) ≡ map encoded_row (rows_at plain l.version l.table.spans)
+invariant-loop-span l = l.rows ++ map encoded_row (map (row_of unannotated) l.span-iterator) ≡ map encoded_row (rows_at unannotated l.version l.table.spans)

@@ -1,5 +1,5 @@
 use Rattle.std.proofs.Common.{ap, ◌∙◌}
-use Rattle.gp_syntax.specs.Views.{state_view}
+use Rattle.gp_syntax.specs.Views.{point_view}
 use Rattle.gp_algebra.specs.AnnotatedQueries.{Program}
 use Rattle.gp_algebra.specs.Statements.{width_of}
 use Rattle.gp_algebra.specs.Views.{select_view}
@@ -15,4 +15,4 @@ merged_program-requires c =
     let entries = log_view c.args.log.now.entries in
     let composed = c.in-Ok.ensures in
     ap (λ (program : Program). is_well_built (plain_program (width_of (tables_in entries)) c.args.with_prov program)) composed.1
-    ∙ plain_is_built entries (select_view c.args.select.now) c.requires.statements c.requires.fits (state_view c.args.state) composed.0 c.args.with_prov
+    ∙ plain_is_built entries (select_view c.args.select.now) c.requires.statements c.requires.fits (point_view c.args.state) composed.0 c.args.with_prov

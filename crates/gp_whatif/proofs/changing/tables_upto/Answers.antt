@@ -1,16 +1,14 @@
-use Rattle.std.proofs.Common.{◌∙◌, ◌++◌, List, length, ap, subst, sym, arith}
+use Rattle.std.proofs.Common.{◌∙◌, ◌++◌, List, ap, subst, sym}
 use Rattle.gp_base.specs.declared.table.Table.{Table}
-use Rattle.gp_base.specs.Catalogs.{HaveDifferentNames}
 use Rattle.gp_log.specs.Kinds.{CreatesNew, created_by}
 use Rattle.gp_whatif.proofs.ChangingLemmas.{creates_new, tables_next}
 use Rattle.gp_whatif.proofs.changing.tables_upto.Goals as goal
 
 pub add_created-requires : goal.add_created-requires
 add_created-requires c =
-    let count = ap length c.catalog.ensures in
     subst (λ (tables : List Table). CreatesNew tables c.entry.result.now.what) (sym c.loop-before.invariant)
-    (creates_new c.args.log.now.entries c.loop-before.before c.entry.result.now (subst HaveDifferentNames c.catalog.ensures c.len-count.ensures.different)
-    (omega (arith, count, c.len-count.ensures.len, c.len-count.ensures.within)) c.entry.ensures.entry)
+    (creates_new c.args.log.now.entries c.loop-before.before c.entry.result.now c.bounds.ensures.names
+    c.bounds.ensures.tables c.entry.ensures.entry)
 
 pub loop-before-preserved : goal.loop-before-preserved
 loop-before-preserved c =

@@ -1,5 +1,4 @@
 use Rattle.std.proofs.Common.{◌+◌, ◌∙◌, ◌++◌, ℕ, List, [], ◌∷◌, length, ap, subst, sym, arith, length-append}
-use Rattle.gp_base.specs.Catalogs.{HaveDifferentNames}
 use Rattle.gp_algebra.specs.Views.{statement_view}
 use Rattle.gp_syntax.specs.Views.{command_view}
 use Rattle.gp_log.specs.Kinds.{IsAddable}
@@ -15,10 +14,9 @@ doubled-requires c = line-at c.args.log.now.entries c.loop-place.place c.entry-o
 
 pub append-requires-clause-new : goal.append-requires-clause-new
 append-requires-clause-new c =
-    let count = ap length c.catalog.ensures in
     extended_addable c.args.t (command_view c.args.command.now) (statement_view c.args.stmt.now) c.args.log.now.entries c.args.last c.requires.last c.loop-place.place c.loop-place.new.entries
-    c.entry-old.result.now c.in_ok-entry.entry (subst HaveDifferentNames c.catalog.ensures c.len-count.ensures.different)
-    (omega (arith, count, c.len-count.ensures.len, c.len-count.ensures.within)) c.entry-old.ensures.entry c.entry-old.ensures.number c.in_ok-entry.ensures.same c.loop-place.invariant
+    c.entry-old.result.now c.in_ok-entry.entry c.bounds.ensures.names
+    c.bounds.ensures.tables c.entry-old.ensures.entry c.entry-old.ensures.number c.in_ok-entry.ensures.same c.loop-place.invariant
 
 pub append-requires-then-is_last-clause-few : goal.append-requires-then-is_last-clause-few
 append-requires-then-is_last-clause-few c =

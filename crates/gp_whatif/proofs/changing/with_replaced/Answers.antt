@@ -1,5 +1,4 @@
-use Rattle.std.proofs.Common.{◌+◌, length, ap, subst, sym, arith}
-use Rattle.gp_base.specs.Catalogs.{HaveDifferentNames}
+use Rattle.std.proofs.Common.{◌+◌, subst, sym}
 use Rattle.gp_algebra.specs.Views.{statement_view}
 use Rattle.gp_syntax.specs.Views.{command_view}
 use Rattle.gp_whatif.proofs.ChangingLemmas.{Others, line-at, others_addable, others_next}
@@ -10,9 +9,8 @@ copy_replaced-requires c = line-at c.args.log.now.entries c.loop-place.place c.e
 
 pub append-requires-clause-new : goal.append-requires-clause-new
 append-requires-clause-new c =
-    let count = ap length c.catalog.ensures in
     others_addable c.args.t c.args.k (λ own. command_view c.args.command.now) (λ own. statement_view c.args.stmt.now) c.args.log.now.entries c.loop-place.place c.loop-place.new.entries c.entry.result.now c.in_ok-entry.entry
-    (subst HaveDifferentNames c.catalog.ensures c.len-count.ensures.different) (omega (arith, count, c.len-count.ensures.len, c.len-count.ensures.within))
+    c.bounds.ensures.names c.bounds.ensures.tables
     c.entry.ensures.entry c.entry.ensures.number c.in_ok-entry.ensures.same c.loop-place.invariant
 
 pub loop-place-preserved : goal.loop-place-preserved

@@ -1,4 +1,4 @@
-use Rattle.gp_base.specs.Annotated.{plain}
+use Rattle.gp_base.specs.Annotated.{unannotated}
 use Rattle.gp_whatif.proofs.CoherentLogs.{change_coherent, history_coherent, replayable_coherent}
 use Rattle.gp_whatif.proofs.laws.changed_logs_are_coherent.Goals as goal
 
@@ -6,7 +6,7 @@ pub returns-clause-changed : goal.returns-clause-changed
 returns-clause-changed c limits entries new change checks is e = change_coherent limits checks entries new is change e
 
 pub returns-clause-histories : goal.returns-clause-histories
-returns-clause-histories c limits lines checks = history_coherent plain limits checks lines
+returns-clause-histories c limits lines checks = history_coherent unannotated limits checks lines
 
 pub returns-clause-replayable : goal.returns-clause-replayable
 returns-clause-replayable c entries is = replayable_coherent entries is

@@ -1,4 +1,4 @@
-use Rattle.std.proofs.Common.{arith, subst, suc, sym, ℕ, ◌+◌, ◌≡◌}
+use Rattle.std.proofs.Common.{ap, arith, length, subst, suc, sym, ℕ, ◌+◌, ◌≡◌}
 use Rattle.std.proofs.lemmas.Result.{err_from_is_err_and}
 use Rattle.gp_machine.specs.Entries.{versions_in}
 use Rattle.gp_log.specs.Logs.{log_view}
@@ -21,3 +21,14 @@ loop-before-preserved c =
     let made = subst (λ (version : ℕ). IsMade entries version c.make_version.new.versions) next c.in_ok-make_version.ensures.made in
     subst (IsMade entries (c.loop-before.before + 1))
     (sym (written-back c.loop-before.versions.len c.make_version.new.versions c.loop-before.versions.items (omega (arith, c.make_version.auto.versions, c.deref_mut.ensures.len)))) made
+
+pub make_version-requires : goal.make_version-requires
+make_version-requires c = record {
+  next = record {
+    replayable = c.requires.replayable;
+    within = omega (arith, c.loop-before-test.true, c.commits-before-end.ensures);
+    made = rw c.deref_mut.ensures.value c.loop-before.invariant;
+    few = omega (arith, ap length c.deref_mut.ensures.value, c.loop-before.invariant.count, c.bounds.ensures.tables);
+    few_versions = omega (arith, c.loop-before-test.true, c.commits-before-end.ensures, c.bounds.ensures.commits);
+  };
+}

@@ -12,13 +12,13 @@ pub begin-requires-clause-first : goal.begin-requires-clause-first
 begin-requires-clause-first c =
     let next : c.args.before + 1 ≡ suc c.args.before = omega arith in
     let made = c.maker-t.ensures ∙ ap (λ n. committer_of n (log_view c.args.log.now.entries)) next in
-    omega (arith, made, ((orderly (log_view c.args.log.now.entries) c.requires.replayable.sessions).makers c.args.before c.requires.within).0)
+    omega (arith, made, ((orderly (log_view c.args.log.now.entries) c.requires.next.replayable.sessions).makers c.args.before c.requires.next.within).0)
 
 pub begin-requires-clause-known : goal.begin-requires-clause-known
 begin-requires-clause-known c =
     let next : c.args.before + 1 ≡ suc c.args.before = omega arith in
     let made = c.maker-t.ensures ∙ ap (λ n. committer_of n (log_view c.args.log.now.entries)) next in
-    omega (arith, made, ((orderly (log_view c.args.log.now.entries) c.requires.replayable.sessions).makers c.args.before c.requires.within).1)
+    omega (arith, made, ((orderly (log_view c.args.log.now.entries) c.requires.next.replayable.sessions).makers c.args.before c.requires.next.within).1)
 
 pub loop-ran-init : goal.loop-ran-init
 loop-ran-init c =
@@ -28,15 +28,12 @@ loop-ran-init c =
     let new = c.begin-active.ensures in
     let version = c.begin.ensures ∙ ap (λ t. begin_version t entries) made in (
       refl,
-      started entries c.requires.replayable c.args.before c.requires.within c.args.versions.now c.requires.made c.begin-active.result (new.t ∙ made) new.last
+      started entries c.requires.next.replayable c.args.before c.requires.next.within c.args.versions.now c.requires.next.made c.begin-active.result (new.t ∙ made) new.last
           (λ place. subst (λ v. IsUnwritten v (writes_at place c.begin-active.result.tables)) version (new.tables place)),
     )
 
-pub run_next-requires-clause-few : goal.run_next-requires-clause-few
-run_next-requires-clause-few c = rw c.loop-ran.invariant.0 c.requires.few
-
-pub run_next-requires-clause-made : goal.run_next-requires-clause-made
-run_next-requires-clause-made c = rw c.loop-ran.invariant.0 c.requires.made
+pub run_next-requires-clause-next : goal.run_next-requires-clause-next
+run_next-requires-clause-next c = rw c.loop-ran.invariant.0 c.requires.next
 
 pub run_next-requires-clause-ran : goal.run_next-requires-clause-ran
 run_next-requires-clause-ran c = rw c.loop-ran.invariant.0 c.loop-ran.invariant.1

@@ -18,13 +18,13 @@ run_statement-requires c =
     let entries = log_view c.args.log.now.entries in
     let tables = tables_in entries in
     record {
-      few = c.requires.few;
-      applicable = subst (λ count. can_run count (statement_view c.in-Some.stmt.now) ≡ true) (sym c.requires.made.count)
+      few = c.requires.next.few;
+      applicable = subst (λ count. can_run count (statement_view c.in-Some.stmt.now) ≡ true) (sym c.requires.next.made.count)
           (fitting_runs tables (statement_view c.in-Some.stmt.now)
-          (statement_at_fits tables entries c.requires.replayable.fits c.t-t.result (c.args.ran + 1) (statement_view c.in-Some.stmt.now) (sym c.in-Some.ensures)));
+          (statement_at_fits tables entries c.requires.next.replayable.fits c.t-t.result (c.args.ran + 1) (statement_view c.in-Some.stmt.now) (sym c.in-Some.ensures)));
       later = let last = c.requires.ran.last in omega arith;
       others = subst (λ t. HoldsOthers t c.args.versions.now) (sym c.requires.ran.t_is)
-          (others entries c.requires.replayable c.args.before c.requires.within c.args.versions.now c.requires.made);
+          (others entries c.requires.next.replayable c.args.before c.requires.next.within c.args.versions.now c.requires.next.made);
     }
 
 pub returns-in-Some : goal.returns-in-Some
@@ -40,11 +40,11 @@ returns-in-Some c =
     record {
       unchanged = c.run_statement.ensures.unchanged;
       ran = on_ok_weaker c.run_statement.result
-          (λ r. next_ran entries c.requires.replayable c.args.before c.requires.within c.args.versions.now c.requires.made c.args.ran c.requires.more statement here c.args.active.now c.requires.ran c.run_statement.new.active
+          (λ r. next_ran entries c.requires.next.replayable c.args.before c.requires.next.within c.args.versions.now c.requires.next.made c.args.ran c.requires.more statement here c.args.active.now c.requires.ran c.run_statement.new.active
           (subst (λ (x : ℕ × ℕ). Ran x.0 x.1 statement c.args.versions.now c.args.active.now c.run_statement.new.active) (λ i. (next i, version i)) r))
           c.run_statement.ensures.ran;
       stop = IfErr-weaker c.run_statement.result _ _
-          (λ stop e. statement_stops entries c.requires.replayable c.args.before c.requires.within c.args.versions.now c.requires.made c.args.ran c.requires.more statement here c.args.active.now c.requires.ran stop
+          (λ stop e. statement_stops entries c.requires.next.replayable c.args.before c.requires.next.within c.args.versions.now c.requires.next.made c.args.ran c.requires.more statement here c.args.active.now c.requires.ran stop
           (subst (λ (x : ℕ × ℕ). StopsAt stop x.0 x.1 statement c.args.versions.now c.args.active.now) (λ i. (next i, version i)) e))
           c.run_statement.ensures.stop;
     }
