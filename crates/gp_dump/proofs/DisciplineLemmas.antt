@@ -1,20 +1,28 @@
 -- What the next entry of a log is, by what a line says.
-use Rattle.std.proofs.Common.{◌≡◌, ℕ, zero, suc, ◌+◌, true, List, [], ◌∷◌, ◌++◌, length, take, Option, Some, None, refl, sym, ap, ◌∙◌, arith, true≢false}
+use Rattle.std.proofs.Common.{◌≡◌, ℕ, zero, suc, ◌+◌, ◌<◌, Bool, true, nat_le, List, [], ◌∷◌, ◌++◌, length, take, Option, Some, None, Result, Ok, Err, if◌then◌else◌, refl, sym, ap, ◌∙◌, arith, true≢false}
+use Rattle.std.specs.Option.{ok_or, option_map}
 use Rattle.std.specs.Prelude.{slice_get}
-use Rattle.std.proofs.lemmas.Bool.{ne_eqb, eq-eqb}
+use Rattle.std.proofs.lemmas.Bool.{ne_eqb, eq-eqb, lt-leb}
 use Rattle.std.proofs.lemmas.List.{take_all}
+use Rattle.gp_base.specs.declared.limit.Limit.TheVariants as limit
+use Rattle.gp_base.specs.declared.refusal.Refusal.{Refusal}
+use Rattle.gp_base.specs.declared.refusal.Refusal.TheVariants.{E10, E14}
 use Rattle.gp_base.specs.declared.table.Table.{Table}
 use Rattle.gp_base.specs.Catalogs.{place_of}
 use Rattle.gp_check.specs.Faults.{table_refusal}
 use Rattle.gp_grammar.specs.Syntax as y
 use Rattle.gp_grammar.specs.Syntax.{is_statement}
-use Rattle.gp_machine.specs.Actions as a
-use Rattle.gp_machine.specs.Actions.{action_of, allowed}
+use Rattle.gp_machine.specs.Actions.{Runs, allowed}
 use Rattle.gp_machine.specs.Entries as m
 use Rattle.gp_log.specs.declared.entry.Entry.{Entry}
 use Rattle.gp_log.specs.declared.entry.What.{What}
 use Rattle.gp_machine.specs.Entries.{line_of}
-use Rattle.gp_log.specs.Discipline.{doing, last_line, losing, transaction_in}
+use Rattle.gp_algebra.specs.Statements.{Statement}
+use Rattle.gp_check.specs.Checking.{checked}
+use Rattle.gp_machine.specs.Event.{count_refusal}
+use Rattle.gp_log.specs.declared.limit.TheConstants.{MAX_STATEMENTS, MAX_STEPS}
+use Rattle.gp_log.specs.Discipline.{Disorder, doing, last_line, running, transaction_in}
+use Rattle.gp_log.specs.LogFacts.{tables_in}
 use Rattle.gp_log.specs.Parameters.{parameters}
 use Rattle.gp_log.specs.Logs.{entry_view, log_view, what_view}
 use Rattle.gp_log.specs.declared.entry.What.TheVariants as what
@@ -135,29 +143,57 @@ unrefused-new tables table none = by (place_of table.name tables) refl none
     by None is none = refl
     by (Some n) is none = absurd (let some = rw is at none in cc)
 
--- a statement is run
-pub statement-runs : (command : y.Command) → is_statement command ≡ true → action_of command ≡ a.Run command
-statement-runs (y.create table) is = absurd (true≢false (sym is))
-statement-runs (y.begin read_committed) is = absurd (true≢false (sym is))
-statement-runs y.Command.commit is = absurd (true≢false (sym is))
-statement-runs y.rollback is = absurd (true≢false (sym is))
-statement-runs (y.insert table rows) is = refl
-statement-runs (y.insert_select table query) is = refl
-statement-runs (y.update table sets cond) is = refl
-statement-runs (y.delete table cond) is = refl
-statement-runs (y.select query) is = refl
+-- a statement is run in a transaction, and in no other place
+pub statement-waits : (command : y.Command) → is_statement command ≡ true → allowed {A = ℕ} None command ≡ Err E10
+statement-waits (y.create table) is = absurd (true≢false (sym is))
+statement-waits (y.begin read_committed) is = absurd (true≢false (sym is))
+statement-waits y.Command.commit is = absurd (true≢false (sym is))
+statement-waits y.rollback is = absurd (true≢false (sym is))
+statement-waits (y.insert table rows) is = refl
+statement-waits (y.insert_select table query) is = refl
+statement-waits (y.update table sets cond) is = refl
+statement-waits (y.delete table cond) is = refl
+statement-waits (y.select query) is = refl
+
+pub statement-runs : (t : ℕ) (command : y.Command) → is_statement command ≡ true → allowed (Some t) command ≡ Ok (Runs t command)
+statement-runs t (y.create table) is = absurd (true≢false (sym is))
+statement-runs t (y.begin read_committed) is = absurd (true≢false (sym is))
+statement-runs t y.Command.commit is = absurd (true≢false (sym is))
+statement-runs t y.rollback is = absurd (true≢false (sym is))
+statement-runs t (y.insert table rows) is = refl
+statement-runs t (y.insert_select table query) is = refl
+statement-runs t (y.update table sets cond) is = refl
+statement-runs t (y.delete table cond) is = refl
+statement-runs t (y.select query) is = refl
+
+pub ruleset statement_checks = (statement-waits, statement-runs)
+
+few-counts : (own all : ℕ) → own < MAX_STEPS → all < MAX_STATEMENTS → count_refusal parameters own all ≡ None
+few-counts own all steps few =
+    ap (λ (b : Bool). if b then Some (E14 limit.Steps) else if nat_le MAX_STATEMENTS all then Some (E14 limit.Statements) else None) (lt-leb MAX_STEPS own steps)
+    ∙ ap (λ (b : Bool). if b then Some (E14 limit.Statements) else None) (lt-leb MAX_STATEMENTS all few)
+
+-- a statement in a transaction, within the counts: by its check
+pub run-checked : (older : List m.Entry) (line session t : ℕ) (active : Option ℕ) (command : y.Command) (catalog : List Table) (found : Result Statement Refusal) → active ≡ Some t
+    → is_statement command ≡ true → m.statement_count t older < MAX_STEPS → m.statements_in older < MAX_STATEMENTS → catalog ≡ tables_in older → checked catalog command ≡ found
+    → doing parameters older line session (allowed active command) ≡ running parameters older line session t command None found
+run-checked older line session t active command catalog found is statement steps all tables says =
+    ap (λ (may : Option ℕ). doing parameters older line session (allowed may command)) is
+    ∙ (ap (doing parameters older line session) (statement-runs t command statement)
+    ∙ (ap (λ (refusal : Option Refusal). running parameters older line session t command refusal (checked (tables_in older) command)) (few-counts (m.statement_count t older) (m.statements_in older) steps all)
+    ∙ ap (running parameters older line session t command None) (ap (λ (ts : List Table). checked ts command) (sym tables) ∙ says)))
 
 -- the ends of a transaction
-pub commit-ends : (older : List m.Entry) (line session : ℕ) (active : Option ℕ) → doing parameters older line session (allowed active a.Commit) ≡ ended line session active what.Commit
+pub commit-ends : (older : List m.Entry) (line session : ℕ) (active : Option ℕ) → doing parameters older line session (allowed active y.Command.commit) ≡ ended line session active what.Commit
 commit-ends older line session None = refl
 commit-ends older line session (Some t) = refl
 
-pub rollback-ends : (older : List m.Entry) (line session : ℕ) (active : Option ℕ) → doing parameters older line session (allowed active a.Rollback) ≡ ended line session active what.Rollback
+pub rollback-ends : (older : List m.Entry) (line session : ℕ) (active : Option ℕ) → doing parameters older line session (allowed active y.rollback) ≡ ended line session active what.Rollback
 rollback-ends older line session None = refl
 rollback-ends older line session (Some t) = refl
 
-pub lost-ends : (older : List m.Entry) (line session : ℕ) (active : Option ℕ) → losing parameters older line session active ≡ ended line session active what.Lost
+pub lost-ends : (older : List m.Entry) (line session : ℕ) (active : Option ℕ) → ok_or (option_map (m.Ended line session m.Lost) active) Disorder ≡ ended line session active what.Lost
 lost-ends older line session None = refl
 lost-ends older line session (Some t) = refl
 
-pub ruleset next_entries = (statement-runs, commit-ends, rollback-ends, lost-ends)
+pub ruleset next_entries = (commit-ends, rollback-ends, lost-ends)

@@ -1,4 +1,4 @@
--- The verdict fails where the rules say so, and as the first rule that fails; and only there.
+-- The verdict holds a dump where all lines keep the rules, and fails where the rules say so, and as the first rule that fails; and only there.
 use Rattle.std.proofs.Common.{◌≡◌, ℕ, zero, suc, ◌+◌, ◌<◌, ◌≤◌, Bool, true, false, cond, ltb, leb, List, [], ◌∷◌, length, reverse, Option, Some, None, Result, Ok, Err, inl, inr, refl, sym, ap, subst, ◌∙◌, arith}
 use Rattle.std.specs.Prelude.{◌==◌, slice_get}
 use Rattle.std.specs.Str.{bytes_eq, is_utf8}
@@ -21,10 +21,11 @@ use Rattle.gp_dumpline.proofs.HeaderLaws.{header-again, header-takes}
 use Rattle.gp_dumpline.proofs.LogLineLaws.{count-again, count-takes, log_line-again, log_line-takes, section-again, section-takes}
 use Rattle.gp_dumpline.proofs.SaidLaws.{is-said, said-is, said-takes}
 use Rattle.gp_dumpline.proofs.SpanLaws.{line-span, span-line}
-use Rattle.gp_dump.specs.Dumps.{AreReadable, Dump, IsRow, fits_columns, is_in_place, spans_in}
+use Rattle.gp_dump.specs.Dumps.{Dump, IsRow, fits_columns, is_in_place, spans_in}
+use Rattle.gp_dump.specs.WholeDumps.{AreReadable}
 use Rattle.gp_dump.specs.Lines.{Line, Whole, Cut, Missing, lines_of, onto}
 use Rattle.gp_dump.specs.Rules as r
-use Rattle.gp_dump.specs.Rules.{Due, Header, Count, Logs, Sections, Rows, Nothing, Breaks, FaultIn, FirstFault, IsBetween, IsLogLine, IsNextTable, Leads, LineBreaks, flaw_rule, here, later}
+use Rattle.gp_dump.specs.Rules.{Due, Header, Count, Logs, Sections, Rows, Nothing, Breaks, FaultIn, FirstFault, IsBetween, IsLogLine, IsNextTable, KeepRules, Leads, LineBreaks, WellFormed, ended, flaw_rule, followed, here, later}
 use Rattle.gp_dump.specs.Verdicts.{◌>>=◌, Verdict, Holds, Fails, after_text, end_rule, end_verdict, fault_in, first_fault, header_line, log_rule, next_section, nothing_line, row_line, row_rule, rule, rule_holds, rule_next, section_line, section_rule, text_of, then_verdict, verdict, verdict_on}
 use Rattle.gp_dump.proofs.LineLemmas.{line-laws, log-lawful}
 use Rattle.gp_dump.proofs.RoundTrip.{AreLawful, IsEntry, TableLaws}
@@ -225,12 +226,12 @@ header-answer text (Some second) e = (r.names_format second text (header-takes t
 
 -- ---- lines
 
--- the last line is not ended by a line feed
+-- the last line is not ended by a line feed, and a missing one is the last
 abbrev IsOpen : List Line → Type 0
 IsOpen [] = ⊥
 IsOpen (Whole text ∷ lines) = IsOpen lines
 IsOpen (Cut text ∷ lines) = Unit {0}
-IsOpen (Missing ∷ lines) = Unit {0}
+IsOpen (Missing ∷ lines) = lines ≡ []
 
 onto-opens : (byte : ℕ) (lines : List Line) → IsOpen lines → IsOpen (onto byte lines)
 onto-opens byte [] opens = tt
@@ -239,7 +240,7 @@ onto-opens byte (Cut text ∷ lines) opens = tt
 onto-opens byte (Missing ∷ lines) opens = tt
 
 lines-opens : (bytes : List ℕ) → IsOpen (lines_of bytes)
-lines-opens [] = tt
+lines-opens [] = refl
 lines-opens (byte ∷ bytes) = by (byte == 10) (lines-opens bytes)
   where
     by : (b : Bool) → IsOpen (lines_of bytes) → IsOpen (cond b (Whole [] ∷ lines_of bytes) (onto byte (lines_of bytes)))
@@ -285,54 +286,63 @@ text-line due (Cut text) other more sound = by (is_utf8 text) refl
     by false utf8 = r.no_cut_text due text utf8
 text-line due Missing other more sound = r.missing due more
 
--- ---- where the verdict fails
+-- ---- what the verdict says
 
-same-fails : (f g line at : ℕ) → Fails f line ≡ Fails g at → (f ≡ g) × (line ≡ at)
-same-fails f g line at e = (cc, cc)
+-- the lines are the dump of the verdict, or have its fault first
+abbrev IsVerdictOn : List Line → Due → ℕ → Verdict → Type 0
+IsVerdictOn lines due number (Holds dump) = KeepRules lines due dump
+IsVerdictOn lines due number (Fails f at) = FaultIn lines due number f at
 
-module _ (f at : ℕ) where
-  fails-here : (line : Line) (lines : List Line) (due : Due) (number g : ℕ) → LineBreaks due line g → Fails g number ≡ Fails f at → FaultIn (line ∷ lines) due number f at
-  fails-here line lines due number g broken e =
-      let same = same-fails g f number at e in
-      subst (λ (n : ℕ). FaultIn (line ∷ lines) due number f n) same.1 (here line lines due number f (subst (LineBreaks due line) same.0 broken))
+-- the verdict on the lines after one that keeps the rules
+one-more : (text : List ℕ) (lines : List Line) (due next : Due) (number : ℕ) (v : Verdict) → Leads due text next → IsVerdictOn lines next (number + 1) v → IsVerdictOn (Whole text ∷ lines) due number v
+one-more text lines due next number (Holds dump) leads rest = followed text lines due next dump leads rest
+one-more text lines due next number (Fails f at) leads rest = later text lines due next number f at leads rest
 
-  -- the lines after a line
-  abbrev Later : List Line → ℕ → Type 0
-  Later lines number = (next : Due) → IsOpen lines → IsSound next → verdict lines next number ≡ Fails f at → FaultIn lines next number f at
+-- the verdict on the lines after a line
+abbrev Later : List Line → ℕ → Type 0
+Later lines number = (next : Due) → IsOpen lines → IsSound next → IsVerdictOn lines next number (verdict lines next number)
 
-  then-fails : (line : Line) (lines : List Line) (due : Due) (number : ℕ) (o : Result Due ℕ) → IsOpen (line ∷ lines) → Later lines (number + 1) → IsLineAnswer due line o
-      → then_verdict o number (λ next. verdict lines next (number + 1)) ≡ Fails f at → FaultIn (line ∷ lines) due number f at
-  then-fails line lines due number (Err g) opens more is e = fails-here line lines due number g is e
-  then-fails line lines due number (Ok next) opens more is e =
-      let rest : IsOpen lines = subst (λ (l : Line). IsOpen (l ∷ lines)) is.1 opens in
-      subst (λ (l : Line). FaultIn (l ∷ lines) due number f at) (sym is.1) (later is.0 lines due next number f at is.2.0 (more next rest is.2.1 e))
+then-verdict : (line : Line) (lines : List Line) (due : Due) (number : ℕ) (o : Result Due ℕ) → IsOpen (line ∷ lines) → Later lines (number + 1) → IsLineAnswer due line o
+    → IsVerdictOn (line ∷ lines) due number (then_verdict o number (λ next. verdict lines next (number + 1)))
+then-verdict line lines due number (Err f) opens more is = here line lines due number f is
+then-verdict line lines due number (Ok next) opens more is =
+    let rest : IsOpen lines = subst (λ (l : Line). IsOpen (l ∷ lines)) is.1 opens in
+    subst (λ (l : Line). IsVerdictOn (l ∷ lines) due number (verdict lines next (number + 1))) (sym is.1)
+    (one-more is.0 lines due next number (verdict lines next (number + 1)) is.2.0 (more next rest is.2.1))
 
-  ends-fails : (line : Line) (lines : List Line) (dump : Dump) (number : ℕ) → end_verdict (nothing_line line) number dump ≡ Fails f at → FaultIn (line ∷ lines) (Nothing dump) number f at
-  ends-fails (Whole text) lines dump number e = by (is_utf8 text) refl e
-    where
-      by : (b : Bool) → is_utf8 text ≡ b → end_verdict (cond b (Err 14) (Err 1)) number dump ≡ Fails f at → FaultIn (Whole text ∷ lines) (Nothing dump) number f at
-      by true utf8 h = fails-here (Whole text) lines (Nothing dump) number 14 (r.breaks (Nothing dump) text 14 utf8 (r.goes_on dump text)) h
-      by false utf8 h = fails-here (Whole text) lines (Nothing dump) number 1 (r.no_text (Nothing dump) text utf8) h
-  ends-fails (Cut text) lines dump number e = by (is_utf8 text) refl e
-    where
-      by : (b : Bool) → is_utf8 text ≡ b → end_verdict (cond b (Err 3) (Err 1)) number dump ≡ Fails f at → FaultIn (Cut text ∷ lines) (Nothing dump) number f at
-      by true utf8 h = fails-here (Cut text) lines (Nothing dump) number 3 (r.unended (Nothing dump) text utf8 (λ header_due. absurd cc)) h
-      by false utf8 h = fails-here (Cut text) lines (Nothing dump) number 1 (r.no_cut_text (Nothing dump) text utf8) h
-  ends-fails Missing lines dump number e = absurd cc
+ends-verdict : (line : Line) (lines : List Line) (dump : Dump) (number : ℕ) → IsOpen (line ∷ lines) → IsVerdictOn (line ∷ lines) (Nothing dump) number (end_verdict (nothing_line line) number dump)
+ends-verdict (Whole text) lines dump number opens = by (is_utf8 text) refl
+  where
+    by : (b : Bool) → is_utf8 text ≡ b → IsVerdictOn (Whole text ∷ lines) (Nothing dump) number (end_verdict (cond b (Err 14) (Err 1)) number dump)
+    by true utf8 = here (Whole text) lines (Nothing dump) number 14 (r.breaks (Nothing dump) text 14 utf8 (r.goes_on dump text))
+    by false utf8 = here (Whole text) lines (Nothing dump) number 1 (r.no_text (Nothing dump) text utf8)
+ends-verdict (Cut text) lines dump number opens = by (is_utf8 text) refl
+  where
+    by : (b : Bool) → is_utf8 text ≡ b → IsVerdictOn (Cut text ∷ lines) (Nothing dump) number (end_verdict (cond b (Err 3) (Err 1)) number dump)
+    by true utf8 = here (Cut text) lines (Nothing dump) number 3 (r.unended (Nothing dump) text utf8 (λ header_due. absurd cc))
+    by false utf8 = here (Cut text) lines (Nothing dump) number 1 (r.no_cut_text (Nothing dump) text utf8)
+ends-verdict Missing lines dump number opens = subst (λ (l : List Line). KeepRules (Missing ∷ l) (Nothing dump) dump) (sym opens) (ended dump)
 
-  fault-in : (lines : List Line) (number : ℕ) → Later lines number
-  unfolding verdict
-  fault-in [] number next opens sound e = absurd opens
-  fault-in (line ∷ lines) number Header opens sound e = then-fails line lines Header number (header_line line) opens (fault-in lines (number + 1)) (header-line line) e
-  fault-in (line ∷ lines) number (Count second) opens sound e =
-      then-fails line lines (Count second) number (text_of line >>= after_text (Count second)) opens (fault-in lines (number + 1)) (text-line (Count second) line (λ h. cc) (λ dump h. cc) sound) e
-  fault-in (line ∷ lines) number (Logs second left log) opens sound e =
-      then-fails line lines (Logs second left log) number (text_of line >>= after_text (Logs second left log)) opens (fault-in lines (number + 1)) (text-line (Logs second left log) line (λ h. cc) (λ dump h. cc) sound) e
-  fault-in (line ∷ lines) number (Sections log tables) opens sound e =
-      then-fails line lines (Sections log tables) number (text_of line >>= after_text (Sections log tables)) opens (fault-in lines (number + 1)) (text-line (Sections log tables) line (λ h. cc) (λ dump h. cc) sound) e
-  fault-in (line ∷ lines) number (Rows left log tables rows) opens sound e =
-      then-fails line lines (Rows left log tables rows) number (text_of line >>= after_text (Rows left log tables rows)) opens (fault-in lines (number + 1)) (text-line (Rows left log tables rows) line (λ h. cc) (λ dump h. cc) sound) e
-  fault-in (line ∷ lines) number (Nothing dump) opens sound e = ends-fails line lines dump number e
+verdict-in : (lines : List Line) (number : ℕ) → Later lines number
+unfolding verdict
+verdict-in [] number next opens sound = absurd opens
+verdict-in (line ∷ lines) number Header opens sound = then-verdict line lines Header number (header_line line) opens (verdict-in lines (number + 1)) (header-line line)
+verdict-in (line ∷ lines) number (Count second) opens sound =
+    then-verdict line lines (Count second) number (text_of line >>= after_text (Count second)) opens (verdict-in lines (number + 1)) (text-line (Count second) line (λ h. cc) (λ dump h. cc) sound)
+verdict-in (line ∷ lines) number (Logs second left log) opens sound =
+    then-verdict line lines (Logs second left log) number (text_of line >>= after_text (Logs second left log)) opens (verdict-in lines (number + 1)) (text-line (Logs second left log) line (λ h. cc) (λ dump h. cc) sound)
+verdict-in (line ∷ lines) number (Sections log tables) opens sound =
+    then-verdict line lines (Sections log tables) number (text_of line >>= after_text (Sections log tables)) opens (verdict-in lines (number + 1)) (text-line (Sections log tables) line (λ h. cc) (λ dump h. cc) sound)
+verdict-in (line ∷ lines) number (Rows left log tables rows) opens sound =
+    then-verdict line lines (Rows left log tables rows) number (text_of line >>= after_text (Rows left log tables rows)) opens (verdict-in lines (number + 1)) (text-line (Rows left log tables rows) line (λ h. cc) (λ dump h. cc) sound)
+verdict-in (line ∷ lines) number (Nothing dump) opens sound = ends-verdict line lines dump number opens
+
+verdict-on : (bytes : List ℕ) (v : Verdict) → verdict_on bytes ≡ v → IsVerdictOn (lines_of bytes) Header 1 v
+verdict-on bytes v is = subst (IsVerdictOn (lines_of bytes) Header 1) is (verdict-in (lines_of bytes) 1 Header (lines-opens bytes) tt)
+
+-- the dump that the verdict holds is the one of the lines
+pub kept-found : (bytes : List ℕ) (dump : Dump) → verdict_on bytes ≡ Holds dump → WellFormed bytes dump
+kept-found bytes dump is = verdict-on bytes (Holds dump) is
 
 verdict-fault : (bytes : List ℕ) (f line : ℕ) (v : Verdict) → verdict_on bytes ≡ v → fault_in v ≡ Some (f, line) → verdict_on bytes ≡ Fails f line
 verdict-fault bytes f line (Holds dump) is e = absurd cc
@@ -340,9 +350,9 @@ verdict-fault bytes f line (Fails g other) is e = let same : (g, other) ≡ (f, 
 
 -- the first rule that the verdict finds broken is the first one that is
 pub fault-found : (bytes : List ℕ) (f line : ℕ) → first_fault bytes ≡ Some (f, line) → FirstFault bytes f line
-fault-found bytes f line e = fault-in f line (lines_of bytes) 1 Header (lines-opens bytes) tt (verdict-fault bytes f line (verdict_on bytes) refl e)
+fault-found bytes f line e = verdict-on bytes (Fails f line) (verdict-fault bytes f line (verdict_on bytes) refl e)
 
--- ---- where the rules say that a dump fails, the verdict fails
+-- ---- where the rules say that a dump fails, or is one, the verdict says so
 
 not-within : (a b : ℕ) → (a ≤ b → ⊥) → leb a b ≡ false
 not-within a b never = elim (cases_Bool (leb a b)) [
@@ -577,3 +587,16 @@ fault-fails _ _ _ _ _ (later text lines due next number f at leads rest) sound =
 -- the first rule that is broken is the first one that the verdict finds
 pub fault-is : (bytes : List ℕ) (f line : ℕ) → FirstFault bytes f line → first_fault bytes ≡ Some (f, line)
 fault-is bytes f line is = ap fault_in (fault-fails (lines_of bytes) Header 1 f line is tt)
+
+-- ---- lines that all keep the rules
+
+kept-holds : (lines : List Line) (due : Due) (dump : Dump) (number : ℕ) → KeepRules lines due dump → IsSound due → verdict lines due number ≡ Holds dump
+unfolding verdict
+kept-holds _ _ _ number (ended dump) sound = refl
+kept-holds _ _ _ number (followed text lines due next dump leads rest) sound =
+    let k = leads-followed due text next leads sound in
+    k.verdict_is lines number ∙ kept-holds lines next dump (number + 1) rest k.sound
+
+-- the dump of the lines is the one that the verdict holds
+pub kept-is : (bytes : List ℕ) (dump : Dump) → WellFormed bytes dump → verdict_on bytes ≡ Holds dump
+kept-is bytes dump is = kept-holds (lines_of bytes) Header dump 1 is tt

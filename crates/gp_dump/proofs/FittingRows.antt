@@ -19,12 +19,13 @@ use Rattle.gp_check.proofs.FittingLemmas.{accepted}
 use Rattle.gp_machine.proofs.Distinct.{each_filter, each_weaker}
 use Rattle.gp_machine.proofs.LimitLemmas.{counts_are_within}
 use Rattle.gp_machine.proofs.ReachedLemmas.{all_reached, value_cases, within_limits}
-use Rattle.gp_machine.specs.Actions.{Run, action_of}
+use Rattle.gp_machine.specs.Actions.{allowed}
+use Rattle.gp_machine.specs.ActionForms.{Run, answered}
 use Rattle.gp_machine.specs.Bases.{pairs}
 use Rattle.gp_machine.specs.Committed.{is_written, merged, next_version, unmarked}
 use Rattle.gp_machine.specs.Conflicts.{Conflict}
 use Rattle.gp_machine.specs.Entries.{End, Lost, RolledBack, statements_in, transactions_in, versions_in}
-use Rattle.gp_machine.specs.Event.{Line, after, answered, beginning, committing, conflict_of, count_refusal, creating, creation_refusal, ended, is_full, published, ran, refusal_of, running, start_now, version_now}
+use Rattle.gp_machine.specs.Event.{Line, after, beginning, committing, conflict_of, count_refusal, creating, creation_refusal, doing, ended, event, is_full, published, ran, refusal_of, running, start_now, version_now}
 use Rattle.gp_machine.specs.Reached.{CountsAreWithin, IsReached}
 use Rattle.gp_machine.specs.Reading.{Seen, started}
 use Rattle.gp_machine.specs.State.{Active, State, start, with_value}
@@ -154,7 +155,7 @@ module _ {M : Type 0} (domain : Annotations M) (state : State M) (line session :
     checks : (command : Command) → command_of (command_text command) ≡ Ok command → Fitting (answered domain parameters state line session (Some active) (Run command)).0
     checks command read = check_it command read (count_refusal parameters active.statements (statements_in state.entries)) (parameters.checked state.catalogue command) refl
 
-  outside : (command : Command) → Fitting (answered domain parameters state line session None (action_of command)).0
+  outside : (command : Command) → Fitting (doing domain parameters state line session (allowed None command)).0
   outside (y.create table) = create_it table (creation_refusal parameters state.catalogue table)
   outside (y.begin read_committed) = begin_it read_committed (nat_le parameters.transactions (transactions_in state.entries))
   outside y.Command.commit = fitting
@@ -165,7 +166,7 @@ module _ {M : Type 0} (domain : Annotations M) (state : State M) (line session :
   outside (y.delete table cond) = fitting
   outside (y.select query) = fitting
 
-  inside : (active : Active M) → state.active session ≡ Some active → (command : Command) → command_of (command_text command) ≡ Ok command → Fitting (answered domain parameters state line session (Some active) (action_of command)).0
+  inside : (active : Active M) → state.active session ≡ Some active → (command : Command) → command_of (command_text command) ≡ Ok command → Fitting (doing domain parameters state line session (allowed (Some active) command)).0
   inside active e (y.create table) read = fitting
   inside active e (y.begin read_committed) read = fitting
   inside active e y.Command.commit read = commit_it active e (conflict_of state active) (is_full parameters state active)
@@ -176,10 +177,10 @@ module _ {M : Type 0} (domain : Annotations M) (state : State M) (line session :
   inside active e (y.delete table cond) read = checks active e (y.delete table cond) read
   inside active e (y.select query) read = checks active e (y.select query) read
 
-  event_fits : (command : Command) → command_of (command_text command) ≡ Ok command → Fitting (answered domain parameters state line session (state.active session) (action_of command)).0
+  event_fits : (command : Command) → command_of (command_text command) ≡ Ok command → Fitting (event domain parameters state line session command).0
   event_fits command read = go (state.active session) refl
     where
-      go : (active : Option (Active M)) → state.active session ≡ active → Fitting (answered domain parameters state line session active (action_of command)).0
+      go : (active : Option (Active M)) → state.active session ≡ active → Fitting (doing domain parameters state line session (allowed active command)).0
       go None e = outside command
       go (Some active) e = inside active e command read
 

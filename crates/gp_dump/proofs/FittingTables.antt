@@ -36,7 +36,8 @@ use Rattle.gp_log.specs.Parameters.{parameters}
 use Rattle.gp_dumpline.specs.Forms.{if_canonical, said_of}
 use Rattle.gp_dumpline.specs.Rows.{IsReadable}
 use Rattle.gp_dumpline.specs.Texts.{said_text}
-use Rattle.gp_dump.specs.Dumps.{AreInPlace, AreOfTables, AreReadable, Dump, IsDump, fits_columns, is_of_kind}
+use Rattle.gp_dump.specs.Dumps.{Dump, fits_columns, is_of_kind}
+use Rattle.gp_dump.specs.WholeDumps.{AreInPlace, AreOfTables, AreReadable, IsDump}
 use Rattle.gp_dumpline.proofs.SaidLaws.{is-said}
 use Rattle.gp_dump.proofs.ReadCommands.{read_valid}
 

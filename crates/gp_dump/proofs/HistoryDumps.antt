@@ -1,15 +1,16 @@
 -- The dump of every history is well formed.
 use Rattle.std.proofs.Common.{◌≡◌, ◌<◌, ◌≤◌, ℕ, zero, suc, ◌+◌, List, [], ◌∷◌, ◌++◌, length, map, take, Some, None, slice_get, get_or, refl, sym, ap, subst, ◌∙◌, arith, ◌⊎◌, inl, inr}
+use Rattle.std.specs.Option.{option_or}
 use Rattle.std.specs.Prelude.{sum}
 use Rattle.std.specs.List.{AllByRecursion, fold}
 use Rattle.std.proofs.lemmas.List.{map-append, take_all}
 use Rattle.std.proofs.lemmas.Option.{slice_get_cases}
-use Rattle.gp_base.specs.Annotated.{Annotations, plain}
+use Rattle.gp_base.specs.Annotated.{Annotations, unannotated}
 use Rattle.gp_base.specs.Order.{sorted_by}
 use Rattle.gp_base.specs.declared.table.Table.{Table}
 use Rattle.gp_grammar.specs.Syntax as y
 use Rattle.gp_grammar.specs.Syntax.{Bytes, Command}
-use Rattle.gp_check.specs.Faults.{first_refusal, or_else, query_tables_fault, table_fault}
+use Rattle.gp_check.specs.Faults.{first_refusal, query_tables_fault, table_fault}
 use Rattle.gp_check.specs.Meaning.{number_of_table, statement_of}
 use Rattle.gp_check.proofs.FittingLemmas.{accepted, known, none_of}
 use Rattle.gp_versions.specs.declared.span.Span.{Span}
@@ -26,7 +27,8 @@ use Rattle.gp_machine.specs.CheckedTargets.{ChecksTargets, HasTarget}
 use Rattle.gp_machine.specs.Reached.{IsReached}
 use Rattle.gp_machine.specs.State.{State, start}
 use Rattle.gp_log.specs.Parameters.{parameters}
-use Rattle.gp_dump.specs.Dumps.{AreInPlace, AreOfTables, IsDump, dump_of, spans_in, spans_in_order}
+use Rattle.gp_dump.specs.Dumps.{dump_of, spans_in, spans_in_order}
+use Rattle.gp_dump.specs.WholeDumps.{AreInPlace, AreOfTables, IsDump}
 use Rattle.gp_log.specs.ScriptLines.{AreScriptLines}
 use Rattle.gp_dump.proofs.FittingRows.{Fitting, all_fitting}
 use Rattle.gp_dump.proofs.LoggedLines.{all_logged}
@@ -41,7 +43,7 @@ target tables name none = ltb-true (number_of_table tables name) (length tables)
 
 has_target : (tables : List Table) (command : Command) → first_refusal tables command ≡ None → HasTarget (length tables) (statement_of tables command)
 has_target tables (y.insert name rows) none = target tables name (none_of (table_fault tables name) _ none).0
-has_target tables (y.insert_select name query) none = target tables name (none_of (table_fault tables name) _ (none_of (or_else (table_fault tables name) (query_tables_fault tables query)) _ none).0).0
+has_target tables (y.insert_select name query) none = target tables name (none_of (table_fault tables name) _ (none_of (option_or (table_fault tables name) (query_tables_fault tables query)) _ none).0).0
 has_target tables (y.update name sets cond) none = target tables name (none_of (table_fault tables name) _ none).0
 has_target tables (y.delete name cond) none = target tables name (none_of (table_fault tables name) _ none).0
 has_target tables (y.select query) none = tt
@@ -116,23 +118,23 @@ module _ {M : Type 0} (domain : Annotations M) (state : State M) (reached : IsRe
       subst (λ tables. AreOfTables tables (versions_in state.entries) (map (sorted_by span_cmp) (spans_in_order state (length state.catalogue)))) (take_all (length state.catalogue) state.catalogue (omega arith))
       (first_tables (length state.catalogue) (omega arith))
 
-pub dumps_are_well_formed : (lines : List Line) → AreScriptLines lines → IsDump (dump_of (after plain parameters start lines))
+pub dumps_are_well_formed : (lines : List Line) → AreScriptLines lines → IsDump (dump_of (after unannotated parameters start lines))
 dumps_are_well_formed lines are =
-    let state : State (Unit {0}) = after plain parameters start lines in
-    let logged = (all_logged plain parameters lines are).1 in
-    let within = counts_are_within plain parameters lines in
+    let state : State (Unit {0}) = after unannotated parameters start lines in
+    let logged = (all_logged unannotated parameters lines are).1 in
+    let within = counts_are_within unannotated parameters lines in
     let few = within.lines in
     let tables = within.tables in
     let transactions = within.transactions in
     let statements = within.statements in
     let rows = within.rows in
     let count = counted state (length state.catalogue) in
-    let published = (all_counted plain parameters checks_targets lines).count in
+    let published = (all_counted unannotated parameters checks_targets lines).count in
     record {
       few_entries = omega (arith, few, tables, transactions, statements);
       log = logged.log;
       commands = logged.readable;
       few_spans = omega (arith, rows, count, published);
       spans = subst (λ tables. AreOfTables tables (versions_in state.entries) (map (sorted_by span_cmp) (spans_in_order state (length state.catalogue)))) (sym logged.tables)
-          (all_tables plain state (all_reached plain parameters lines) (all_fitting plain lines are));
+          (all_tables unannotated state (all_reached unannotated parameters lines) (all_fitting unannotated lines are));
     }

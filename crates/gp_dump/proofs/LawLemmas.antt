@@ -15,27 +15,36 @@ use Rattle.gp_versions.specs.Spans.{span_cmp}
 use Rattle.gp_versions.specs.TableSpans.{AreWhole, NoOverlap}
 use Rattle.gp_dump.specs.declared.dump.Dump as code
 use Rattle.gp_dump.specs.declared.error.DumpStop.{DumpStop}
-use Rattle.gp_dump.specs.Dumps.{AreInPlace, AreOfTables, Dump, IsDump, WellFormed, dump_text, dump_with, has_read_committed, written_text}
+use Rattle.gp_dump.specs.Dumps.{Dump, dump_text, has_read_committed, written_text}
+use Rattle.gp_dump.specs.WholeDumps.{AreInPlace, AreOfTables, IsDump, IsTextOf, dump_with}
+use Rattle.gp_dump.specs.Rules.{WellFormed}
 use Rattle.gp_dump.specs.Reading.{Continues}
 use Rattle.gp_dump.specs.Verdicts.{Fails, Holds, Verdict, fault_in, first_fault, verdict_on}
 use Rattle.gp_dump.specs.Views.{dump_view}
 use Rattle.gp_dump.proofs.PlaceLemmas.{Follows, in-place-apart, rows-follow}
+use Rattle.gp_dump.proofs.FaultLemmas.{kept-found, kept-is}
 use Rattle.gp_dump.proofs.LineLemmas.{line-laws, log-lawful}
 use Rattle.gp_dump.proofs.RoundTrip.{read-well-formed, well-formed-read}
 use Rattle.gp_dump.proofs.SortLemmas.{IsAscending, IsLowerBound, span_cmp_total}
 
 -- ---- the round trip
 
-pub read : (bytes : List ℕ) (dump : Dump) → WellFormed bytes dump → verdict_on bytes ≡ Holds dump
-read = well-formed-read line-laws log-lawful
+text-read : (bytes : List ℕ) (dump : Dump) → IsTextOf bytes dump → verdict_on bytes ≡ Holds dump
+text-read = well-formed-read line-laws log-lawful
 
-pub only : (bytes : List ℕ) (dump : Dump) → verdict_on bytes ≡ Holds dump → WellFormed bytes dump
-only = read-well-formed line-laws log-lawful
+read-text : (bytes : List ℕ) (dump : Dump) → verdict_on bytes ≡ Holds dump → IsTextOf bytes dump
+read-text = read-well-formed line-laws log-lawful
+
+pub whole-text : (bytes : List ℕ) (dump : Dump) → WellFormed bytes dump → IsTextOf bytes dump
+whole-text bytes dump is = read-text bytes dump (kept-is bytes dump is)
+
+pub text-lines : (bytes : List ℕ) (dump : Dump) → IsTextOf bytes dump → WellFormed bytes dump
+text-lines bytes dump is = kept-found bytes dump (text-read bytes dump is)
 
 -- what was read keeps the rules
 pub read-rules : (bytes : List ℕ) (result : Result code.Dump DumpStop) → Continues result (λ dump. Holds (dump_view dump)) (verdict_on bytes)
     → IfOk result (λ dump. IsDump (dump_view dump))
-read-rules bytes (Ok dump) is = (only bytes (dump_view dump) is).rules
+read-rules bytes (Ok dump) is = (read-text bytes (dump_view dump) is).rules
 read-rules bytes (Err stop) is = tt
 
 -- ---- the order of row lines
@@ -103,32 +112,32 @@ held-by bytes (Holds dump) is none = (dump, is)
 held-by bytes (Fails fault line) is none = absurd (some-none (fault, line) (sym none))
 
 pub one-dump : (bytes : List ℕ) (dump other : Dump) → WellFormed bytes dump → WellFormed bytes other → dump ≡ other
-one-dump bytes dump other first second = holds-same dump other (sym (read bytes dump first) ∙ read bytes other second)
+one-dump bytes dump other first second = holds-same dump other (sym (kept-is bytes dump first) ∙ kept-is bytes other second)
 
 pub no-fault : (bytes : List ℕ) (dump : Dump) → WellFormed bytes dump → first_fault bytes ≡ None
-no-fault bytes dump is = ap fault_in (read bytes dump is)
+no-fault bytes dump is = ap fault_in (kept-is bytes dump is)
 
 pub fault-excludes : (bytes : List ℕ) (fault : ℕ × ℕ) (dump : Dump) → first_fault bytes ≡ Some fault → WellFormed bytes dump → ⊥
 fault-excludes bytes fault dump found is = some-none fault (sym (no-fault bytes dump is) ∙ found)
 
 pub dump-found : (bytes : List ℕ) → first_fault bytes ≡ None → (dump : Dump) × WellFormed bytes dump
-dump-found bytes none = let found = held-by bytes (verdict_on bytes) refl none in (found.0, only bytes found.0 found.1)
+dump-found bytes none = let found = held-by bytes (verdict_on bytes) refl none in (found.0, kept-found bytes found.0 found.1)
 
-pub one-text : (bytes others : List ℕ) (dump : Dump) (is : WellFormed bytes dump) (are : WellFormed others dump) → is.second ≡ are.second → bytes ≡ others
+pub one-text : (bytes others : List ℕ) (dump : Dump) (is : IsTextOf bytes dump) (are : IsTextOf others dump) → is.second ≡ are.second → bytes ≡ others
 one-text bytes others dump is are same = is.text ∙ ap (λ (second : Bool). dump_text second dump) same ∙ sym are.text
 
-pub written-again : (bytes : List ℕ) (dump : Dump) (is : WellFormed bytes dump) → dump_text is.second (dump_with dump.entries dump.tables) ≡ bytes
+pub written-again : (bytes : List ℕ) (dump : Dump) (is : IsTextOf bytes dump) → dump_text is.second (dump_with dump.entries dump.tables) ≡ bytes
 written-again bytes dump is =
     ap (λ (tables : List (List Span)). dump_text is.second (record { entries = dump.entries; tables = tables })) (tables-ordered _ _ dump.tables is.rules.spans) ∙ sym is.text
 
 pub written-well-formed : (dump : Dump) → IsDump dump → WellFormed (written_text dump) dump
-written-well-formed dump is = record { second = has_read_committed dump.entries; text = refl; format = λ has. has; rules = is }
+written-well-formed dump is = text-lines (written_text dump) dump (record { second = has_read_committed dump.entries; text = refl; format = λ has. has; rules = is })
 
-pub written-same : (bytes : List ℕ) (dump : Dump) (is : WellFormed bytes dump) → has_read_committed dump.entries ≡ is.second → written_text (dump_with dump.entries dump.tables) ≡ bytes
+pub written-same : (bytes : List ℕ) (dump : Dump) (is : IsTextOf bytes dump) → has_read_committed dump.entries ≡ is.second → written_text (dump_with dump.entries dump.tables) ≡ bytes
 written-same bytes dump is same = ap (λ (second : Bool). dump_text second (dump_with dump.entries dump.tables)) same ∙ written-again bytes dump is
 
 pub rows-apart : (bytes : List ℕ) (dump : Dump) → WellFormed bytes dump → AllByRecursion NoOverlap dump.tables
-rows-apart bytes dump is = tables-apart _ _ dump.tables is.rules.spans
+rows-apart bytes dump is = tables-apart _ _ dump.tables (whole-text bytes dump is).rules.spans
 
 pub rows-whole : (bytes : List ℕ) (dump : Dump) → WellFormed bytes dump → AllByRecursion AreWhole dump.tables
-rows-whole bytes dump is = tables-whole _ _ dump.tables is.rules.spans
+rows-whole bytes dump is = tables-whole _ _ dump.tables (whole-text bytes dump is).rules.spans

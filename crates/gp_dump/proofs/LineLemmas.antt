@@ -1,6 +1,7 @@
 -- The laws of single lines, given the lines before them: from the laws of their forms, and from what a log that can be read says of its tables.
 use Rattle.std.proofs.Common.{◌≡◌, ℕ, suc, ◌+◌, ◌<◌, ◌≤◌, Bool, true, false, cond, leb, ltb, List, [], ◌∷◌, ◌++◌, length, Option, Some, None, Result, Ok, Err, inl, inr, refl, sym, ap, subst, ◌∙◌, arith, codes}
 use Rattle.std.specs.List.{AllByRecursion, list_all}
+use Rattle.std.specs.Option.{ok_or, option_map}
 use Rattle.std.specs.Str.{bytes_eq}
 use Rattle.std.proofs.lemmas.Bool.{cases_Bool, false≢true, le-leb, leb-true, lt-ltb, ltb-true, and_parts}
 use Rattle.gp_base.specs.declared.cell.Cell.{Cell}
@@ -20,12 +21,13 @@ use Rattle.gp_grammar.specs.Syntax.{Command}
 use Rattle.gp_algebra.specs.Statements.{Statement}
 use Rattle.gp_versions.specs.declared.span.Span.{Span}
 use Rattle.gp_base.specs.declared.limit.TheConstants.{MAX_SPANS}
-use Rattle.gp_machine.specs.Actions.{Create, Begin, Commit, Rollback, Run, action_of, allowed}
+use Rattle.gp_machine.specs.Actions.{allowed}
+use Rattle.gp_machine.specs.ActionForms.{Run, allowed_to}
 use Rattle.gp_machine.proofs.EntryCounts.{count-most}
 use Rattle.gp_machine.specs.Entries.{Entry, RolledBack, Lost, Created, Began, Ran, Committed, Ended, is_commit, line_of, session_of, statement_count, statements_in, transactions_in, versions_in}
 use Rattle.gp_machine.specs.Event.{count_refusal}
 use Rattle.gp_log.specs.declared.limit.TheConstants.{MAX_ENTRIES}
-use Rattle.gp_log.specs.Discipline.{Said, Does, Loses, Flaw, Disorder, creating, doing, last_line, losing, next_entry, running, said_by, transaction_in}
+use Rattle.gp_log.specs.Discipline.{Said, Does, Loses, Flaw, Disorder, creating, doing, last_line, next_entry, running, said_by, transaction_in}
 use Rattle.gp_log.specs.LogFacts.{tables_in}
 use Rattle.gp_log.specs.Parameters.{parameters}
 use Rattle.gp_dumpline.specs.Numbers.{beyond_versions}
@@ -38,7 +40,8 @@ use Rattle.gp_dumpline.proofs.LogLineLaws.{count-again, count-takes, log_line-ag
 use Rattle.gp_dumpline.proofs.OneLine.{count-one_line, end-one_line, entry-one_line, header-one_line, section-one_line, span-one_line}
 use Rattle.gp_dumpline.proofs.SaidLaws.{command-name, is-said, said-takes}
 use Rattle.gp_dumpline.proofs.SpanLaws.{span-again, span-takes}
-use Rattle.gp_dump.specs.Dumps.{AreReadable, IsRow, ends_within, fits_columns, is_in_place, is_of_kind}
+use Rattle.gp_dump.specs.Dumps.{IsRow, ends_within, fits_columns, is_in_place, is_of_kind}
+use Rattle.gp_dump.specs.WholeDumps.{AreReadable}
 use Rattle.gp_dump.proofs.PlaceLemmas.{place-end, place-last}
 use Rattle.gp_dump.specs.Verdicts.{◌>>=◌, log_rule, row_rule, rule, rule_holds, rule_next, section_rule}
 use Rattle.gp_dump.proofs.RoundTrip.{AreLawful, IsEntry, LineLaws, LogsAreLawful, TableLaws}
@@ -81,40 +84,45 @@ module _ (older : List Entry) (line session : ℕ) where
   running-parts t command None (Err refusal) entry e = absurd cc
   running-parts t command None (Ok statement) entry e = parts-of (Ran line session command t statement) entry (Does command) (record { line_is = refl; session_is = refl; said_is = refl }) (cc)
 
-  create-parts : (table : Table) (active : Option ℕ) (entry : Entry) → doing parameters older line session (allowed active (Create table)) ≡ Ok entry → HasParts line session (Does (y.create table)) entry
+  create-parts : (table : Table) (active : Option ℕ) (entry : Entry) → doing parameters older line session (allowed active (y.create table)) ≡ Ok entry → HasParts line session (Does (y.create table)) entry
   create-parts table None entry e = creating-parts table (parameters.created (tables_in older) table) entry (unless-flaw (leb parameters.tables (length (tables_in older))) Disorder _ entry e)
   create-parts table (Some t) entry e = absurd cc
 
-  begin-parts : (read_committed : Bool) (active : Option ℕ) (entry : Entry) → doing parameters older line session (allowed active (Begin read_committed)) ≡ Ok entry → HasParts line session (Does (y.begin read_committed)) entry
+  begin-parts : (read_committed : Bool) (active : Option ℕ) (entry : Entry) → doing parameters older line session (allowed active (y.begin read_committed)) ≡ Ok entry → HasParts line session (Does (y.begin read_committed)) entry
   begin-parts read_committed None entry e =
       let is : Ok (Began line session (suc (transactions_in older)) read_committed) ≡ Ok entry = unless-flaw (leb parameters.transactions (transactions_in older)) Disorder _ entry e in
       parts-of (Began line session (suc (transactions_in older)) read_committed) entry (Does (y.begin read_committed)) (record { line_is = refl; session_is = refl; said_is = refl }) (cc)
   begin-parts read_committed (Some t) entry e = absurd cc
 
-  commit-parts : (active : Option ℕ) (entry : Entry) → doing parameters older line session (allowed active Commit) ≡ Ok entry → HasParts line session (Does y.Command.commit) entry
+  commit-parts : (active : Option ℕ) (entry : Entry) → doing parameters older line session (allowed active y.Command.commit) ≡ Ok entry → HasParts line session (Does y.Command.commit) entry
   commit-parts None entry e = absurd cc
   commit-parts (Some t) entry e = parts-of (Committed line session t) entry (Does y.Command.commit) (record { line_is = refl; session_is = refl; said_is = refl }) (cc)
 
-  rollback-parts : (active : Option ℕ) (entry : Entry) → doing parameters older line session (allowed active Rollback) ≡ Ok entry → HasParts line session (Does y.rollback) entry
+  rollback-parts : (active : Option ℕ) (entry : Entry) → doing parameters older line session (allowed active y.rollback) ≡ Ok entry → HasParts line session (Does y.rollback) entry
   rollback-parts None entry e = absurd cc
   rollback-parts (Some t) entry e = parts-of (Ended line session RolledBack t) entry (Does y.rollback) (record { line_is = refl; session_is = refl; said_is = refl }) (cc)
 
-  run-parts : (command : Command) (active : Option ℕ) (entry : Entry) → doing parameters older line session (allowed active (Run command)) ≡ Ok entry → HasParts line session (Does command) entry
+  run-parts : (command : Command) (active : Option ℕ) (entry : Entry) → doing parameters older line session (allowed_to active (Run command)) ≡ Ok entry → HasParts line session (Does command) entry
   run-parts command None entry e = absurd cc
   run-parts command (Some t) entry e = running-parts t command (count_refusal parameters (statement_count t older) (statements_in older)) (parameters.checked (tables_in older) command) entry e
 
-  doing-parts : (command : Command) (active : Option ℕ) (entry : Entry) → doing parameters older line session (allowed active (action_of command)) ≡ Ok entry → HasParts line session (Does command) entry
+  doing-parts : (command : Command) (active : Option ℕ) (entry : Entry) → doing parameters older line session (allowed active command) ≡ Ok entry → HasParts line session (Does command) entry
   doing-parts (y.create table) active entry e = create-parts table active entry e
   doing-parts (y.begin read_committed) active entry e = begin-parts read_committed active entry e
   doing-parts y.Command.commit active entry e = commit-parts active entry e
   doing-parts y.rollback active entry e = rollback-parts active entry e
-  doing-parts (y.insert table rows) active entry e = run-parts (y.insert table rows) active entry e
-  doing-parts (y.insert_select table query) active entry e = run-parts (y.insert_select table query) active entry e
-  doing-parts (y.update table sets condition) active entry e = run-parts (y.update table sets condition) active entry e
-  doing-parts (y.delete table condition) active entry e = run-parts (y.delete table condition) active entry e
-  doing-parts (y.select query) active entry e = run-parts (y.select query) active entry e
+  doing-parts (y.insert table rows) None entry e = absurd cc
+  doing-parts (y.insert table rows) (Some t) entry e = run-parts (y.insert table rows) (Some t) entry e
+  doing-parts (y.insert_select table query) None entry e = absurd cc
+  doing-parts (y.insert_select table query) (Some t) entry e = run-parts (y.insert_select table query) (Some t) entry e
+  doing-parts (y.update table sets condition) None entry e = absurd cc
+  doing-parts (y.update table sets condition) (Some t) entry e = run-parts (y.update table sets condition) (Some t) entry e
+  doing-parts (y.delete table condition) None entry e = absurd cc
+  doing-parts (y.delete table condition) (Some t) entry e = run-parts (y.delete table condition) (Some t) entry e
+  doing-parts (y.select query) None entry e = absurd cc
+  doing-parts (y.select query) (Some t) entry e = run-parts (y.select query) (Some t) entry e
 
-  losing-parts : (active : Option ℕ) (entry : Entry) → losing parameters older line session active ≡ Ok entry → HasParts line session Loses entry
+  losing-parts : (active : Option ℕ) (entry : Entry) → ok_or (option_map (Ended line session Lost) active) Disorder ≡ Ok entry → HasParts line session Loses entry
   losing-parts None entry e = absurd cc
   losing-parts (Some t) entry e = parts-of (Ended line session Lost t) entry Loses (record { line_is = refl; session_is = refl; said_is = refl }) (cc)
 

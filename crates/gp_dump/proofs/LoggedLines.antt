@@ -1,6 +1,6 @@
 -- The entries of a history are a log: each follows those before it.
 use Rattle.std.proofs.Common.{◌≡◌, ◌≤◌, ℕ, zero, suc, Bool, true, false, ◌==◌, nat_le, List, [], ◌∷◌, ◌++◌, length, Option, Some, None, Result, Ok, Err, if◌then◌else◌, refl, sym, ap, subst, ◌∙◌, arith}
-use Rattle.std.specs.Option.{option_map}
+use Rattle.std.specs.Option.{ok_or, option_map}
 use Rattle.gp_base.specs.Annotated.{Annotations}
 use Rattle.gp_base.specs.declared.limit.Limit.TheVariants as limit
 use Rattle.gp_base.specs.declared.refusal.Refusal.{Refusal}
@@ -13,20 +13,22 @@ use Rattle.gp_grammar.specs.Syntax as y
 use Rattle.gp_grammar.specs.Syntax.{Command}
 use Rattle.gp_algebra.specs.Statements.{Statement}
 use Rattle.gp_machine.proofs.ReachedLemmas.{all_reached}
-use Rattle.gp_machine.specs.Actions.{Begin, Commit, Create, Rollback, Run, action_of, allowed}
+use Rattle.gp_machine.specs.Actions.{Runs, allowed}
+use Rattle.gp_machine.specs.ActionForms.{Run, answered}
+use Rattle.gp_machine.specs.Event as step
 use Rattle.gp_machine.specs.Conflicts.{Conflict}
 use Rattle.gp_machine.specs.Entries.{Began, Committed, Created, Ended, Entry, Lost, Ran, RolledBack, statement_count, statements_in, transactions_in, versions_in, line_of, session_of}
-use Rattle.gp_machine.specs.Event.{Line, accepted, after, answered, began, beginning, committing, conflict_of, count_refusal, created, creating, creation_refusal, ended, is_full, line_event, published, ran, refusal_of, running, start_now}
+use Rattle.gp_machine.specs.Event.{Line, accepted, after, began, beginning, committing, conflict_of, count_refusal, created, creating, creation_refusal, ended, is_full, line_event, published, ran, refusal_of, running, start_now}
 use Rattle.gp_machine.specs.Parameters.{Parameters}
 use Rattle.gp_machine.specs.Reached.{IsReached}
 use Rattle.gp_machine.specs.State.{Active, State, start, with_value}
 use Rattle.gp_log.specs.declared.limit.TheConstants.{MAX_LINE}
 use Rattle.gp_log.specs.Discipline as d
-use Rattle.gp_log.specs.Discipline.{Does, Disorder, Flaw, IsLog, IsNext, Loses, Said, Unchecked, doing, last_line, losing, next_entry, said_by, transaction_in}
+use Rattle.gp_log.specs.Discipline.{Does, Disorder, Flaw, IsLog, IsNext, Loses, Said, Unchecked, doing, last_line, next_entry, said_by, transaction_in}
 use Rattle.gp_log.specs.LogFacts.{tables_in}
 use Rattle.gp_dumpline.specs.Forms.{said_of}
 use Rattle.gp_dumpline.specs.Texts.{said_text}
-use Rattle.gp_dump.specs.Dumps.{AreReadable}
+use Rattle.gp_dump.specs.WholeDumps.{AreReadable}
 use Rattle.gp_log.specs.ScriptLines.{AreScriptLines, IsScriptLine}
 use Rattle.gp_log.proofs.LineCommands.{reads-parsed}
 use Rattle.gp_dumpline.proofs.SaidLaws.{said-is}
@@ -110,7 +112,7 @@ module _ {M : Type 0} (domain : Annotations M) (parameters : Parameters) (state 
   create_it table read e (Some refusal) f = same
   create_it table read e None f =
       enter (created state number session table) (Created number session table) None refl refl refl
-      (ap (λ t. doing parameters state.entries number session (allowed t (Create table))) (runs None e)
+      (ap (λ t. doing parameters state.entries number session (allowed t (y.create table))) (runs None e)
       ∙ ap (λ tables. if nat_le parameters.tables (length tables) then Err Disorder else d.creating parameters state.entries number session table (parameters.created tables table)) logged.tables
       ∙ go (nat_le parameters.tables (length state.catalogue)) (parameters.created state.catalogue table) f)
       (read_said (y.create table) read) (still None (runs None e)) (unchanged None e) (ap (λ tables. tables ++ table ∷ []) logged.tables)
@@ -132,12 +134,12 @@ module _ {M : Type 0} (domain : Annotations M) (parameters : Parameters) (state 
         seen = record { view = state.committed (versions_in state.entries); written = [] };
       }))
       refl refl refl
-      (ap (λ t. doing parameters state.entries number session (allowed t (Begin read_committed))) (runs None e)
+      (ap (λ t. doing parameters state.entries number session (allowed t (y.begin read_committed))) (runs None e)
       ∙ ap (λ b. if b then Err Disorder else Ok (Began number session (suc (transactions_in state.entries)) read_committed)) f)
       (read_said (y.begin read_committed) read) (λ n. refl) (λ n. refl) logged.tables
 
   module _ (active : Active M) (e : state.active session ≡ Some active) where
-    run_it : (command : Command) → action_of command ≡ Run command → command_of (command_text command) ≡ Ok command → (refusal : Option Refusal) → count_refusal parameters active.statements (statements_in state.entries) ≡ refusal
+    run_it : (command : Command) → allowed (Some active.transaction) command ≡ Ok (Runs active.transaction command) → command_of (command_text command) ≡ Ok command → (refusal : Option Refusal) → count_refusal parameters active.statements (statements_in state.entries) ≡ refusal
         → (checked : Result Statement Refusal) → parameters.checked state.catalogue command ≡ checked → Logged parameters line.number (running domain state number session active command parameters refusal checked).0
     run_it command a read (Some refusal) f checked g = same
     run_it command a read None f (Err refusal) g = same
@@ -148,7 +150,8 @@ module _ {M : Type 0} (domain : Annotations M) (parameters : Parameters) (state 
 
         follows : next_entry parameters state.entries number session (Does command) ≡ Ok (Ran number session command active.transaction statement)
         follows =
-            (λ i. doing parameters state.entries number session (allowed (runs (Some active) e i) (a i)))
+            (λ i. doing parameters state.entries number session (allowed (runs (Some active) e i) command))
+            ∙ ap (doing parameters state.entries number session) a
             ∙ (λ i. d.running parameters state.entries number session active.transaction command (count_refusal parameters (count i) (statements_in state.entries)) (parameters.checked (logged.tables i) command))
             ∙ (λ i. d.running parameters state.entries number session active.transaction command (f i) (g i))
 
@@ -160,21 +163,21 @@ module _ {M : Type 0} (domain : Annotations M) (parameters : Parameters) (state 
 
     commit_it : command_of (command_text y.Command.commit) ≡ Ok y.Command.commit → (lost : Option Conflict) (full : Bool) → Logged parameters line.number (committing state number session active lost full).0
     commit_it read (Some conflict) full =
-        enter (ended state number session active Lost) (Ended number session Lost active.transaction) None refl refl refl (ap (losing parameters state.entries number session) (runs (Some active) e)) lost_is_read (λ n. refl) (λ n. refl) logged.tables
+        enter (ended state number session active Lost) (Ended number session Lost active.transaction) None refl refl refl (ap (λ t. ok_or (option_map (Ended number session Lost) t) Disorder) (runs (Some active) e)) lost_is_read (λ n. refl) (λ n. refl) logged.tables
     commit_it read None true = same
     commit_it read None false =
         enter (published state number session active) (Committed number session active.transaction) None refl refl refl
-        (ap (λ t. doing parameters state.entries number session (allowed t Commit)) (runs (Some active) e)) (read_said y.Command.commit read) (λ n. refl) (λ n. refl) logged.tables
+        (ap (λ t. doing parameters state.entries number session (allowed t y.Command.commit)) (runs (Some active) e)) (read_said y.Command.commit read) (λ n. refl) (λ n. refl) logged.tables
 
     rollback_it : command_of (command_text y.rollback) ≡ Ok y.rollback → Logged parameters line.number (ended state number session active RolledBack)
     rollback_it read =
         enter (ended state number session active RolledBack) (Ended number session RolledBack active.transaction) None refl refl refl
-        (ap (λ t. doing parameters state.entries number session (allowed t Rollback)) (runs (Some active) e)) (read_said y.rollback read) (λ n. refl) (λ n. refl) logged.tables
+        (ap (λ t. doing parameters state.entries number session (allowed t y.rollback)) (runs (Some active) e)) (read_said y.rollback read) (λ n. refl) (λ n. refl) logged.tables
 
-    checks : (command : Command) → action_of command ≡ Run command → command_of (command_text command) ≡ Ok command → Logged parameters line.number (answered domain parameters state number session (Some active) (Run command)).0
+    checks : (command : Command) → allowed (Some active.transaction) command ≡ Ok (Runs active.transaction command) → command_of (command_text command) ≡ Ok command → Logged parameters line.number (answered domain parameters state number session (Some active) (Run command)).0
     checks command a read = run_it command a read (count_refusal parameters active.statements (statements_in state.entries)) refl (parameters.checked state.catalogue command) refl
 
-  outside : state.active session ≡ None → (command : Command) → command_of (command_text command) ≡ Ok command → Logged parameters line.number (answered domain parameters state number session None (action_of command)).0
+  outside : state.active session ≡ None → (command : Command) → command_of (command_text command) ≡ Ok command → Logged parameters line.number (step.doing domain parameters state number session (allowed None command)).0
   outside e (y.create table) read = create_it table read e (creation_refusal parameters state.catalogue table) refl
   outside e (y.begin read_committed) read = begin_it read_committed read e (nat_le parameters.transactions (transactions_in state.entries)) refl
   outside e y.Command.commit read = same
@@ -185,7 +188,7 @@ module _ {M : Type 0} (domain : Annotations M) (parameters : Parameters) (state 
   outside e (y.delete table cond) read = same
   outside e (y.select query) read = same
 
-  inside : (active : Active M) → state.active session ≡ Some active → (command : Command) → command_of (command_text command) ≡ Ok command → Logged parameters line.number (answered domain parameters state number session (Some active) (action_of command)).0
+  inside : (active : Active M) → state.active session ≡ Some active → (command : Command) → command_of (command_text command) ≡ Ok command → Logged parameters line.number (step.doing domain parameters state number session (allowed (Some active) command)).0
   inside active e (y.create table) read = same
   inside active e (y.begin read_committed) read = same
   inside active e y.Command.commit read = commit_it active e read (conflict_of state active) (is_full parameters state active)
@@ -199,7 +202,7 @@ module _ {M : Type 0} (domain : Annotations M) (parameters : Parameters) (state 
   line_logged : Logged parameters line.number (line_event domain parameters state line).0
   line_logged = go (state.active session) refl
     where
-      go : (active : Option (Active M)) → state.active session ≡ active → Logged parameters line.number (answered domain parameters state number session active (action_of line.command)).0
+      go : (active : Option (Active M)) → state.active session ≡ active → Logged parameters line.number (step.doing domain parameters state number session (allowed active line.command)).0
       go None e = outside e line.command (reads-parsed (command_text line.command) line.command is.command)
       go (Some active) e = inside active e line.command (reads-parsed (command_text line.command) line.command is.command)
 

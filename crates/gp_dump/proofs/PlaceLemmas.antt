@@ -12,7 +12,8 @@ use Rattle.gp_base.proofs.IdentityLaws.{same_identity-is}
 use Rattle.gp_versions.proofs.SameLemmas.{same-exact}
 use Rattle.gp_versions.specs.declared.span.Span.{Span}
 use Rattle.gp_versions.specs.TableSpans.{AreWhole, IsApart, IsEndAbove, NoOverlap}
-use Rattle.gp_dump.specs.Dumps.{AreInPlace, ends_within, has_ended_by, is_after, is_in_place, is_next}
+use Rattle.gp_dump.specs.Dumps.{ends_within, has_ended_by, is_after, is_in_place, is_next}
+use Rattle.gp_dump.specs.WholeDumps.{AreInPlace}
 
 -- ---- tests
 

@@ -21,7 +21,9 @@ use Rattle.gp_dumpline.specs.Texts.{count_text, end_text, entry_text, header, sa
 use Rattle.gp_dumpline.specs.Laws.{IsOneLine}
 use Rattle.gp_dumpline.proofs.HeaderLaws.{header-again as header_form-again, header-takes}
 use Rattle.gp_dumpline.proofs.SaidLaws.{is-said, said-is}
-use Rattle.gp_dump.specs.Dumps.{AreInPlace, AreOfTables, AreReadable, Dump, IsDump, IsRow, WellFormed, has_read_committed, line_text, section_texts, sections_texts, spans_in, texts_of}
+use Rattle.gp_dump.specs.Dumps.{Dump, IsRow, has_read_committed, line_text, sections_texts, spans_in, texts_of}
+use Rattle.gp_dump.specs.Writing.{section_texts}
+use Rattle.gp_dump.specs.WholeDumps.{AreInPlace, AreOfTables, AreReadable, IsDump, IsTextOf}
 use Rattle.gp_dump.specs.Lines.{Line, Whole, Cut, Missing, lines_of, onto as put}
 use Rattle.gp_dump.specs.Rules.{Due, Header, Count, Logs, Sections, Rows, Nothing}
 use Rattle.gp_dump.specs.Verdicts.{◌>>=◌, Verdict, Holds, Fails, after_text, end_verdict, header_line, log_rule, nothing_line, row_rule, rule, rule_holds, section_rule, text_of, then_verdict, verdict, verdict_on}
@@ -618,7 +620,7 @@ texts-one-line laws second dump lawful is said =
 -- ---- the laws
 
 pub well-formed-read : (laws : LineLaws) (lawful : LogsAreLawful)
-    → (bytes : List ℕ) (dump : Dump) → WellFormed bytes dump → verdict_on bytes ≡ Holds dump
+    → (bytes : List ℕ) (dump : Dump) → IsTextOf bytes dump → verdict_on bytes ≡ Holds dump
 well-formed-read laws lawful bytes dump is =
     let here : AreLawful (tables_in dump.entries) (versions_in dump.entries) = lawful dump.entries is.rules.commands is.rules.few_entries in
     let said : AreSaidIn is.second dump.entries = format-said is.second dump.entries is.format in
@@ -626,7 +628,7 @@ well-formed-read laws lawful bytes dump is =
     ∙ lines-read laws is.second dump [] here is.rules said
 
 pub read-well-formed : (laws : LineLaws) (lawful : LogsAreLawful)
-    → (bytes : List ℕ) (dump : Dump) → verdict_on bytes ≡ Holds dump → WellFormed bytes dump
+    → (bytes : List ℕ) (dump : Dump) → verdict_on bytes ≡ Holds dump → IsTextOf bytes dump
 read-well-formed laws lawful bytes dump holds =
     let t = lines-taken laws (lines_of bytes) dump lawful holds in
     record { second = t.second; text = sym (bytes-lines bytes) ∙ ap bytes_of t.is ∙ bytes-whole (texts_of t.second dump) t.more; format = t.format; rules = t.rules }

@@ -25,7 +25,8 @@ use Rattle.gp_versions.specs.TableSpans.{AreWhole, IsApart, IsEndAbove, NoOverla
 use Rattle.gp_machine.specs.Committed.{is_written}
 use Rattle.gp_machine.specs.HistorySpans.{spans_from, spans_upto}
 use Rattle.gp_dumpline.specs.Rows.{IsReadable}
-use Rattle.gp_dump.specs.Dumps.{AreInPlace, ends_within, fits_columns, has_ended_by, is_after, is_next}
+use Rattle.gp_dump.specs.Dumps.{ends_within, fits_columns, has_ended_by, is_after, is_next}
+use Rattle.gp_dump.specs.WholeDumps.{AreInPlace}
 use Rattle.gp_dump.proofs.StepKinds.{Fits}
 use Rattle.std.proofs.lemmas.Bool.{le-leb, lt-ltb}
 use Rattle.gp_base.proofs.SmallLemmas.{each_append, each_map}

@@ -18,7 +18,8 @@ use Rattle.gp_check.specs.declared.types.TermType.{TermType}
 use Rattle.gp_check.specs.Scopes.{Scope, columns_of, scope_behind, scope_of}
 use Rattle.gp_check.specs.Typing.{kind_type, cell_type, agrees, operands_agree, type_of}
 use Rattle.gp_check.specs.Faults.{table_fault, kind_types, scope_types, items_types, all_agree, cells_agree, width_behind}
-use Rattle.gp_check.specs.Meaning.{expr_of, exprs_of, columns_behind, number_of_table}
+use Rattle.gp_algebra.specs.Statements.{columns_behind}
+use Rattle.gp_check.specs.Meaning.{expr_of, exprs_of, number_of_table}
 use Rattle.gp_check.specs.Valid.{term_is_valid, items_are_valid}
 use Rattle.gp_check.proofs.FittingLemmas.{holds_if}
 use Rattle.gp_dump.specs.Dumps.{is_of_kind, fits_columns}

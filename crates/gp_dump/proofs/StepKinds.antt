@@ -1,5 +1,6 @@
 -- A checked statement keeps rows that fit the columns of their tables and have identities that can be read from their texts.
 use Rattle.std.proofs.Common.{◌≡◌, ◌<◌, ◌≤◌, ℕ, suc, ◌+◌, Bool, true, false, true≢false, ◌&&◌, ◌==◌, nat_lt, List, [], ◌∷◌, ◌++◌, length, map, get_or, ◌⊎◌, inl, inr, ⊎_elim, bytes_eq, Option, Some, None, slice_get, if◌then◌else◌, refl, sym, ap, subst, ◌∙◌, arith, append_assoc, length-append}
+use Rattle.std.specs.Option.{option_or}
 use Rattle.std.specs.List.{list_all, list_any, cons_option, AllByRecursion}
 use Rattle.std.proofs.lemmas.Bool.Decides.{nat_tests}
 use Rattle.std.proofs.lemmas.Option.{slice_get_cases}
@@ -28,7 +29,7 @@ use Rattle.gp_algebra.specs.Fitting.{is_countable}
 use Rattle.gp_check.specs.declared.place.Place.{Place}
 use Rattle.gp_check.specs.Scopes.{Scope, columns_of, only_place, place_behind, resolution, scope_behind, scope_of, target_scope}
 use Rattle.gp_check.specs.Typing.{column_type, kind_type, operands_agree, type_of}
-use Rattle.gp_check.specs.Faults.{agree_with, all_agree, block_columns_fault, block_tables_fault, block_types, cells_agree, first_fault, first_refusal, items_fault, kind_types, or_else, query_is_typed, query_tables_fault, set_fault, set_is_typed, set_name, table_fault, unless, widths_agree, repeated_set}
+use Rattle.gp_check.specs.Faults.{agree_with, all_agree, block_columns_fault, block_tables_fault, block_types, cells_agree, first_fault, first_refusal, items_fault, kind_types, query_is_typed, query_tables_fault, set_fault, set_is_typed, set_name, table_fault, unless, widths_agree, repeated_set}
 use Rattle.gp_check.specs.Meaning.{branch_of, column_number, expr_of, number_of_table, select_of, set_of, statement_of, where_of}
 use Rattle.gp_check.specs.Valid.{block_is_valid, condition_is_valid, is_valid, items_are_valid, set_is_valid}
 use Rattle.gp_check.proofs.FittingLemmas.{holds_if, known, none_of}
@@ -307,7 +308,7 @@ module _ {M : Type 0} (domain : Annotations M) (tables : List Table) where
       (each_append _ (db (number_of_table tables name)) (given_from domain t k 1 rows) (fit (number_of_table tables name))
       (given_rows domain tables t k 1 MAX_VALUES name rows n.0 pt pk (omega arith) (omega arith) (omega (arith, l)) typed v.1)) fit
   step_fits t k (y.insert_select name query) db pt pk none valid shape few fit =
-      let n = none_of (or_else (table_fault tables name) (query_tables_fault tables query)) _ none in
+      let n = none_of (option_or (table_fault tables name) (query_tables_fault tables query)) _ none in
       let known = none_of (table_fault tables name) _ n.0 in
       let names = none_of (first_fault items_fault query) _ n.1 in
       let cols = none_of (first_fault (block_columns_fault tables) query) _ names.1 in
@@ -321,7 +322,7 @@ module _ {M : Type 0} (domain : Annotations M) (tables : List Table) where
       (answer_fits domain tables (columns_of tables name) MAX_BRANCHES 1 db fit (omega arith) query (omega (arith, l)) known.1 v.1 typed.1) few)) fit
   step_fits t k (y.update name sets cond) db pt pk none valid shape few fit =
       let n = none_of (table_fault tables name) _ none in
-      let c = none_of (or_else (first_fault (set_fault (target_scope tables name)) sets) _) _ n.1 in
+      let c = none_of (option_or (first_fault (set_fault (target_scope tables name)) sets) _) _ n.1 in
       let s = none_of (repeated_set sets) _ c.1 in
       let typed = and_parts (list_all (set_is_typed (target_scope tables name)) sets) _ (holds_if _ E07 s.1) in
       let v = and_parts (list_all set_is_valid sets) _ valid in

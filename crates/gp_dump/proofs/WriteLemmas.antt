@@ -16,9 +16,10 @@ use Rattle.gp_log.specs.declared.entry.Entry.{Entry}
 use Rattle.gp_log.specs.LogFacts.{tables_in}
 use Rattle.gp_log.specs.Logs.{entry_view, log_view}
 use Rattle.gp_dumpline.specs.Texts.{count_text, end_text, entry_text, header, section_text, span_text}
-use Rattle.gp_dump.specs.Dumps.{dump_text, dump_with, line_text, section_texts, sections_texts}
+use Rattle.gp_dump.specs.Dumps.{dump_text, line_text, sections_texts}
+use Rattle.gp_dump.specs.WholeDumps.{dump_with}
 use Rattle.gp_dump.specs.Views.{tables_view}
-use Rattle.gp_dump.specs.Writing.{found_text, log_line_text, ordered, place_text, row_line_text}
+use Rattle.gp_dump.specs.Writing.{found_text, log_line_text, ordered, place_text, row_line_text, section_texts}
 use Rattle.gp_dump.proofs.SortLemmas.{somes, spans-in-order, permutation-sorted, span_cmp_total}
 
 -- ---- row lines

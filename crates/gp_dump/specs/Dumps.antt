@@ -1,6 +1,7 @@
--- Part of the statement: what a dump holds, its text, and when it is well formed.
-use Rattle.std.specs.Prelude.{◌≡◌, ℕ, zero, suc, ◌≤◌, nat_le, nat_lt, Bool, true, false, ◌&&◌, ◌||◌, List, [], ◌∷◌, ◌++◌, length, map, sum, reverse, Option, Some, None}
-use Rattle.std.specs.List.{flat_map, list_any}
+-- Part of the statement: what a dump holds, its text, the dump of a history, and which rows it can have.
+use Rattle.std.specs.Prelude.{◌≡◌, ℕ, zero, suc, nat_le, nat_lt, Bool, true, false, ◌&&◌, ◌||◌, List, [], ◌∷◌, ◌++◌, length, map, sum, reverse, Option}
+use Rattle.std.specs.List.{flat_map, list_any, zip}
+use Rattle.std.specs.Option.{option_map_or}
 use Rattle.std.specs.Ordering.{is_lt}
 use Rattle.gp_base.specs.declared.cell.Cell.{Cell}
 use Rattle.gp_base.specs.declared.cell.Cell.TheVariants as cell
@@ -10,18 +11,16 @@ use Rattle.gp_base.specs.declared.table.Kind.TheVariants as kind
 use Rattle.gp_base.specs.declared.table.Table.{Table}
 use Rattle.gp_base.specs.Cells.{is_user_text, fits_number}
 use Rattle.gp_base.specs.Identities.{identity_cmp, same_identity}
+use Rattle.gp_base.specs.Numbered.{newline}
 use Rattle.gp_base.specs.Order.{sorted_by}
 use Rattle.gp_versions.specs.declared.span.Span.{Span}
 use Rattle.gp_versions.specs.Spans.{span_cmp}
-use Rattle.gp_base.specs.declared.limit.TheConstants.{MAX_SPANS}
-use Rattle.gp_machine.specs.Entries.{Entry, versions_in}
+use Rattle.gp_machine.specs.Entries.{Entry}
 use Rattle.gp_machine.specs.HistorySpans.{state_spans}
 use Rattle.gp_machine.specs.State.{State}
-use Rattle.gp_log.specs.declared.limit.TheConstants.{MAX_ENTRIES}
-use Rattle.gp_log.specs.Discipline.{IsLog, said_by}
+use Rattle.gp_log.specs.Discipline.{said_by}
 use Rattle.gp_log.specs.LogFacts.{tables_in}
-use Rattle.gp_log.specs.Parameters.{parameters}
-use Rattle.gp_dumpline.specs.Said.{IsSaid, begins_read_committed}
+use Rattle.gp_dumpline.specs.Said.{begins_read_committed}
 use Rattle.gp_dumpline.specs.Rows.{IsReadable}
 use Rattle.gp_dumpline.specs.Texts.{header, count_text, entry_text, section_text, span_text, end_text}
 
@@ -35,16 +34,11 @@ pub record Dump : Type 0 where
 
 -- a line, with the line feed that ends it
 abbrev pub line_text : List ℕ → List ℕ
-line_text text = text ++ 10 ∷ []
+line_text text = text ++ newline
 
--- the section of a table: its name, then its row lines
-abbrev pub section_texts : Table → List Span → List (List ℕ)
-section_texts table spans = section_text table.name (length spans) ∷ map span_text spans
-
+-- the sections of tables, each of its name, then its row lines
 abbrev pub sections_texts : List Table → List (List Span) → List (List ℕ)
-sections_texts [] tables = []
-sections_texts (table ∷ others) [] = []
-sections_texts (table ∷ others) (spans ∷ tables) = section_texts table spans ++ sections_texts others tables
+sections_texts tables lists = flat_map (λ (own : Table × List Span). section_text own.0.name (length own.1) ∷ map span_text own.1) (zip tables lists)
 
 -- the lines, in the first format or in the second: the log, oldest entry first, then each table in order of creation
 abbrev pub texts_of : Bool → Dump → List (List ℕ)
@@ -64,19 +58,16 @@ written_text dump = dump_text (has_read_committed dump.entries) dump
 
 -- ---- the dump of a history
 
--- a log, and the spans of each table in the order of a dump: by identity, then by the version that they begin with
-abbrev pub dump_with : List Entry → List (List Span) → Dump
-dump_with entries tables = record { entries = entries; tables = map (sorted_by span_cmp) tables }
-
 -- the spans of the first tables, this many
 abbrev pub spans_in_order : {M : Type 0} → State M → ℕ → List (List Span)
 spans_in_order state zero = []
 spans_in_order state (suc table) = spans_in_order state table ++ state_spans state table ∷ []
 
+-- its log, and the spans of each table in the order of a dump: by identity, then by the version that they begin with
 abbrev pub dump_of : {M : Type 0} → State M → Dump
-dump_of state = dump_with state.entries (spans_in_order state (length state.catalogue))
+dump_of state = record { entries = state.entries; tables = map (sorted_by span_cmp) (spans_in_order state (length state.catalogue)) }
 
--- ---- well-formed dumps
+-- ---- the rows of a table
 
 -- a cell that a column can hold
 abbrev pub is_of_kind : Kind → Cell → Bool
@@ -94,13 +85,11 @@ fits_columns (col ∷ cols) (cell ∷ cells) = is_of_kind col.kind cell && fits_
 
 -- a span that has ended, at this version or before
 abbrev pub has_ended_by : Option ℕ → ℕ → Bool
-has_ended_by None version = false
-has_ended_by (Some to) version = nat_le to version
+has_ended_by end version = option_map_or (λ (to : ℕ). nat_le to version) end false
 
 -- a span is empty nowhere, and ends at a version that there is
 abbrev pub ends_within : ℕ → ℕ → Option ℕ → Bool
-ends_within versions from None = true
-ends_within versions from (Some to) = nat_lt from to && nat_le to versions
+ends_within versions from end = option_map_or (λ (to : ℕ). nat_lt from to && nat_le to versions) end true
 
 -- the span after another one: of a greater identity, or a later span of the same row
 abbrev pub is_after : Span → Span → Bool
@@ -124,38 +113,5 @@ pub record IsRow (cols : List Column) (versions : ℕ) (before : List Span) (spa
   pub cells : fits_columns cols span.row ≡ true
   pub place : is_in_place versions before span ≡ true
 
--- the spans of a table, in order, after the ones before
-abbrev pub AreInPlace : List Column → ℕ → List Span → List Span → Type 0
-AreInPlace cols versions before [] = Unit {0}
-AreInPlace cols versions before (span ∷ spans) = IsRow cols versions before span × AreInPlace cols versions (span ∷ before) spans
-
--- one list of spans for each table
-abbrev pub AreOfTables : List Table → ℕ → List (List Span) → Type 0
-AreOfTables [] versions [] = Unit {0}
-AreOfTables [] versions (spans ∷ tables) = ⊥
-AreOfTables (table ∷ others) versions [] = ⊥
-AreOfTables (table ∷ others) versions (spans ∷ tables) =
-    AreInPlace table.cols versions [] spans × AreOfTables others versions tables
-
--- every command of the log can be read from its text
-abbrev pub AreReadable : List Entry → Type 0
-AreReadable [] = Unit {0}
-AreReadable (entry ∷ older) = IsSaid (said_by entry) × AreReadable older
-
 abbrev pub spans_in : List (List Span) → ℕ
 spans_in tables = sum (map (λ (spans : List Span). length spans) tables)
-
--- a dump that keeps the rules
-pub record IsDump (dump : Dump) : Type 0 where
-  pub few_entries : length dump.entries ≤ MAX_ENTRIES
-  pub log : IsLog parameters dump.entries
-  pub commands : AreReadable dump.entries
-  pub few_spans : spans_in dump.tables ≤ MAX_SPANS
-  pub spans : AreOfTables (tables_in dump.entries) (versions_in dump.entries) dump.tables
-
--- the bytes are the text of a dump that keeps the rules, in the second format at least where BEGIN READ COMMITTED is in the log
-pub record WellFormed (bytes : List ℕ) (dump : Dump) : Type 0 where
-  pub second : Bool
-  pub text : bytes ≡ dump_text second dump
-  pub format : has_read_committed dump.entries ≡ true → second ≡ true
-  pub rules : IsDump dump

@@ -1,5 +1,6 @@
 pub mod Lines
 pub mod Dumps
+pub mod WholeDumps
 pub mod Rules
 pub mod Verdicts
 pub mod Views

@@ -1,4 +1,5 @@
--- Part of the statement: the rules of a dump, line by line, and the first that fails. Each rule has a number; on one line the least number counts.
+-- Part of the statement: the rules of a dump, line by line, when a file is a dump, and the first rule that fails where it is none. Each rule has a number;
+-- on one line the least number counts.
 use Rattle.std.specs.Prelude.{◌≡◌, ◌≢◌, ℕ, zero, suc, ◌+◌, ◌≤◌, ◌<◌, Bool, true, false, List, [], ◌∷◌, length, reverse, Some, None, Err, slice_get}
 use Rattle.std.specs.Str.{is_utf8}
 use Rattle.gp_base.specs.declared.cell.Cell.{Cell}
@@ -56,6 +57,15 @@ pub data Leads : Due → List ℕ → Due → Type 0 where
       → IsRow table.cols (versions_in log) rows span → text ≡ span_text span → Leads (Rows (suc left) log tables rows) text (Rows left log tables (span ∷ rows))
   ends : (due : Due) (log : List Entry) (tables : List (List Span)) (text : List ℕ) → IsBetween due log tables → slice_get (tables_in log) (length tables) ≡ None → text ≡ end_text
       → Leads due text (Nothing (record { entries = log; tables = reverse tables }))
+
+-- lines that all keep the rules, where this is due: they end with this dump
+pub data KeepRules : List Line → Due → Dump → Type 0 where
+  ended : (dump : Dump) → KeepRules (Missing ∷ []) (Nothing dump) dump
+  followed : (text : List ℕ) (lines : List Line) (due next : Due) (dump : Dump) → Leads due text next → KeepRules lines next dump → KeepRules (Whole text ∷ lines) due dump
+
+-- the bytes of a file are a dump that keeps the rules
+abbrev pub WellFormed : List ℕ → Dump → Type 0
+WellFormed bytes dump = KeepRules (lines_of bytes) Header dump
 
 -- ---- lines that break a rule
 

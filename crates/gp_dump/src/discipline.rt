@@ -4,6 +4,7 @@ ghost use Rattle.std.specs.Prelude.{◌≡◌, ◌<◌, ℕ, suc, true, length, 
 ghost use Rattle.gp_algebra.specs.Views.{statement_view};
 ghost use Rattle.gp_base.specs.declared.catalog.TheConstants.{MAX_TABLES};
 ghost use Rattle.gp_base.specs.Catalogs.{place_of};
+ghost use Rattle.gp_grammar.specs.Syntax as y;
 ghost use Rattle.gp_grammar.specs.Syntax.{is_statement};
 ghost use Rattle.gp_check.specs.Valid.{table_is_valid};
 ghost use Rattle.gp_log.specs.Contents.{entries, tables};
@@ -12,7 +13,6 @@ ghost use Rattle.gp_log.specs.Discipline.{doing};
 ghost use Rattle.gp_log.specs.Kinds.{IsAddable};
 ghost use Rattle.gp_log.specs.Parameters.{parameters};
 ghost use Rattle.gp_log.specs.Logs.{entry_view};
-ghost use Rattle.gp_machine.specs.Actions as action;
 ghost use Rattle.gp_machine.specs.Actions.{allowed};
 ghost use Rattle.gp_machine.specs.Entries.{Created, Ran, statement_count};
 ghost use Rattle.gp_syntax.specs.Views.{command_view};
@@ -51,7 +51,7 @@ fn transaction_in(log: &Log, session: u32) -> Option<u32>
 /// Checks a new table, in a session with this transaction or none.
 fn check_create(log: &Log, active: Option<u32>, table: &Table) -> Result<(), EntryStop>
     ensures entry { (line session : ℕ) → GivesEntry (λ _. Created line session table.now) result
-        (doing parameters (entries log.now) line session (allowed active (action.Create table.now))) }
+        (doing parameters (entries log.now) line session (allowed active (y.create table.now))) }
     ensures room { OnOk result (length (tables log.now) < MAX_TABLES) }
     ensures new { OnOk result (place_of table.now.name (tables log.now) ≡ None) }
 {
@@ -75,7 +75,7 @@ fn create(
     table: Table,
 ) -> Result<Entry, EntryStop>
     ensures entry { GivesEntry entry_view result
-        (doing parameters (entries log.now) line session (allowed active (action.Create table))) }
+        (doing parameters (entries log.now) line session (allowed active (y.create table))) }
     ensures new { IfOk result (λ entry. IsAddable (entries log.now) entry) }
     ensures valid { table_is_valid table ≡ true → IfOk result (λ entry. CreatesValid entry.what) }
 {
@@ -99,7 +99,7 @@ fn begin(
     read_committed: bool,
 ) -> Result<Entry, EntryStop>
     ensures entry { GivesEntry entry_view result (doing parameters (entries log.now) line session (allowed active
-        (action.Begin read_committed))) }
+        (y.begin read_committed))) }
     ensures new { IfOk result (λ entry. IsAddable (entries log.now) entry) }
     ensures valid { IfOk result (λ entry. CreatesValid entry.what) }
 {
@@ -123,6 +123,7 @@ struct Run {
 }
 
 /// Checks a statement, in a session with this transaction or none.
+#[tactic(auto, using(crate::proofs::DisciplineLemmas::statement_checks))]
 fn check_run(
     alloc: Global,
     log: &Log,
@@ -133,7 +134,7 @@ fn check_run(
     ensures entry { (line session : ℕ) → GivesEntry
         (λ run. Ran line session (command_view command.now) run.t (statement_view run.stmt)) result
         (doing parameters (entries log.now) line session (allowed active
-        (action.Run (command_view command.now)))) }
+        (command_view command.now))) }
     ensures number { IfOk result (λ run. run.k ≡ suc (statement_count run.t (entries log.now))) }
 {
     let Some(t) = active else {
@@ -165,7 +166,7 @@ fn statement(
 ) -> Result<Entry, EntryStop>
     requires { is_statement (command_view command) ≡ true }
     ensures entry { GivesEntry entry_view result (doing parameters (entries log.now) line session (allowed active
-        (action.Run (command_view command)))) }
+        (command_view command))) }
     ensures new { IfOk result (λ entry. IsAddable (entries log.now) entry) }
     ensures valid { IfOk result (λ entry. CreatesValid entry.what) }
 {

@@ -3,7 +3,8 @@
 ghost use Rattle.std.specs.Prelude.{◌≡◌, [], true, slice_index_or};
 ghost use Rattle.gp_log.specs.LogFacts.{tables_in};
 ghost use Rattle.gp_log.specs.LogFitting.{SpansFit, statements_fit};
-ghost use Rattle.gp_dump.specs.Dumps.{Dump, IsDump};
+ghost use Rattle.gp_dump.specs.Dumps.{Dump};
+ghost use Rattle.gp_dump.specs.WholeDumps.{IsDump};
 
 /// What a well-formed dump holds fits its tables: each statement has tables and columns that are there, and each row version
 /// has the width of its table, cells that a user can write, and an identity of at most [`gp_base::MAX_NODES`] nodes. So a

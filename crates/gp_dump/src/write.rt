@@ -5,9 +5,10 @@ ghost use Rattle.std.specs.List.{All, flat_map};
 ghost use Rattle.gp_base.specs.Order.{sorted_by};
 ghost use Rattle.gp_versions.specs.Spans.{span_cmp};
 ghost use Rattle.gp_dumpline.specs.Texts.{count_text, end_text, header};
-ghost use Rattle.gp_dump.specs.Dumps.{dump_with, has_read_committed, line_text, section_texts, sections_texts, written_text};
+ghost use Rattle.gp_dump.specs.Dumps.{has_read_committed, line_text, sections_texts, written_text};
+ghost use Rattle.gp_dump.specs.WholeDumps.{dump_with};
 ghost use Rattle.gp_dump.specs.Views.{tables_view};
-ghost use Rattle.gp_dump.specs.Writing.{log_line_text, ordered, place_text, row_line_text};
+ghost use Rattle.gp_dump.specs.Writing.{log_line_text, ordered, place_text, row_line_text, section_texts};
 ghost use Rattle.gp_log.specs.Contents.{entries, tables};
 
 use gp_base::{Catalog, NoMemory, Table};

@@ -5,7 +5,7 @@ use Rattle.std.proofs.lemmas.List.{drop_more, drop_all}
 use Rattle.std.proofs.Common.{option_and_then, ◌≢◌}
 use Rattle.std.proofs.lemmas.Bool.{cond-true, cond-false, le-leb, lt-leb}
 use Rattle.gp_base.specs.Identities.{Identity, Sources, identity, no_sources, source, nodes}
-use Rattle.gp_base.specs.IdentityParts.{sources_of}
+use Rattle.gp_base.specs.IdentityForms.{sources_of}
 use Rattle.gp_dumpline.specs.Numbers.{after_byte}
 use Rattle.gp_base.specs.Digits.{is_digit}
 use Rattle.gp_dumpline.specs.RowForms.{Numbers, numbers_at, made, joined, identity_at, sources_at, others_at}

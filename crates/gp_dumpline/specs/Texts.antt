@@ -1,5 +1,6 @@
 -- Part of the statement: the text of each line of a dump, without the line feed that ends it.
-use Rattle.std.specs.Prelude.{ℕ, Bool, true, false, List, [], ◌∷◌, Option, Some, None, codes}
+use Rattle.std.specs.Prelude.{ℕ, Bool, true, false, List, [], ◌∷◌, Option, codes}
+use Rattle.std.specs.Option.{option_map_or}
 use Rattle.std.specs.Fmt.{decimal}
 use Rattle.std.specs.List.{concat}
 use Rattle.gp_base.specs.Identities.{identity_text}
@@ -36,8 +37,7 @@ section_text name rows = concat (codes "table " ∷ name ∷ codes " " ∷ decim
 
 -- the version at which a span ends, or a hyphen where it has not ended
 abbrev pub to_text : Option ℕ → List ℕ
-to_text None = codes "-"
-to_text (Some to) = decimal to
+to_text to = option_map_or decimal to (codes "-")
 
 -- a row line: the identity of a row, the version that its span begins with, the one at which it ends, and its cells
 abbrev pub span_text : Span → List ℕ

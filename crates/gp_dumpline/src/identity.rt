@@ -1,7 +1,7 @@
 //! Identities in the lines of a dump.
 
 ghost use Rattle.std.specs.Prelude.{◌≡◌, ◌+◌, IfOk, MatchOption, min, None, Some};
-ghost use Rattle.gp_base.specs.IdentityParts.{sources_of};
+ghost use Rattle.gp_base.specs.IdentityForms.{sources_of};
 ghost use Rattle.gp_base.specs.Digits.{is_digit};
 ghost use Rattle.gp_dumpline.specs.RowForms.{identity_at, identity_of, numbers_at, others_at, part_at, sources_at};
 ghost use Rattle.gp_base.specs.Leaves.{digits_at};

@@ -6,7 +6,7 @@ use Rattle.std.proofs.lemmas.Bool.{and_parts, and_from, eqb-true, or_left, or_ri
 use Rattle.std.proofs.lemmas.List.Folds.{list_any-append}
 use Rattle.std.proofs.lemmas.Map.Views.{any-filter_same}
 use Rattle.std.proofs.lemmas.Slice.Eq.{bytes_eq-Decides}
-use Rattle.gp_base.specs.Annotated.{Annotated, Database, plain}
+use Rattle.gp_base.specs.Annotated.{Annotated, Database, unannotated}
 use Rattle.gp_base.specs.Identities.{Identity, identity, no_sources, nodes, same_identity}
 use Rattle.gp_base.specs.IdentityParts.{transaction_of}
 use Rattle.gp_base.specs.declared.cell.Cell.{Cell}
@@ -76,24 +76,24 @@ checked-insert table rows all =
 
 -- ---- the rows that it makes
 
-pub given-length : (t k n : ℕ) (rows : List (List Cell)) → length (given_from plain t k n rows) ≡ length rows
+pub given-length : (t k n : ℕ) (rows : List (List Cell)) → length (given_from unannotated t k n rows) ≡ length rows
 given-length t k n [] = refl
 given-length t k n (row ∷ rows) = ap suc (given-length t k (suc n) rows)
 
-pub given-cells : (t k n : ℕ) (rows : List (List Cell)) → map (λ (row : Row). row.cells) (given_from plain t k n rows) ≡ rows
+pub given-cells : (t k n : ℕ) (rows : List (List Cell)) → map (λ (row : Row). row.cells) (given_from unannotated t k n rows) ≡ rows
 given-cells t k n [] = refl
 given-cells t k n (row ∷ rows) = ap (λ (others : List (List Cell)). row ∷ others) (given-cells t k (suc n) rows)
 
-given-nodes : (t k n : ℕ) (rows : List (List Cell)) → list_any (λ (row : Row). ltb MAX_NODES (nodes row.identity)) (given_from plain t k n rows) ≡ false
+given-nodes : (t k n : ℕ) (rows : List (List Cell)) → list_any (λ (row : Row). ltb MAX_NODES (nodes row.identity)) (given_from unannotated t k n rows) ≡ false
 given-nodes t k n [] = refl
 given-nodes t k n (row ∷ rows) = given-nodes t k (suc n) rows
 
 pub not-refused : (tables : List Table) (t k : ℕ) (rows : List (List Cell)) (view : Database (Unit {0})) → length (view 0) + length rows ≤ MAX_TABLE_ROWS
-    → refusal_of plain parameters tables t k (s.insert 0 rows) view ≡ None
+    → refusal_of unannotated parameters tables t k (s.insert 0 rows) view ≡ None
 not-refused tables t k rows view few =
-    let count : length (view 0 ++ given_from plain t k 1 rows) ≡ length (view 0) + length (given_from plain t k 1 rows) = length-append (view 0) (given_from plain t k 1 rows) in
+    let count : length (view 0 ++ given_from unannotated t k 1 rows) ≡ length (view 0) + length (given_from unannotated t k 1 rows) = length-append (view 0) (given_from unannotated t k 1 rows) in
     let given = given-length t k 1 rows in
-    let fits : ltb MAX_TABLE_ROWS (length (view 0 ++ given_from plain t k 1 rows)) ≡ false = le-ltb MAX_TABLE_ROWS (length (view 0 ++ given_from plain t k 1 rows)) (omega (arith, few, count, given)) in
+    let fits : ltb MAX_TABLE_ROWS (length (view 0 ++ given_from unannotated t k 1 rows)) ≡ false = le-ltb MAX_TABLE_ROWS (length (view 0 ++ given_from unannotated t k 1 rows)) (omega (arith, few, count, given)) in
     rw (fits, given-nodes t k 1 rows) refl
 
 -- ---- the identities that it writes
@@ -111,11 +111,11 @@ IsBy t pair = transaction_of pair.identity ≡ t
 abbrev pub IsBefore : ℕ → Row → Type 0
 IsBefore t row = transaction_of row.identity < t
 
-pub given-by : (t k n : ℕ) (rows : List (List Cell)) → AllByRecursion (IsBy t) (written_in 0 (given_from plain t k n rows))
+pub given-by : (t k n : ℕ) (rows : List (List Cell)) → AllByRecursion (IsBy t) (written_in 0 (given_from unannotated t k n rows))
 given-by t k n [] = tt
 given-by t k n (row ∷ rows) = (refl, given-by t k (suc n) rows)
 
-pub given-before : (t k n : ℕ) (rows : List (List Cell)) → AllByRecursion (IsBefore (suc t)) (given_from plain t k n rows)
+pub given-before : (t k n : ℕ) (rows : List (List Cell)) → AllByRecursion (IsBefore (suc t)) (given_from unannotated t k n rows)
 given-before t k n [] = tt
 given-before t k n (row ∷ rows) = (omega arith, given-before t k (suc n) rows)
 
@@ -146,13 +146,13 @@ written-new written more row e = by (is_written 0 row.identity (pairs written)) 
 same-made : (t k n : ℕ) → same_identity (identity t k n no_sources) (identity t k n no_sources) ≡ true
 same-made t k n = rw (eq-eqb t t refl, eq-eqb k k refl, eq-eqb n n refl) refl
 
-pub given-written : (t k n : ℕ) (rows : List (List Cell)) → AllByRecursion (IsWritten (written_in 0 (given_from plain t k n rows))) (given_from plain t k n rows)
+pub given-written : (t k n : ℕ) (rows : List (List Cell)) → AllByRecursion (IsWritten (written_in 0 (given_from unannotated t k n rows))) (given_from unannotated t k n rows)
 given-written t k n [] = tt
 given-written t k n (row ∷ rows) = (
   or_left (same_identity (identity t k n no_sources) (identity t k n no_sources)) _ (same-made t k n),
-  all-mapped (IsWritten (written_in 0 (given_from plain t k (suc n) rows))) (IsWritten (written_in 0 (given_from plain t k n (row ∷ rows))))
-      (λ other e. or_right (same_identity (identity t k n no_sources) other.identity) (is_written 0 other.identity (written_in 0 (given_from plain t k (suc n) rows))) e)
-      (given_from plain t k (suc n) rows) (given-written t k (suc n) rows),
+  all-mapped (IsWritten (written_in 0 (given_from unannotated t k (suc n) rows))) (IsWritten (written_in 0 (given_from unannotated t k n (row ∷ rows))))
+      (λ other e. or_right (same_identity (identity t k n no_sources) other.identity) (is_written 0 other.identity (written_in 0 (given_from unannotated t k (suc n) rows))) e)
+      (given_from unannotated t k (suc n) rows) (given-written t k (suc n) rows),
 )
 
 other-identity : (id other : Identity) (t : ℕ) → transaction_of id ≡ t → transaction_of other < t → same_identity id other ≡ false

@@ -5,10 +5,10 @@ use Rattle.std.specs.List.{AllByRecursion, IsDistinct, list_all, list_any}
 use Rattle.std.specs.Str.{bytes_eq}
 use Rattle.std.proofs.Math.Nat.{div-add-mod, mod-lt}
 use Rattle.std.proofs.lemmas.Grind.{flat_map-append}
-use Rattle.std.proofs.lemmas.Bool.{cases_Bool, and_parts, eqb-false, or_from, or_parts}
+use Rattle.std.proofs.lemmas.Bool.{cases_Bool, and_parts, eqb-false, lt-ltb, or_from, or_parts}
 use Rattle.std.proofs.lemmas.List.Folds.{list_any-append}
 use Rattle.std.proofs.lemmas.Slice.Eq.{bytes_eq-Decides}
-use Rattle.gp_base.specs.Annotated.{plain}
+use Rattle.gp_base.specs.Annotated.{unannotated}
 use Rattle.gp_base.specs.Names.{is_name}
 use Rattle.gp_base.specs.declared.cell.Cell.{Cell}
 use Rattle.gp_base.specs.declared.cell.Cell.TheVariants as cell
@@ -26,7 +26,7 @@ use Rattle.gp_script.specs.declared.script.TheConstants.{MAX_SCRIPT_LENGTH}
 use Rattle.gp_script.specs.History.{has_refusal}
 use Rattle.gp_script.specs.Scripts.{lines_as_read, replies_from, state_after}
 use Rattle.gp_script.proofs.ReadHistory.{is-script, replies-read, state-read}
-use Rattle.gp_csv.specs.Scripts.{batches_of, commands_of, ended_line, fits_line, inserts_from, inserts_of, line_of, script_of, script_text, transaction_break}
+use Rattle.gp_csv.specs.Scripts.{batches_of, commands_of, ended_line, fits_line, inserts_from, line_of, script_of, script_text, transaction_break}
 use Rattle.gp_csv.specs.SheetForms.{rows_in, IsSheet, column_names, is_cell_of, is_row_of}
 use Rattle.gp_csv.specs.declared.script.TheConstants.{MAX_INSERTS, MAX_ROWS, MAX_STEPS}
 use Rattle.gp_csv.specs.declared.sheet.Sheet.{Sheet}
@@ -149,7 +149,7 @@ module _ (table : Table) (named : is_name table.name ≡ true) (columns : IsSome
 -- ---- the commands are read
 
 break-readable : (count : ℕ) → AllByRecursion IsReadable (transaction_break count)
-break-readable count = by (eqb (count % MAX_STEPS) 0)
+break-readable count = by (ltb 0 count && eqb (count % MAX_STEPS) 0)
   where
     by : (b : Bool) → AllByRecursion IsReadable (cond b (y.Command.commit ∷ y.begin false ∷ []) [])
     by true = (commit-readable, (begin-readable, tt))
@@ -159,10 +159,6 @@ from-readable : (table : Table) (count : ℕ) (batches : List Rows) → AllByRec
 from-readable table count [] all = tt
 from-readable table count (batch ∷ batches) all =
     each_append IsReadable (transaction_break count) (y.insert table.name batch ∷ inserts_from table.name (suc count) batches) (break-readable count) (all.0.readable, from-readable table (suc count) batches all.1)
-
-of-readable : (table : Table) (batches : List Rows) → AllByRecursion (IsBatch table) batches → AllByRecursion IsReadable (inserts_of table.name batches)
-of-readable table [] all = tt
-of-readable table (batch ∷ batches) all = (all.0.readable, from-readable table 1 batches all.1)
 
 -- ---- and accepted
 
@@ -225,18 +221,18 @@ module _ (table : Table) (all : Rows) (short : length all ≤ MAX_ROWS) where
       elim (cases_Bool (eqb (count % MAX_STEPS) 0)) [
         | inl e ↦
             let whole_transaction = full q k count is some most e in
-            rw e (commits table rows (suc q) k count (10000 * q) (10000 * suc q) line state (y.begin false ∷ y.insert table.name batch ∷ rest) Ends h (omega (arith, short, size)) (omega (arith, is, some, few))
+            rw (lt-ltb 0 count (omega (arith, is, some)), e) (commits table rows (suc q) k count (10000 * q) (10000 * suc q) line state (y.begin false ∷ y.insert table.name batch ∷ rest) Ends h (omega (arith, short, size)) (omega (arith, is, some, few))
             (λ s1 l1 idle. begins table rows (suc q) count (10000 * suc q) l1 s1 (y.insert table.name batch ∷ rest) Ends idle (omega (arith, is, few))
             (λ s2 l2 running. inserts table rows batch (suc (suc q)) 0 count (10000 * suc q) l2 s2 rest Ends running (omega arith) (omega (arith, few)) (omega (arith, short, size)) good.0.rows
             (λ s3 l3 next. accepts-from (suc q) 1 (suc count) (rows ++ batch) batches s3 l3 next (omega (arith, is, whole_transaction)) (omega arith) (omega arith) (omega (arith, few)) whole good.1))))
         | inr e ↦
             let room = open_yet q k count is some most e in
-            rw e (inserts table rows batch (suc q) k count (10000 * q) line state rest Ends h room (omega (arith, few)) (omega (arith, short, size)) good.0.rows
+            rw (lt-ltb 0 count (omega (arith, is, some)), e) (inserts table rows batch (suc q) k count (10000 * q) line state rest Ends h room (omega (arith, few)) (omega (arith, short, size)) good.0.rows
             (λ next l running. accepts-from q (suc k) (suc count) (rows ++ batch) batches next l running (omega (arith, is)) (omega arith) (omega (arith, room)) (omega (arith, few)) whole good.1))
       ]
 
   accepts-batches : (batches : List Rows) (state : Plain) (line : ℕ) → Running table [] 1 0 0 0 state → length batches ≤ MAX_INSERTS → rows_in batches ≡ all → AllByRecursion (IsBatch table) batches
-      → Accepts state line (inserts_of table.name batches ++ (y.Command.commit ∷ [])) Ends
+      → Accepts state line (inserts_from table.name 0 batches ++ (y.Command.commit ∷ [])) Ends
   accepts-batches [] state line h few same good =
       commits table [] 1 0 0 0 0 line state [] Ends h (omega arith) (omega arith) (λ next l idle. subst (λ (x : Rows). HasRows table x next) same (idle-rows table [] 1 0 0 next idle))
   accepts-batches (batch ∷ batches) state line h few same good =
@@ -245,9 +241,9 @@ module _ (table : Table) (all : Rows) (short : length all ≤ MAX_ROWS) where
       (λ next l running. accepts-from 0 1 1 batch batches next l running (omega arith) (omega arith) (omega arith) (omega (arith, few)) same good.1)
 
   accepts-all : (batches : List Rows) → parameters.created [] table ≡ None → length batches ≤ MAX_INSERTS → rows_in batches ≡ all → AllByRecursion (IsBatch table) batches
-      → Accepts start 1 (y.create table ∷ y.begin false ∷ (inserts_of table.name batches ++ (y.Command.commit ∷ []))) Ends
+      → Accepts start 1 (y.create table ∷ y.begin false ∷ (inserts_from table.name 0 batches ++ (y.Command.commit ∷ []))) Ends
   accepts-all batches named few same good =
-      let rest : List Command = inserts_of table.name batches ++ (y.Command.commit ∷ []) in
+      let rest : List Command = inserts_from table.name 0 batches ++ (y.Command.commit ∷ []) in
       creates table 1 (y.begin false ∷ rest) Ends named
       (λ s1 l1 idle. begins table [] 0 0 0 l1 s1 rest Ends idle (omega arith)
       (λ s2 l2 running. accepts-batches batches s2 l2 running few same good))
@@ -277,7 +273,7 @@ both-length : (cs others : List Command) → length (script_text (cs ++ others))
 both-length cs others = ap (λ (text : List ℕ). length text) (flat_map-append ended_line cs others) ∙ length-append (script_text cs) (script_text others)
 
 break-length : (count : ℕ) → length (script_text (transaction_break count)) ≤ 42
-break-length count = by (eqb (count % MAX_STEPS) 0)
+break-length count = by (ltb 0 count && eqb (count % MAX_STEPS) 0)
   where
     by : (b : Bool) → length (script_text (cond b (y.Command.commit ∷ y.begin false ∷ []) [])) ≤ 42
     by true =
@@ -299,23 +295,15 @@ from-length table count (batch ∷ batches) all =
     let e = from-length table (suc count) batches all.1 in
     omega (arith, a, b, c, d, e)
 
-of-length : (table : Table) (batches : List Rows) → AllByRecursion (IsBatch table) batches → length (script_text (inserts_of table.name batches)) ≤ 4139 * length batches
-of-length table [] all = omega arith
-of-length table (batch ∷ batches) all =
-    let a = cons-length (y.insert table.name batch) (inserts_from table.name 1 batches) in
-    let d = all.0.readable.short in
-    let e = from-length table 1 batches all.1 in
-    omega (arith, a, d, e)
-
 script-short : (table : Table) (batches : List Rows) → IsReadable (y.create table) → AllByRecursion (IsBatch table) batches → length batches ≤ MAX_INSERTS
-    → length (script_text (y.create table ∷ y.begin false ∷ (inserts_of table.name batches ++ (y.Command.commit ∷ [])))) ≤ MAX_SCRIPT_LENGTH
+    → length (script_text (y.create table ∷ y.begin false ∷ (inserts_from table.name 0 batches ++ (y.Command.commit ∷ [])))) ≤ MAX_SCRIPT_LENGTH
 script-short table batches readable all few =
     let ends : List Command = y.Command.commit ∷ [] in
-    let a = cons-length (y.create table) (y.begin false ∷ (inserts_of table.name batches ++ ends)) in
-    let b = cons-length (y.begin false) (inserts_of table.name batches ++ ends) in
-    let c = both-length (inserts_of table.name batches) ends in
+    let a = cons-length (y.create table) (y.begin false ∷ (inserts_from table.name 0 batches ++ ends)) in
+    let b = cons-length (y.begin false) (inserts_from table.name 0 batches ++ ends) in
+    let c = both-length (inserts_from table.name 0 batches) ends in
     let d = cons-length y.Command.commit [] in
-    let e = of-length table batches all in
+    let e = from-length table 0 batches all in
     let f = readable.short in
     let g = begin-short in
     let h = commit-short in
@@ -330,7 +318,7 @@ loads-by name sheet batches named h holds =
     let good = batches-good table named some batches holds.fit (subst (λ (x : Rows). list_all (is_row_of sheet.cols) x ≡ true) (sym holds.kept) h.rows) in
     let readable : AllByRecursion IsReadable (commands_of name sheet batches) = (
       create-readable table named some (columns-named sheet.cols h.names) h.few,
-      (begin-readable, each_append IsReadable (inserts_of name batches) (y.Command.commit ∷ []) (of-readable table batches good) (commit-readable, tt)),
+      (begin-readable, each_append IsReadable (inserts_from name 0 batches) (y.Command.commit ∷ []) (from-readable table 0 batches good) (commit-readable, tt)),
     ) in
     let accepts = accepts-all table sheet.rows holds.counted batches (not-refused table h.different) holds.few holds.kept good in
     let leads = lines-lead start 1 (commands_of name sheet batches) (HasRows table sheet.rows) readable accepts in
@@ -340,9 +328,9 @@ loads-by name sheet batches named h holds =
       short = script-short table batches readable.0 good holds.few;
       lines = lines_as_read script;
       are = is-script script;
-      accepted = ap has_refusal (replies-read script) ∙ ap (λ (lines : List (ℕ × List ℕ)). has_refusal (replies_from plain start lines)) same ∙ leads.accepted;
-      table = ap (λ (state : Plain). state.catalogue) (state-read plain script) ∙ ap (λ (lines : List (ℕ × List ℕ)). (state_after plain start lines).catalogue) same ∙ leads.final.catalogue;
-      rows = ap (λ (state : Plain). last_rows state 0) (state-read plain script) ∙ ap (λ (lines : List (ℕ × List ℕ)). last_rows (state_after plain start lines) 0) same ∙ leads.final.cells;
+      accepted = ap has_refusal (replies-read script) ∙ ap (λ (lines : List (ℕ × List ℕ)). has_refusal (replies_from unannotated start lines)) same ∙ leads.accepted;
+      table = ap (λ (state : Plain). state.catalogue) (state-read unannotated script) ∙ ap (λ (lines : List (ℕ × List ℕ)). (state_after unannotated start lines).catalogue) same ∙ leads.final.catalogue;
+      rows = ap (λ (state : Plain). last_rows state 0) (state-read unannotated script) ∙ ap (λ (lines : List (ℕ × List ℕ)). last_rows (state_after unannotated start lines) 0) same ∙ leads.final.cells;
     }
 
 pub loads-sheets : (name : List ℕ) (sheet : Sheet) (script : List ℕ) → is_name name ≡ true → IsSheet sheet → script_of name sheet ≡ Ok script → Loads name sheet script

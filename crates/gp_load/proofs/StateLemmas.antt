@@ -3,7 +3,7 @@ use Rattle.std.proofs.Common.{◌≡◌, ℕ, suc, ◌+◌, ◌-◌, ◌<◌, �
 use Rattle.std.specs.List.{AllByRecursion, list_all}
 use Rattle.std.proofs.lemmas.List.{map-append}
 use Rattle.std.proofs.lemmas.List.Elements.{filter-append}
-use Rattle.gp_base.specs.Annotated.{Database, plain}
+use Rattle.gp_base.specs.Annotated.{Database, unannotated}
 use Rattle.gp_base.specs.declared.cell.Cell.{Cell}
 use Rattle.gp_base.specs.declared.table.Table.{Table}
 use Rattle.gp_grammar.specs.Syntax as y
@@ -13,12 +13,12 @@ use Rattle.gp_algebra.specs.Statements as s
 use Rattle.gp_check.specs.Checking.{checked}
 use Rattle.gp_machine.specs.declared.reply.Reply.{Reply}
 use Rattle.gp_machine.specs.declared.reply.Reply.TheVariants as reply
-use Rattle.gp_machine.specs.Actions.{Begin, Commit, Run}
+use Rattle.gp_machine.specs.Actions.{allowed}
 use Rattle.gp_machine.specs.Bases.{Based, is_new, pairs, with_base, with_bases}
 use Rattle.gp_machine.specs.Committed.{is_written, merged, unmarked}
 use Rattle.gp_machine.specs.Conflicts.{least_conflict}
 use Rattle.gp_machine.specs.Entries.{statements_in, transactions_in, versions_in}
-use Rattle.gp_machine.specs.Event.{accepted, answered, beginning, began, committing, conflict_of, count_refusal, created, creating, event, is_full, published, published_rows, ran, refusal_of, running, seen_next, start_now, version_now}
+use Rattle.gp_machine.specs.Event.{accepted, beginning, began, committing, conflict_of, count_refusal, created, creating, doing, event, is_full, published, published_rows, ran, refusal_of, running, seen_next, start_now, version_now}
 use Rattle.gp_machine.specs.Replies.{is_refusal}
 use Rattle.gp_machine.specs.State.{Active, State, start}
 use Rattle.gp_base.specs.declared.limit.TheConstants.{MAX_TABLE_ROWS, MAX_SPANS}
@@ -45,9 +45,9 @@ newest state = state.committed (versions_in state.entries) 0
 -- from this state, none of the commands of session 1 from this line on is refused, and what they lead to has the property
 abbrev pub Accepts : Plain → ℕ → List Command → (Plain → Type 0) → Type 0
 Accepts state line [] P = P state
-Accepts state line (c ∷ cs) P = (is_refusal (event plain parameters state line 1 c).1 ≡ false) × Accepts (event plain parameters state line 1 c).0 (line + 1) cs P
+Accepts state line (c ∷ cs) P = (is_refusal (event unannotated parameters state line 1 c).1 ≡ false) × Accepts (event unannotated parameters state line 1 c).0 (line + 1) cs P
 
-accepts-by : (state : Plain) (line : ℕ) (c : Command) (cs : List Command) (P : Plain → Type 0) (out : Plain × Reply) → event plain parameters state line 1 c ≡ out
+accepts-by : (state : Plain) (line : ℕ) (c : Command) (cs : List Command) (P : Plain → Type 0) (out : Plain × Reply) → event unannotated parameters state line 1 c ≡ out
     → is_refusal out.1 ≡ false → Accepts out.0 (line + 1) cs P → Accepts state line (c ∷ cs) P
 accepts-by state line c cs P out same answered others =
     subst (λ (o : Plain × Reply). (is_refusal o.1 ≡ false) × Accepts o.0 (line + 1) cs P) (sym same) (answered, others)
@@ -114,7 +114,7 @@ begins table rows t n most line state cs P h few others =
     let count = h.began in
     let room : leb MAX_TRANSACTIONS (transactions_in state.entries) ≡ false = lt-leb MAX_TRANSACTIONS (transactions_in state.entries) (omega (arith, count, few)) in
     accepts-by state line (y.begin false) cs P (began state line 1 false, reply.Began (suc (transactions_in state.entries)) (versions_in state.entries))
-    (ap (λ (a : Option (Active (Unit {0}))). answered plain parameters state line 1 a (Begin false)) h.idle ∙ ap (beginning state line 1 false) room) refl
+    (ap (λ (a : Option (Active (Unit {0}))). doing unannotated parameters state line 1 (allowed a (y.begin false))) h.idle ∙ ap (beginning state line 1 false) room) refl
     (others (began state line 1 false) (line + 1) (record {
       catalogue = h.catalogue;
       active = record {
@@ -157,7 +157,7 @@ module _ (table : Table) (rows batch : List (List Cell)) (t k n most line : ℕ)
   a = h.active
 
   abbrev made : List Row
-  made = given_from plain a.transaction (suc a.statements) 1 batch
+  made = given_from unannotated a.transaction (suc a.statements) 1 batch
 
   -- it reads what it has read and written so far
   now-is : version_now state a ≡ a.version
@@ -175,20 +175,20 @@ module _ (table : Table) (rows batch : List (List Cell)) (t k n most line : ℕ)
   checks : parameters.checked state.catalogue command ≡ Ok (s.insert 0 batch)
   checks = ap (λ (tables : List Table). checked tables command) h.catalogue ∙ checked-insert table batch fits
 
-  within : refusal_of plain parameters state.catalogue a.transaction (suc a.statements) (s.insert 0 batch) (start_now state a) ≡ None
+  within : refusal_of unannotated parameters state.catalogue a.transaction (suc a.statements) (s.insert 0 batch) (start_now state a) ≡ None
   within =
-      ap (refusal_of plain parameters state.catalogue a.transaction (suc a.statements) (s.insert 0 batch)) start-is
+      ap (refusal_of unannotated parameters state.catalogue a.transaction (suc a.statements) (s.insert 0 batch)) start-is
       ∙ not-refused state.catalogue a.transaction (suc a.statements) batch a.seen.view (let e = cells-length (a.seen.view 0) rows h.cells in omega (arith, e, few))
 
   abbrev next : Plain
-  next = accepted plain state line 1 a command (s.insert 0 batch)
+  next = accepted unannotated state line 1 a command (s.insert 0 batch)
 
-  is-next : event plain parameters state line 1 command ≡ (next, reply.Wrote (length (written_in 0 made)))
+  is-next : event unannotated parameters state line 1 command ≡ (next, reply.Wrote (length (written_in 0 made)))
   is-next =
-      ap (λ (x : Option (Active (Unit {0}))). answered plain parameters state line 1 x (Run command)) h.is
-      ∙ ap (λ (x : Option _). running plain state line 1 a command parameters x (parameters.checked state.catalogue command)) counts
-      ∙ ap (λ (x : Result s.Statement _). running plain state line 1 a command parameters None x) checks
-      ∙ ap (ran plain state line 1 a command (s.insert 0 batch)) within
+      ap (λ (x : Option (Active (Unit {0}))). doing unannotated parameters state line 1 (allowed x command)) h.is
+      ∙ ap (λ (x : Option _). running unannotated state line 1 a command parameters x (parameters.checked state.catalogue command)) counts
+      ∙ ap (λ (x : Result s.Statement _). running unannotated state line 1 a command parameters None x) checks
+      ∙ ap (ran unannotated state line 1 a command (s.insert 0 batch)) within
 
   all-based : version_now state a ≡ versions_in state.entries → (more : List Written) → AllByRecursion (λ (based : Based). based.base ≡ versions_in state.entries) (map (with_base (version_now state a)) more)
   all-based is [] = tt
@@ -206,7 +206,7 @@ module _ (table : Table) (rows batch : List (List Cell)) (t k n most line : ℕ)
   runs-on : Running table (rows ++ batch) t (suc k) (suc n) most next
   runs-on = record {
     catalogue = h.catalogue;
-    active = record a { version = version_now state a; statements = suc a.statements; seen = seen_next plain state line 1 a command (s.insert 0 batch) };
+    active = record a { version = version_now state a; statements = suc a.statements; seen = seen_next unannotated state line 1 a command (s.insert 0 batch) };
     is = refl;
     transaction = h.transaction;
     steps = ap suc h.steps;
@@ -266,9 +266,9 @@ module _ (table : Table) (rows : List (List Cell)) (t k n most bound line : ℕ)
   abbrev done : Plain
   done = published state line 1 own
 
-  is-done : event plain parameters state line 1 y.Command.commit ≡ (done, reply.Committed own.transaction (suc (versions_in state.entries)))
+  is-done : event unannotated parameters state line 1 y.Command.commit ≡ (done, reply.Committed own.transaction (suc (versions_in state.entries)))
   is-done =
-      ap (λ (x : Option (Active (Unit {0}))). answered plain parameters state line 1 x Commit) h.is
+      ap (λ (x : Option (Active (Unit {0}))). doing unannotated parameters state line 1 (allowed x y.Command.commit)) h.is
       ∙ ap (λ (x : Option _). committing state line 1 own x (is_full parameters state own)) alone
       ∙ ap (committing state line 1 own None) not-full
 

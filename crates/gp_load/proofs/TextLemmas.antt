@@ -4,7 +4,7 @@ use Rattle.std.specs.Char.{is_ascii_control}
 use Rattle.std.specs.List.{AllByRecursion, enumerate_from, list_any, onto_first, slice_split}
 use Rattle.std.specs.Str.Lines.{lines, lines_of_parts, strip_carriage_return}
 use Rattle.std.proofs.lemmas.List.Splits.{length-slice_split}
-use Rattle.gp_base.specs.Annotated.{plain}
+use Rattle.gp_base.specs.Annotated.{unannotated}
 use Rattle.gp_grammar.specs.Syntax.{Command}
 use Rattle.gp_syntax.specs.Lines.{is_answered, script_lines}
 use Rattle.gp_machine.specs.Event.{event}
@@ -83,16 +83,16 @@ lines-are cs all = answered 1 cs all
 -- ---- their history
 
 pub record Leads (state : Plain) (lines : List (ℕ × List ℕ)) (P : Plain → Type 0) : Type 0 where
-  pub accepted : has_refusal (replies_from plain state lines) ≡ false
-  pub final : P (state_after plain state lines)
+  pub accepted : has_refusal (replies_from unannotated state lines) ≡ false
+  pub final : P (state_after unannotated state lines)
 
 pub lines-lead : (state : Plain) (number : ℕ) (cs : List Command) (P : Plain → Type 0) → AllByRecursion IsReadable cs → Accepts state number cs P → Leads state (numbered number cs) P
 lines-lead state number [] P all accepts = record { accepted = refl; final = accepts }
 lines-lead state number (c ∷ cs) P all accepts =
     let others : List (ℕ × List ℕ) = numbered (number + 1) cs in
-    let out : Plain × Reply = event plain parameters state number 1 c in
+    let out : Plain × Reply = event unannotated parameters state number 1 c in
     let rest = lines-lead out.0 (number + 1) cs P all.1 accepts.1 in
-    let same : line_outcome plain state (number, line_of c) ≡ out = ap (outcome_of plain state number) (line-read c all.0) in
-    let both = subst (λ (o : Plain × Reply). ((is_refusal o.1 || has_refusal (replies_from plain o.0 others)) ≡ false) × P (state_after plain o.0 others)) (sym same)
-    (or_from (is_refusal out.1) (has_refusal (replies_from plain out.0 others)) accepts.0 rest.accepted, rest.final) in
+    let same : line_outcome unannotated state (number, line_of c) ≡ out = ap (outcome_of unannotated state number) (line-read c all.0) in
+    let both = subst (λ (o : Plain × Reply). ((is_refusal o.1 || has_refusal (replies_from unannotated o.0 others)) ≡ false) × P (state_after unannotated o.0 others)) (sym same)
+    (or_from (is_refusal out.1) (has_refusal (replies_from unannotated out.0 others)) accepts.0 rest.accepted, rest.final) in
     record { accepted = both.0; final = both.1 }

@@ -2,7 +2,7 @@
 use Rattle.std.specs.Prelude.{◌≡◌, ℕ, ◌≤◌, false, List, [], ◌∷◌, length, map, Result, Ok}
 use Rattle.gp_base.specs.declared.cell.Cell.{Cell}
 use Rattle.gp_base.specs.declared.table.Table.{Table}
-use Rattle.gp_base.specs.Annotated.{Annotated, plain}
+use Rattle.gp_base.specs.Annotated.{Annotated, unannotated}
 use Rattle.gp_machine.specs.Entries.{versions_in}
 use Rattle.gp_machine.specs.State.{State}
 use Rattle.gp_script.specs.History.{IsScript, ReadLine, has_refusal, last_state, replies_to}
@@ -27,8 +27,8 @@ pub record Loads (name : List ℕ) (sheet : Sheet) (script : List ℕ) : Type 0 
   pub lines : List ReadLine
   pub are : IsScript script lines
   pub accepted : has_refusal (replies_to lines) ≡ false
-  pub table : (last_state plain lines).catalogue ≡ table_of name sheet ∷ []
-  pub rows : last_rows (last_state plain lines) 0 ≡ sheet.rows
+  pub table : (last_state unannotated lines).catalogue ≡ table_of name sheet ∷ []
+  pub rows : last_rows (last_state unannotated lines) 0 ≡ sheet.rows
 
 -- the script of the sheet of a text and the number of its rows, or the first fault
 abbrev pub loaded_of : List ℕ → List ℕ → Result (List ℕ × ℕ) Fault

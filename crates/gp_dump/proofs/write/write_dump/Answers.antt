@@ -4,7 +4,8 @@ use Rattle.gp_base.specs.declared.table.Table.{Table}
 use Rattle.gp_dumpline.specs.Texts.{count_text, end_text, header}
 use Rattle.gp_log.specs.LogFacts.{tables_in}
 use Rattle.gp_log.specs.Logs.{log_view}
-use Rattle.gp_dump.specs.Dumps.{dump_text, dump_with, line_text, sections_texts}
+use Rattle.gp_dump.specs.Dumps.{dump_text, line_text, sections_texts}
+use Rattle.gp_dump.specs.WholeDumps.{dump_with}
 use Rattle.gp_dump.specs.Views.{tables_view}
 use Rattle.gp_dump.specs.Writing.{log_line_text, ordered}
 use Rattle.gp_dump.proofs.WriteLemmas.{whole-text}

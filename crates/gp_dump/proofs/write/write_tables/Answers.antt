@@ -2,8 +2,8 @@ use Rattle.std.proofs.Common.{◌+◌, drop, arith}
 use Rattle.std.specs.List.{flat_map}
 use Rattle.gp_base.specs.Order.{sorted_by}
 use Rattle.gp_versions.specs.Spans.{span_cmp}
-use Rattle.gp_dump.specs.Dumps.{line_text, section_texts, sections_texts}
-use Rattle.gp_dump.specs.Writing.{ordered}
+use Rattle.gp_dump.specs.Dumps.{line_text, sections_texts}
+use Rattle.gp_dump.specs.Writing.{ordered, section_texts}
 use Rattle.gp_dump.proofs.WriteLemmas.{ordered-at, sections-more, text-more}
 use Rattle.gp_dump.proofs.write.write_tables.Goals as goal
 
