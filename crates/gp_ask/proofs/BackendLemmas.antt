@@ -3,7 +3,7 @@ use Rattle.std.proofs.Common.{◌≡◌, ℕ, true, false, List, refl, ap, ◌�
 use Rattle.gp_base.specs.declared.cell.Cell.{Cell}
 use Rattle.gp_base.specs.declared.refusal.Refusal.{Refusal}
 use Rattle.gp_base.specs.declared.refusal.Refusal.TheVariants.{E25, E26, E27}
-use Rattle.gp_base.specs.Annotated.{plain}
+use Rattle.gp_base.specs.Annotated.{unannotated}
 use Rattle.gp_base.specs.Order.{row_cmp, sorted_by}
 use Rattle.gp_grammar.specs.Syntax as y
 use Rattle.gp_algebra.specs.Answers.{Element}
@@ -37,8 +37,8 @@ use Rattle.gp_ask.specs.Backends.{AnswersQuery, IsAnswered, Shows}
 use Rattle.gp_ask.proofs.ReenactedLemmas.{dump-spans, in-order, refused}
 
 -- the rows of past versions, of the code and of its dump
-pub past_is : (versions : List Versions) → encoded (travels.as_of plain versions) ≡ encoded (machine.as_of plain (spans_at (tables_view versions)))
-past_is versions = ap (λ (spans : ℕ → List Span). encoded (machine.as_of plain spans)) (dump-spans versions)
+pub past_is : (versions : List Versions) → encoded (travels.as_of unannotated versions) ≡ encoded (machine.as_of unannotated (spans_at (tables_view versions)))
+past_is versions = ap (λ (spans : ℕ → List Span). encoded (machine.as_of unannotated spans)) (dump-spans versions)
 
 -- ---- over any backend
 
@@ -58,13 +58,13 @@ module _ (gives : PlainProgram → PlainEnvironment → Given → Type 0) (t : �
 
 -- ---- over the executor
 
-module _ (entries : List Entry) (versions : List Versions) (point : y.State) (select : Select) (known : log_refusal entries point ≡ None)
+module _ (entries : List Entry) (versions : List Versions) (point : y.Point) (select : Select) (known : log_refusal entries point ≡ None)
     (fit : statements_fit (tables_in entries) entries ≡ true) (spans_fit : SpansFit (tables_in entries) (spans_of versions)) (fits : select_fits (tables_in entries) select ≡ true) where
   abbrev program : PlainProgram
   program = merged_at false entries point select
 
   abbrev past : PlainEnvironment
-  past = encoded (travels.as_of plain versions)
+  past = encoded (travels.as_of unannotated versions)
 
   abbrev expected : Result (List (Element (Unit {0}))) Refusal
   expected = rows_answer parameters entries (spans_of versions) point select
@@ -88,10 +88,10 @@ module _ (entries : List Entry) (versions : List Versions) (point : y.State) (se
   answered_is answered by = shown_is by.answer answered (runs_over_same program past by.answer by.given) by.shown
 
 -- a query is refused as it is, or answered as by the run of its transaction
-module _ (entries : List Entry) (versions : List Versions) (point : y.State) (fit : statements_fit (tables_in entries) entries ≡ true)
+module _ (entries : List Entry) (versions : List Versions) (point : y.Point) (fit : statements_fit (tables_in entries) entries ≡ true)
     (spans_fit : SpansFit (tables_in entries) (spans_of versions)) where
   pub executed_answers : (expected : Option Refusal) (checked : Result Select Refusal) (answered : Answered) → log_refusal entries point ≡ expected
-      → AnswersQuery Executes (tables_in entries) (transaction_at point) (merged_at false entries point) (encoded (travels.as_of plain versions)) expected checked answered
+      → AnswersQuery Executes (tables_in entries) (transaction_at point) (merged_at false entries point) (encoded (travels.as_of unannotated versions)) expected checked answered
       → answered ≡ query_answer (λ select. of_elements (rows_answer parameters entries (spans_of versions) point select)) expected checked
   executed_answers (Some refusal) checked answered known by = by
   executed_answers None (Err refusal) answered known by = by

@@ -18,7 +18,7 @@ use Rattle.gp_base.specs.declared.refusal.Refusal.TheVariants.{E20, E21, E22}
 use Rattle.gp_base.specs.declared.table.Table.{Table}
 use Rattle.gp_base.specs.declared.cell.Cell.{Cell}
 use Rattle.gp_base.specs.declared.cell.Cell.TheVariants as cell
-use Rattle.gp_base.specs.Annotated.{Annotated, plain}
+use Rattle.gp_base.specs.Annotated.{Annotated, unannotated}
 use Rattle.gp_base.specs.Identities.{identity_cmp}
 use Rattle.gp_base.specs.Order.{insert_sorted, row_cmp, sorted_by}
 use Rattle.gp_expr.specs.ExpressionForms.{is_simple}
@@ -41,7 +41,7 @@ use Rattle.gp_versions.specs.declared.span.Span.{Span}
 use Rattle.gp_versions.specs.Spans.{Versions}
 use Rattle.gp_dump.specs.Views.{tables_view}
 use Rattle.gp_ask.specs.declared.answered.Answered.TheVariants.{Changes, Refused}
-use Rattle.gp_ask.specs.Changes.{by_identity, changed_text, changed_texts, changes_of, changes_to, commit_changes_to, dump_changes, if_any, next_of, of_changes, span_texts, spans_texts, tables_texts, version_changes}
+use Rattle.gp_ask.specs.Changes.{by_identity, changed_text, changed_texts, changes_of, changes_to, commit_changes_to, dump_changes, if_any, of_changes, span_texts, spans_texts, tables_texts, version_changes}
 use Rattle.gp_ask.specs.Values.{unless_refused}
 use Rattle.gp_ask.specs.Asking.{spans_at}
 use Rattle.gp_ask.specs.Keyed.{as_identity, cells_of, identity_of, keyed_from, keyed_if, keyed_lines, sets_are_simple, shown_texts}
@@ -203,7 +203,7 @@ sets-simple tables (read select) fit = refl
 
 -- ---- the spans of a table, and the tables
 
-next-is : (spans : List Span) (n : ℕ) → next_of (drop n spans) ≡ slice_get spans n
+next-is : (spans : List Span) (n : ℕ) → slice_get (drop n spans) 0 ≡ slice_get spans n
 next-is [] zero = refl
 next-is [] (suc n) = refl
 next-is (span ∷ spans) zero = refl
@@ -214,7 +214,7 @@ pub spans-more : (name : List ℕ) (version : ℕ) (last : Option Span) (spans :
     → spans_texts name version last (drop i spans) ≡ span_texts name version last span (slice_get spans (i + 1)) ++ spans_texts name version (Some span) (drop (i + 1) spans)
 spans-more name version last spans i span within is =
     at_drop_more (spans_texts name version last) spans i span within
-    ∙ ap (λ (own : Span). span_texts name version last own (next_of (drop (i + 1) spans)) ++ spans_texts name version (Some own) (drop (i + 1) spans)) (sym is)
+    ∙ ap (λ (own : Span). span_texts name version last own (slice_get (drop (i + 1) spans) 0) ++ spans_texts name version (Some own) (drop (i + 1) spans)) (sym is)
     ∙ ap (λ (next : Option Span). span_texts name version last span next ++ spans_texts name version (Some span) (drop (i + 1) spans)) (next-is spans (i + 1))
 
 -- those of the tables behind the first ones, this many
@@ -264,7 +264,7 @@ module _ (entries : List Entry) (tables : List (List Span)) (t k : ℕ) (some : 
 pub none-changed : (dump : Dump) (t k : ℕ) (statement : Statement) → None ≡ target statement → Changes [] ≡ dump_changes dump t k statement
 none-changed dump t k statement is =
     ap (λ (found : Option ℕ). changes_of (tables_in dump.entries) found statement
-    (given (looked_refusal parameters dump.entries (spans_at dump.tables) t k statement) (changed_rows plain t (suc k) statement (run_before plain (log_of dump.entries) t k (as_of plain (spans_at dump.tables)))))) is
+    (given (looked_refusal parameters dump.entries (spans_at dump.tables) t k statement) (changed_rows unannotated t (suc k) statement (run_before unannotated (log_of dump.entries) t k (as_of unannotated (spans_at dump.tables)))))) is
 
 -- the numbers of a statement that is not refused
 known-by : (t : ℕ) (entries : List Entry) (b : Bool) → is_known t entries ≡ b → cond b None (Some (E20 t)) ≡ None → is_known t entries ≡ true

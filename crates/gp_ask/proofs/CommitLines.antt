@@ -1,7 +1,7 @@
 -- The lines of a commit, from the spans of a table in the order of a dump: one for each row that begins or ends with its version.
 use Rattle.std.proofs.Common.{◌≡◌, ◌⊎◌, inl, inr, ℕ, zero, suc, ◌-◌, ◌<◌, ◌≤◌, Bool, true, false, cond, ◌&&◌, ◌==◌, not, List, [], ◌∷◌, ◌++◌, map, Option, Some, None, refl, sym, ap, ◌∙◌, subst, arith}
 use Rattle.std.specs.Prelude.{IsSomeAnd}
-use Rattle.std.specs.List.{AllByRecursion, filter}
+use Rattle.std.specs.List.{AllByRecursion, filter, slice_get}
 use Rattle.std.specs.Option.{option_map_or}
 use Rattle.std.specs.Ordering.{is_le}
 use Rattle.std.specs.Cmp.{tied_itself}
@@ -11,7 +11,7 @@ use Rattle.std.proofs.lemmas.Bool.{and_from, and_parts, cases_lt, eqb-true, eq-e
 use Rattle.std.proofs.lemmas.List.{map-append}
 use Rattle.std.proofs.lemmas.Option.{none-some, same_Some}
 use Rattle.gp_base.specs.declared.cell.Cell.{Cell}
-use Rattle.gp_base.specs.Annotated.{Annotated, Environment, plain}
+use Rattle.gp_base.specs.Annotated.{Annotated, Environment, unannotated}
 use Rattle.gp_base.specs.Identities.{Identity, identity_cmp, same_identity}
 use Rattle.gp_base.specs.IdentityOrder.{identity_cmp_total}
 use Rattle.gp_base.specs.Order.{insert_sorted, sorted_by}
@@ -28,7 +28,7 @@ use Rattle.gp_machine.proofs.Distinct.{each_all, each_filter, each_weaker}
 use Rattle.gp_dump.specs.Dumps.{is_after}
 use Rattle.gp_dump.proofs.PlaceLemmas.{Follows, follows-after}
 use Rattle.gp_dump.proofs.RowPlaces.{Pairwise, sorted_after, sorted_each}
-use Rattle.gp_ask.specs.Changes.{change_text, ends_at, goes_on, next_of, row_before, span_texts, spans_texts}
+use Rattle.gp_ask.specs.Changes.{change_text, ends_at, goes_on, row_before, span_texts, spans_texts}
 use Rattle.gp_ask.specs.ShownWrites.{AreCells, HasCells, HasChange, HasRow, Rise, RowChange, ShowsWrites, row_change_text}
 
 -- ---- elements
@@ -65,6 +65,10 @@ in-sorted x (y ∷ ys) (inl e) = in-inserted x y (sorted_by span_cmp ys) (inl e)
 in-sorted x (y ∷ ys) (inr is) = in-inserted x y (sorted_by span_cmp ys) (inr (in-sorted x ys is))
 
 -- ---- changes
+
+-- the first of the spans behind one
+abbrev next_of : List Span → Option Span
+next_of spans = slice_get spans 0
 
 abbrev span_changes : ℕ → Option Span → Span → Option Span → List RowChange
 span_changes version last span next =
@@ -475,15 +479,15 @@ module _ (p : ℕ) (spans : List Span) (apart : NoOverlap spans) (whole : AreWho
 -- ---- their rows
 
 abbrev plain_rows : ℕ → List Span → List (Annotated (Unit {0}))
-plain_rows v spans = rows_at plain v spans
+plain_rows v spans = rows_at unannotated v spans
 
 cells-there : (v : ℕ) (spans : List Span) (x : Span) → IsIn x spans → Holds v x → HasCells (plain_rows v spans) x.id x.row
 cells-there v [] x is holds = absurd is
 cells-there v (s ∷ spans) x (inl e) holds =
-    subst (λ b. HasCells (map (row_of plain) (cond b (s ∷ spans_at v spans) (spans_at v spans))) x.id x.row) (sym (is-held v s (subst (Holds v) e holds)))
+    subst (λ b. HasCells (map (row_of unannotated) (cond b (s ∷ spans_at v spans) (spans_at v spans))) x.id x.row) (sym (is-held v s (subst (Holds v) e holds)))
     (inl (ap (λ (y : Span). y.id) (sym e), ap (λ (y : Span). y.row) (sym e)))
 cells-there v (s ∷ spans) x (inr is) holds =
-    elim (holds_at v s) as (λ b. HasCells (map (row_of plain) (cond b (s ∷ spans_at v spans) (spans_at v spans))) x.id x.row) [
+    elim (holds_at v s) as (λ b. HasCells (map (row_of unannotated) (cond b (s ∷ spans_at v spans) (spans_at v spans))) x.id x.row) [
       | true ↦ inr (cells-there v spans x is holds)
       | false ↦ cells-there v spans x is holds
     ]
@@ -491,7 +495,7 @@ cells-there v (s ∷ spans) x (inr is) holds =
 row-from : (v : ℕ) (spans : List Span) (id : Identity) → HasRow (plain_rows v spans) id → (x : Span) × (IsIn x spans × (Holds v x × (x.id ≡ id)))
 row-from v [] id has = absurd has
 row-from v (s ∷ spans) id has =
-    elim (holds_at v s) as (λ b. holds_at v s ≡ b → HasRow (map (row_of plain) (cond b (s ∷ spans_at v spans) (spans_at v spans))) id → (x : Span) × (IsIn x (s ∷ spans) × (Holds v x × (x.id ≡ id)))) [
+    elim (holds_at v s) as (λ b. holds_at v s ≡ b → HasRow (map (row_of unannotated) (cond b (s ∷ spans_at v spans) (spans_at v spans))) id → (x : Span) × (IsIn x (s ∷ spans) × (Holds v x × (x.id ≡ id)))) [
       | true ↦ λ is found. first (λ own. row-from v spans id own) is found
       | false ↦ λ is found. behind (row-from v spans id found)
     ] refl has

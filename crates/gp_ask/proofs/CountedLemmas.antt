@@ -69,7 +69,7 @@ abbrev agree_counted : List (Annotated Counted) → List (Annotated Counted) →
 agree_counted rows others = agree (map (reannotated counting) rows) (map (reannotated counting) others)
 
 -- the annotated answers of a log and its spans
-pub answers_count : (catalogue : List Table) (entries : List Entry) (spans : ℕ → List Span) (point : y.State) (select : Select)
+pub answers_count : (catalogue : List Table) (entries : List Entry) (spans : ℕ → List Span) (point : y.Point) (select : Select)
     → EachCounts (answer monomials select (at_point monomials entries point (annotated_versions monomials entries spans)))
 answers_count catalogue entries spans point select =
     subst EachCounts

@@ -5,9 +5,9 @@ use Rattle.gp_machine.specs.Entries.{Entry}
 use Rattle.gp_ask.specs.declared.answered.Answered.{Answered}
 use Rattle.gp_ask.specs.Differences.{causes_answer, causes_of, committed_writes, diff_answer, diff_of, rows_in, side_answer, without_in}
 
-module _ (asks others : y.How → y.State → y.Query → Answered) (changes others_changed : y.LogChange → y.How → y.State → y.Query → Answered)
-    (same : (how : y.How) (point : y.State) (query : y.Query) → asks how point query ≡ others how point query)
-    (same_changed : (change : y.LogChange) (how : y.How) (point : y.State) (query : y.Query) → changes change how point query ≡ others_changed change how point query) where
+module _ (asks others : y.How → y.Point → y.Query → Answered) (changes others_changed : y.LogChange → y.How → y.Point → y.Query → Answered)
+    (same : (how : y.How) (point : y.Point) (query : y.Query) → asks how point query ≡ others how point query)
+    (same_changed : (change : y.LogChange) (how : y.How) (point : y.Point) (query : y.Query) → changes change how point query ≡ others_changed change how point query) where
   side-same : (side : y.Side) (query : y.Query) → side_answer asks changes side query ≡ side_answer others others_changed side query
   side-same (y.as_is kept) query = same kept.how kept.state query
   side-same (y.changed change kept) query = same_changed change kept.how kept.state query

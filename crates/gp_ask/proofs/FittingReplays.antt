@@ -8,7 +8,7 @@ use Rattle.std.proofs.lemmas.List.{length-map}
 use Rattle.gp_base.specs.declared.cell.Cell.{Cell}
 use Rattle.gp_base.specs.declared.row_id.TheConstants.{MAX_NODES}
 use Rattle.gp_base.specs.declared.table.Table.{Table}
-use Rattle.gp_base.specs.Annotated.{Annotated, Database, Environment, plain}
+use Rattle.gp_base.specs.Annotated.{Annotated, Database, Environment, unannotated}
 use Rattle.gp_base.specs.UserCells.{is_user_cell}
 use Rattle.gp_algebra.specs.Effects.{Written}
 use Rattle.gp_algebra.specs.Fitting.{row_fits}
@@ -70,14 +70,14 @@ module _ (entries : List Entry) (fits : statements_fit (tables_in entries) entri
 
   -- ---- statements
 
-  stepped_wide : (t k : ℕ) (found : Option Statement) (db : Rows) → FitsIfSome catalogue found → AreAsWide (width_of catalogue) db → AreAsWide (width_of catalogue) (stepped plain t k found db)
+  stepped_wide : (t k : ℕ) (found : Option Statement) (db : Rows) → FitsIfSome catalogue found → AreAsWide (width_of catalogue) db → AreAsWide (width_of catalogue) (stepped unannotated t k found db)
   stepped_wide t k None db fit are = are
-  stepped_wide t k (Some statement) db fit are = step_wide plain catalogue t k statement db fit are
+  stepped_wide t k (Some statement) db fit are = step_wide unannotated catalogue t k statement db fit are
 
-  stepped_fit : (t k : ℕ) (found : Option Statement) (db : Rows) → FitsIfSome catalogue found → statement_stop plain parameters t k found db ≡ None → AreFit db → AreFit (stepped plain t k found db)
+  stepped_fit : (t k : ℕ) (found : Option Statement) (db : Rows) → FitsIfSome catalogue found → statement_stop unannotated parameters t k found db ≡ None → AreFit db → AreFit (stepped unannotated t k found db)
   stepped_fit t k found db fit none are table =
-      each_both (IsFit table) (IsHeld MAX_NODES) (λ row. length row.cells ≡ width_of catalogue table) (λ row own long. (own, long)) (stepped plain t k found db table)
-      (held_step plain parameters catalogue t k found db fit none (held db are) table) (stepped_wide t k found db fit (wide db are) table)
+      each_both (IsFit table) (IsHeld MAX_NODES) (λ row. length row.cells ≡ width_of catalogue table) (λ row own long. (own, long)) (stepped unannotated t k found db table)
+      (held_step unannotated parameters catalogue t k found db fit none (held db are) table) (stepped_wide t k found db fit (wide db are) table)
 
   published_fit : (base mine later : Rows) → AreFit mine → AreFit later → AreFit (publish base mine later)
   published_fit base mine later own others table =
@@ -89,12 +89,12 @@ module _ (entries : List Entry) (fits : statements_fit (tables_in entries) entri
   refreshed_fit versions are old new db own =
       elim (new == old) as (λ b. AreFit (cond b db (publish (versions old) db (versions new)))) [ true ↦ own | false ↦ published_fit (versions old) db (versions new) own (are new) ]
 
-  run_fit : (t k : ℕ) (versions : Environment (Unit {0})) → ((version : ℕ) → AreFit (versions version)) → run_stop plain parameters log t k versions ≡ None → AreFit (run plain log t k versions)
+  run_fit : (t k : ℕ) (versions : Environment (Unit {0})) → ((version : ℕ) → AreFit (versions version)) → run_stop unannotated parameters log t k versions ≡ None → AreFit (run unannotated log t k versions)
   run_fit t zero versions are none = are (log.version t zero)
   run_fit t (suc k) versions are none =
-      let both = none_parts (run_stop plain parameters log t k versions) (statement_stop plain parameters t (suc k) (log.statement t (suc k)) (run_before plain log t k versions)) none in
-      stepped_fit t (suc k) (log.statement t (suc k)) (run_before plain log t k versions) (logged_fits catalogue t (suc k) entries fits) both.1
-      (refreshed_fit versions are (log.version t k) (log.version t (suc k)) (run plain log t k versions) (run_fit t k versions are both.0))
+      let both = none_parts (run_stop unannotated parameters log t k versions) (statement_stop unannotated parameters t (suc k) (log.statement t (suc k)) (run_before unannotated log t k versions)) none in
+      stepped_fit t (suc k) (log.statement t (suc k)) (run_before unannotated log t k versions) (logged_fits catalogue t (suc k) entries fits) both.1
+      (refreshed_fit versions are (log.version t k) (log.version t (suc k)) (run unannotated log t k versions) (run_fit t k versions are both.0))
 
   -- ---- commits
 
@@ -107,14 +107,14 @@ module _ (entries : List Entry) (fits : statements_fit (tables_in entries) entri
 
   module _ (count : ℕ) where
     abbrev made : ℕ → Replay (Unit {0})
-    made u = replayed plain log count u
+    made u = replayed unannotated log count u
 
-    made_fit : (u : ℕ) → replay_stop plain log parameters count u ≡ None → (version : ℕ) → AreFit ((made u).committed version)
+    made_fit : (u : ℕ) → replay_stop unannotated log parameters count u ≡ None → (version : ℕ) → AreFit ((made u).committed version)
     made_fit zero none version = λ table. tt
     made_fit (suc u) none version =
         let t : ℕ = log.committer (suc u) in
-        let both = none_parts (replay_stop plain log parameters count u) (version_stop plain log parameters count u) none in
-        let seen : Seen (Unit {0}) = rerun plain log t (made u).committed in
+        let both = none_parts (replay_stop unannotated log parameters count u) (version_stop unannotated log parameters count u) none in
+        let seen : Seen (Unit {0}) = rerun unannotated log t (made u).committed in
         let before = made_fit u both.0 in
         elim (version == suc u) as (λ b. AreFit (cond b (next_version ((made u).committed u) seen.view (pairs seen.written)) ((made u).committed version))) [
           | true ↦ next_fit ((made u).committed u) seen.view (pairs seen.written) (before u) (run_fit t (log.statement_count t) (made u).committed before (unstopped (suc u) _ _ _ both.1).runs)
@@ -131,7 +131,7 @@ module _ (entries : List Entry) (fits : statements_fit (tables_in entries) entri
         (filter (λ row. is_written table row.identity (written (suc m))) (committed (suc m) table))
         (each_filter (IsFit table) (IsFit table) (λ row. is_written table row.identity (written (suc m))) (λ row kept is. is) (committed (suc m) table) (are (suc m) table)))
 
-    pub spans_made_fit : (u : ℕ) → replay_stop plain log parameters count u ≡ None → SpansFit catalogue (λ place. replayed_spans plain log count u place)
+    pub spans_made_fit : (u : ℕ) → replay_stop unannotated log parameters count u ≡ None → SpansFit catalogue (λ place. replayed_spans unannotated log count u place)
     spans_made_fit u none table = upto_fit u (made u).committed (made u).written (made_fit u none) table u
 
 -- the dump of a log and of what its replay made
@@ -147,5 +147,5 @@ replay_answerable entries is versions made = record {
 
 -- they are the ones of the replay
 pub replay_spans : (entries : List Entry) (versions : List Versions) → IsMade entries (versions_in entries) versions → (place : ℕ)
-    → spans_at (tables_view versions) place ≡ replayed_spans plain (log_of entries) (length (tables_in entries)) (versions_in entries) place
+    → spans_at (tables_view versions) place ≡ replayed_spans unannotated (log_of entries) (length (tables_in entries)) (versions_in entries) place
 replay_spans entries versions made place = get_or-map (λ (table : Versions). table.spans) versions place no_table ∙ made.spans place

@@ -8,7 +8,7 @@ use Rattle.gp_base.specs.declared.cell.Cell.{Cell}
 use Rattle.gp_base.specs.declared.refusal.Refusal.{Refusal}
 use Rattle.gp_base.specs.declared.refusal.Refusal.TheVariants.{E27}
 use Rattle.gp_base.specs.declared.table.Table.{Table}
-use Rattle.gp_base.specs.Annotated.{Database, monomials, plain}
+use Rattle.gp_base.specs.Annotated.{Database, monomials, unannotated}
 use Rattle.gp_base.specs.Order.{row_cmp, sorted_by}
 use Rattle.gp_base.specs.Tokens.{Monomial}
 use Rattle.gp_grammar.specs.declared.semiring_name.SemiringName.{SemiringName}
@@ -32,18 +32,20 @@ use Rattle.gp_semiring.specs.Witnesses.{sets_text}
 use Rattle.gp_semiring.specs.declared.rules.Rule.{Rule}
 use Rattle.gp_history.specs.ValueAnswers.{history_refusal, limited}
 use Rattle.gp_versions.specs.declared.span.Span.{Span}
-use Rattle.gp_dump.specs.Dumps.{Dump, dump_of, dump_with, spans_in_order}
+use Rattle.gp_dump.specs.Dumps.{Dump, dump_of, spans_in_order}
+use Rattle.gp_dump.specs.WholeDumps.{dump_with}
 use Rattle.gp_history.specs.Agreement.{agree}
 use Rattle.gp_history.specs.Agreement.{occurrence}
 use Rattle.gp_ask.specs.declared.answered.Answered.{Answered}
 use Rattle.gp_ask.specs.declared.answered.Answered.TheVariants.{Checked, Listed, Refused, Rows}
 use Rattle.gp_replay.specs.Differences.{difference}
 use Rattle.gp_ask.specs.Answers.{answer_to, held_to}
-use Rattle.gp_ask.specs.Asking.{ask_to, dump_provenance, dump_query, dump_remaining, dump_rows, held_ask, held_provenance, held_remaining, held_rows, of_elements, query_answer, spans_at, with_monomials}
+use Rattle.gp_ask.specs.Asking.{ask_to, held_ask, of_elements, query_answer, spans_at, with_monomials}
+use Rattle.gp_ask.specs.AskingForms.{dump_program, dump_provenance, dump_query, dump_remaining, dump_rows, held_provenance, held_remaining, held_rows, rules_of}
 use Rattle.gp_ask.specs.ValueForms.{dump_minimal, dump_valued, dump_values, held_minimal, held_valued, held_values}
 use Rattle.gp_ask.specs.Hypothetical.{what_if_held}
-use Rattle.gp_ask.specs.Remaining.{has_left_out, is_left_out, pattern_of, remaining_answer}
-use Rattle.gp_ask.specs.Values.{evaluated, rules_of, semiring_of, with_values}
+use Rattle.gp_ask.specs.Remaining.{has_left_out, is_left_out, remaining_answer}
+use Rattle.gp_ask.specs.Values.{evaluated, rule_of, semiring_of, with_values}
 use Rattle.gp_ask.specs.Witnesses.{minimal_of}
 use Rattle.gp_ask.proofs.CountedLemmas.{answers_count}
 use Rattle.gp_ask.proofs.DifferenceLemmas.{causes-same, diff-same}
@@ -74,10 +76,10 @@ alike-monomials (Err refusal) (Ok others) same = absurd same
 abbrev pub forgetting : State Monomial → State (Unit {0})
 forgetting state = state_reannotated forgotten state
 
-held-forgotten : (state : State Monomial) (point : y.State) → held_at (forgetting state) point ≡ database_reannotated forgotten (held_at state point)
+held-forgotten : (state : State Monomial) (point : y.Point) → held_at (forgetting state) point ≡ database_reannotated forgotten (held_at state point)
 held-forgotten state (y.as_of version) = refl
 held-forgotten state (y.after t k) = refl
-held-forgotten state (y.State.commit t) = by (version_of t state.entries)
+held-forgotten state (y.Point.commit t) = by (version_of t state.entries)
   where
     by : (version : Option ℕ) → at_version version (forgetting state).committed ≡ database_reannotated forgotten (at_version version state.committed)
     by None = refl
@@ -100,15 +102,15 @@ module _ (refusal : Option Refusal) (elements : List (Element Monomial)) where
 
 -- answering queries forgets annotations
 abbrev pub Forgets : Type 0
-Forgets = (select : Select) (db : Database Monomial) → answer plain select (database_reannotated forgotten db) ≡ map (element_reannotated forgotten) (answer monomials select db)
+Forgets = (select : Select) (db : Database Monomial) → answer unannotated select (database_reannotated forgotten db) ≡ map (element_reannotated forgotten) (answer monomials select db)
 
 module _ (forgets : Forgets) (state : State Monomial) where
-  held-rows-same : (point : y.State) (select : Select) → of_elements (held_answer plain parameters (forgetting state) point select) ≡ held_rows state point select
+  held-rows-same : (point : y.Point) (select : Select) → of_elements (held_answer unannotated parameters (forgetting state) point select) ≡ held_rows state point select
   held-rows-same point select =
       let refusal = log_refusal state.entries point in
       let elements = answer monomials select (held_at state point) in
-      let forgot : answer plain select (held_at (forgetting state) point) ≡ map (element_reannotated forgotten) elements =
-      ap (answer plain select) (held-forgotten state point) ∙ forgets select (held_at state point) in
+      let forgot : answer unannotated select (held_at (forgetting state) point) ≡ map (element_reannotated forgotten) elements =
+      ap (answer unannotated select) (held-forgotten state point) ∙ forgets select (held_at state point) in
       ap (λ (others : List (Element (Unit {0}))). answered refusal elements others (length others)) forgot ∙ same-rows refusal elements
 
   -- ---- questions about the states of a history, over its log and its row versions
@@ -120,45 +122,45 @@ module _ (forgets : Forgets) (state : State Monomial) where
     abbrev spans : ℕ → List Span
     spans = spans_at tables
 
-    module _ (rows-alike : (point : y.State) (select : Select) → AreAlike (rows_answer parameters state.entries spans point select) (held_answer plain parameters (forgetting state) point select))
-        (provenance-alike : (point : y.State) (select : Select)
+    module _ (rows-alike : (point : y.Point) (select : Select) → AreAlike (rows_answer parameters state.entries spans point select) (held_answer unannotated parameters (forgetting state) point select))
+        (provenance-alike : (point : y.Point) (select : Select)
         → AreAlike (annotated_answer monomials parameters agree state.catalogue state.entries spans point select) (held_answer monomials parameters state point select))
         (values-alike : (name : SemiringName) → AreHeld state spans name)
-        (refusals : (point : y.State) → history_refusal monomials parameters agree state.catalogue state.entries spans point ≡ log_refusal state.entries point)
-        (elements-moved : (point : y.State) (select : Select) → log_refusal state.entries point ≡ None
+        (refusals : (point : y.Point) → history_refusal monomials parameters agree state.catalogue state.entries spans point ≡ log_refusal state.entries point)
+        (elements-moved : (point : y.Point) (select : Select) → log_refusal state.entries point ≡ None
         → IsPermutation (answer monomials select (at_point monomials state.entries point (annotated_versions monomials state.entries spans))) (answer monomials select (held_at state point))) where
-      rows-held : (point : y.State) (select : Select) → dump_rows dump point select ≡ held_rows state point select
+      rows-held : (point : y.Point) (select : Select) → dump_rows dump point select ≡ held_rows state point select
       rows-held point select =
-          alike (rows_answer parameters state.entries spans point select) (held_answer plain parameters (forgetting state) point select) (rows-alike point select)
+          alike (rows_answer parameters state.entries spans point select) (held_answer unannotated parameters (forgetting state) point select) (rows-alike point select)
           ∙ held-rows-same point select
 
-      provenance-held : (point : y.State) (select : Select) → dump_provenance dump point select ≡ held_provenance state point select
+      provenance-held : (point : y.Point) (select : Select) → dump_provenance dump point select ≡ held_provenance state point select
       provenance-held point select =
           ap (λ (catalogue : List Table). with_monomials (annotated_answer monomials parameters agree catalogue state.entries spans point select)) kept
           ∙ alike-monomials (annotated_answer monomials parameters agree state.catalogue state.entries spans point select) (held_answer monomials parameters state point select) (provenance-alike point select)
 
-      values-held : (name : SemiringName) (rules : List Rule × Option ℕ) (point : y.State) (select : Select)
+      values-held : (name : SemiringName) (rules : List Rule × Option ℕ) (point : y.Point) (select : Select)
           → dump_values (semiring_of name) name rules dump point select ≡ held_values (semiring_of name) name rules state point select
       values-held name rules point select =
           ap (λ (catalogue : List Table). evaluated (semiring_of name) rules name (found_in (semiring_of name) rules state.entries catalogue spans point select)) kept
           ∙ ap (evaluated (semiring_of name) rules name) (values-alike name rules point select)
 
       -- the elements over the row versions of the dump
-      abbrev found-elements : y.State → Select → List (Element Monomial)
+      abbrev found-elements : y.Point → Select → List (Element Monomial)
       found-elements point select = answer monomials select (at_point monomials state.entries point (annotated_versions monomials state.entries spans))
 
       -- the refusals of the dump are those of the log
-      refusals-held : (point : y.State) → history_refusal monomials parameters agree (tables_in state.entries) state.entries spans point ≡ log_refusal state.entries point
+      refusals-held : (point : y.Point) → history_refusal monomials parameters agree (tables_in state.entries) state.entries spans point ≡ log_refusal state.entries point
       refusals-held point = ap (λ (catalogue : List Table). history_refusal monomials parameters agree catalogue state.entries spans point) kept ∙ refusals point
 
-      minimal-held : (point : y.State) (select : Select) → dump_minimal dump point select ≡ held_minimal state point select
+      minimal-held : (point : y.Point) (select : Select) → dump_minimal dump point select ≡ held_minimal state point select
       minimal-held point select =
           ap (λ (refusal : Option Refusal). with_values sets_text (limited parameters.answer minimal_of (given refusal (found-elements point select)))) (refusals-held point)
           ∙ ap (with_values sets_text)
           (minimal_moved (log_refusal state.entries point) (found-elements point select) (answer monomials select (held_at state point)) (answers_count state.catalogue state.entries spans point select)
           (elements-moved point select))
 
-      valued-held : (name : SemiringName) (rules : List y.Rule) (other : Option ℕ) (point : y.State) (select : Select)
+      valued-held : (name : SemiringName) (rules : List y.Rule) (other : Option ℕ) (point : y.Point) (select : Select)
           → dump_valued name rules other dump point select ≡ held_valued name rules other state point select
       valued-held named.Count rules other point select = values-held named.Count (rules_of rules other) point select
       valued-held named.Bool rules other point select = values-held named.Bool (rules_of rules other) point select
@@ -170,7 +172,7 @@ module _ (forgets : Forgets) (state : State Monomial) where
       valued-held named.Witness (rule ∷ rules) None point select = values-held named.Witness (rules_of (rule ∷ rules) None) point select
       valued-held named.Witness (rule ∷ rules) (Some n) point select = values-held named.Witness (rules_of (rule ∷ rules) (Some n)) point select
 
-      remaining-held : (patterns : List Rule) (point : y.State) (select : Select) → dump_remaining patterns dump point select ≡ held_remaining patterns state point select
+      remaining-held : (patterns : List Rule) (point : y.Point) (select : Select) → dump_remaining patterns dump point select ≡ held_remaining patterns state point select
       remaining-held patterns point select =
           ap (λ (refusal : Option Refusal). of_elements (remaining_answer (has_left_out patterns) select db refusal)) (refusals-held point) ∙ by (log_refusal state.entries point) refl
         where
@@ -182,19 +184,19 @@ module _ (forgets : Forgets) (state : State Monomial) where
           by (Some refusal) known = refl
           by None known = remaining_moved (is_left_out patterns) select db (held_at state point) (elements-moved point select known) None
 
-      query-held : (found held : Select → Answered) → ((select : Select) → found select ≡ held select) → (point : y.State) (query : y.Query)
+      query-held : (found held : Select → Answered) → ((select : Select) → found select ≡ held select) → (point : y.Point) (query : y.Query)
           → dump_query dump found point query ≡ query_answer held (log_refusal state.entries point) (checked_query state.catalogue query)
       query-held found held same point query =
           ap (λ (catalogue : List Table). query_answer found (log_refusal state.entries point) (checked_query catalogue query)) kept
           ∙ query-same found held same (log_refusal state.entries point) (checked_query state.catalogue query)
 
-      pub asked : (how : y.How) (point : y.State) (query : y.Query) → answer_to dump (y.ask how point query) ≡ held_to state (y.ask how point query)
+      pub asked : (how : y.How) (point : y.Point) (query : y.Query) → answer_to dump (y.ask how point query) ≡ held_to state (y.ask how point query)
       asked y.rows point query = query-held (dump_rows dump point) (held_rows state point) (rows-held point) point query
       asked y.provenance point query = query-held (dump_provenance dump point) (held_provenance state point) (provenance-held point) point query
-      asked (y.explain prov) point query = refl
+      asked (y.explain prov) point query = query-held (dump_program dump prov point) (dump_program dump prov point) (λ select. refl) point query
       asked (y.value name rules other) point query = query-held (dump_valued name rules other dump point) (held_valued name rules other state point) (valued-held name rules other point) point query
       asked (y.without patterns) point query =
-          query-held (dump_remaining (map pattern_of patterns) dump point) (held_remaining (map pattern_of patterns) state point) (remaining-held (map pattern_of patterns) point) point query
+          query-held (dump_remaining (map rule_of patterns) dump point) (held_remaining (map rule_of patterns) state point) (remaining-held (map rule_of patterns) point) point query
 
 -- ---- the dump of a history
 
@@ -212,7 +214,7 @@ module _ (state : State Monomial) (spans-kept : (table : ℕ) → state_spans (f
   -- SAW and CHANGES of a statement tell what the machine held, of transactions whatever became of them
   pub held : ((t k : ℕ) (query : y.Query) → answer_to (dump_of (forgetting state)) (y.saw t k query) ≡ held_to state (y.saw t k query))
       → ((t k : ℕ) → answer_to (dump_of (forgetting state)) (y.changes t k) ≡ held_to state (y.changes t k))
-      → ((how : y.How) (point : y.State) (query : y.Query) → answer_to (dump_of (forgetting state)) (y.ask how point query) ≡ held_to state (y.ask how point query))
+      → ((how : y.How) (point : y.Point) (query : y.Query) → answer_to (dump_of (forgetting state)) (y.ask how point query) ≡ held_to state (y.ask how point query))
       → difference (dump_of (forgetting state)) ≡ None
       → (question : y.Question) → answer_to (dump_of (forgetting state)) question ≡ held_to state question
   held sees alters asks same y.transactions = refl

@@ -3,7 +3,7 @@ use Rattle.std.proofs.Common.{◌≡◌, ◌≤◌, ℕ, List, [], length, Optio
 use Rattle.std.specs.List.Sorted.{IsPermutation}
 use Rattle.std.specs.Option.{option_map}
 use Rattle.gp_base.specs.declared.refusal.Refusal.{Refusal}
-use Rattle.gp_base.specs.Annotated.{monomials, plain}
+use Rattle.gp_base.specs.Annotated.{monomials, unannotated}
 use Rattle.gp_grammar.specs.Syntax as y
 use Rattle.gp_versions.specs.declared.span.Span.{Span}
 use Rattle.gp_log.specs.LogFacts.{tables_in}
@@ -26,23 +26,23 @@ use Rattle.gp_ask.proofs.SpanLemmas.{dumped}
 -- what the history answers, from any dump of the log and of its row versions
 abbrev pub AnswersAny : List Entry → Type 0
 AnswersAny entries = (tables : List (List Span))
-    → ((place : ℕ) → IsPermutation (spans_at tables place) (replayed_spans plain (log_of entries) (length (tables_in entries)) (versions_in entries) place))
-    → (how : y.How) (point : y.State) (query : y.Query)
+    → ((place : ℕ) → IsPermutation (spans_at tables place) (replayed_spans unannotated (log_of entries) (length (tables_in entries)) (versions_in entries) place))
+    → (how : y.How) (point : y.Point) (query : y.Query)
     → ask_to (dump_in entries tables) how point query ≡ held_ask (replayed_state monomials (tables_in entries) entries) how point query
 
-module _ (entries : List Entry) (beyond : (place : ℕ) → length (tables_in entries) ≤ place → replayed_spans plain (log_of entries) (length (tables_in entries)) (versions_in entries) place ≡ []) where
+module _ (entries : List Entry) (beyond : (place : ℕ) → length (tables_in entries) ≤ place → replayed_spans unannotated (log_of entries) (length (tables_in entries)) (versions_in entries) place ≡ []) where
   -- so from the dump in order
-  pub ordered : AnswersAny entries → (how : y.How) (point : y.State) (query : y.Query)
+  pub ordered : AnswersAny entries → (how : y.How) (point : y.Point) (query : y.Query)
       → ask_to (replayed_dump entries) how point query ≡ held_ask (replayed_state monomials (tables_in entries) entries) how point query
-  ordered any how point query = any (replayed_dump entries).tables (dumped (replayed_state plain (tables_in entries) entries) beyond) how point query
+  ordered any how point query = any (replayed_dump entries).tables (dumped (replayed_state unannotated (tables_in entries) entries) beyond) how point query
 
   -- and from each dump as from that one
   pub any-order : AnswersAny entries → (tables : List (List Span))
-      → ((place : ℕ) → IsPermutation (spans_at tables place) (replayed_spans plain (log_of entries) (length (tables_in entries)) (versions_in entries) place))
-      → (how : y.How) (point : y.State) (query : y.Query) → ask_to (dump_in entries tables) how point query ≡ ask_to (replayed_dump entries) how point query
+      → ((place : ℕ) → IsPermutation (spans_at tables place) (replayed_spans unannotated (log_of entries) (length (tables_in entries)) (versions_in entries) place))
+      → (how : y.How) (point : y.Point) (query : y.Query) → ask_to (dump_in entries tables) how point query ≡ ask_to (replayed_dump entries) how point query
   any-order any tables are how point query = any tables are how point query ∙ sym (ordered any how point query)
 
-module _ (entries : List Entry) (beyond : (place : ℕ) → length (tables_in entries) ≤ place → replayed_spans plain (log_of entries) (length (tables_in entries)) (versions_in entries) place ≡ [])
+module _ (entries : List Entry) (beyond : (place : ℕ) → length (tables_in entries) ≤ place → replayed_spans unannotated (log_of entries) (length (tables_in entries)) (versions_in entries) place ≡ [])
     (any : stop_upto entries (versions_in entries) ≡ None → AnswersAny entries) where
   -- the answers agree unless a commit stops
   unless-stopped : (one other : Answered) → (stop_upto entries (versions_in entries) ≡ None → one ≡ other)
@@ -54,7 +54,7 @@ module _ (entries : List Entry) (beyond : (place : ℕ) → length (tables_in en
       by None none = same none
       by (Some stop) is = refl
 
-  by-rows : (how : y.How) (point : y.State) (query : y.Query)
+  by-rows : (how : y.How) (point : y.Point) (query : y.Query)
       → unless_refused (asking_refusal entries how point query)
       (unless_refused (remaking_refusal entries) (ask_to (replayed_dump entries) how point query))
       ≡ unless_refused (asking_refusal entries how point query)
@@ -64,7 +64,7 @@ module _ (entries : List Entry) (beyond : (place : ℕ) → length (tables_in en
       (unless-stopped (ask_to (replayed_dump entries) how point query) (held_ask (replayed_state monomials (tables_in entries) entries) how point query)
       (λ none. ordered entries beyond (any none) how point query))
 
-  pub remade : (how : y.How) (point : y.State) (query : y.Query)
+  pub remade : (how : y.How) (point : y.Point) (query : y.Query)
       → remade_answer (ask_to (replayed_dump entries)) entries how point query
       ≡ remade_answer (held_ask (replayed_state monomials (tables_in entries) entries)) entries how point query
   remade (y.explain prov) point query = refl
@@ -73,7 +73,7 @@ module _ (entries : List Entry) (beyond : (place : ℕ) → length (tables_in en
   remade (y.value name rules other) point query = by-rows (y.value name rules other) point query
   remade (y.without patterns) point query = by-rows (y.without patterns) point query
 
-pub changed-same : (found : Result (List Entry) Refusal) (how : y.How) (point : y.State) (query : y.Query)
+pub changed-same : (found : Result (List Entry) Refusal) (how : y.How) (point : y.Point) (query : y.Query)
     → ((entries : List Entry) → found ≡ Ok entries
     → remade_answer (ask_to (replayed_dump entries)) entries how point query ≡ remade_answer (held_ask (replayed_state monomials (tables_in entries) entries)) entries how point query)
     → changed_answer (λ own. ask_to (replayed_dump own)) found how point query
@@ -83,7 +83,7 @@ changed-same (Ok entries) how point query same = same entries refl
 
 -- questions without a change are answered from the dump itself
 pub remade-same : (dump : Dump)
-    → ((change : y.LogChange) (how : y.How) (point : y.State) (query : y.Query) → what_if_answer dump.entries change how point query ≡ what_if_held dump.entries change how point query)
+    → ((change : y.LogChange) (how : y.How) (point : y.Point) (query : y.Query) → what_if_answer dump.entries change how point query ≡ what_if_held dump.entries change how point query)
     → (question : y.Question) → computed_answer dump question ≡ answer_to dump question
 remade-same dump changes y.transactions = refl
 remade-same dump changes (y.log t) = refl

@@ -24,7 +24,8 @@ use Rattle.gp_reenact.specs.declared.error.ReenactStop.TheVariants as stop
 use Rattle.gp_reenact.specs.Reenacting.{spans_of}
 use Rattle.gp_whatif.specs.Replays.{IsReplayable}
 use Rattle.gp_dump.specs.declared.dump.Dump as code
-use Rattle.gp_dump.specs.Dumps.{AreOfTables, Dump, IsDump}
+use Rattle.gp_dump.specs.Dumps.{Dump}
+use Rattle.gp_dump.specs.WholeDumps.{AreOfTables, IsDump}
 use Rattle.gp_dump.specs.Views.{dump_view, tables_view}
 use Rattle.gp_dump.proofs.FittingTables.{spans_of_dumps, statements_of_dumps}
 use Rattle.gp_history.specs.Agreement.{agree}
@@ -36,7 +37,8 @@ use Rattle.gp_history.specs.Sound.{IsSound}
 use Rattle.gp_semiring.specs.Listing.{grouped, listed}
 use Rattle.gp_ask.specs.declared.answered.Answered.TheVariants.{Listed, Refused}
 use Rattle.gp_ask.specs.Answerable.{IsAnswerable}
-use Rattle.gp_ask.specs.Asking.{dump_provenance, spans_at, with_monomials}
+use Rattle.gp_ask.specs.Asking.{spans_at, with_monomials}
+use Rattle.gp_ask.specs.AskingForms.{dump_provenance}
 use Rattle.gp_ask.specs.Keeping.{MayBeKeptOf}
 use Rattle.gp_ask.proofs.ReenactedLemmas.{dump-spans, same-order}
 
@@ -102,7 +104,7 @@ module _ (dump : code.Dump) (versions : List Versions) (same : versions ≡ dump
 
 -- ---- what provenance answers
 
-module _ (dump : Dump) (point : y.State) (select : Select) where
+module _ (dump : Dump) (point : y.Point) (select : Select) where
   abbrev expected : (ℕ → List Span) → Result (List (Element Monomial)) Refusal
   expected spans = annotated_answer monomials parameters agree (tables_in dump.entries) dump.entries spans point select
 

@@ -3,10 +3,11 @@ use Rattle.std.proofs.Common.{◌≡◌, Option, Some, None, Result, Ok, Err, re
 use Rattle.gp_base.specs.declared.refusal.Refusal.{Refusal}
 use Rattle.gp_algebra.specs.Statements.{Select}
 use Rattle.gp_ask.specs.declared.answered.Answered.{Answered}
-use Rattle.gp_ask.specs.Asking.{checked_answer, query_answer}
+use Rattle.gp_ask.specs.Asking.{query_answer}
+use Rattle.gp_ask.specs.Values.{or_refused}
 
 module _ (found other : Select → Answered) (same : (select : Select) → found select ≡ other select) where
-  checked-same : (checked : Result Select Refusal) → checked_answer found checked ≡ checked_answer other checked
+  checked-same : (checked : Result Select Refusal) → or_refused found checked ≡ or_refused other checked
   checked-same (Ok select) = same select
   checked-same (Err refusal) = refl
 

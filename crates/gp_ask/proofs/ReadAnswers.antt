@@ -9,9 +9,9 @@ use Rattle.gp_syntax.specs.Lines.{script_lines}
 use Rattle.gp_machine.specs.Entries.{Entry}
 use Rattle.gp_ask.specs.declared.answered.Answered.{Answered}
 use Rattle.gp_ask.specs.declared.format.Format.{Format}
-use Rattle.gp_ask.specs.Explained.{ExplainsLines, ExplainsRead}
+use Rattle.gp_ask.specs.Explained.{ExplainsLines}
 use Rattle.gp_ask.specs.Questions.{AreQuestions, ReadQuestion, answer_texts, is_refused, read_answer, read_answer_text, refuses_some}
-use Rattle.gp_ask.specs.QuestionFiles.{ExplainsQuestions, answers_text, has_refused, line_answer_in, questions_as_read}
+use Rattle.gp_ask.specs.QuestionFiles.{ExplainsQuestions, ExplainsRead, answers_text, has_refused, line_answer_in, questions_as_read}
 
 pub are-questions : (file : List ℕ) → AreQuestions file (questions_as_read file)
 are-questions file = questions-read (script_lines file)

@@ -24,7 +24,7 @@ use Rattle.gp_ask.specs.declared.answered.Answered.{Answered}
 use Rattle.gp_ask.specs.declared.answered.Answered.TheVariants.{Refused}
 use Rattle.gp_machine.specs.Entries.{Entry}
 use Rattle.gp_ask.specs.Answerable.{has_few_items, keeps_from, question_is_valid}
-use Rattle.gp_ask.specs.Explained.{ExplainsRead}
+use Rattle.gp_ask.specs.QuestionFiles.{ExplainsRead}
 use Rattle.gp_ask.specs.Questions.{answered}
 use Rattle.std.proofs.lemmas.Bool.{and_from, and_parts}
 
@@ -58,10 +58,10 @@ read-valid text own is =
 
 -- ---- the parts of a valid question
 
-pub valid-parts : (how : y.How) (state : y.State) (query : y.Query) → question_is_valid (y.ask how state query) ≡ true → (query_is_valid query ≡ true) × (has_few_items query ≡ true)
+pub valid-parts : (how : y.How) (state : y.Point) (query : y.Query) → question_is_valid (y.ask how state query) ≡ true → (query_is_valid query ≡ true) × (has_few_items query ≡ true)
 valid-parts how state query valid = and_parts (query_is_valid query) (has_few_items query) valid
 
-pub valid-change : (change : y.LogChange) (how : y.How) (state : y.State) (query : y.Query) → question_is_valid (y.what_if change how state query) ≡ true
+pub valid-change : (change : y.LogChange) (how : y.How) (state : y.Point) (query : y.Query) → question_is_valid (y.what_if change how state query) ≡ true
     → (has_statement change ≡ true) × ((change_is_valid change ≡ true) × ((query_is_valid query ≡ true) × (has_few_items query ≡ true)))
 valid-change change how state query valid =
     let outer = and_parts (has_statement change) ((change_is_valid change && query_is_valid query) && has_few_items query) valid in

@@ -9,7 +9,7 @@ use Rattle.gp_base.proofs.SmallLemmas.{none_parts, some_none}
 use Rattle.gp_base.specs.declared.refusal.Refusal.{Refusal}
 use Rattle.gp_base.specs.declared.refusal.Refusal.TheVariants.{E20, E22, E27}
 use Rattle.gp_base.specs.declared.table.Table.{Table}
-use Rattle.gp_base.specs.Annotated.{Annotated, Database, monomials, plain}
+use Rattle.gp_base.specs.Annotated.{Annotated, Database, monomials, unannotated}
 use Rattle.gp_base.specs.Tokens.{Monomial}
 use Rattle.gp_grammar.specs.Syntax as y
 use Rattle.gp_algebra.proofs.Erasure.{answer_reannotated}
@@ -98,7 +98,7 @@ module _ {M : Type 0} (elements others : List (Element M)) (moved : SameBag elem
 
 -- ---- the dump of a history
 
-module _ (state : State Monomial) (reached : IsReached monomials parameters state) (plainly : IsReached plain parameters (forgetting state)) (sessions : KeepsSessions state.entries)
+module _ (state : State Monomial) (reached : IsReached monomials parameters state) (plainly : IsReached unannotated parameters (forgetting state)) (sessions : KeepsSessions state.entries)
     (once : MakesOnce state.entries) (kept : tables_in state.entries ≡ state.catalogue) (tables : List (List Span))
     (are : (table : ℕ) → SameBag (spans_at tables table) (state_spans (forgetting state) table)) where
   abbrev dump : Dump
@@ -118,11 +118,11 @@ module _ (state : State Monomial) (reached : IsReached monomials parameters stat
       let is = not-unknown t state.entries (is_known t state.entries) refl parts.0 in
       let within = not-above t k state.entries (nat_le k (statement_count t state.entries)) refl parts.1 in
       let elements : List (Element Monomial) = answer monomials select (state.views t k) in
-      let found : List (Element (Unit {0})) = answer plain select (run plain (log_of state.entries) t k (as_of plain spans)) in
+      let found : List (Element (Unit {0})) = answer unannotated select (run unannotated (log_of state.entries) t k (as_of unannotated spans)) in
       let others : List (Element (Unit {0})) = map (element_reannotated forgotten) elements in
       let moved : SameBag found others =
-      through (answer_same plain select _ _ (saw parameters (forgetting state) plainly spans are t is.some is.known (rises t) k within)) (same_from _ _ (answer_reannotated monomials plain forgotten (forgotten_keeps monomials) select (state.views t k) ((forgetting state).views t k) (λ table. refl))) in
-      answered-alike found others moved (saw_refusal t k state.entries) (run_stop plain parameters (log_of state.entries) t k (as_of plain spans)) none
+      through (answer_same unannotated select _ _ (saw parameters (forgetting state) plainly spans are t is.some is.known (rises t) k within)) (same_from _ _ (answer_reannotated monomials unannotated forgotten (forgotten_keeps monomials) select (state.views t k) ((forgetting state).views t k) (λ table. refl))) in
+      answered-alike found others moved (saw_refusal t k state.entries) (run_stop unannotated parameters (log_of state.entries) t k (as_of unannotated spans)) none
       (passes-none parameters (forgetting state) plainly spans are t is.some is.known (rises t) k within)
       ∙ same-rows None elements
 
@@ -146,16 +146,16 @@ module _ (state : State Monomial) (reached : IsReached monomials parameters stat
     changed = changed_rows monomials t (suc k) statement before
 
     abbrev found-rows : List (Annotated (Unit {0}))
-    found-rows = changed_rows plain t (suc k) statement (run_before plain (log_of state.entries) t k (as_of plain spans))
+    found-rows = changed_rows unannotated t (suc k) statement (run_before unannotated (log_of state.entries) t k (as_of unannotated spans))
 
     -- the rows are those that the statement changed, in another order
     moved-rows : SameBag found-rows (map (reannotated forgotten) changed)
     moved-rows =
-        let run-rows : Database (Unit {0}) = run_before plain (log_of state.entries) t k (forgetting state).committed in
-        let same = before_reannotated monomials plain forgotten (forgotten_keeps monomials) state.committed (forgetting state).committed (λ version table. refl) (log_of state.entries) t k in
+        let run-rows : Database (Unit {0}) = run_before unannotated (log_of state.entries) t k (forgetting state).committed in
+        let same = before_reannotated monomials unannotated forgotten (forgotten_keeps monomials) state.committed (forgetting state).committed (λ version table. refl) (log_of state.entries) t k in
         through
-        (changed-same plain t (suc k) statement (run_before plain (log_of state.entries) t k (as_of plain spans)) run-rows (started parameters (forgetting state) plainly spans are t is.some is.known (rises t) once k within))
-        (same_from _ _ (changed-reannotated monomials plain forgotten (forgotten_keeps monomials) t (suc k) before run-rows same statement))
+        (changed-same unannotated t (suc k) statement (run_before unannotated (log_of state.entries) t k (as_of unannotated spans)) run-rows (started parameters (forgetting state) plainly spans are t is.some is.known (rises t) once k within))
+        (same_from _ _ (changed-reannotated monomials unannotated forgotten (forgotten_keeps monomials) t (suc k) before run-rows same statement))
 
     different-rows : HaveDifferentIdentities changed
     different-rows =

@@ -1,12 +1,14 @@
 -- The tables of a reached state are those that its log created.
-use Rattle.std.proofs.Common.{◌≡◌, ℕ, Bool, true, false, List, [], ◌∷◌, ◌++◌, Option, Some, None, Result, Ok, Err, ap}
+use Rattle.std.proofs.Common.{◌≡◌, ℕ, Bool, true, false, List, [], ◌∷◌, ◌++◌, Option, Some, None, Result, Ok, Err, ap, subst, sym}
 use Rattle.gp_base.specs.declared.refusal.Refusal.{Refusal}
 use Rattle.gp_base.specs.declared.table.Table.{Table}
 use Rattle.gp_base.specs.Annotated.{Annotations}
 use Rattle.gp_grammar.specs.Syntax.{Command}
 use Rattle.gp_algebra.specs.Statements.{Statement}
 use Rattle.gp_log.specs.LogFacts.{tables_in}
-use Rattle.gp_machine.specs.Actions.{Action, Create, Begin, Commit, Rollback, Run, action_of}
+use Rattle.gp_machine.proofs.ActionLemmas.{event-answered}
+use Rattle.gp_machine.specs.ActionForms as a
+use Rattle.gp_machine.specs.ActionForms.{Action, Begin, Commit, Create, Rollback, Run, action_of}
 use Rattle.gp_machine.specs.Conflicts.{Conflict}
 use Rattle.gp_machine.specs.Event as e
 use Rattle.gp_machine.specs.Event.{Line, after, conflict_of, count_refusal, creation_refusal, is_full, line_event, refusal_of, start_now}
@@ -43,7 +45,7 @@ module _ {M : Type 0} (domain : Annotations M) (parameters : Parameters) (state 
   running active command None (Err refusal) = same
   running active command (Some refusal) checked = same
 
-  answered : (active : Option (Active M)) (action : Action) → HasTables (e.answered domain parameters state line session active action).0
+  answered : (active : Option (Active M)) (action : Action) → HasTables (a.answered domain parameters state line session active action).0
   answered None (Create table) = creating table (creation_refusal parameters state.catalogue table)
   answered None (Begin read_committed) = beginning read_committed (nat_le parameters.transactions (transactions_in state.entries))
   answered None Commit = same
@@ -60,4 +62,5 @@ pub tables-kept : {M : Type 0} (domain : Annotations M) (parameters : Parameters
 tables-kept domain parameters state [] same = same
 tables-kept domain parameters state (line ∷ lines) same =
     tables-kept domain parameters (line_event domain parameters state line).0 lines
-    (answered domain parameters state line.number line.session same (state.active line.session) (action_of line.command))
+    (subst (λ outcome. HasTables outcome.0) (sym (event-answered domain parameters state line.number line.session line.command))
+    (answered domain parameters state line.number line.session same (state.active line.session) (action_of line.command)))

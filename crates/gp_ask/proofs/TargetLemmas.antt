@@ -1,5 +1,6 @@
 -- The check passes no statement that writes a table that is not there.
 use Rattle.std.proofs.Common.{◌≡◌, ◌<◌, List, length, Option, Some, None, Ok, refl, ap, subst}
+use Rattle.std.specs.Option.{option_or}
 use Rattle.std.proofs.lemmas.Bool.{ltb-true}
 use Rattle.std.specs.Result.{result_unwrap_or}
 use Rattle.gp_base.specs.declared.refusal.Refusal.{Refusal}
@@ -7,7 +8,7 @@ use Rattle.gp_base.specs.declared.table.Table.{Table}
 use Rattle.gp_grammar.specs.Syntax as y
 use Rattle.gp_grammar.specs.Syntax.{Bytes, Command}
 use Rattle.gp_check.specs.Checking.{refused_by}
-use Rattle.gp_check.specs.Faults.{first_refusal, query_tables_fault, or_else, table_fault}
+use Rattle.gp_check.specs.Faults.{first_refusal, query_tables_fault, table_fault}
 use Rattle.gp_check.specs.Meaning.{number_of_table, statement_of}
 use Rattle.gp_check.proofs.FittingLemmas.{known, none_of}
 use Rattle.gp_log.specs.Parameters.{parameters}
@@ -23,7 +24,7 @@ target tables y.Command.commit none = tt
 target tables y.rollback none = tt
 target tables (y.insert table rows) none = there tables table (none_of (table_fault tables table) _ none).0
 target tables (y.insert_select table query) none =
-    there tables table (none_of (table_fault tables table) _ (none_of (or_else (table_fault tables table) (query_tables_fault tables query)) _ none).0).0
+    there tables table (none_of (table_fault tables table) _ (none_of (option_or (table_fault tables table) (query_tables_fault tables query)) _ none).0).0
 target tables (y.update table sets cond) none = there tables table (none_of (table_fault tables table) _ none).0
 target tables (y.delete table cond) none = there tables table (none_of (table_fault tables table) _ none).0
 target tables (y.select query) none = tt

@@ -6,7 +6,7 @@ use Rattle.std.specs.List.{filter, list_any}
 use Rattle.std.proofs.lemmas.List.Elements.{filter_agree}
 use Rattle.std.proofs.lemmas.Option.{none-some, same_Some}
 use Rattle.gp_base.proofs.Bags.{SameBag, any_same, filtered, joined, same_from, through}
-use Rattle.gp_base.specs.Annotated.{Annotated, Annotations, Database, Environment, plain}
+use Rattle.gp_base.specs.Annotated.{Annotated, Annotations, Database, Environment, unannotated}
 use Rattle.gp_base.specs.Identities.{Identity, same_identity}
 use Rattle.gp_algebra.proofs.StepBags.{SameTables}
 use Rattle.gp_algebra.specs.Effects.{Written}
@@ -190,33 +190,33 @@ module _ {M : Type 0} (domain : Annotations M) (parameters : Parameters) (state 
       is.unfinished
 
 -- over the row versions of a history, in any order
-module _ (parameters : Parameters) (state : State (Unit {0})) (reached : IsReached plain parameters state) (spans : ℕ → List Span)
+module _ (parameters : Parameters) (state : State (Unit {0})) (reached : IsReached unannotated parameters state) (spans : ℕ → List Span)
     (are : (table : ℕ) → SameBag (spans table) (state_spans state table)) (t : ℕ) (some : zero < t) (known : t ≤ transactions_in state.entries) (rises : IsRising state.entries t) where
-  pub saw : (k : ℕ) → k ≤ statement_count t state.entries → SameTables (run plain (log_of state.entries) t k (as_of plain spans)) (state.views t k)
+  pub saw : (k : ℕ) → k ≤ statement_count t state.entries → SameTables (run unannotated (log_of state.entries) t k (as_of unannotated spans)) (state.views t k)
   saw k within = by (version_of t state.entries) refl
     where
-      by : (version : Option ℕ) → version_of t state.entries ≡ version → SameTables (run plain (log_of state.entries) t k (as_of plain spans)) (state.views t k)
-      by None none = saw_held plain parameters state reached t some known none rises spans are k within
-      by (Some version) made = after_held plain parameters state (reached_unstopped plain parameters state reached) spans are t k version made within
+      by : (version : Option ℕ) → version_of t state.entries ≡ version → SameTables (run unannotated (log_of state.entries) t k (as_of unannotated spans)) (state.views t k)
+      by None none = saw_held unannotated parameters state reached t some known none rises spans are k within
+      by (Some version) made = after_held unannotated parameters state (reached_unstopped unannotated parameters state reached) spans are t k version made within
 
-  pub passes-none : (k : ℕ) → k ≤ statement_count t state.entries → run_stop plain parameters (log_of state.entries) t k (as_of plain spans) ≡ None
+  pub passes-none : (k : ℕ) → k ≤ statement_count t state.entries → run_stop unannotated parameters (log_of state.entries) t k (as_of unannotated spans) ≡ None
   passes-none k within = by (version_of t state.entries) refl
     where
-      by : (version : Option ℕ) → version_of t state.entries ≡ version → run_stop plain parameters (log_of state.entries) t k (as_of plain spans) ≡ None
-      by None none = saw_stops plain parameters state reached t some known none rises spans are k within
-      by (Some version) made = committed_stops plain parameters state (reached_unstopped plain parameters state reached) spans are t k version made within
+      by : (version : Option ℕ) → version_of t state.entries ≡ version → run_stop unannotated parameters (log_of state.entries) t k (as_of unannotated spans) ≡ None
+      by None none = saw_stops unannotated parameters state reached t some known none rises spans are k within
+      by (Some version) made = committed_stops unannotated parameters state (reached_unstopped unannotated parameters state reached) spans are t k version made within
 
-  version-same : (version : ℕ) → version ≤ versions_in state.entries → SameTables (as_of plain spans version) (state.committed version)
-  version-same version within = versions_held plain (log_of state.entries) state.committed state.written reached.history spans are version within
+  version-same : (version : ℕ) → version ≤ versions_in state.entries → SameTables (as_of unannotated spans version) (state.committed version)
+  version-same version within = versions_held unannotated (log_of state.entries) state.committed state.written reached.history spans are version within
 
   -- before a statement it read what its run over the versions of the history gives
   pub started : (once : MakesOnce state.entries) (k : ℕ) → k < statement_count t state.entries
-      → SameTables (run_before plain (log_of state.entries) t k (as_of plain spans)) (run_before plain (log_of state.entries) t k state.committed)
+      → SameTables (run_before unannotated (log_of state.entries) t k (as_of unannotated spans)) (run_before unannotated (log_of state.entries) t k state.committed)
   started once k within =
-      let bound = reads-within plain state reached.history once t (version_of t state.entries) refl in
-      let after : run plain (log_of state.entries) t k state.committed ≡ state.views t k =
-      own-runs plain parameters state reached t bound.0 rises bound.1 k (omega arith) ∙ sym (reached.views t k some known (omega arith)) in
-      refreshed-same (statement_version t k state.entries) (statement_version t (suc k) state.entries) (as_of plain spans) state.committed
-      (run plain (log_of state.entries) t k (as_of plain spans)) (run plain (log_of state.entries) t k state.committed)
+      let bound = reads-within unannotated state reached.history once t (version_of t state.entries) refl in
+      let after : run unannotated (log_of state.entries) t k state.committed ≡ state.views t k =
+      own-runs unannotated parameters state reached t bound.0 rises bound.1 k (omega arith) ∙ sym (reached.views t k some known (omega arith)) in
+      refreshed-same (statement_version t k state.entries) (statement_version t (suc k) state.entries) (as_of unannotated spans) state.committed
+      (run unannotated (log_of state.entries) t k (as_of unannotated spans)) (run unannotated (log_of state.entries) t k state.committed)
       (version-same (statement_version t k state.entries) (versions_le t k state.entries)) (version-same (statement_version t (suc k) state.entries) (versions_le t (suc k) state.entries))
       (λ table. through (saw k (omega arith) table) (same_from _ _ (ap (λ (db : Database (Unit {0})). db table) (sym after))))

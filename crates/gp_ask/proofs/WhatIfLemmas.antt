@@ -1,12 +1,12 @@
 -- What the parts of an answer to a question about a change come to, by what was found.
-use Rattle.std.proofs.Common.{◌≡◌, ℕ, List, length, Option, Some, None, Result, Ok, Err, refl, sym, ap, ◌∙◌, subst}
+use Rattle.std.proofs.Common.{◌≡◌, ℕ, Bool, List, length, Option, Some, None, Result, Ok, Err, IfOk, refl, sym, ap, ◌∙◌, subst}
 use Rattle.std.specs.List.Sorted.{IsPermutation}
 use Rattle.std.proofs.lemmas.List.Sorted.{IsPermutation-refl}
 use Rattle.std.specs.Option.{option_map, option_or}
 use Rattle.std.specs.Result.{result_err}
 use Rattle.gp_base.specs.declared.refusal.Refusal.{Refusal}
 use Rattle.gp_algebra.specs.Statements.{Select}
-use Rattle.gp_base.specs.Annotated.{plain}
+use Rattle.gp_base.specs.Annotated.{unannotated}
 use Rattle.gp_base.specs.Identities.{Identity}
 use Rattle.gp_algebra.specs.Effects.{Written}
 use Rattle.gp_machine.specs.Bases.{Based}
@@ -16,6 +16,9 @@ use Rattle.gp_machine.specs.Entries.{Entry, log_of, versions_in}
 use Rattle.gp_machine.specs.Replaying.{Loses, ReplayStop}
 use Rattle.gp_machine.specs.ReplayForms.{replayed_spans}
 use Rattle.gp_grammar.specs.Syntax as y
+use Rattle.gp_syntax.specs.declared.question.How.{How}
+use Rattle.gp_syntax.specs.declared.question.How.TheVariants as how_is
+use Rattle.gp_syntax.specs.Views.{how_view}
 use Rattle.gp_log.specs.Parameters.{parameters}
 use Rattle.gp_log.specs.LogFacts.{tables_in}
 use Rattle.gp_versions.specs.declared.span.Span.{Span}
@@ -26,8 +29,8 @@ use Rattle.gp_dump.specs.Views.{tables_view}
 use Rattle.gp_ask.specs.declared.answered.Answered.{Answered}
 use Rattle.gp_ask.specs.Computed.{computed_answer, what_if_answer}
 use Rattle.gp_ask.specs.Asking.{ask_to, asked, spans_at}
-use Rattle.gp_ask.specs.Explained.{ExplainsChanged, ExplainsQuestion}
-use Rattle.gp_ask.specs.Hypothetical.{changed_answer, remaking_refusal, replay_refusal, replayed_dump}
+use Rattle.gp_ask.specs.Explained.{ExplainsAsk, ExplainsQuestion}
+use Rattle.gp_ask.specs.Hypothetical.{asking_refusal, changed_answer, remade_answer, remaking_refusal, replay_refusal, replayed_dump}
 use Rattle.gp_ask.specs.Values.{unless_refused}
 use Rattle.gp_ask.specs.Replays.{dump_in}
 use Rattle.gp_ask.proofs.FittingReplays.{replay_spans}
@@ -58,9 +61,9 @@ one_refused refusal own answered is = ap (λ (r : Option Refusal). unless_refuse
 -- what is answered over the commits made again, where none stops
 module _ (entries : List Entry) (is : IsReplayable entries) (versions : List Versions) (made : IsMade entries (versions_in entries) versions)
     (any : (own : List Entry) → IsReplayable own → stop_upto own (versions_in own) ≡ None → (tables : List (List Span))
-    → ((place : ℕ) → IsPermutation (spans_at tables place) (replayed_spans plain (log_of own) (length (tables_in own)) (versions_in own) place))
-    → (how : y.How) (point : y.State) (query : y.Query) → computed_answer (dump_in own tables) (y.ask how point query) ≡ computed_answer (replayed_dump own) (y.ask how point query)) where
-  pub replayed_is : (how : y.How) (point : y.State) (query : y.Query)
+    → ((place : ℕ) → IsPermutation (spans_at tables place) (replayed_spans unannotated (log_of own) (length (tables_in own)) (versions_in own) place))
+    → (how : y.How) (point : y.Point) (query : y.Query) → computed_answer (dump_in own tables) (y.ask how point query) ≡ computed_answer (replayed_dump own) (y.ask how point query)) where
+  pub replayed_is : (how : y.How) (point : y.Point) (query : y.Query)
       → ask_to (dump_in entries (tables_view versions)) how point query ≡ unless_refused (remaking_refusal entries) (ask_to (replayed_dump entries) how point query)
   replayed_is how point query =
       any entries is made.unstopped (tables_view versions)
@@ -68,24 +71,44 @@ module _ (entries : List Entry) (is : IsReplayable entries) (versions : List Ver
       how point query
       ∙ sym (none_refused (remaking_refusal entries) (ask_to (replayed_dump entries) how point query) (remaking_is entries None made.unstopped))
 
+-- a question that is not explained is answered over the commits that are made again
+module _ (entries : List Entry) (point : y.Point) (query : y.Query) where
+  pub remade_over : (how : How) → ((prov : Bool) → how ≡ how_is.Explain prov → ⊥)
+      → remade_answer (ask_to (replayed_dump entries)) entries (how_view how) point query
+      ≡ unless_refused (asking_refusal entries (how_view how) point query) (unless_refused (remaking_refusal entries) (ask_to (replayed_dump entries) (how_view how) point query))
+  remade_over how_is.Rows other = refl
+  remade_over how_is.Provenance other = refl
+  remade_over (how_is.Explain prov) other = absurd (other prov refl)
+  remade_over (how_is.Value semiring rules own) other = refl
+  remade_over (how_is.Without rules) other = refl
+
+  pub explains_over : (how : How) → ((prov : Bool) → how ≡ how_is.Explain prov → ⊥) → ExplainsQuestion entries (y.ask (how_view how) point query)
+  explains_over how_is.Rows other = tt
+  explains_over how_is.Provenance other = tt
+  explains_over (how_is.Explain prov) other = absurd (other prov refl)
+  explains_over (how_is.Value semiring rules own) other = tt
+  explains_over (how_is.Without rules) other = tt
+
 -- ---- by the changed log
 
-pub changed_is : (entries : List Entry) (change : y.LogChange) (how : y.How) (point : y.State) (query : y.Query) (found : Result (List Entry) Refusal) → changed parameters entries change ≡ found
+pub changed_is : (entries : List Entry) (change : y.LogChange) (how : y.How) (point : y.Point) (query : y.Query) (found : Result (List Entry) Refusal) → changed parameters entries change ≡ found
     → what_if_answer entries change how point query ≡ changed_answer (λ own. ask_to (replayed_dump own)) found how point query
 changed_is entries change how point query found is = ap (λ (log : Result (List Entry) Refusal). changed_answer (λ own. ask_to (replayed_dump own)) log how point query) is
 
 -- what is said of an explained query is said over the changed log
-pub explains_changed : (entries : List Entry) (change : y.LogChange) (how : y.How) (point : y.State) (query : y.Query) (new : List Entry) → changed parameters entries change ≡ Ok new
+pub explains_changed : (entries : List Entry) (change : y.LogChange) (how : y.How) (point : y.Point) (query : y.Query) (new : List Entry) → changed parameters entries change ≡ Ok new
     → ExplainsQuestion new (y.ask how point query) → ExplainsQuestion entries (y.what_if change how point query)
-explains_changed entries change (y.explain prov) point query new is says = subst (ExplainsChanged prov point query) (sym is) says
+explains_changed entries change (y.explain prov) point query new is says =
+    subst (λ (log : Result (List Entry) Refusal). IfOk log (λ (own : List Entry). ExplainsAsk own prov point query)) (sym is) says
 explains_changed entries change y.rows point query new is says = tt
 explains_changed entries change y.provenance point query new is says = tt
 explains_changed entries change (y.value name rules other) point query new is says = tt
 explains_changed entries change (y.without patterns) point query new is says = tt
 
-pub explains_refused : (entries : List Entry) (change : y.LogChange) (how : y.How) (point : y.State) (query : y.Query) (refusal : Refusal) → changed parameters entries change ≡ Err refusal
+pub explains_refused : (entries : List Entry) (change : y.LogChange) (how : y.How) (point : y.Point) (query : y.Query) (refusal : Refusal) → changed parameters entries change ≡ Err refusal
     → ExplainsQuestion entries (y.what_if change how point query)
-explains_refused entries change (y.explain prov) point query refusal is = subst (ExplainsChanged prov point query) (sym is) tt
+explains_refused entries change (y.explain prov) point query refusal is =
+    subst (λ (log : Result (List Entry) Refusal). IfOk log (λ (own : List Entry). ExplainsAsk own prov point query)) (sym is) tt
 explains_refused entries change y.rows point query refusal is = tt
 explains_refused entries change y.provenance point query refusal is = tt
 explains_refused entries change (y.value name rules other) point query refusal is = tt

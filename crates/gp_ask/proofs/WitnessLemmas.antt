@@ -29,9 +29,10 @@ use Rattle.gp_kexec.specs.CountForms.{HasCounts, itself}
 use Rattle.gp_kexec.proofs.WitnessValueLemmas.{witness_value}
 use Rattle.gp_dump.specs.Dumps.{Dump}
 use Rattle.gp_ask.specs.Computed.{computed_answer}
-use Rattle.gp_ask.specs.Asking.{dump_query, spans_at}
+use Rattle.gp_ask.specs.Asking.{spans_at}
+use Rattle.gp_ask.specs.AskingForms.{dump_query, rules_of}
 use Rattle.gp_ask.specs.ValueForms.{dump_minimal, dump_valued, dump_values}
-use Rattle.gp_ask.specs.Values.{rules_of, semiring_of, witness, with_values}
+use Rattle.gp_ask.specs.Values.{semiring_of, witness, with_values}
 use Rattle.gp_ask.specs.Witnesses.{minimal_of}
 use Rattle.gp_ask.proofs.CountedLemmas.{EachCounts, answers_count}
 use Rattle.gp_ask.proofs.MovedLemmas.{each_moved}
@@ -62,7 +63,7 @@ minimal_moved None elements others are moved =
     (sym (values_minimal elements are) ∙ values_moved token_witness_laws itself witness_token_in elements others (moved refl)
     ∙ values_minimal others (each_moved (λ (element : Element Monomial). HasCounts element.annotation) elements others (unpermuted elements others (moved refl)) are))
 
-values_are_minimal : (dump : Dump) (point : y.State) (select : Select) → dump_values witness named.Witness ([], None) dump point select ≡ dump_minimal dump point select
+values_are_minimal : (dump : Dump) (point : y.Point) (select : Select) → dump_values witness named.Witness ([], None) dump point select ≡ dump_minimal dump point select
 values_are_minimal dump point select =
     ap (with_values sets_text)
     (limited_minimal (history_refusal monomials parameters agree (tables_in dump.entries) dump.entries (spans_at dump.tables) point)
@@ -70,7 +71,7 @@ values_are_minimal dump point select =
     (answers_count (tables_in dump.entries) dump.entries (spans_at dump.tables) point select))
 
 -- the values by rules are the answer, also where no rule is given
-valued_is : (name : SemiringName) (rules : List y.Rule) (other : Option ℕ) (dump : Dump) (point : y.State) (select : Select)
+valued_is : (name : SemiringName) (rules : List y.Rule) (other : Option ℕ) (dump : Dump) (point : y.Point) (select : Select)
     → dump_values (semiring_of name) name (rules_of rules other) dump point select ≡ dump_valued name rules other dump point select
 valued_is named.Count rules other dump point select = refl
 valued_is named.Bool rules other dump point select = refl
@@ -82,7 +83,7 @@ valued_is named.Witness [] (Some n) dump point select = refl
 valued_is named.Witness (rule ∷ rules) None dump point select = refl
 valued_is named.Witness (rule ∷ rules) (Some n) dump point select = refl
 
-pub asked_values : (name : SemiringName) (rules : List y.Rule) (other : Option ℕ) (dump : Dump) (point : y.State) (query : y.Query)
+pub asked_values : (name : SemiringName) (rules : List y.Rule) (other : Option ℕ) (dump : Dump) (point : y.Point) (query : y.Query)
     → dump_query dump (dump_values (semiring_of name) name (rules_of rules other) dump point) point query ≡ computed_answer dump (y.ask (y.value name rules other) point query)
 asked_values name rules other dump point query =
     query-same (dump_values (semiring_of name) name (rules_of rules other) dump point) (dump_valued name rules other dump point) (valued_is name rules other dump point)

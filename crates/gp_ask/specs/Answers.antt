@@ -1,6 +1,7 @@
 -- Part of the statement: the answer to a question, from a dump alone, and the answer that a history held. A question about what would be with a change has in
 -- both the answer that the history held that would have been. The dump of a history is one of a history.
-use Rattle.std.specs.Prelude.{ℕ, List, map, filter, reverse, Option, Some, None, if◌then◌else◌}
+use Rattle.std.specs.Prelude.{ℕ, List, map, filter, reverse, Option, None, if◌then◌else◌}
+use Rattle.std.specs.Option.{option_map_or}
 use Rattle.gp_base.specs.declared.refusal.Refusal.TheVariants.{E04, E20}
 use Rattle.gp_base.specs.Catalogs.{place_of}
 use Rattle.gp_base.specs.Tokens.{Monomial}
@@ -34,8 +35,7 @@ log_answer t entries = if is_known t entries then Log (map entry_text (entries_o
 -- ---- the row versions of a table
 
 abbrev pub versions_answer : List ℕ → List (List Span) → Option ℕ → Answered
-versions_answer name tables None = Refused (E04 name)
-versions_answer name tables (Some place) = Versions (map span_text (spans_at tables place))
+versions_answer name tables found = option_map_or (λ (place : ℕ). Versions (map span_text (spans_at tables place))) found (Refused (E04 name))
 
 -- ---- the answer to a question
 

@@ -2,7 +2,8 @@
 -- first that applies: its version, transaction or statement is not in the log, the check of its query, a number of its rules that is not in the
 -- semiring, for provenance, values and what remains without some rows a version that the log does not give, a limit that the statements of a transaction
 -- pass, the number of its rows.
-use Rattle.std.specs.Prelude.{ℕ, Bool, List, [], map, Option, Some, None, Result, Ok, Err, slice_index_or}
+use Rattle.std.specs.Prelude.{ℕ, Bool, List, [], map, Option, None, Result, Err, slice_index_or}
+use Rattle.std.specs.Option.{option_map_or}
 use Rattle.gp_base.specs.declared.refusal.Refusal.{Refusal}
 use Rattle.gp_base.specs.Annotated.{monomials}
 use Rattle.gp_base.specs.Order.{row_cmp, sorted_by}
@@ -20,17 +21,17 @@ use Rattle.gp_machine.specs.Questions.{annotated_answer, given, held_answer, log
 use Rattle.gp_machine.specs.State.{State}
 use Rattle.gp_log.specs.Parameters.{parameters}
 use Rattle.gp_log.specs.LogFacts.{tables_in}
-use Rattle.gp_dump.specs.Dumps.{Dump, dump_of}
+use Rattle.gp_dump.specs.Dumps.{Dump}
 use Rattle.gp_semiring.specs.declared.rules.Rule.{Rule}
 use Rattle.gp_semiring.specs.Witnesses.{sets_text}
 use Rattle.gp_history.specs.ValueAnswers.{all_elements, history_refusal, limited, values_of}
 use Rattle.gp_history.specs.Agreement.{agree, occurrence}
 use Rattle.gp_semiring.specs.Listing.{listed}
 use Rattle.gp_ask.specs.declared.answered.Answered.{Answered}
-use Rattle.gp_ask.specs.declared.answered.Answered.TheVariants.{Rows, Listed, Program, Refused}
+use Rattle.gp_ask.specs.declared.answered.Answered.TheVariants.{Rows, Listed, Program}
 use Rattle.gp_ask.specs.Programs.{program_lines}
-use Rattle.gp_ask.specs.Remaining.{has_left_out, pattern_of, remaining_answer}
-use Rattle.gp_ask.specs.Values.{Semiring, evaluated, rules_of, semiring_of, value_of, with_values}
+use Rattle.gp_ask.specs.Remaining.{has_left_out, remaining_answer}
+use Rattle.gp_ask.specs.Values.{Semiring, evaluated, or_refused, rule_of, semiring_of, value_of, with_values}
 use Rattle.gp_ask.specs.Witnesses.{minimal_of}
 
 -- the row versions of a table of a dump
@@ -41,26 +42,19 @@ spans_at tables place = slice_index_or tables place []
 
 -- the rows, in row order, each as often as it occurs
 abbrev pub of_elements : {M : Type 0} → Result (List (Element M)) Refusal → Answered
-of_elements (Ok elements) = Rows (sorted_by row_cmp (cells_of elements))
-of_elements (Err refusal) = Refused refusal
+of_elements elements = or_refused (λ own. Rows (sorted_by row_cmp (cells_of own))) elements
 
 -- each distinct row in row order, with the monomials of all its occurrences in order
 abbrev pub with_monomials : Result (List (Element Monomial)) Refusal → Answered
-with_monomials (Ok elements) = Listed (listed (map occurrence elements))
-with_monomials (Err refusal) = Refused refusal
-
--- a query that was checked, given what answers it
-abbrev pub checked_answer : (Select → Answered) → Result Select Refusal → Answered
-checked_answer answer (Err refusal) = Refused refusal
-checked_answer answer (Ok select) = answer select
+with_monomials elements = or_refused (λ own. Listed (listed (map occurrence own))) elements
 
 -- the check of a query comes after the refusal of its version or transaction
 abbrev pub asked : Option Refusal → Result Select Refusal → Result Select Refusal
-asked (Some refusal) checked = Err refusal
-asked None checked = checked
+asked refusal checked = option_map_or Err refusal checked
 
+-- given what answers a query that was checked
 abbrev pub query_answer : (Select → Answered) → Option Refusal → Result Select Refusal → Answered
-query_answer answer refusal checked = checked_answer answer (asked refusal checked)
+query_answer answer refusal checked = or_refused answer (asked refusal checked)
 
 -- the minimal witnesses of the rows, by the monomials of the elements; distinct rows are counted
 abbrev pub minimal_answer : Result (List (Element Monomial)) Refusal → Answered
@@ -74,67 +68,40 @@ values_answer semiring name rules elements =
 -- values by rules; those in witnesses without rules are the minimal witnesses
 abbrev pub valued_answer : SemiringName → List y.Rule → Option ℕ → Result (List (Element Monomial)) Refusal → Answered
 valued_answer named.Witness [] None elements = minimal_answer elements
-valued_answer name rules other elements = values_answer (semiring_of name) name (rules_of rules other) elements
+valued_answer name rules other elements = values_answer (semiring_of name) name (map rule_of rules, other) elements
 
 -- ---- the answer from a dump
 
--- rows are those of the dump's own versions; their provenance is that of the versions as the log's transactions annotate them
-abbrev pub dump_rows : Dump → y.State → Select → Answered
-dump_rows dump point select = of_elements (rows_answer parameters dump.entries (spans_at dump.tables) point select)
-
-abbrev pub dump_provenance : Dump → y.State → Select → Answered
-dump_provenance dump point select =
+-- A query that was checked. Rows are those of the dump's own versions. Their provenance, the elements by which they have values, and the rows that remain
+-- without those that patterns leave out are over the versions as the log's transactions annotate them. An explained query is its program, whatever the rows are.
+abbrev pub dump_answer : Dump → y.How → y.Point → Select → Answered
+dump_answer dump y.rows point select = of_elements (rows_answer parameters dump.entries (spans_at dump.tables) point select)
+dump_answer dump y.provenance point select =
     with_monomials (annotated_answer monomials parameters agree (tables_in dump.entries) dump.entries (spans_at dump.tables) point select)
-
--- the elements of the answer over the annotated versions, however many they are
-abbrev pub dump_elements : Dump → y.State → Select → Result (List (Element Monomial)) Refusal
-dump_elements dump point select = all_elements monomials parameters agree (tables_in dump.entries) dump.entries (spans_at dump.tables) point select
-
--- the rows over the annotated database without those that the patterns leave out
-abbrev pub dump_remaining : List Rule → Dump → y.State → Select → Answered
-dump_remaining patterns dump point select =
+dump_answer dump (y.explain prov) point select = Program (program_lines dump.entries prov point select)
+dump_answer dump (y.value name rules other) point select =
+    valued_answer name rules other (all_elements monomials parameters agree (tables_in dump.entries) dump.entries (spans_at dump.tables) point select)
+dump_answer dump (y.without patterns) point select =
     of_elements
-    (remaining_answer (has_left_out patterns) select (at_point monomials dump.entries point (annotated_versions monomials dump.entries (spans_at dump.tables)))
+    (remaining_answer (has_left_out (map rule_of patterns)) select
+    (at_point monomials dump.entries point (annotated_versions monomials dump.entries (spans_at dump.tables)))
     (history_refusal monomials parameters agree (tables_in dump.entries) dump.entries (spans_at dump.tables) point))
 
--- an explained query is its program, whatever the rows are
-abbrev pub dump_program : Dump → Bool → y.State → Select → Answered
-dump_program dump prov point select = Program (program_lines dump.entries prov point select)
-
--- a query over a state, given what answers it once it is checked
-abbrev pub dump_query : Dump → (Select → Answered) → y.State → y.Query → Answered
-dump_query dump answer point query = query_answer answer (log_refusal dump.entries point) (checked_query (tables_in dump.entries) query)
-
-abbrev pub ask_to : Dump → y.How → y.State → y.Query → Answered
-ask_to dump y.rows point query = dump_query dump (dump_rows dump point) point query
-ask_to dump y.provenance point query = dump_query dump (dump_provenance dump point) point query
-ask_to dump (y.explain prov) point query = dump_query dump (dump_program dump prov point) point query
-ask_to dump (y.value name rules other) point query = dump_query dump (λ select. valued_answer name rules other (dump_elements dump point select)) point query
-ask_to dump (y.without patterns) point query = dump_query dump (dump_remaining (map pattern_of patterns) dump point) point query
+abbrev pub ask_to : Dump → y.How → y.Point → y.Query → Answered
+ask_to dump how point query = query_answer (dump_answer dump how point) (log_refusal dump.entries point) (checked_query (tables_in dump.entries) query)
 
 -- ---- the answer that a history held
 
--- the rows that a commit published, or that a transaction saw after one of its statements, their provenance, the elements by which they have values, and
--- the rows that the query gives over the same database without some of its rows
-abbrev pub held_rows : State Monomial → y.State → Select → Answered
-held_rows state point select = of_elements (held_answer monomials parameters state point select)
+-- The rows that a commit published, or that a transaction saw after one of its statements, their provenance, the elements by which they have values, and
+-- the rows that the query gives over the same database without some of its rows. Programs are made of the log alone.
+abbrev pub history_answer : State Monomial → y.How → y.Point → Select → Answered
+history_answer state y.rows point select = of_elements (held_answer monomials parameters state point select)
+history_answer state y.provenance point select = with_monomials (held_answer monomials parameters state point select)
+history_answer state (y.explain prov) point select = Program (program_lines state.entries prov point select)
+history_answer state (y.value name rules other) point select =
+    valued_answer name rules other (given (log_refusal state.entries point) (answer monomials select (held_at state point)))
+history_answer state (y.without patterns) point select =
+    of_elements (remaining_answer (has_left_out (map rule_of patterns)) select (held_at state point) (log_refusal state.entries point))
 
-abbrev pub held_provenance : State Monomial → y.State → Select → Answered
-held_provenance state point select = with_monomials (held_answer monomials parameters state point select)
-
-abbrev pub held_elements : State Monomial → y.State → Select → Result (List (Element Monomial)) Refusal
-held_elements state point select = given (log_refusal state.entries point) (answer monomials select (held_at state point))
-
-abbrev pub held_remaining : List Rule → State Monomial → y.State → Select → Answered
-held_remaining patterns state point select = of_elements (remaining_answer (has_left_out patterns) select (held_at state point) (log_refusal state.entries point))
-
-abbrev pub held_query : State Monomial → (Select → Answered) → y.State → y.Query → Answered
-held_query state answer point query = query_answer answer (log_refusal state.entries point) (checked_query state.catalogue query)
-
--- programs are made of the log alone
-abbrev pub held_ask : State Monomial → y.How → y.State → y.Query → Answered
-held_ask state y.rows point query = held_query state (held_rows state point) point query
-held_ask state y.provenance point query = held_query state (held_provenance state point) point query
-held_ask state (y.explain prov) point query = ask_to (dump_of state) (y.explain prov) point query
-held_ask state (y.value name rules other) point query = held_query state (λ select. valued_answer name rules other (held_elements state point select)) point query
-held_ask state (y.without patterns) point query = held_query state (held_remaining (map pattern_of patterns) state point) point query
+abbrev pub held_ask : State Monomial → y.How → y.Point → y.Query → Answered
+held_ask state how point query = query_answer (history_answer state how point) (log_refusal state.entries point) (checked_query state.catalogue query)

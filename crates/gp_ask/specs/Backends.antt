@@ -4,7 +4,7 @@ use Rattle.std.specs.Prelude.{◌≡◌, ℕ, true, false, List, Option, Some, N
 use Rattle.gp_base.specs.declared.refusal.Refusal.{Refusal}
 use Rattle.gp_base.specs.declared.refusal.Refusal.TheVariants.{E25, E26, E27}
 use Rattle.gp_base.specs.declared.table.Table.{Table}
-use Rattle.gp_base.specs.Annotated.{plain}
+use Rattle.gp_base.specs.Annotated.{unannotated}
 use Rattle.gp_base.specs.Order.{row_cmp, sorted_by}
 use Rattle.gp_grammar.specs.Syntax as y
 use Rattle.gp_algebra.specs.Fitting.{select_fits}
@@ -27,7 +27,7 @@ use Rattle.gp_ask.specs.Asking.{spans_at}
 
 -- the rows of a dump's past versions, each with its identity and the mark NO
 abbrev pub past_of : Dump → PlainEnvironment
-past_of dump = encoded (as_of plain (spans_at dump.tables))
+past_of dump = encoded (as_of unannotated (spans_at dump.tables))
 
 -- what is given: rows in row order, or the refusal of a stop of transaction t
 abbrev pub Shows : ℕ → Given → Answered → Type 0

@@ -1,13 +1,13 @@
 -- Part of the statement: what a statement changed, over what its transaction read, whatever became of the transaction; and what a commit changed. Each row that
 -- was inserted, updated or deleted is a line with its table, its identity, and its cells before and after.
-use Rattle.std.specs.Prelude.{ℕ, suc, ◌-◌, ◌==◌, ◌&&◌, not, Bool, false, List, [], ◌∷◌, ◌++◌, map, codes, Option, Some, None, Result, Ok, Err, if◌then◌else◌}
-use Rattle.std.specs.List.{concat}
+use Rattle.std.specs.Prelude.{ℕ, suc, ◌-◌, ◌==◌, ◌&&◌, not, Bool, false, List, [], ◌∷◌, ◌++◌, map, codes, Option, Some, None, Result, Ok, slice_get, if◌then◌else◌}
+use Rattle.std.specs.List.{concat, flat_map, zip}
 use Rattle.std.specs.declared.cmp.Ordering.{Ordering}
-use Rattle.std.specs.Option.{option_map_or}
+use Rattle.std.specs.Option.{option_and_then, option_map_or}
 use Rattle.gp_base.specs.declared.cell.Cell.{Cell}
 use Rattle.gp_base.specs.declared.refusal.Refusal.{Refusal}
 use Rattle.gp_base.specs.declared.table.Table.{Table}
-use Rattle.gp_base.specs.Annotated.{Annotated, monomials, plain}
+use Rattle.gp_base.specs.Annotated.{Annotated, monomials, unannotated}
 use Rattle.gp_base.specs.Identities.{Identity, identity_cmp, identity_text, same_identity}
 use Rattle.gp_base.specs.Order.{sorted_by}
 use Rattle.gp_base.specs.Texts.{row_text}
@@ -27,16 +27,15 @@ use Rattle.gp_machine.specs.State.{State}
 use Rattle.gp_reenact.specs.Looking.{looked_refusal}
 use Rattle.gp_versions.specs.declared.span.Span.{Span}
 use Rattle.gp_ask.specs.declared.answered.Answered.{Answered}
-use Rattle.gp_ask.specs.declared.answered.Answered.TheVariants.{Changes, Refused}
+use Rattle.gp_ask.specs.declared.answered.Answered.TheVariants.{Changes}
 use Rattle.gp_ask.specs.Asking.{spans_at}
-use Rattle.gp_ask.specs.Values.{unless_refused}
+use Rattle.gp_ask.specs.Values.{or_refused, unless_refused}
 
 -- ---- texts
 
 -- a row behind a space, or nothing where there is none
 abbrev pub side_text : Option (List Cell) → List ℕ
-side_text None = []
-side_text (Some cells) = codes " " ++ row_text cells
+side_text side = option_map_or (λ (cells : List Cell). codes " " ++ row_text cells) side []
 
 abbrev pub change_text : List ℕ → Identity → Option (List Cell) → Option (List Cell) → List ℕ
 change_text name id before after =
@@ -66,25 +65,22 @@ abbrev pub changed_texts : {M : Type 0} → List ℕ → Statement → List (Ann
 changed_texts name statement rows = map (changed_text name statement) (sorted_by by_identity rows)
 
 abbrev pub of_changes : {M : Type 0} → List ℕ → Statement → Result (List (Annotated M)) Refusal → Answered
-of_changes name statement (Ok rows) = Changes (changed_texts name statement rows)
-of_changes name statement (Err refusal) = Refused refusal
+of_changes name statement rows = or_refused (λ own. Changes (changed_texts name statement own)) rows
 
 -- a SELECT changes nothing, whatever its transaction read; given the tables, and what a statement changed of a table
 abbrev pub changes_of : {M : Type 0} → List Table → Option ℕ → Statement → Result (List (Annotated M)) Refusal → Answered
-changes_of tables None statement rows = Changes []
-changes_of tables (Some place) statement rows = of_changes (name_at place tables) statement rows
+changes_of tables table statement rows = option_map_or (λ (place : ℕ). of_changes (name_at place tables) statement rows) table (Changes [])
 
 -- a number without a statement changes nothing
 abbrev pub if_any : (Statement → Answered) → Option Statement → Answered
-if_any answer None = Changes []
-if_any answer (Some statement) = answer statement
+if_any answer statement = option_map_or answer statement (Changes [])
 
 -- From a dump: what the logged statement k + 1 gives over the stored versions, where the statements before it ran.
 abbrev pub dump_changes : Dump → ℕ → ℕ → Statement → Answered
 dump_changes dump t k statement =
     changes_of (tables_in dump.entries) (target statement) statement
     (given (looked_refusal parameters dump.entries (spans_at dump.tables) t k statement)
-    (changed_rows plain t (suc k) statement (run_before plain (log_of dump.entries) t k (as_of plain (spans_at dump.tables)))))
+    (changed_rows unannotated t (suc k) statement (run_before unannotated (log_of dump.entries) t k (as_of unannotated (spans_at dump.tables)))))
 
 abbrev pub changes_to : Dump → ℕ → ℕ → Answered
 changes_to dump t k = unless_refused (changes_refusal t k dump.entries) (if_any (dump_changes dump t (k - 1)) (statement_at t k dump.entries))
@@ -106,17 +102,11 @@ ends_at version span = option_map_or (λ to. to == version) span.to false
 
 -- whether a span goes on in the next one at a version: the version wrote its row, and kept it
 abbrev pub goes_on : ℕ → Span → Option Span → Bool
-goes_on version span None = false
-goes_on version span (Some next) = (next.from == version) && same_identity next.id span.id
+goes_on version span next = option_map_or (λ (other : Span). (other.from == version) && same_identity other.id span.id) next false
 
 -- the row before a span that begins at a version, if the span before it ends there
 abbrev pub row_before : ℕ → Option Span → Span → Option (List Cell)
-row_before version None span = None
-row_before version (Some last) span = if ends_at version last && same_identity last.id span.id then Some last.row else None
-
-abbrev pub next_of : List Span → Option Span
-next_of [] = None
-next_of (next ∷ others) = Some next
+row_before version last span = option_and_then (λ (other : Span). if ends_at version other && same_identity other.id span.id then Some other.row else None) last
 
 -- the lines of a span, behind the last one and before the others: the row that begins with it, and the row that ends with it and has no other
 abbrev pub span_texts : List ℕ → ℕ → Option Span → Span → Option Span → List (List ℕ)
@@ -127,16 +117,13 @@ span_texts name version last span next =
 -- those of a table, whose spans are in the order of a dump: by identity, then by the version that they begin with
 abbrev pub spans_texts : List ℕ → ℕ → Option Span → List Span → List (List ℕ)
 spans_texts name version last [] = []
-spans_texts name version last (span ∷ spans) = span_texts name version last span (next_of spans) ++ spans_texts name version (Some span) spans
+spans_texts name version last (span ∷ spans) = span_texts name version last span (slice_get spans 0) ++ spans_texts name version (Some span) spans
 
 abbrev pub tables_texts : ℕ → List Table → List (List Span) → List (List ℕ)
-tables_texts version [] tables = []
-tables_texts version (table ∷ others) [] = []
-tables_texts version (table ∷ others) (spans ∷ tables) = spans_texts table.name version None spans ++ tables_texts version others tables
+tables_texts version tables lists = flat_map (λ (own : Table × List Span). spans_texts own.0.name version None own.1) (zip tables lists)
 
 abbrev pub version_changes : Dump → Option ℕ → Answered
-version_changes dump None = Changes []
-version_changes dump (Some version) = Changes (tables_texts version (tables_in dump.entries) dump.tables)
+version_changes dump version = option_map_or (λ (own : ℕ). Changes (tables_texts own (tables_in dump.entries) dump.tables)) version (Changes [])
 
 -- by table, in the order of creation, and then by identity; the versions are those of the dump, and so are those of a history
 abbrev pub commit_changes_to : Dump → ℕ → Answered

@@ -12,7 +12,7 @@ use Rattle.gp_ask.specs.Asking.{ask_to}
 use Rattle.gp_ask.specs.Differences.{causes_answer, diff_answer}
 use Rattle.gp_ask.specs.Hypothetical.{changed_answer, replayed_dump}
 
-abbrev pub what_if_answer : List Entry → y.LogChange → y.How → y.State → y.Query → Answered
+abbrev pub what_if_answer : List Entry → y.LogChange → y.How → y.Point → y.Query → Answered
 what_if_answer entries change how point query = changed_answer (λ own. ask_to (replayed_dump own)) (changed parameters entries change) how point query
 
 abbrev pub computed_answer : Dump → y.Question → Answered

@@ -1,7 +1,7 @@
 -- Part of the statement: what the law on differences says: the rows of a difference by their signs.
-use Rattle.std.specs.Prelude.{List, filter, map}
+use Rattle.std.specs.Prelude.{List, filter, map, not}
 use Rattle.gp_base.specs.declared.cell.Cell.{Cell}
-use Rattle.gp_ask.specs.Deltas.{Signed, added, is_added, is_removed, removed}
+use Rattle.gp_ask.specs.Deltas.{Signed, added, is_removed, removed}
 
 abbrev pub row_of : Signed → List Cell
 row_of (removed row) = row
@@ -12,4 +12,4 @@ abbrev pub removed_rows : List Signed → List (List Cell)
 removed_rows lines = map row_of (filter is_removed lines)
 
 abbrev pub added_rows : List Signed → List (List Cell)
-added_rows lines = map row_of (filter is_added lines)
+added_rows lines = map row_of (filter (λ (line : Signed). not (is_removed line)) lines)

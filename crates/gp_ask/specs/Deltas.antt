@@ -1,6 +1,6 @@
 -- Part of the statement: the difference of two bags of rows, each a list in row order: a row as often as it is more often in the one than in the other, with a
 -- sign. The law `deltas_are_differences` says what that gives.
-use Rattle.std.specs.Prelude.{ℕ, Bool, true, false, List, [], ◌∷◌, ◌++◌, length, filter, map, codes}
+use Rattle.std.specs.Prelude.{ℕ, Bool, true, false, List, [], ◌∷◌, ◌++◌, length, filter, map, not, codes}
 use Rattle.std.specs.FinMap.Entries.{by_order}
 use Rattle.gp_base.specs.declared.cell.Cell.{Cell}
 use Rattle.gp_base.specs.Order.{row_cmp}
@@ -27,10 +27,6 @@ abbrev pub is_removed : Signed → Bool
 is_removed (removed row) = true
 is_removed (added row) = false
 
-abbrev pub is_added : Signed → Bool
-is_added (removed row) = false
-is_added (added row) = true
-
 abbrev pub signed_text : Signed → List ℕ
 signed_text (removed row) = codes "- " ++ row_text row
 signed_text (added row) = codes "+ " ++ row_text row
@@ -40,4 +36,4 @@ abbrev pub removed_in : List Signed → ℕ
 removed_in lines = length (filter is_removed lines)
 
 abbrev pub added_in : List Signed → ℕ
-added_in lines = length (filter is_added lines)
+added_in lines = length (filter (λ (line : Signed). not (is_removed line)) lines)

@@ -14,6 +14,7 @@ use Rattle.gp_machine.specs.Entries.{Entry, Ran, statement_count, version_of}
 use Rattle.gp_ask.specs.declared.answered.Answered.{Answered}
 use Rattle.gp_ask.specs.declared.answered.Answered.TheVariants.{Causes, Diff, Refused, Rows}
 use Rattle.gp_ask.specs.Deltas.{Signed, added_in, delta, removed_in, signed_text}
+use Rattle.gp_ask.specs.Values.{or_refused}
 
 -- the rows of an answer, or its refusal; what asks for rows has no other answer
 abbrev pub rows_in : Answered → Result (List (List Cell)) Refusal
@@ -29,9 +30,7 @@ diff_lines lines = if nat_lt parameters.answer (length lines) then Refused E27 e
 
 -- the first answer is refused first
 abbrev pub diff_of : Result (List (List Cell)) Refusal → Result (List (List Cell)) Refusal → Answered
-diff_of (Err refusal) second = Refused refusal
-diff_of (Ok rows) (Err refusal) = Refused refusal
-diff_of (Ok rows) (Ok others) = diff_lines (delta rows others)
+diff_of first second = or_refused (λ rows. or_refused (λ others. diff_lines (delta rows others)) second) first
 
 -- ---- the statements that an answer depends on
 
@@ -72,16 +71,15 @@ abbrev pub lines_of : (ℕ × ℕ → Answered) → List (ℕ × ℕ) → List (
 lines_of without statements rows = flat_map (λ own. cause_of rows own (rows_in (without own))) statements
 
 abbrev pub causes_of : (ℕ × ℕ → Answered) → List (ℕ × ℕ) → Result (List (List Cell)) Refusal → Answered
-causes_of without statements (Err refusal) = Refused refusal
-causes_of without statements (Ok rows) = Causes (lines_of without statements rows)
+causes_of without statements rows = or_refused (λ own. Causes (lines_of without statements own)) rows
 
 -- ---- by the answers to questions about states, and to those about states with a change
 
 -- the answer without a statement
-abbrev pub without_in : (y.LogChange → y.How → y.State → y.Query → Answered) → y.Kept → y.Query → ℕ × ℕ → Answered
+abbrev pub without_in : (y.LogChange → y.How → y.Point → y.Query → Answered) → y.Kept → y.Query → ℕ × ℕ → Answered
 without_in changes kept query own = changes (y.drop own.0 own.1) kept.how kept.state query
 
-module _ (asks : y.How → y.State → y.Query → Answered) (changes : y.LogChange → y.How → y.State → y.Query → Answered) where
+module _ (asks : y.How → y.Point → y.Query → Answered) (changes : y.LogChange → y.How → y.Point → y.Query → Answered) where
   -- the answer to the question of a side
   abbrev pub side_answer : y.Side → y.Query → Answered
   side_answer (y.as_is kept) query = asks kept.how kept.state query

@@ -2,13 +2,13 @@
 -- added, and the commits of the changed log are made again. Such a question is refused by the first that applies: the change; then, on the changed log, what
 -- refuses the question whatever the rows are: its version, transaction or statement is not in the log, the check of its query, a number of its rules that is not
 -- in the semiring; then, unless the query is explained, the first commit that cannot be made again; then the number of its rows.
-use Rattle.std.specs.Prelude.{List, [], length, Option, None, Result, Ok, Err}
+use Rattle.std.specs.Prelude.{List, [], length, map, Option, None, Result}
 use Rattle.std.specs.Option.{option_map, option_or}
 use Rattle.std.specs.Result.{result_err}
 use Rattle.gp_base.specs.declared.limit.Limit.TheVariants as limit
 use Rattle.gp_base.specs.declared.refusal.Refusal.{Refusal}
 use Rattle.gp_base.specs.declared.refusal.Refusal.TheVariants.{E14, E31}
-use Rattle.gp_base.specs.Annotated.{monomials, plain}
+use Rattle.gp_base.specs.Annotated.{monomials, unannotated}
 use Rattle.gp_grammar.specs.Syntax as y
 use Rattle.gp_check.specs.Checking.{checked_query}
 use Rattle.gp_log.specs.Parameters.{parameters}
@@ -22,24 +22,22 @@ use Rattle.gp_semiring.specs.Rules.{first_outside}
 use Rattle.gp_whatif.specs.Changed.{changed}
 use Rattle.gp_dump.specs.Dumps.{Dump, dump_of}
 use Rattle.gp_ask.specs.declared.answered.Answered.{Answered}
-use Rattle.gp_ask.specs.declared.answered.Answered.TheVariants.{Refused}
 use Rattle.gp_ask.specs.Asking.{ask_to, held_ask}
-use Rattle.gp_ask.specs.Replays.{dump_in}
-use Rattle.gp_ask.specs.Values.{outside_refusal, rules_of, semiring_of, unless_refused}
+use Rattle.gp_ask.specs.Values.{or_refused, outside_refusal, rule_of, semiring_of, unless_refused}
 
 -- the dump of the history that the commits of a log, made again, lead to
 abbrev pub replayed_dump : List Entry → Dump
-replayed_dump entries = dump_of (replayed_state plain (tables_in entries) entries)
+replayed_dump entries = dump_of (replayed_state unannotated (tables_in entries) entries)
 
 -- ---- refusals
 
 abbrev pub rules_refusal : y.How → Option Refusal
 rules_refusal (y.value name rules other) =
-    outside_refusal name (first_outside (semiring_of name).number_of (rules_of rules other).0 (rules_of rules other).1)
+    outside_refusal name (first_outside (semiring_of name).number_of (map rule_of rules) other)
 rules_refusal how = None
 
 -- what refuses a question on a log, whatever the rows are
-abbrev pub asking_refusal : List Entry → y.How → y.State → y.Query → Option Refusal
+abbrev pub asking_refusal : List Entry → y.How → y.Point → y.Query → Option Refusal
 asking_refusal entries how point query =
     option_or (log_refusal entries point) (option_or (result_err (checked_query (tables_in entries) query)) (rules_refusal how))
 
@@ -51,21 +49,20 @@ replay_refusal entries (made.Loses version conflict) =
 replay_refusal entries made.Fills = E14 limit.Versions
 
 abbrev pub remaking_refusal : List Entry → Option Refusal
-remaking_refusal entries = option_map (replay_refusal entries) (made.replay_stop plain (log_of entries) parameters (length (tables_in entries)) (versions_in entries))
+remaking_refusal entries = option_map (replay_refusal entries) (made.replay_stop unannotated (log_of entries) parameters (length (tables_in entries)) (versions_in entries))
 
 -- ---- answers
 
 -- A question about the states of a log whose commits are made again, given the answer over these. An explained query needs the log alone.
-abbrev pub remade_answer : (y.How → y.State → y.Query → Answered) → List Entry → y.How → y.State → y.Query → Answered
-remade_answer answer entries (y.explain prov) point query = ask_to (dump_in entries []) (y.explain prov) point query
+abbrev pub remade_answer : (y.How → y.Point → y.Query → Answered) → List Entry → y.How → y.Point → y.Query → Answered
+remade_answer answer entries (y.explain prov) point query = ask_to (record { entries = entries; tables = [] }) (y.explain prov) point query
 remade_answer answer entries how point query =
     unless_refused (asking_refusal entries how point query) (unless_refused (remaking_refusal entries) (answer how point query))
 
 -- by the changed log, or the refusal of the change
-abbrev pub changed_answer : (List Entry → y.How → y.State → y.Query → Answered) → Result (List Entry) Refusal → y.How → y.State → y.Query → Answered
-changed_answer answers (Err refusal) how point query = Refused refusal
-changed_answer answers (Ok entries) how point query = remade_answer (answers entries) entries how point query
+abbrev pub changed_answer : (List Entry → y.How → y.Point → y.Query → Answered) → Result (List Entry) Refusal → y.How → y.Point → y.Query → Answered
+changed_answer answers log how point query = or_refused (λ entries. remade_answer (answers entries) entries how point query) log
 
 -- from the log of a dump: what the history held that would have been, its rows and their provenance
-abbrev pub what_if_held : List Entry → y.LogChange → y.How → y.State → y.Query → Answered
+abbrev pub what_if_held : List Entry → y.LogChange → y.How → y.Point → y.Query → Answered
 what_if_held entries change how point query = changed_answer (λ own. held_ask (replayed_state monomials (tables_in own) own)) (changed parameters entries change) how point query

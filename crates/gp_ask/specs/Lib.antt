@@ -1,6 +1,7 @@
 pub mod Answerable
 pub mod Answers
 pub mod Asking
+pub mod AskingForms
 pub mod Backends
 pub mod Begins
 pub mod Changes

@@ -9,8 +9,8 @@ use Rattle.gp_plantext.specs.Spelling.{program_text}
 use Rattle.gp_reenact.specs.Programs.{merged_at}
 
 -- the program is the merged one; with provenance it gives each row its monomial too
-abbrev pub explained_text : List Entry → Bool → y.State → Select → List ℕ
+abbrev pub explained_text : List Entry → Bool → y.Point → Select → List ℕ
 explained_text entries prov point select = program_text (tables_in entries) (merged_at prov entries point select)
 
-abbrev pub program_lines : List Entry → Bool → y.State → Select → List (List ℕ)
+abbrev pub program_lines : List Entry → Bool → y.Point → Select → List (List ℕ)
 program_lines entries prov point select = lines_of (explained_text entries prov point select)

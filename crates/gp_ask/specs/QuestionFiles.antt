@@ -1,6 +1,7 @@
 -- Machinery: the answers to a file of questions as functions of its bytes, by the parser. They are those to the questions that the file is read as.
-use Rattle.std.specs.Prelude.{ℕ, Bool, List}
+use Rattle.std.specs.Prelude.{ℕ, Bool, IfOk, List, Result}
 use Rattle.std.specs.List.{AllByRecursion, flat_map, list_any}
+use Rattle.gp_grammar.specs.LineReading.{Fault}
 use Rattle.gp_grammar.specs.Reading.{question_of, read_lines}
 use Rattle.gp_grammar.specs.Syntax as y
 use Rattle.gp_machine.specs.Entries.{Entry}
@@ -8,7 +9,7 @@ use Rattle.gp_syntax.specs.Lines.{script_lines}
 use Rattle.gp_ask.specs.declared.answered.Answered.{Answered}
 use Rattle.gp_ask.specs.declared.format.Format.{Format}
 use Rattle.gp_ask.specs.declared.format.Format.TheVariants.{Text, Csv}
-use Rattle.gp_ask.specs.Explained.{ExplainsRead}
+use Rattle.gp_ask.specs.Explained.{ExplainsQuestion}
 use Rattle.gp_ask.specs.Formats.{answers_in, text_in}
 use Rattle.gp_ask.specs.Questions.{ReadQuestion, answered, is_refused}
 
@@ -36,6 +37,10 @@ module _ (format : Format) (answers : y.Question → Answered) where
   -- whether some question is refused
   abbrev pub has_refused : List ℕ → Bool
   has_refused questions = list_any (λ line. is_refused (line_answer_in line)) (script_lines questions)
+
+-- a line that is read as this
+abbrev pub ExplainsRead : List Entry → Result y.Question Fault → Type 0
+ExplainsRead entries reading = IfOk reading (ExplainsQuestion entries)
 
 module _ (entries : List Entry) where
   -- each line of a file of questions

@@ -24,12 +24,10 @@ abbrev pub is_refused : Answered → Bool
 is_refused (Refused refusal) = true
 is_refused other = false
 
--- the answers are a parameter: those of a dump, or those that a history held
-module _ (answers : y.Question → Answered) where
-  -- a line that is read as this; a fault in its text refuses it
-  abbrev pub answered : Result y.Question Fault → Answered
-  answered (Err fault) = Refused (refusal_of fault)
-  answered (Ok question) = answers question
+-- A line that is read as this; a fault in its text refuses it. The answers are a parameter: those of a dump, or those that a history held.
+abbrev pub answered : (y.Question → Answered) → Result y.Question Fault → Answered
+answered answers (Err fault) = Refused (refusal_of fault)
+answered answers (Ok question) = answers question
 
 module _ (format : Format) (answers : y.Question → Answered) where
   -- the answer to a line in a format

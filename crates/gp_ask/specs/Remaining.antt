@@ -8,7 +8,6 @@ use Rattle.gp_base.specs.declared.refusal.Refusal.TheVariants.{E27}
 use Rattle.gp_base.specs.declared.token.Token.{Token}
 use Rattle.gp_base.specs.Annotated.{Database, monomials}
 use Rattle.gp_base.specs.Tokens.{Monomial}
-use Rattle.gp_grammar.specs.Syntax as y
 use Rattle.gp_algebra.specs.Answers.{Element, answer, cells_of}
 use Rattle.gp_algebra.specs.Statements.{Select}
 use Rattle.gp_log.specs.Parameters.{parameters}
@@ -17,11 +16,6 @@ use Rattle.gp_semiring.specs.declared.rules.Rule.{Rule}
 use Rattle.gp_semiring.specs.Rules.{fits_rule}
 use Rattle.gp_history.specs.DistinctRows.{distinct_rows}
 use Rattle.gp_kexec.specs.Deletion.{has_token, reduced}
-use Rattle.gp_ask.specs.Values.{kind_of}
-
--- a pattern of tokens, as a rule by which they count nothing
-abbrev pub pattern_of : y.Rule → Rule
-pattern_of rule = record { kind = kind_of rule.kind; t = rule.t; k = rule.k; n = rule.n; value = 0 }
 
 -- whether a pattern fits the token
 abbrev pub is_left_out : List Rule → Token → Bool

@@ -1,4 +1,4 @@
--- Part of the statement: a dump of a log and of row versions, in whatever order these are.
+-- Machinery: a dump of a log and of row versions, in whatever order these are.
 use Rattle.std.specs.Prelude.{List}
 use Rattle.gp_versions.specs.declared.span.Span.{Span}
 use Rattle.gp_machine.specs.Entries.{Entry}

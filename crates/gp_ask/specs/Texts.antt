@@ -1,5 +1,6 @@
 -- Part of the statement: the texts of answers. Each begins with the number of its question; the lines that it counts follow, after two spaces each.
-use Rattle.std.specs.Prelude.{ℕ, List, [], ◌∷◌, ◌++◌, length, map, Option, Some, None, codes}
+use Rattle.std.specs.Prelude.{ℕ, List, [], ◌∷◌, ◌++◌, length, map, Option, codes}
+use Rattle.std.specs.Option.{option_map_or}
 use Rattle.std.specs.Fmt.{decimal}
 use Rattle.std.specs.List.{concat, flat_map}
 use Rattle.gp_base.specs.Numbered.{newline, numbered, refused_text, rows_text}
@@ -30,8 +31,7 @@ value_text valued = concat (row_text valued.row ∷ codes " : " ∷ valued.text 
 
 -- whether the dump is that of a history, or its first line that differs
 abbrev pub checked_text : Option ℕ → List ℕ
-checked_text None = codes "history" ++ newline
-checked_text (Some line) = concat (codes "differs at line " ∷ decimal line ∷ newline ∷ [])
+checked_text line = option_map_or (λ (own : ℕ). concat (codes "differs at line " ∷ decimal own ∷ newline ∷ [])) line (codes "history" ++ newline)
 
 -- rows and refusals are written as those of a script are: rows in row order, each as often as it occurs
 abbrev pub answer_text : ℕ → Answered → List ℕ

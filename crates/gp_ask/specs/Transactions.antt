@@ -4,7 +4,8 @@ use Rattle.std.specs.Prelude.{ℕ, Bool, true, false, List, [], ◌∷◌, rever
 use Rattle.std.specs.Fmt.{decimal}
 use Rattle.std.specs.List.{concat, flat_map}
 use Rattle.gp_base.specs.declared.refusal.Fate.{Fate}
-use Rattle.gp_base.specs.declared.refusal.Fate.TheVariants.{Active, RolledBack, Lost, Committed}
+use Rattle.gp_base.specs.declared.refusal.Fate.TheVariants.{Committed}
+use Rattle.gp_base.specs.Refusals as refusal
 use Rattle.gp_machine.specs.Entries as m
 use Rattle.gp_machine.specs.Entries.{Entry, begin_version, fate_of, statement_count}
 use Rattle.gp_ask.specs.declared.answered.Answered.{Answered}
@@ -15,10 +16,8 @@ level_text true = codes "READ COMMITTED"
 level_text false = codes "SNAPSHOT"
 
 abbrev pub fate_text : Fate → List ℕ
-fate_text Active = codes "active"
-fate_text RolledBack = codes "rolled back"
-fate_text Lost = codes "lost"
 fate_text (Committed version) = concat (codes "committed as " ∷ decimal version ∷ [])
+fate_text fate = refusal.fate_text fate
 
 -- a transaction, by the session and the level of its BEGIN
 abbrev pub transaction_text : List Entry → ℕ → ℕ → Bool → List ℕ

@@ -8,23 +8,24 @@ use Rattle.gp_machine.specs.State.{State}
 use Rattle.gp_dump.specs.Dumps.{Dump}
 use Rattle.gp_semiring.specs.declared.rules.Rule.{Rule}
 use Rattle.gp_ask.specs.declared.answered.Answered.{Answered}
-use Rattle.gp_ask.specs.Asking.{dump_elements, held_elements, minimal_answer, valued_answer, values_answer}
+use Rattle.gp_ask.specs.Asking.{minimal_answer, valued_answer, values_answer}
+use Rattle.gp_ask.specs.AskingForms.{dump_elements, held_elements}
 use Rattle.gp_ask.specs.Values.{Semiring}
 
-abbrev pub dump_values : Semiring → SemiringName → List Rule × Option ℕ → Dump → y.State → Select → Answered
+abbrev pub dump_values : Semiring → SemiringName → List Rule × Option ℕ → Dump → y.Point → Select → Answered
 dump_values semiring name rules dump point select = values_answer semiring name rules (dump_elements dump point select)
 
-abbrev pub dump_minimal : Dump → y.State → Select → Answered
+abbrev pub dump_minimal : Dump → y.Point → Select → Answered
 dump_minimal dump point select = minimal_answer (dump_elements dump point select)
 
-abbrev pub dump_valued : SemiringName → List y.Rule → Option ℕ → Dump → y.State → Select → Answered
+abbrev pub dump_valued : SemiringName → List y.Rule → Option ℕ → Dump → y.Point → Select → Answered
 dump_valued name rules other dump point select = valued_answer name rules other (dump_elements dump point select)
 
-abbrev pub held_values : Semiring → SemiringName → List Rule × Option ℕ → State Monomial → y.State → Select → Answered
+abbrev pub held_values : Semiring → SemiringName → List Rule × Option ℕ → State Monomial → y.Point → Select → Answered
 held_values semiring name rules state point select = values_answer semiring name rules (held_elements state point select)
 
-abbrev pub held_minimal : State Monomial → y.State → Select → Answered
+abbrev pub held_minimal : State Monomial → y.Point → Select → Answered
 held_minimal state point select = minimal_answer (held_elements state point select)
 
-abbrev pub held_valued : SemiringName → List y.Rule → Option ℕ → State Monomial → y.State → Select → Answered
+abbrev pub held_valued : SemiringName → List y.Rule → Option ℕ → State Monomial → y.Point → Select → Answered
 held_valued name rules other state point select = valued_answer name rules other (held_elements state point select)

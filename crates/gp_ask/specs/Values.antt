@@ -1,19 +1,19 @@
 -- Part of the statement: the values of rows in a semiring. A question names the semiring and gives rules, which say which number each token has
 -- (Green, Karvounarakis and Tannen 2007).
-use Rattle.std.specs.Prelude.{ℕ, min, max, ◌||◌, ◌&&◌, Bool, true, false, List, [], ◌∷◌, map, codes, Option, Some, None, Result, Ok, Err}
+use Rattle.std.specs.Prelude.{ℕ, min, max, ◌||◌, ◌&&◌, Bool, true, false, List, [], ◌∷◌, map, codes, Option, Result, Ok, Err}
 use Rattle.std.specs.Fmt.{decimal}
-use Rattle.std.specs.Option.{option_map}
+use Rattle.std.specs.Option.{option_map, option_map_or}
 use Rattle.gp_base.specs.declared.cell.Cell.{Cell}
 use Rattle.gp_base.specs.declared.refusal.Refusal.{Refusal}
 use Rattle.gp_base.specs.declared.refusal.Refusal.TheVariants.{E28}
 use Rattle.gp_base.specs.declared.token.Token.{Token}
-use Rattle.gp_base.specs.Tokens.{token_cmp}
+use Rattle.gp_base.specs.Tokens.{greatest_count, token_cmp}
 use Rattle.gp_grammar.specs.declared.semiring_name.SemiringName.{SemiringName}
 use Rattle.gp_grammar.specs.declared.semiring_name.SemiringName.TheVariants as named
 use Rattle.gp_grammar.specs.declared.token_kind.TokenKind as written
 use Rattle.gp_grammar.specs.declared.token_kind.TokenKind.TheVariants as w
 use Rattle.gp_grammar.specs.Syntax as y
-use Rattle.gp_semiring.specs.Elements.{cost_text, greatest, no_token, nobody, number_up_to, truth_of, truth_text}
+use Rattle.gp_semiring.specs.Elements.{cost_text, no_token, nobody, number_up_to, truth_of, truth_text}
 use Rattle.gp_semiring.specs.Polynomials.{Terms, poly_number, poly_one, poly_plus, poly_text, poly_times, poly_token}
 use Rattle.gp_semiring.specs.Sums.{plus_up_to, times_up_to}
 use Rattle.gp_semiring.specs.Witnesses.{Sets, sets_text, witness_number, witness_plus, witness_times, witness_token}
@@ -45,9 +45,9 @@ count = record {
   Element = ℕ;
   zero_of = 0;
   one_of = 1;
-  plus_of = plus_up_to greatest;
-  times_of = times_up_to greatest;
-  number_of = number_up_to greatest;
+  plus_of = plus_up_to greatest_count;
+  times_of = times_up_to greatest_count;
+  number_of = number_up_to greatest_count;
   itself_of = no_token;
   text_of = decimal;
 }
@@ -69,11 +69,11 @@ truth = record {
 abbrev pub cost : Semiring
 cost = record {
   Element = ℕ;
-  zero_of = greatest;
+  zero_of = greatest_count;
   one_of = 0;
   plus_of = min;
-  times_of = plus_up_to greatest;
-  number_of = number_up_to greatest;
+  times_of = plus_up_to greatest_count;
+  number_of = number_up_to greatest_count;
   itself_of = no_token;
   text_of = cost_text;
 }
@@ -143,24 +143,23 @@ kind_of w.U = U
 abbrev pub rule_of : y.Rule → Rule
 rule_of rule = record { kind = kind_of rule.kind; t = rule.t; k = rule.k; n = rule.n; value = rule.value }
 
--- the rules of a question, and the number of all other tokens
-abbrev pub rules_of : List y.Rule → Option ℕ → List Rule × Option ℕ
-rules_of rules other = (map rule_of rules, other)
-
 -- ---- answers
 
 abbrev pub valued : {K : Type 0} → (K → List ℕ) → List Cell × K → Valued
 valued text_of row = record { row = row.0; text = text_of row.1 }
 
+-- what answers by a result, or its refusal
+abbrev pub or_refused : {A : Type 0} → (A → Answered) → Result A Refusal → Answered
+or_refused answer (Ok found) = answer found
+or_refused answer (Err refusal) = Refused refusal
+
 -- the distinct rows with the texts of their values
 abbrev pub with_values : {K : Type 0} → (K → List ℕ) → Result (List (List Cell × K)) Refusal → Answered
-with_values text_of (Ok rows) = Values (map (valued text_of) rows)
-with_values text_of (Err refusal) = Refused refusal
+with_values text_of rows = or_refused (λ own. Values (map (valued text_of) own)) rows
 
 -- an answer, unless something refuses it
 abbrev pub unless_refused : Option Refusal → Answered → Answered
-unless_refused (Some refusal) answered = Refused refusal
-unless_refused None answered = answered
+unless_refused refusal answered = option_map_or Refused refusal answered
 
 -- the first number of rules that stands for no element is refused, whatever the rows are
 abbrev pub outside_refusal : SemiringName → Option ℕ → Option Refusal

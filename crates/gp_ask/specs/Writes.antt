@@ -4,7 +4,7 @@ use Rattle.gp_algebra.specs.Statements.{Statement}
 use Rattle.gp_algebra.specs.Views.{statement_view}
 use Rattle.gp_check.specs.Valid.{query_is_valid, tables_are_valid}
 use Rattle.gp_compose.specs.Seen.{writes}
-use Rattle.gp_dump.specs.Dumps.{IsDump}
+use Rattle.gp_dump.specs.WholeDumps.{IsDump}
 use Rattle.gp_dump.specs.Views.{dump_view}
 use Rattle.gp_log.specs.LogFacts.{tables_in}
 use Rattle.gp_log.specs.declared.entry.Entry as code

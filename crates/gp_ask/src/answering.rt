@@ -2,10 +2,10 @@
 
 ghost use Rattle.std.specs.Prelude.{◌≡◌, true, IfOk};
 ghost use Rattle.gp_grammar.specs.Syntax as y;
-ghost use Rattle.gp_syntax.specs.Views.{how_view, query_view, question_view, state_view};
+ghost use Rattle.gp_syntax.specs.Views.{how_view, query_view, question_view, point_view};
 ghost use Rattle.gp_check.specs.Valid.{query_is_valid, tables_are_valid};
 ghost use Rattle.gp_log.specs.LogFacts.{tables_in};
-ghost use Rattle.gp_dump.specs.Dumps.{IsDump};
+ghost use Rattle.gp_dump.specs.WholeDumps.{IsDump};
 ghost use Rattle.gp_dump.specs.Views.{dump_view};
 ghost use Rattle.gp_ask.specs.Answerable.{IsAnswerable, has_few_items, question_is_valid};
 ghost use Rattle.gp_ask.specs.Computed.{computed_answer};
@@ -30,7 +30,7 @@ use crate::transactions::transactions_answer;
 use gp_base::NoMemory;
 use gp_dump::Dump;
 use gp_exec::Backend;
-use gp_syntax::{How, Query, Question, State};
+use gp_syntax::{How, Point, Query, Question};
 use std::alloc::Global;
 
 /// Answers a question that was read ([`read_questions_are_valid`](crate::read_questions_are_valid)) from a dump that was read: it
@@ -117,17 +117,17 @@ fn ask_answer_by<B: Backend>(
     alloc: Global,
     dump: &Dump,
     how: &How,
-    state: State,
+    state: Point,
     query: &Query,
     backend: &B,
 ) -> Result<Answered, NoMemory>
     requires rules { IsAnswerable (dump_view dump.now) }
     requires valid { tables_are_valid (tables_in (dump_view dump.now).entries) ≡ true }
     requires query { query_is_valid (query_view query.now) ≡ true }
-    requires rows { asks_rows (y.ask (how_view how.now) (state_view state) (query_view query.now))
+    requires rows { asks_rows (y.ask (how_view how.now) (point_view state) (query_view query.now))
         ≡ true }
     ensures { IfOk result (λ answered. AnswersBy (B.gives backend.now) (dump_view dump.now)
-        (y.ask (how_view how.now) (state_view state) (query_view query.now)) answered) }
+        (y.ask (how_view how.now) (point_view state) (query_view query.now)) answered) }
 {
     match how {
         How::Rows => query_answer_by(alloc, dump, state, query, backend),

@@ -6,7 +6,7 @@ ghost use Rattle.std.specs.List.{flat_map};
 ghost use Rattle.std.specs.Option.{option_to_list};
 ghost use Rattle.gp_algebra.specs.Views.{statement_view};
 ghost use Rattle.gp_check.specs.Valid.{query_is_valid, tables_are_valid};
-ghost use Rattle.gp_dump.specs.Dumps.{IsDump};
+ghost use Rattle.gp_dump.specs.WholeDumps.{IsDump};
 ghost use Rattle.gp_dump.specs.Views.{dump_view};
 ghost use Rattle.gp_grammar.specs.Syntax as y;
 ghost use Rattle.gp_log.specs.Contents.{entries};
@@ -321,8 +321,7 @@ fn put_all(
         (versions_in (dump_view asked.now.dump.now).entries) lines.new) }
 {
     let log = &asked.dump.log;
-    // Its tables are few. That is known of them where it is asked for their number.
-    let _count = log.catalog().len();
+    log.bounds();
     let Made { mut versions, .. } = none_made(alloc, log)?;
     for before in 0..log.commits() {
         put_version(alloc, asked, writes, before, &versions, lines)?;

@@ -24,7 +24,7 @@ use gp_base::{
 use gp_dump::Dump;
 use gp_log::Log;
 use gp_reenact::{ReenactStop, changes_refusal, log_refusal, looked};
-use gp_syntax::State;
+use gp_syntax::Point;
 use gp_txn::assigned;
 use gp_versions::Span;
 use std::alloc::Global;
@@ -309,8 +309,7 @@ fn transaction_number(log: &Log, t: u64) -> u32
     requires { is_known t (entries log.now) ≡ true }
     ensures { result ≡ t }
 {
-    // A log numbers its transactions by 32 bits. That is known of it where it is asked for their number.
-    let _count = log.transactions();
+    log.bounds();
     t as u32
 }
 
@@ -435,8 +434,7 @@ fn commit_lines(alloc: Global, dump: &Dump, version: u32) -> Result<Sequence<Tex
     ensures { IfOk result (λ lines. lines ≡ s.tables_texts version
         (tables_in (dump_view dump.now).entries) (dump_view dump.now).tables) }
 {
-    // A catalogue has few tables. That is known of it where it is asked for their number.
-    let _tables = dump.log.catalog().len();
+    dump.log.bounds();
     let mut lines = Sequence::new(alloc);
     for (place, versions) in dump.versions.as_slice().iter().enumerate() {
         let name = &dump.log.catalog().table(place as u32).name;
@@ -463,7 +461,7 @@ pub fn commit_changes_answer(alloc: Global, dump: &Dump, t: u64) -> Result<Answe
     requires rules { IsAnswerable (dump_view dump.now) }
     ensures { IfOk result (λ answered. answered ≡ s.commit_changes_to (dump_view dump.now) t) }
 {
-    match log_refusal(&dump.log, State::Commit { t }) {
+    match log_refusal(&dump.log, Point::Commit { t }) {
         Some(refusal) => Ok(Answered::Refused(refusal)),
         None => made_changes(alloc, dump, transaction_number(&dump.log, t)),
     }

@@ -9,14 +9,13 @@ ghost use Rattle.gp_grammar.specs.Syntax as y;
 ghost use Rattle.gp_history.specs.Values.{HasFewItems};
 ghost use Rattle.gp_kexec.specs.Rows.{pair_view};
 ghost use Rattle.gp_log.specs.LogFacts.{tables_in};
-ghost use Rattle.gp_syntax.specs.Views.{query_view, rule_view, state_view};
+ghost use Rattle.gp_syntax.specs.Views.{query_view, rule_view, point_view};
 ghost use Rattle.gp_ask.specs.Answerable.{IsAnswerable, has_few_items};
 ghost use Rattle.gp_ask.specs.Computed.{computed_answer};
-ghost use Rattle.gp_ask.specs.Asking.{dump_remaining};
+ghost use Rattle.gp_ask.specs.AskingForms.{dump_remaining};
 ghost use Rattle.gp_ask.specs.Counted.{counted_answer};
 ghost use Rattle.gp_ask.specs.Keeping.{MayBeKeptBy, elements_by};
-ghost use Rattle.gp_ask.specs.Remaining as r;
-ghost use Rattle.gp_ask.specs.Values.{count};
+ghost use Rattle.gp_ask.specs.Values.{count, rule_of};
 
 use crate::answered::Answered;
 use crate::keeping::{KeptValues, rows_with_values};
@@ -29,7 +28,7 @@ use gp_dump::Dump;
 use gp_kexec::{KRow, RemainStop, remaining};
 use gp_reenact::ReenactStop;
 use gp_semiring::Count;
-use gp_syntax::{Query, Rule, State};
+use gp_syntax::{Point, Query, Rule};
 use std::alloc::Global;
 
 /// The rows, each as often as it is counted, or E27 if there are too many.
@@ -49,7 +48,7 @@ fn selected_remaining(
     alloc: Global,
     dump: &Dump,
     rules: &[Rule],
-    state: State,
+    state: Point,
     select: &Select,
     slot: &mut Option<KeptValues<Count>>,
 ) -> Result<Answered, NoMemory>
@@ -60,8 +59,8 @@ fn selected_remaining(
     requires kept { MayBeKeptBy (elements_by count) dump.now slot.old }
     ensures kept { MayBeKeptBy (elements_by count) dump.now slot.new }
     ensures answered { IfOk result (λ answered. answered
-        ≡ dump_remaining (map r.pattern_of (map rule_view rules.now)) (dump_view dump.now)
-        (state_view state) (select_view select.now)) }
+        ≡ dump_remaining (map rule_of (map rule_view rules.now)) (dump_view dump.now)
+        (point_view state) (select_view select.now)) }
 {
     let patterns = left_out(alloc, rules)?;
     match rows_with_values::<Count>(alloc, dump, state, select, patterns, slot) {
@@ -78,7 +77,7 @@ pub fn remaining_answer(
     alloc: Global,
     dump: &Dump,
     rules: &[Rule],
-    state: State,
+    state: Point,
     query: &Query,
     slot: &mut Option<KeptValues<Count>>,
 ) -> Result<Answered, NoMemory>
@@ -89,7 +88,7 @@ pub fn remaining_answer(
     requires kept { MayBeKeptBy (elements_by count) dump.now slot.old }
     ensures kept { MayBeKeptBy (elements_by count) dump.now slot.new }
     ensures answered { IfOk result (λ answered. answered ≡ computed_answer (dump_view dump.now) (y.ask
-        (y.without (map rule_view rules.now)) (state_view state) (query_view query.now))) }
+        (y.without (map rule_view rules.now)) (point_view state) (query_view query.now))) }
 {
     match asked(alloc, &dump.log, state, query) {
         Ok(select) => selected_remaining(alloc, dump, rules, state, &select, slot),

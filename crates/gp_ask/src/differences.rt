@@ -3,7 +3,7 @@
 ghost use Rattle.std.specs.Prelude.{◌≡◌, ◌+◌, nat_lt, true, IfOk};
 ghost use Rattle.gp_base.specs.declared.limit.TheConstants.{MAX_ANSWER_ROWS};
 ghost use Rattle.gp_check.specs.Valid.{query_is_valid, side_is_valid, tables_are_valid};
-ghost use Rattle.gp_dump.specs.Dumps.{IsDump};
+ghost use Rattle.gp_dump.specs.WholeDumps.{IsDump};
 ghost use Rattle.gp_dump.specs.Views.{dump_view};
 ghost use Rattle.gp_grammar.specs.Laws.{side_has_statement};
 ghost use Rattle.gp_log.specs.LogFacts.{tables_in};

@@ -6,14 +6,14 @@ ghost use Rattle.gp_grammar.specs.Syntax as y;
 ghost use Rattle.gp_syntax.specs.Views.{how_view, question_view};
 ghost use Rattle.gp_check.specs.Valid.{tables_are_valid};
 ghost use Rattle.gp_csv.specs.Answers.{csv_text};
-ghost use Rattle.gp_dump.specs.Dumps.{IsDump};
+ghost use Rattle.gp_dump.specs.WholeDumps.{IsDump};
 ghost use Rattle.gp_dump.specs.Views.{dump_view};
 ghost use Rattle.gp_log.specs.LogFacts.{tables_in};
 ghost use Rattle.gp_ask.specs.Answerable.{question_is_valid};
 ghost use Rattle.gp_ask.specs.Computed.{computed_answer};
-ghost use Rattle.gp_ask.specs.Explained.{ExplainsQuestion, ExplainsRead};
+ghost use Rattle.gp_ask.specs.Explained.{ExplainsQuestion};
 ghost use Rattle.gp_ask.specs.Formats.{answers_in, asks_rows, exported, exported_records, text_in};
-ghost use Rattle.gp_ask.specs.QuestionFiles.{ExplainsIn};
+ghost use Rattle.gp_ask.specs.QuestionFiles.{ExplainsIn, ExplainsRead};
 ghost use Rattle.gp_ask.specs.Keeping.{AreKept};
 ghost use Rattle.gp_ask.specs.Questions.{answered};
 
@@ -30,7 +30,7 @@ use std::alloc::Global;
 
 /// Whether rows are asked for.
 fn are_rows(how: &How) -> bool
-    ensures { (state : y.State) (query : y.Query)
+    ensures { (state : y.Point) (query : y.Query)
         → result ≡ asks_rows (y.ask (how_view how.now) state query) }
 {
     match how {

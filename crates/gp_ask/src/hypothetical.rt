@@ -3,18 +3,18 @@
 ghost use Rattle.std.specs.Prelude.{◌≡◌, ◌<◌, ◌≤◌, Ok, Some, true, IfOk, List, length};
 ghost use Rattle.gp_base.specs.declared.refusal.Refusal.TheVariants.{E31};
 ghost use Rattle.gp_check.specs.Valid.{change_is_valid, query_is_valid, tables_are_valid};
-ghost use Rattle.gp_dump.specs.Dumps.{IsDump};
+ghost use Rattle.gp_dump.specs.WholeDumps.{IsDump};
 ghost use Rattle.gp_dump.specs.Views.{dump_view};
 ghost use Rattle.gp_grammar.specs.Laws.{has_statement};
 ghost use Rattle.gp_grammar.specs.Syntax as y;
-ghost use Rattle.gp_log.specs.Contents.{entries, tables};
+ghost use Rattle.gp_log.specs.Contents.{commits, entries, tables};
 ghost use Rattle.gp_log.specs.LogFacts.{tables_in};
 ghost use Rattle.gp_log.specs.Parameters.{parameters};
 ghost use Rattle.gp_machine.specs.Entries.{Entry, committer_of, versions_in};
 ghost use Rattle.gp_machine.specs.Event.{name_at};
-ghost use Rattle.gp_syntax.specs.Views.{change_view, how_view, query_view, state_view};
+ghost use Rattle.gp_syntax.specs.Views.{change_view, how_view, query_view, point_view};
 ghost use Rattle.gp_whatif.specs.Changed.{changed};
-ghost use Rattle.gp_whatif.specs.Replays.{IsMade, IsReplayable, Stops, stop_upto};
+ghost use Rattle.gp_whatif.specs.Replays.{IsMade, IsReplayable};
 ghost use Rattle.gp_ask.specs.Answerable.{has_few_items};
 ghost use Rattle.gp_ask.specs.Computed.{computed_answer};
 ghost use Rattle.gp_ask.specs.Asking.{ask_to};
@@ -22,6 +22,7 @@ ghost use Rattle.gp_ask.specs.Explained.{ExplainsQuestion};
 ghost use Rattle.gp_ask.specs.Hypothetical as h;
 ghost use Rattle.gp_ask.specs.Hypothetical.{replayed_dump};
 ghost use Rattle.gp_ask.specs.Values.{unless_refused};
+ghost use Rattle.gp_whatif.specs.Remaking as r;
 
 use crate::answered::Answered;
 use crate::keeping::KeptAnnotations;
@@ -35,7 +36,7 @@ use gp_check::CheckStop;
 use gp_dump::Dump;
 use gp_log::Log;
 use gp_machine::conflicts_are_least;
-use gp_syntax::{How, LogChange, Query, State};
+use gp_syntax::{How, LogChange, Point, Query};
 use gp_whatif::{
     ChangeStop, Made, ReplayStop, changed_lines_rise, changed_logs_are_replayable, none_made,
     replay_from,
@@ -50,11 +51,11 @@ fn asking_refusal(
     alloc: Global,
     log: &Log,
     how: &How,
-    state: State,
+    state: Point,
     query: &Query,
 ) -> Result<Option<Refusal>, NoMemory>
     ensures { IfOk result (λ refusal. refusal ≡ h.asking_refusal (entries log.now)
-        (how_view how.now) (state_view state) (query_view query.now)) }
+        (how_view how.now) (point_view state) (query_view query.now)) }
 {
     match asked(alloc, log, state, query) {
         Ok(_) => rules_refusal(alloc, how),
@@ -79,8 +80,8 @@ fn lost(log: &Log, version: u32, other: u32, table: u32, id: RowId) -> Result<Re
 
 /// The refusal of the first commit that cannot be made again.
 fn remaking_refusal(log: &Log, stop: ReplayStop) -> Result<Refusal, NoMemory>
-    requires replayable { IsReplayable (entries log.now) }
-    requires stops { Stops stop (stop_upto (entries log.now) (versions_in (entries log.now))) }
+    requires replayable { r.IsReplayable log.now }
+    requires stops { r.IsStopOf log.now (commits log.now) stop }
     ensures { IfOk result (λ refusal. h.remaking_refusal (entries log.now) ≡ Some refusal) }
 {
     // A commit is lost to a version of the log, for a row that it wrote. The call does nothing.
@@ -109,7 +110,7 @@ fn replayed_answer(
     log: Log,
     made: Made,
     how: &How,
-    state: State,
+    state: Point,
     query: &Query,
 ) -> Result<Answered, NoMemory>
     requires replayable { IsReplayable (entries log) }
@@ -120,7 +121,7 @@ fn replayed_answer(
     requires few { has_few_items (query_view query.now) ≡ true }
     ensures { IfOk result (λ answered. answered
         ≡ unless_refused (h.remaking_refusal (entries log)) (ask_to (replayed_dump (entries log))
-        (how_view how.now) (state_view state) (query_view query.now))) }
+        (how_view how.now) (point_view state) (query_view query.now))) }
 {
     // The order of the row versions changes no answer. The call does nothing.
     changed_histories_answer_their_questions();
@@ -141,7 +142,7 @@ fn remade_rows(
     log: Log,
     made: Made,
     how: &How,
-    state: State,
+    state: Point,
     query: &Query,
 ) -> Result<Answered, NoMemory>
     requires replayable { IsReplayable (entries log) }
@@ -151,9 +152,9 @@ fn remade_rows(
     requires query { query_is_valid (query_view query.now) ≡ true }
     requires few { has_few_items (query_view query.now) ≡ true }
     ensures { IfOk result (λ answered. answered ≡ unless_refused (h.asking_refusal (entries log)
-        (how_view how.now) (state_view state) (query_view query.now))
+        (how_view how.now) (point_view state) (query_view query.now))
         (unless_refused (h.remaking_refusal (entries log)) (ask_to (replayed_dump (entries log))
-        (how_view how.now) (state_view state) (query_view query.now)))) }
+        (how_view how.now) (point_view state) (query_view query.now)))) }
 {
     match asking_refusal(alloc, &log, how, state, query)? {
         Some(refusal) => Ok(Answered::Refused(refusal)),
@@ -167,7 +168,7 @@ fn remade_answer(
     log: Log,
     made: Made,
     how: &How,
-    state: State,
+    state: Point,
     query: &Query,
 ) -> Result<Answered, NoMemory>
     requires replayable { IsReplayable (entries log) }
@@ -178,9 +179,9 @@ fn remade_answer(
     requires few { has_few_items (query_view query.now) ≡ true }
     ensures answered { IfOk result (λ answered. answered
         ≡ h.remade_answer (ask_to (replayed_dump (entries log))) (entries log)
-        (how_view how.now) (state_view state) (query_view query.now)) }
+        (how_view how.now) (point_view state) (query_view query.now)) }
     ensures explained { IfOk result (λ answered. ExplainsQuestion (entries log)
-        (y.ask (how_view how.now) (state_view state) (query_view query.now))) }
+        (y.ask (how_view how.now) (point_view state) (query_view query.now))) }
 {
     match how {
         How::Explain { prov } => program_answer(alloc, &log, *prov, state, query),
@@ -196,7 +197,7 @@ pub fn what_if_from(
     change: &LogChange,
     made: Made,
     how: &How,
-    state: State,
+    state: Point,
     query: &Query,
 ) -> Result<Answered, NoMemory>
     requires rules { IsDump (dump_view dump.now) }
@@ -209,9 +210,9 @@ pub fn what_if_from(
         → changed parameters (dump_view dump.now).entries (change_view change.now) ≡ Ok new
         → (made.count ≤ versions_in new) × IsMade new made.count made.versions.items }
     ensures answered { IfOk result (λ answered. answered ≡ computed_answer (dump_view dump.now) (y.what_if
-        (change_view change.now) (how_view how.now) (state_view state) (query_view query.now))) }
+        (change_view change.now) (how_view how.now) (point_view state) (query_view query.now))) }
     ensures explained { IfOk result (λ answered. ExplainsQuestion (dump_view dump.now).entries
-        (y.what_if (change_view change.now) (how_view how.now) (state_view state)
+        (y.what_if (change_view change.now) (how_view how.now) (point_view state)
         (query_view query.now))) }
 {
     // The lines of a log can be doubled, and a changed log has its tables. The calls do nothing.
@@ -235,7 +236,7 @@ pub fn what_if_answer(
     dump: &Dump,
     change: &LogChange,
     how: &How,
-    state: State,
+    state: Point,
     query: &Query,
 ) -> Result<Answered, NoMemory>
     requires rules { IsDump (dump_view dump.now) }
@@ -245,9 +246,9 @@ pub fn what_if_answer(
     requires query { query_is_valid (query_view query.now) ≡ true }
     requires few { has_few_items (query_view query.now) ≡ true }
     ensures answered { IfOk result (λ answered. answered ≡ computed_answer (dump_view dump.now) (y.what_if
-        (change_view change.now) (how_view how.now) (state_view state) (query_view query.now))) }
+        (change_view change.now) (how_view how.now) (point_view state) (query_view query.now))) }
     ensures explained { IfOk result (λ answered. ExplainsQuestion (dump_view dump.now).entries
-        (y.what_if (change_view change.now) (how_view how.now) (state_view state)
+        (y.what_if (change_view change.now) (how_view how.now) (point_view state)
         (query_view query.now))) }
 {
     // A changed log has the tables of the log. The call does nothing.

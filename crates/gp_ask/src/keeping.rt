@@ -10,12 +10,12 @@ ghost use Rattle.gp_history.specs.Agreement.{agree};
 ghost use Rattle.gp_history.specs.ValueForms.{value_answer};
 ghost use Rattle.gp_history.specs.Values.{Gives, HasFewItems};
 ghost use Rattle.gp_kexec.specs.Rows.{pair_view};
-ghost use Rattle.gp_kexec.specs.Valuing.{values_by};
+ghost use Rattle.gp_kexec.specs.Valuing.{values_in};
 ghost use Rattle.gp_log.specs.LogFacts.{tables_in};
 ghost use Rattle.gp_log.specs.Parameters.{parameters};
 ghost use Rattle.gp_semiring.specs.Values.{token_value};
 ghost use Rattle.gp_semiring.specs.declared.rules.Rule as v;
-ghost use Rattle.gp_syntax.specs.Views.{state_view};
+ghost use Rattle.gp_syntax.specs.Views.{point_view};
 ghost use Rattle.gp_ask.specs.Answerable.{IsAnswerable};
 ghost use Rattle.gp_ask.specs.Asking.{spans_at};
 ghost use Rattle.gp_ask.specs.Keeping.{AreKept, MayBeKeptBy, MayBeKeptOf};
@@ -28,7 +28,7 @@ use gp_history::{Kept, values_from};
 use gp_kexec::KRow;
 use gp_reenact::ReenactStop;
 use gp_semiring::{Bool, Cost, Count, Level, Poly, PosBool, Rules, Semiring, by_rules};
-use gp_syntax::State;
+use gp_syntax::Point;
 use std::alloc::Global;
 use std::mem;
 
@@ -121,7 +121,7 @@ fn with_rules<K: Drop>(rules: Rules, kept: Option<Kept<K>>) -> Option<KeptValues
 pub fn rows_with_values<K: Semiring>(
     alloc: Global,
     dump: &Dump,
-    state: State,
+    state: Point,
     select: &Select,
     rules: Rules,
     slot: &mut Option<KeptValues<K>>,
@@ -130,15 +130,13 @@ pub fn rows_with_values<K: Semiring>(
     requires fits { select_fits (tables_in (dump_view dump.now).entries) (select_view select.now)
         ≡ true }
     requires few { HasFewItems (select_view select.now) }
-    requires kept { MayBeKeptBy (values_by K.one_of K.times_of K.number_of K.itself_of)
-        dump.now slot.old }
-    ensures kept { MayBeKeptBy (values_by K.one_of K.times_of K.number_of K.itself_of)
-        dump.now slot.new }
+    requires kept { MayBeKeptBy (values_in K.Semiring) dump.now slot.old }
+    ensures kept { MayBeKeptBy (values_in K.Semiring) dump.now slot.new }
     ensures answer { Gives (λ rows. map pair_view rows.items) result
         (value_answer parameters K.plus_of K.zero_of K.one_of K.times_of
         (token_value K.one_of K.number_of K.itself_of (rules.rules, rules.other)) agree
         (tables_in (dump_view dump.now).entries) (dump_view dump.now).entries
-        (spans_at (dump_view dump.now).tables) (state_view state) (select_view select.now)) }
+        (spans_at (dump_view dump.now).tables) (point_view state) (select_view select.now)) }
 {
     let own = copy_rules(alloc, &rules)?;
     let valuation = by_rules::<K>(alloc, rules)?;

@@ -3,7 +3,7 @@
 ghost use Rattle.std.specs.Prelude.{◌≡◌, ◌↔◌, ◌++◌, ◌<◌, [], ℕ, suc, true, Contains, List, length, map, None, Ok, Option};
 ghost use Rattle.std.specs.List.Sorted.{IsPermutation, IsSorted};
 ghost use Rattle.gp_base.specs.declared.cell.Cell.{Cell};
-ghost use Rattle.gp_base.specs.Annotated.{monomials, plain};
+ghost use Rattle.gp_base.specs.Annotated.{monomials, unannotated};
 ghost use Rattle.gp_base.specs.Order.{row_cmp, sorted_by};
 ghost use Rattle.gp_base.specs.Tokens.{Monomial};
 ghost use Rattle.gp_algebra.specs.Statements.{Select};
@@ -21,7 +21,8 @@ ghost use Rattle.gp_machine.specs.Replaying.{replay_stop};
 ghost use Rattle.gp_machine.specs.ReplayForms.{CommitsInOrder, replayed_spans};
 ghost use Rattle.gp_machine.specs.State.{State, start};
 ghost use Rattle.gp_machine.specs.Unstopped.{IsUnstopped};
-ghost use Rattle.gp_dump.specs.Dumps.{Dump, IsDump, dump_of};
+ghost use Rattle.gp_dump.specs.Dumps.{Dump, dump_of};
+ghost use Rattle.gp_dump.specs.WholeDumps.{IsDump};
 ghost use Rattle.gp_semiring.specs.declared.rules.Rule.{Rule};
 ghost use Rattle.gp_semiring.specs.Values.{token_value};
 ghost use Rattle.gp_history.specs.ValueForms.{held_value_answer, value_answer};
@@ -65,7 +66,7 @@ fn rules_give_the_values_of_the_history<K: Semiring>()
     ensures { (rules : List Rule × Option ℕ) (state : State Monomial)
         → IsUnstopped monomials parameters state → (spans : ℕ → List Span)
         → ((table : ℕ) → IsPermutation (spans table) (state_spans state table))
-        → (point : y.State) (query : Select)
+        → (point : y.Point) (query : Select)
         → value_answer parameters K.plus_of K.zero_of K.one_of K.times_of
         (token_value K.one_of K.number_of K.itself_of rules) agree state.catalogue state.entries
         spans point query
@@ -86,7 +87,7 @@ pub fn unstopped_histories_answer_as_their_dumps()
     ensures { (state : State Monomial) → IsUnstopped monomials parameters state
         → tables_in state.entries ≡ state.catalogue → (tables : List (List Span))
         → ((place : ℕ) → IsPermutation (spans_at tables place) (state_spans state place))
-        → (how : y.How) (point : y.State) (query : y.Query)
+        → (how : y.How) (point : y.Point) (query : y.Query)
         → answer_to (dump_in state.entries tables) (y.ask how point query)
         ≡ held_to state (y.ask how point query) }
 {
@@ -108,7 +109,7 @@ pub fn unstopped_histories_answer_as_their_dumps()
 /// what the history held that would have been ([`changed_histories_answer_their_questions`]).
 pub fn histories_answer_as_their_dumps()
     ensures { (lines : List Line) (question : y.Question)
-        → answer_to (dump_of (after plain parameters start lines)) question
+        → answer_to (dump_of (after unannotated parameters start lines)) question
         ≡ held_to (after monomials parameters start lines) question }
 {
     unstopped_histories_answer_as_their_dumps();
@@ -155,11 +156,11 @@ pub fn deltas_are_differences()
 /// differs, and no run passes a limit.
 pub fn replays_answer_as_their_histories()
     ensures { (entries : List Entry) → CommitsInOrder (log_of entries)
-        → replay_stop plain (log_of entries) parameters (length (tables_in entries))
+        → replay_stop unannotated (log_of entries) parameters (length (tables_in entries))
         (versions_in entries) ≡ None → (tables : List (List Span))
-        → ((place : ℕ) → IsPermutation (spans_at tables place) (replayed_spans plain
+        → ((place : ℕ) → IsPermutation (spans_at tables place) (replayed_spans unannotated
         (log_of entries) (length (tables_in entries)) (versions_in entries) place))
-        → (how : y.How) (point : y.State) (query : y.Query)
+        → (how : y.How) (point : y.Point) (query : y.Query)
         → answer_to (dump_in entries tables) (y.ask how point query)
         ≡ held_to (replayed_state monomials (tables_in entries) entries) (y.ask how point query) }
 {
@@ -174,14 +175,14 @@ pub fn replays_answer_as_their_histories()
 /// a limit, once its commits were made again. The order of the row versions does not matter (`any_order`).
 pub fn changed_histories_answer_their_questions()
     ensures held { (entries : List Entry) (change : y.LogChange) → IsCoherent entries
-        → (how : y.How) (point : y.State) (query : y.Query)
+        → (how : y.How) (point : y.Point) (query : y.Query)
         → what_if_answer entries change how point query
         ≡ what_if_held entries change how point query }
     ensures any_order { (entries : List Entry) → IsReplayable entries
         → stop_upto entries (versions_in entries) ≡ None → (tables : List (List Span))
-        → ((place : ℕ) → IsPermutation (spans_at tables place) (replayed_spans plain
+        → ((place : ℕ) → IsPermutation (spans_at tables place) (replayed_spans unannotated
         (log_of entries) (length (tables_in entries)) (versions_in entries) place))
-        → (how : y.How) (point : y.State) (query : y.Query)
+        → (how : y.How) (point : y.Point) (query : y.Query)
         → answer_to (dump_in entries tables) (y.ask how point query)
         ≡ answer_to (replayed_dump entries) (y.ask how point query) }
 {

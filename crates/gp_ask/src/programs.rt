@@ -1,16 +1,15 @@
 //! The programs that queries over past states are.
 
-ghost use Rattle.std.specs.Prelude.{◌≡◌, [], None, true, IfOk};
+ghost use Rattle.std.specs.Prelude.{◌≡◌, [], true, IfOk};
 ghost use Rattle.gp_algebra.specs.Fitting.{select_fits};
 ghost use Rattle.gp_algebra.specs.Views.{select_view};
 ghost use Rattle.gp_check.specs.Valid.{query_is_valid, tables_are_valid};
 ghost use Rattle.gp_explain.specs.Explained.{Explains};
 ghost use Rattle.gp_grammar.specs.Syntax as y;
-ghost use Rattle.gp_log.specs.Contents.{entries, tables};
-ghost use Rattle.gp_log.specs.LogFitting.{statements_fit};
-ghost use Rattle.gp_machine.specs.Questions as m;
-ghost use Rattle.gp_syntax.specs.Views.{query_view, state_view};
-ghost use Rattle.gp_ask.specs.Asking.{ask_to, dump_program};
+ghost use Rattle.gp_log.specs.Contents.{HasPoint, StatementsFit, entries, tables};
+ghost use Rattle.gp_syntax.specs.Views.{query_view, point_view};
+ghost use Rattle.gp_ask.specs.Asking.{ask_to};
+ghost use Rattle.gp_ask.specs.AskingForms.{dump_program};
 ghost use Rattle.gp_ask.specs.Explained.{ExplainsQuestion};
 ghost use Rattle.gp_ask.specs.Programs.{explained_text};
 ghost use Rattle.gp_ask.specs.Replays.{dump_in};
@@ -23,7 +22,7 @@ use gp_check::CheckStop;
 use gp_explain::{explain, explained_lines};
 use gp_log::Log;
 use gp_reenact::ReenactStop;
-use gp_syntax::{Query, State};
+use gp_syntax::{Point, Query};
 use std::alloc::Global;
 
 /// The lines of the program of a checked query over a state that the log has.
@@ -31,18 +30,18 @@ fn selected_program(
     alloc: Global,
     log: &Log,
     prov: bool,
-    state: State,
+    state: Point,
     select: &Select,
 ) -> Result<Answered, NoMemory>
-    requires statements { statements_fit (tables log.now) (entries log.now) ≡ true }
-    requires known { m.log_refusal (entries log.now) (state_view state) ≡ None }
+    requires statements { StatementsFit log.now }
+    requires known { HasPoint log.now (point_view state) }
     requires fits { select_fits (tables log.now) (select_view select.now) ≡ true }
     ensures answered { IfOk result (λ answered. answered
-        ≡ dump_program (dump_in (entries log.now) []) prov (state_view state)
+        ≡ dump_program (dump_in (entries log.now) []) prov (point_view state)
         (select_view select.now)) }
     ensures explained { IfOk result (λ answered. Explains (entries log.now)
-        (state_view state) (select_view select.now) prov (explained_text
-        (entries log.now) prov (state_view state) (select_view select.now))) }
+        (point_view state) (select_view select.now) prov (explained_text
+        (entries log.now) prov (point_view state) (select_view select.now))) }
 {
     match explain(alloc, log, state, select, prov) {
         Ok(text) => Ok(Answered::Program(explained_lines(alloc, &text)?)),
@@ -57,17 +56,17 @@ pub fn program_answer(
     alloc: Global,
     log: &Log,
     prov: bool,
-    state: State,
+    state: Point,
     query: &Query,
 ) -> Result<Answered, NoMemory>
-    requires statements { statements_fit (tables log.now) (entries log.now) ≡ true }
+    requires statements { StatementsFit log.now }
     requires valid { tables_are_valid (tables log.now) ≡ true }
     requires query { query_is_valid (query_view query.now) ≡ true }
     ensures answered { IfOk result
         (λ answered. answered ≡ ask_to (dump_in (entries log.now) []) (y.explain prov)
-        (state_view state) (query_view query.now)) }
+        (point_view state) (query_view query.now)) }
     ensures explained { IfOk result (λ answered. ExplainsQuestion (entries log.now)
-        (y.ask (y.explain prov) (state_view state) (query_view query.now))) }
+        (y.ask (y.explain prov) (point_view state) (query_view query.now))) }
 {
     match asked(alloc, log, state, query) {
         Ok(select) => selected_program(alloc, log, prov, state, &select),

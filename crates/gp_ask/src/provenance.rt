@@ -12,10 +12,11 @@ ghost use Rattle.gp_history.specs.Provenance.{Proves};
 ghost use Rattle.gp_log.specs.LogFacts.{tables_in};
 ghost use Rattle.gp_log.specs.Parameters.{parameters};
 ghost use Rattle.gp_machine.specs.Questions.{annotated_answer};
-ghost use Rattle.gp_syntax.specs.Views.{query_view, state_view};
+ghost use Rattle.gp_syntax.specs.Views.{query_view, point_view};
 ghost use Rattle.gp_ask.specs.Answerable.{IsAnswerable};
 ghost use Rattle.gp_ask.specs.Computed.{computed_answer};
-ghost use Rattle.gp_ask.specs.Asking.{dump_provenance, spans_at};
+ghost use Rattle.gp_ask.specs.Asking.{spans_at};
+ghost use Rattle.gp_ask.specs.AskingForms.{dump_provenance};
 ghost use Rattle.gp_ask.specs.Keeping.{MayBeKeptOf};
 
 use crate::answered::Answered;
@@ -27,7 +28,7 @@ use gp_dump::Dump;
 use gp_history::{Kept, provenance_from};
 use gp_reenact::ReenactStop;
 use gp_semiring::list;
-use gp_syntax::{Query, State};
+use gp_syntax::{Point, Query};
 use std::alloc::Global;
 
 /// The rows of a checked query with their monomials, in no particular order, from the monomials that an earlier question left, or the
@@ -35,7 +36,7 @@ use std::alloc::Global;
 fn rows_with_monomials(
     alloc: Global,
     dump: &Dump,
-    state: State,
+    state: Point,
     select: &Select,
     kept: &mut Option<Kept<Monomial>>,
 ) -> Result<Vec<Row>, ReenactStop>
@@ -47,7 +48,7 @@ fn rows_with_monomials(
     ensures answer { Proves (λ rows. rows.items) result
         (annotated_answer monomials parameters agree
         (tables_in (dump_view dump.now).entries) (dump_view dump.now).entries
-        (spans_at (dump_view dump.now).tables) (state_view state) (select_view select.now)) }
+        (spans_at (dump_view dump.now).tables) (point_view state) (select_view select.now)) }
 {
     provenance_from(
         alloc,
@@ -63,7 +64,7 @@ fn rows_with_monomials(
 fn selected_provenance(
     alloc: Global,
     dump: &Dump,
-    state: State,
+    state: Point,
     select: &Select,
     kept: &mut Option<Kept<Monomial>>,
 ) -> Result<Answered, NoMemory>
@@ -73,7 +74,7 @@ fn selected_provenance(
     requires kept { MayBeKeptOf monomials dump.now kept.old }
     ensures kept { MayBeKeptOf monomials dump.now kept.new }
     ensures answered { IfOk result (λ answered. answered
-        ≡ dump_provenance (dump_view dump.now) (state_view state) (select_view select.now)) }
+        ≡ dump_provenance (dump_view dump.now) (point_view state) (select_view select.now)) }
 {
     match rows_with_monomials(alloc, dump, state, select, kept) {
         Ok(rows) => Ok(Answered::Listed(list(alloc, rows)?)),
@@ -87,7 +88,7 @@ fn selected_provenance(
 pub fn provenance_answer(
     alloc: Global,
     dump: &Dump,
-    state: State,
+    state: Point,
     query: &Query,
     kept: &mut Option<Kept<Monomial>>,
 ) -> Result<Answered, NoMemory>
@@ -97,7 +98,7 @@ pub fn provenance_answer(
     requires kept { MayBeKeptOf monomials dump.now kept.old }
     ensures kept { MayBeKeptOf monomials dump.now kept.new }
     ensures answered { IfOk result (λ answered. answered ≡ computed_answer (dump_view dump.now)
-        (y.ask y.provenance (state_view state) (query_view query.now))) }
+        (y.ask y.provenance (point_view state) (query_view query.now))) }
 {
     match asked(alloc, &dump.log, state, query) {
         Ok(select) => selected_provenance(alloc, dump, state, &select, kept),

@@ -3,13 +3,13 @@
 ghost use Rattle.std.specs.Prelude.{◌≡◌, true, false, None, IfOk};
 ghost use Rattle.gp_base.specs.Order.{row_cmp, sorted_by};
 ghost use Rattle.gp_grammar.specs.Syntax as y;
-ghost use Rattle.gp_syntax.specs.Views.{query_view, state_view};
+ghost use Rattle.gp_syntax.specs.Views.{query_view, point_view};
 ghost use Rattle.gp_algebra.specs.Fitting.{select_fits};
 ghost use Rattle.gp_algebra.specs.Views.{select_view};
 ghost use Rattle.gp_check.specs.Checking.{checked_query};
 ghost use Rattle.gp_check.specs.Valid.{query_is_valid, tables_are_valid};
 ghost use Rattle.gp_check.specs.Views.{Checks};
-ghost use Rattle.gp_log.specs.Contents.{entries, tables};
+ghost use Rattle.gp_log.specs.Contents.{HasPoint, entries, tables};
 ghost use Rattle.gp_log.specs.LogFacts.{tables_in};
 ghost use Rattle.gp_machine.specs.Questions as m;
 ghost use Rattle.gp_reenact.specs.Reenacting.{transaction_at};
@@ -29,17 +29,16 @@ use gp_dump::Dump;
 use gp_exec::{Backend, Plain};
 use gp_log::Log;
 use gp_reenact::{ReenactStop, log_refusal, reenact_by};
-use gp_syntax::{Query, State};
+use gp_syntax::{Point, Query};
 use std::alloc::Global;
 
 /// A query over a state, checked. It is refused by the log, which has no such state (E20 to E23), or else by the check of names and
 /// types.
-pub fn asked(alloc: Global, log: &Log, state: State, query: &Query) -> Result<Select, CheckStop>
+pub fn asked(alloc: Global, log: &Log, state: Point, query: &Query) -> Result<Select, CheckStop>
     ensures checked { Checks select_view result
-        (a.asked (m.log_refusal (entries log.now) (state_view state))
+        (a.asked (m.log_refusal (entries log.now) (point_view state))
         (checked_query (tables log.now) (query_view query.now))) }
-    ensures known { IfOk result
-        (λ select. m.log_refusal (entries log.now) (state_view state) ≡ None) }
+    ensures known { IfOk result (λ select. HasPoint log.now (point_view state)) }
     ensures fits { IfOk result (λ select. tables_are_valid (tables log.now) ≡ true
         → query_is_valid (query_view query.now) ≡ true
         → select_fits (tables log.now) (select_view select) ≡ true) }
@@ -63,17 +62,17 @@ pub(crate) fn sorted_answer(rows: Vec<Row>) -> Result<Answered, NoMemory>
 fn selected_answer<B: Backend>(
     alloc: Global,
     dump: &Dump,
-    state: State,
+    state: Point,
     select: &Select,
     backend: &B,
 ) -> Result<Answered, NoMemory>
     requires rules { IsAnswerable (dump_view dump.now) }
-    requires known { m.log_refusal (dump_view dump.now).entries (state_view state) ≡ None }
+    requires known { m.log_refusal (dump_view dump.now).entries (point_view state) ≡ None }
     requires fits { select_fits (tables_in (dump_view dump.now).entries) (select_view select.now)
         ≡ true }
     ensures { IfOk result (λ answered. IsAnswered (B.gives backend.now)
-        (transaction_at (state_view state))
-        (merged_at false (dump_view dump.now).entries (state_view state) (select_view select.now))
+        (transaction_at (point_view state))
+        (merged_at false (dump_view dump.now).entries (point_view state) (select_view select.now))
         (past_of (dump_view dump.now)) answered) }
 {
     match reenact_by(
@@ -94,17 +93,17 @@ fn selected_answer<B: Backend>(
 fn state_answer<B: Backend>(
     alloc: Global,
     dump: &Dump,
-    state: State,
+    state: Point,
     query: &Query,
     backend: &B,
 ) -> Result<Answered, NoMemory>
     requires rules { IsAnswerable (dump_view dump.now) }
-    requires known { m.log_refusal (dump_view dump.now).entries (state_view state) ≡ None }
+    requires known { m.log_refusal (dump_view dump.now).entries (point_view state) ≡ None }
     requires valid { tables_are_valid (tables_in (dump_view dump.now).entries) ≡ true }
     requires query { query_is_valid (query_view query.now) ≡ true }
     ensures { IfOk result (λ answered. AnswersChecked (B.gives backend.now)
-        (tables_in (dump_view dump.now).entries) (transaction_at (state_view state))
-        (merged_at false (dump_view dump.now).entries (state_view state)) (past_of (dump_view dump.now))
+        (tables_in (dump_view dump.now).entries) (transaction_at (point_view state))
+        (merged_at false (dump_view dump.now).entries (point_view state)) (past_of (dump_view dump.now))
         (checked_query (tables_in (dump_view dump.now).entries) (query_view query.now)) answered) }
 {
     match check_query(alloc, dump.log.catalog(), query) {
@@ -118,7 +117,7 @@ fn state_answer<B: Backend>(
 pub fn query_answer_by<B: Backend>(
     alloc: Global,
     dump: &Dump,
-    state: State,
+    state: Point,
     query: &Query,
     backend: &B,
 ) -> Result<Answered, NoMemory>
@@ -126,7 +125,7 @@ pub fn query_answer_by<B: Backend>(
     requires valid { tables_are_valid (tables_in (dump_view dump.now).entries) ≡ true }
     requires query { query_is_valid (query_view query.now) ≡ true }
     ensures { IfOk result (λ answered. AnswersBy (B.gives backend.now) (dump_view dump.now)
-        (y.ask y.rows (state_view state) (query_view query.now)) answered) }
+        (y.ask y.rows (point_view state) (query_view query.now)) answered) }
 {
     match log_refusal(&dump.log, state) {
         None => state_answer(alloc, dump, state, query, backend),
@@ -138,14 +137,14 @@ pub fn query_answer_by<B: Backend>(
 pub fn query_answer(
     alloc: Global,
     dump: &Dump,
-    state: State,
+    state: Point,
     query: &Query,
 ) -> Result<Answered, NoMemory>
     requires rules { IsAnswerable (dump_view dump.now) }
     requires valid { tables_are_valid (tables_in (dump_view dump.now).entries) ≡ true }
     requires query { query_is_valid (query_view query.now) ≡ true }
     ensures { IfOk result (λ answered. answered
-        ≡ computed_answer (dump_view dump.now) (y.ask y.rows (state_view state) (query_view query.now))) }
+        ≡ computed_answer (dump_view dump.now) (y.ask y.rows (point_view state) (query_view query.now))) }
 {
     query_answer_by(alloc, dump, state, query, &Plain)
 }

@@ -3,7 +3,7 @@
 ghost use Rattle.std.specs.Prelude.{◌≡◌, ℕ, List, Option, Some, map, true, IfOk};
 ghost use Rattle.gp_semiring.specs.declared.rules.Rule.{Rule};
 ghost use Rattle.gp_syntax.specs.Views.{rule_view};
-ghost use Rattle.gp_ask.specs.Remaining as r;
+ghost use Rattle.gp_ask.specs.AskingForms as r;
 ghost use Rattle.gp_ask.specs.Values as v;
 
 use gp_base::{NoMemory, Sequence};
@@ -50,7 +50,7 @@ fn in_order(alloc: Global, rules: &[WrittenRule]) -> Result<Sequence<Rule>, NoMe
 /// The rules of a question, and the number of all other tokens.
 pub fn rules_of(alloc: Global, rules: &[WrittenRule], other: Option<u64>) -> Result<Rules, NoMemory>
     ensures { IfOk result
-        (λ found. (found.rules, found.other) ≡ v.rules_of (map rule_view rules.now) other) }
+        (λ found. (found.rules, found.other) ≡ r.rules_of (map rule_view rules.now) other) }
 {
     Ok(Rules {
         rules: in_order(alloc, rules)?,

@@ -2,7 +2,7 @@
 
 ghost use Rattle.std.specs.Prelude.{◌≡◌, true, IfOk};
 ghost use Rattle.gp_grammar.specs.Syntax as y;
-ghost use Rattle.gp_syntax.specs.Views.{how_view, query_view, state_view};
+ghost use Rattle.gp_syntax.specs.Views.{how_view, query_view, point_view};
 ghost use Rattle.gp_check.specs.Valid.{query_is_valid, tables_are_valid};
 ghost use Rattle.gp_log.specs.LogFacts.{tables_in};
 ghost use Rattle.gp_dump.specs.Views.{dump_view};
@@ -20,7 +20,7 @@ use crate::queries::query_answer;
 use crate::values::value_answer;
 use gp_base::NoMemory;
 use gp_dump::Dump;
-use gp_syntax::{How, Query, State};
+use gp_syntax::{How, Point, Query};
 use std::alloc::Global;
 
 /// Answers a query over a state.
@@ -28,7 +28,7 @@ pub fn ask_answer(
     alloc: Global,
     dump: &Dump,
     how: &How,
-    state: State,
+    state: Point,
     query: &Query,
     kept: &mut KeptAnnotations,
 ) -> Result<Answered, NoMemory>
@@ -39,9 +39,9 @@ pub fn ask_answer(
     requires kept { AreKept dump.now kept.old }
     ensures kept { AreKept dump.now kept.new }
     ensures answered { IfOk result (λ answered. answered ≡ computed_answer (dump_view dump.now)
-        (y.ask (how_view how.now) (state_view state) (query_view query.now))) }
+        (y.ask (how_view how.now) (point_view state) (query_view query.now))) }
     ensures explained { IfOk result (λ answered. ExplainsQuestion (dump_view dump.now).entries
-        (y.ask (how_view how.now) (state_view state) (query_view query.now))) }
+        (y.ask (how_view how.now) (point_view state) (query_view query.now))) }
 {
     match how {
         How::Rows => query_answer(alloc, dump, state, query),

@@ -9,15 +9,16 @@ ghost use Rattle.gp_dump.specs.Views.{dump_view};
 ghost use Rattle.gp_history.specs.Agreement.{agree};
 ghost use Rattle.gp_history.specs.Values.{HasFewItems};
 ghost use Rattle.gp_kexec.specs.Rows.{pair_view};
-ghost use Rattle.gp_kexec.specs.Valuing.{values_by};
+ghost use Rattle.gp_kexec.specs.Valuing.{values_in};
 ghost use Rattle.gp_log.specs.Parameters.{parameters};
 ghost use Rattle.gp_log.specs.LogFacts.{tables_in};
-ghost use Rattle.gp_syntax.specs.Views.{how_view, query_view, rule_view, state_view};
+ghost use Rattle.gp_syntax.specs.Views.{how_view, query_view, rule_view, point_view};
 ghost use Rattle.gp_semiring.specs.Rules as r;
 ghost use Rattle.gp_semiring.specs.Values.{token_value};
 ghost use Rattle.gp_history.specs.ValueForms as a;
 ghost use Rattle.gp_ask.specs.Answerable.{IsAnswerable, has_few_items};
-ghost use Rattle.gp_ask.specs.Asking.{dump_query, spans_at};
+ghost use Rattle.gp_ask.specs.Asking.{spans_at};
+ghost use Rattle.gp_ask.specs.AskingForms as f;
 ghost use Rattle.gp_ask.specs.ValueForms.{dump_values};
 ghost use Rattle.gp_ask.specs.Hypothetical as h;
 ghost use Rattle.gp_ask.specs.Keeping.{AreKept, MayBeKeptBy};
@@ -36,7 +37,7 @@ use gp_grammar::SemiringName;
 use gp_kexec::KRow;
 use gp_reenact::ReenactStop;
 use gp_semiring::{Bool, Cost, Count, Level, Poly, PosBool, Rules, Semiring, first_outside};
-use gp_syntax::{How, Query, Rule, State};
+use gp_syntax::{How, Point, Query, Rule};
 use std::alloc::Global;
 
 /// The name of a semiring, as it is printed.
@@ -144,7 +145,7 @@ fn valued_rows<K: Semiring>(alloc: Global, rows: &[KRow<K>]) -> Result<Sequence<
 fn rows_by<K: Semiring>(
     alloc: Global,
     dump: &Dump,
-    state: State,
+    state: Point,
     select: &Select,
     rules: Rules,
     slot: &mut Option<KeptValues<K>>,
@@ -153,15 +154,13 @@ fn rows_by<K: Semiring>(
     requires fits { select_fits (tables_in (dump_view dump.now).entries) (select_view select.now)
         ≡ true }
     requires few { HasFewItems (select_view select.now) }
-    requires kept { MayBeKeptBy (values_by K.one_of K.times_of K.number_of K.itself_of)
-        dump.now slot.old }
-    ensures kept { MayBeKeptBy (values_by K.one_of K.times_of K.number_of K.itself_of)
-        dump.now slot.new }
+    requires kept { MayBeKeptBy (values_in K.Semiring) dump.now slot.old }
+    ensures kept { MayBeKeptBy (values_in K.Semiring) dump.now slot.new }
     ensures answered { IfOk result (λ answered. answered ≡ v.with_values K.text_of
         (a.value_answer parameters K.plus_of K.zero_of K.one_of K.times_of
         (token_value K.one_of K.number_of K.itself_of (rules.rules, rules.other)) agree
         (tables_in (dump_view dump.now).entries) (dump_view dump.now).entries
-        (spans_at (dump_view dump.now).tables) (state_view state) (select_view select.now))) }
+        (spans_at (dump_view dump.now).tables) (point_view state) (select_view select.now))) }
 {
     match rows_with_values::<K>(alloc, dump, state, select, rules, slot) {
         Ok(rows) => Ok(Answered::Values(valued_rows(alloc, rows.as_slice())?)),
@@ -174,7 +173,7 @@ fn rows_by<K: Semiring>(
 fn values_in<K: Semiring>(
     alloc: Global,
     dump: &Dump,
-    state: State,
+    state: Point,
     select: &Select,
     name: SemiringName,
     rules: Rules,
@@ -184,13 +183,11 @@ fn values_in<K: Semiring>(
     requires fits { select_fits (tables_in (dump_view dump.now).entries) (select_view select.now)
         ≡ true }
     requires few { HasFewItems (select_view select.now) }
-    requires kept { MayBeKeptBy (values_by K.one_of K.times_of K.number_of K.itself_of)
-        dump.now slot.old }
-    ensures kept { MayBeKeptBy (values_by K.one_of K.times_of K.number_of K.itself_of)
-        dump.now slot.new }
+    requires kept { MayBeKeptBy (values_in K.Semiring) dump.now slot.old }
+    ensures kept { MayBeKeptBy (values_in K.Semiring) dump.now slot.new }
     ensures answered { IfOk result (λ answered. answered ≡ dump_values (semiring_with K.zero_of K.one_of
         K.plus_of K.times_of K.number_of K.itself_of K.text_of) name (rules.rules, rules.other)
-        (dump_view dump.now) (state_view state) (select_view select.now)) }
+        (dump_view dump.now) (point_view state) (select_view select.now)) }
 {
     match first_outside::<K>(alloc, &rules)? {
         Some(number) => Ok(Answered::Refused(outside(alloc, number, name)?)),
@@ -202,7 +199,7 @@ fn values_in<K: Semiring>(
 fn selected_values(
     alloc: Global,
     dump: &Dump,
-    state: State,
+    state: Point,
     select: &Select,
     name: SemiringName,
     rules: Rules,
@@ -215,7 +212,7 @@ fn selected_values(
     requires kept { AreKept dump.now kept.old }
     ensures kept { AreKept dump.now kept.new }
     ensures answered { IfOk result (λ answered. answered ≡ dump_values (v.semiring_of name) name
-        (rules.rules, rules.other) (dump_view dump.now) (state_view state) (select_view select.now)) }
+        (rules.rules, rules.other) (dump_view dump.now) (point_view state) (select_view select.now)) }
 {
     match name {
         SemiringName::Count => {
@@ -248,7 +245,7 @@ pub fn value_answer(
     name: SemiringName,
     rules: &[Rule],
     other: Option<u64>,
-    state: State,
+    state: Point,
     query: &Query,
     kept: &mut KeptAnnotations,
 ) -> Result<Answered, NoMemory>
@@ -258,9 +255,9 @@ pub fn value_answer(
     requires few { has_few_items (query_view query.now) ≡ true }
     requires kept { AreKept dump.now kept.old }
     ensures kept { AreKept dump.now kept.new }
-    ensures answered { IfOk result (λ answered. answered ≡ dump_query (dump_view dump.now)
-        (dump_values (v.semiring_of name) name (v.rules_of (map rule_view rules.now) other)
-        (dump_view dump.now) (state_view state)) (state_view state) (query_view query.now)) }
+    ensures answered { IfOk result (λ answered. answered ≡ f.dump_query (dump_view dump.now)
+        (dump_values (v.semiring_of name) name (f.rules_of (map rule_view rules.now) other)
+        (dump_view dump.now) (point_view state)) (point_view state) (query_view query.now)) }
 {
     match asked(alloc, &dump.log, state, query) {
         Ok(select) => {

@@ -52,12 +52,12 @@ module _ (entries : List Entry) (spans : ℕ → List Span) where
   version_within version = versions_within (log_of entries) spans (versions_in entries) version
 
   -- each token at most once for each version and node, and once more
-  pub point_within : (point : y.State) → AreWithin (λ token. suc (versions_in entries)) (at_point words entries point known)
+  pub point_within : (point : y.Point) → AreWithin (λ token. suc (versions_in entries)) (at_point words entries point known)
   point_within (y.as_of version) table = within_more (for_each_node runs) (λ token. suc (versions_in entries)) once_for_each (known version table) (version_within version table)
   point_within (y.after t k) table =
       let log = log_of entries in
       within_more (run_most runs t k) (λ token. suc (versions_in entries)) (once_more t k) (run words log t k known table) (run_within log t known runs version_within k table)
-  point_within (y.State.commit t) table =
+  point_within (y.Point.commit t) table =
       let log = log_of entries in
       let before = version_before (version_of t entries) in
       within_more (run_most runs t (statement_count t entries)) (λ token. suc (versions_in entries)) (once_more t (statement_count t entries)) (at_commit words log t before known table)
@@ -86,7 +86,7 @@ module _ (top most : ℕ) (db : Database (List Token)) (within : AreWithin (λ t
   answer_countable number [] few = tt
   answer_countable number (branch ∷ branches) few = each_append IsCountable (chosen words number branch db) (answer_from words (suc number) branches db) (chosen_countable number branch few.0) (answer_countable (suc number) branches few.1)
 
-pub elements_countable : (parameters : Parameters) (entries : List Entry) (spans : ℕ → List Span) (point : y.State) (query : Select) → HasRoom parameters entries spans query
+pub elements_countable : (parameters : Parameters) (entries : List Entry) (spans : ℕ → List Span) (point : y.Point) (query : Select) → HasRoom parameters entries spans query
     → own_stop words parameters entries point (annotated_versions words entries spans) ≡ None → AllByRecursion IsCountable (answer words query (at_point words entries point (annotated_versions words entries spans)))
 elements_countable parameters entries spans point query room stop =
     answer_countable (suc (versions_in entries)) parameters.nodes (at_point words entries point (annotated_versions words entries spans)) (point_within entries spans point)

@@ -13,7 +13,7 @@ use Rattle.gp_algebra.specs.Stops.{Stop}
 use Rattle.gp_base.specs.declared.refusal.Refusal.{Refusal}
 use Rattle.gp_base.specs.declared.refusal.Refusal.TheVariants.{E24, E25, E26}
 use Rattle.gp_base.specs.declared.table.Table.{Table}
-use Rattle.gp_base.specs.Annotated.{Annotated, Annotations, Database, plain}
+use Rattle.gp_base.specs.Annotated.{Annotated, Annotations, Database, unannotated}
 use Rattle.gp_base.specs.Identities.{Identity, identity_cmp, same_identity}
 use Rattle.gp_compose.specs.Composed.{last_write}
 use Rattle.gp_log.proofs.FittingLogs.{statement_at_fits}
@@ -106,7 +106,7 @@ unmarked_annotation domain id (row ∷ all) = ap (cond (same_identity row.identi
 
 -- keys have no annotations
 pub keys_same : {M : Type 0} (domain : Annotations M) (version : ℕ) (spans : List Span) → keys_of version spans ≡ map key_of (rows_at domain version spans)
-keys_same domain version spans = map-map key_of (row_of plain) (spans_at version spans) ∙ sym (map-map key_of (row_of domain) (spans_at version spans))
+keys_same domain version spans = map-map key_of (row_of unannotated) (spans_at version spans) ∙ sym (map-map key_of (row_of domain) (spans_at version spans))
 
 -- ---- stops
 

@@ -15,18 +15,19 @@ use Rattle.gp_semiring.specs.Sums.{added, summed}
 use Rattle.gp_semiring.specs.SumForms.{Each}
 use Rattle.gp_semiring.specs.Totals.{total_at}
 use Rattle.gp_semiring.proofs.TotalLemmas.{find-summed}
-use Rattle.gp_history.specs.DistinctRows.{distinct_rows, with_row}
+use Rattle.gp_semiring.specs.Witnesses.{placed}
+use Rattle.gp_history.specs.DistinctRows.{distinct_rows}
 
 -- the rows of pairs
 abbrev pub rows_of : {K : Type 0} → List (List Cell × K) → List (List Cell)
 rows_of pairs = map (λ pair. pair.0) pairs
 
 module _ {K : Type 0} (plus : K → K → K) where
-  rows_added : (row : List Cell) (a : K) (pairs : List (List Cell × K)) → rows_of (added row_cmp plus row a pairs) ≡ with_row row (rows_of pairs)
+  rows_added : (row : List Cell) (a : K) (pairs : List (List Cell × K)) → rows_of (added row_cmp plus row a pairs) ≡ placed row_cmp row (rows_of pairs)
   rows_added row a [] = refl
   rows_added row a (pair ∷ pairs) =
       elim (row_cmp row pair.0) as (λ o. rows_of (by_order o ((row, a) ∷ pair ∷ pairs) ((pair.0, plus a pair.1) ∷ pairs) (pair ∷ added row_cmp plus row a pairs))
-      ≡ by_order o (row ∷ pair.0 ∷ rows_of pairs) (pair.0 ∷ rows_of pairs) (pair.0 ∷ with_row row (rows_of pairs))) [
+      ≡ by_order o (row ∷ pair.0 ∷ rows_of pairs) (pair.0 ∷ rows_of pairs) (pair.0 ∷ placed row_cmp row (rows_of pairs))) [
         | Less ↦ refl
         | Equal ↦ refl
         | Greater ↦ ap (λ rows. pair.0 ∷ rows) (rows_added row a pairs)
@@ -34,7 +35,7 @@ module _ {K : Type 0} (plus : K → K → K) where
 
   pub rows_summed : (pairs : List (List Cell × K)) → rows_of (summed row_cmp plus pairs) ≡ distinct_rows (rows_of pairs)
   rows_summed [] = refl
-  rows_summed (pair ∷ pairs) = rows_added pair.0 pair.1 (summed row_cmp plus pairs) ∙ ap (with_row pair.0) (rows_summed pairs)
+  rows_summed (pair ∷ pairs) = rows_added pair.0 pair.1 (summed row_cmp plus pairs) ∙ ap (placed row_cmp pair.0) (rows_summed pairs)
 
 module _ {K : Type 0} (f : List Cell → K) where
   -- the rows of pairs, each with its value by f

@@ -41,7 +41,7 @@ by_log None None None b e alike = refl
 by_log None (Some refusal) own true e alike = absurd (cc)
 by_log None None (Some refusal) true e alike = absurd (cc)
 
-module _ (parameters : Parameters) (agree : List (Annotated Monomial) → List (Annotated Monomial) → Bool) (state : State Monomial) (spans : ℕ → List Span) (point : y.State) where
+module _ (parameters : Parameters) (agree : List (Annotated Monomial) → List (Annotated Monomial) → Bool) (state : State Monomial) (spans : ℕ → List Span) (point : y.Point) where
   -- a query without branches is answered as the history does, so only the log refuses
   pub log_refuses : AreAlike (annotated_answer monomials parameters agree state.catalogue state.entries spans point []) (held_answer monomials parameters state point [])
       → history_refusal monomials parameters agree state.catalogue state.entries spans point ≡ log_refusal state.entries point

@@ -6,7 +6,7 @@ use Rattle.std.proofs.lemmas.List.{map-append}
 use Rattle.std.proofs.lemmas.List.Sorted.{IsPermutation-cons, IsPermutation-middle, IsPermutation-trans}
 use Rattle.gp_base.specs.declared.cell.Cell.{Cell}
 use Rattle.gp_base.specs.declared.cell.Cell.TheVariants as cell
-use Rattle.gp_base.specs.Annotated.{plain}
+use Rattle.gp_base.specs.Annotated.{unannotated}
 use Rattle.gp_base.specs.IdentityOrder.{identity_cmp-exact}
 use Rattle.gp_base.specs.Identities.{identity_cmp}
 use Rattle.gp_base.specs.Order.{row_cmp}
@@ -64,8 +64,8 @@ next_row rows at row key less is same = ap (map held_key) (drop_first rows at ro
 -- ---- one span
 
 keys_more : (version : ℕ) (span : Span) (others : List Span) (b : Bool) → holds_at version span ≡ b
-    → keys_of version (span ∷ others) ≡ map key_of (map (row_of plain) (cond b (span ∷ spans_at version others) (spans_at version others)))
-keys_more version span others b is = ap (λ c. map key_of (map (row_of plain) (cond c (span ∷ spans_at version others) (spans_at version others)))) is
+    → keys_of version (span ∷ others) ≡ map key_of (map (row_of unannotated) (cond b (span ∷ spans_at version others) (spans_at version others)))
+keys_more version span others b is = ap (λ c. map key_of (map (row_of unannotated) (cond c (span ∷ spans_at version others) (spans_at version others)))) is
 
 module _ {M : Type 0} (kept written : List (Held M)) (at : Places) (version : ℕ) (span : Span) where
   pub not_held : holds_at version span ≡ false → TakesRow kept written at version span (Some at)

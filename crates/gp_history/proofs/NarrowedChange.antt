@@ -8,7 +8,7 @@ use Rattle.std.proofs.lemmas.List.{map-append}
 use Rattle.gp_algebra.specs.Statements.{Statement}
 use Rattle.gp_base.specs.declared.cell.Cell.{Cell}
 use Rattle.gp_base.specs.declared.limit.TheConstants.{MAX_TABLE_ROWS}
-use Rattle.gp_base.specs.Annotated.{Annotated, Annotations, Environment, plain}
+use Rattle.gp_base.specs.Annotated.{Annotated, Annotations, Environment, unannotated}
 use Rattle.gp_base.specs.Identities.{Identity, Sources, identity, identity_cmp, same_identity}
 use Rattle.gp_base.proofs.Bags.{SameBag, behind, mapped, same_from, through, turned}
 use Rattle.gp_base.proofs.Permutations.{permuted, unpermuted}
@@ -121,7 +121,7 @@ module _ {M : Type 0} (domain : Annotations M) (entries : List Entry) (spans few
 
   -- the keys of the spans that hold the version
   keys_held : (own : ℕ → List Span) (table : ℕ) → map key_of (past_of domain log spans before own version table) ≡ keys_of version (own table)
-  keys_held own table = map-map key_of (annotated_row domain (computed domain log spans before) table) (spans_at version (own table)) ∙ sym (map-map key_of (row_of plain) (spans_at version (own table)))
+  keys_held own table = map-map key_of (annotated_row domain (computed domain log spans before) table) (spans_at version (own table)) ∙ sym (map-map key_of (row_of unannotated) (spans_at version (own table)))
 
   module _ (table : ℕ) (rows : List (Annotated M)) (moved : IsPermutation rows (published_of domain log spans before few table)) where
     abbrev all : List (Annotated M)

@@ -37,7 +37,7 @@ use Rattle.gp_machine.specs.Points.{at_point, run_stop}
 use Rattle.gp_machine.specs.Questions.{log_refusal, needed_version, own_stop}
 use Rattle.gp_machine.specs.Runs.{at_commit}
 use Rattle.gp_prov.specs.Encoding.{encoded, encoded_row}
-use Rattle.gp_prov.specs.ToPlain.{plain, plain_last, plain_program, plain_step}
+use Rattle.gp_prov.specs.ToPlain.{plain_query, plain_last, plain_program, plain_step}
 use Rattle.gp_prov.proofs.BuiltLemmas.{program_built}
 use Rattle.gp_prov.proofs.MeaningLemmas.{HaveWidths, answers_are, rows_between, steps_are}
 use Rattle.gp_reenact.specs.Reenacting.{spans_of, transaction_at}
@@ -96,7 +96,7 @@ module _ {M : Type 0} (domain : Annotations M) (log : Log) (spans : ℕ → List
 -- ---- the scans of a program with system columns
 
 module _ (columns of_step : ℕ → ℕ) (prov : Bool) where
-  scans_kept : (query : Query) → query_scans (plain columns of_step prov query) ≡ annotated_query_scans query
+  scans_kept : (query : Query) → query_scans (plain_query columns of_step prov query) ≡ annotated_query_scans query
   scans_kept (q.scan table version) = refl
   scans_kept (q.step j) = refl
   scans_kept (q.select query c) = scans_kept query
@@ -146,7 +146,7 @@ occurrences made chosen same =
 -- ---- the program of a state
 
 module _ (entries : List Entry) (versions : List Versions) (sound : IsSound entries versions) (select : Select) (fits : select_fits (tables_in entries) select ≡ true)
-    (point : y.State) (known : log_refusal entries point ≡ None) where
+    (point : y.Point) (known : log_refusal entries point ≡ None) where
   abbrev columns : ℕ → ℕ
   columns = width_of (tables_in entries)
 
@@ -199,19 +199,19 @@ module _ (entries : List Entry) (versions : List Versions) (sound : IsSound entr
   abbrev past : Environment Monomial
   past = annotated monomials (spans_of versions) (computed monomials (log_of entries) (spans_of versions) n)
 
-  pub stops : (point : y.State) → log_refusal entries point ≡ None
+  pub stops : (point : y.Point) → log_refusal entries point ≡ None
       → own_stop monomials parameters entries point past
       ≡ option_map (refusal_at (transaction_at point)) (program_stop MAX_TABLE_ROWS MAX_NODES (encoded true past) (plain_program (width_of (tables_in entries)) true (program_at (width_of (tables_in entries)) entries point select)))
   stops (y.as_of version) known = refl
   stops (y.after t k) known =
       run_refused monomials parameters (log_of entries) t past k
       ∙ ap (option_map (refusal_at t)) (sym (steps_stop_is entries versions sound select fits (y.after t k) known n t k (program entries versions sound select fits (y.after t k) known).last (built entries versions sound select fits (y.after t k) known n).steps))
-  stops (y.State.commit t) known =
+  stops (y.Point.commit t) known =
       run_refused monomials parameters (log_of entries) t past (statement_count t entries)
-      ∙ ap (option_map (refusal_at t)) (sym (steps_stop_is entries versions sound select fits (y.State.commit t) known n t (statement_count t entries) (program entries versions sound select fits (y.State.commit t) known).last (built entries versions sound select fits (y.State.commit t) known n).steps))
+      ∙ ap (option_map (refusal_at t)) (sym (steps_stop_is entries versions sound select fits (y.Point.commit t) known n t (statement_count t entries) (program entries versions sound select fits (y.Point.commit t) known).last (built entries versions sound select fits (y.Point.commit t) known n).steps))
 
 -- the versions that a state needs are enough
-pub needed_suffice : (entries : List Entry) (versions : List Versions) → IsSound entries versions → (select : Select) (point : y.State) → log_refusal entries point ≡ None
+pub needed_suffice : (entries : List Entry) (versions : List Versions) → IsSound entries versions → (select : Select) (point : y.Point) → log_refusal entries point ≡ None
     → (n : ℕ) → needed_version entries point ≤ n → n ≤ versions_in entries
     → AgreeOn (program_scans (plain_program (width_of (tables_in entries)) true (program_at (width_of (tables_in entries)) entries point select)))
     (encoded true (annotated monomials (spans_of versions) (computed monomials (log_of entries) (spans_of versions) n)))

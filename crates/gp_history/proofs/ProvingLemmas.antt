@@ -86,19 +86,19 @@ made_within t (Committed line session u ∷ older) = go (u == t) (made_within t 
     go false l = omega arith
 made_within t (Ended line session end u ∷ older) = made_within t older
 
-pub needed_within : (entries : List Entry) (point : y.State) → log_refusal entries point ≡ None → needed_version entries point ≤ versions_in entries
+pub needed_within : (entries : List Entry) (point : y.Point) → log_refusal entries point ≡ None → needed_version entries point ≤ versions_in entries
 needed_within entries (y.as_of version) known = go (nat_le version (versions_in entries)) refl known
   where
     go : (b : Bool) → nat_le version (versions_in entries) ≡ b → cond b None (Some (E23 (versions_in entries))) ≡ None → version ≤ versions_in entries
     go true is e = leb-true version (versions_in entries) is
     go false is e = absurd (some_none (E23 (versions_in entries)) e)
 needed_within entries (y.after t k) known = versions_le t k entries
-needed_within entries (y.State.commit t) known = made_within t entries
+needed_within entries (y.Point.commit t) known = made_within t entries
 
 -- ---- answers
 
 -- a state that the log does not have
-pub log_refuses : {X : Type 0} (view : X → List (List Cell)) (entries : List Entry) (versions : List Versions) (select : Select) (point : y.State) (refusal : Refusal) → log_refusal entries point ≡ Some refusal
+pub log_refuses : {X : Type 0} (view : X → List (List Cell)) (entries : List Entry) (versions : List Versions) (select : Select) (point : y.Point) (refusal : Refusal) → log_refusal entries point ≡ Some refusal
     → Proves view (Err (Refused refusal)) (annotated_answer monomials parameters agree (tables_in entries) entries (spans_of versions) point select)
 log_refuses view entries versions select point refusal is =
     subst (λ (d : Result (List (Element Monomial)) Refusal). Proves view (Err (Refused refusal)) d) (sym (ap (λ o. given (option_or o rest) elements) is)) refl
@@ -116,7 +116,7 @@ log_refuses view entries versions select point refusal is =
 
 -- a program that gives the rows of an answer, and stops where its run does
 module _ {X : Type 0} (view : X → List (List Cell)) (entries : List Entry) (versions : List Versions) (sound : IsSound entries versions) (select : Select) (fits : select_fits (tables_in entries) select ≡ true)
-    (point : y.State) (known : log_refusal entries point ≡ None) where
+    (point : y.Point) (known : log_refusal entries point ≡ None) where
   abbrev needed : ℕ
   needed = needed_version entries point
 

@@ -107,7 +107,7 @@ module _ {M : Type 0} (domain : Annotations M) (parameters : Parameters) where
         (each_filter (λ span. nodes span.id ≤ parameters.nodes) (λ span. nodes span.id ≤ parameters.nodes) (holds_at version) (λ span e is. is) (spans table) (small table))
 
     -- the state that a question asks about, if its run does not stop
-    pub point_small : (entries : List Entry) (point : y.State) → own_stop domain parameters entries point (annotated_versions domain entries spans) ≡ None → AreSmall parameters.nodes (at_point domain entries point (annotated_versions domain entries spans))
+    pub point_small : (entries : List Entry) (point : y.Point) → own_stop domain parameters entries point (annotated_versions domain entries spans) ≡ None → AreSmall parameters.nodes (at_point domain entries point (annotated_versions domain entries spans))
     point_small entries point stop = over point stop
       where
         known : (version : ℕ) → AreSmall parameters.nodes (annotated_versions domain entries spans version)
@@ -117,9 +117,9 @@ module _ {M : Type 0} (domain : Annotations M) (parameters : Parameters) where
         no_stop None e = refl
         no_stop (Some stop) e = absurd (some_none (stop_refusal stop) e)
 
-        over : (point : y.State) → own_stop domain parameters entries point (annotated_versions domain entries spans) ≡ None → AreSmall parameters.nodes (at_point domain entries point (annotated_versions domain entries spans))
+        over : (point : y.Point) → own_stop domain parameters entries point (annotated_versions domain entries spans) ≡ None → AreSmall parameters.nodes (at_point domain entries point (annotated_versions domain entries spans))
         over (y.as_of version) stop = known version
         over (y.after t k) stop = run_small (log_of entries) t (annotated_versions domain entries spans) known k (no_stop (run_stop domain parameters (log_of entries) t k (annotated_versions domain entries spans)) stop)
-        over (y.State.commit t) stop =
+        over (y.Point.commit t) stop =
             commit_small (log_of entries) t (annotated_versions domain entries spans) known (version_before (version_of t entries))
             (no_stop (run_stop domain parameters (log_of entries) t (statement_count t entries) (annotated_versions domain entries spans)) stop)

@@ -14,7 +14,8 @@ use Rattle.gp_semiring.specs.Semirings.{SemiringLaws}
 use Rattle.gp_machine.specs.Annotating.{annotated, annotated_row, computed}
 use Rattle.gp_machine.specs.Entries.{Log}
 use Rattle.gp_machine.proofs.Distinct.{each_both, each_filter}
-use Rattle.gp_semiring.specs.Values.{monomial_value, values_as_annotations}
+use Rattle.gp_semiring.specs.Values.{monomial_value}
+use Rattle.gp_kexec.specs.Valuing.{values_as_annotations}
 use Rattle.gp_kexec.specs.SemiringForms.{counted, occurs, word_value, words}
 use Rattle.gp_kexec.proofs.WordLemmas.{counted_carries, value_of_counted, word_carries}
 use Rattle.gp_history.specs.Room.{IsWithinNodes, for_each_node, made_by}

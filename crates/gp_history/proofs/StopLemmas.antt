@@ -19,7 +19,8 @@ use Rattle.gp_algebra.specs.Statements.{width_of}
 use Rattle.gp_algebra.specs.Plain.{no_steps, with_step}
 use Rattle.gp_algebra.specs.Statements.{Statement, delete, insert, insert_select, read, update, target}
 use Rattle.gp_algebra.specs.Stops.{Stop, ancestry, first_stop, rows}
-use Rattle.gp_compose.specs.Composed.{composed, current_before, step_of, steps_of}
+use Rattle.gp_compose.specs.Composed.{composed, current_before, step_of}
+use Rattle.gp_compose.specs.StepForms.{steps_of}
 use Rattle.gp_kexec.specs.AnnotatedStops.{has_large, program_stop, steps_stop, stop_at}
 use Rattle.gp_log.specs.LogFitting.{statements_fit}
 use Rattle.gp_machine.specs.Entries.{Entry, Log, log_of}

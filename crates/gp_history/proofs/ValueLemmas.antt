@@ -30,7 +30,8 @@ use Rattle.gp_machine.specs.Entries.{Entry, log_of}
 use Rattle.gp_machine.specs.Parameters.{Parameters}
 use Rattle.gp_machine.specs.Points.{at_point}
 use Rattle.gp_machine.specs.Questions.{annotation_stop, given, log_refusal, needed_version, own_stop}
-use Rattle.gp_semiring.specs.Values.{monomial_value, values_as_annotations}
+use Rattle.gp_semiring.specs.Values.{monomial_value}
+use Rattle.gp_kexec.specs.Valuing.{values_as_annotations}
 use Rattle.gp_semiring.proofs.MonomialValues.{monomial_value-in}
 use Rattle.gp_kexec.specs.SemiringForms.{counted, word_value, words}
 use Rattle.gp_kexec.proofs.WordLemmas.{counted_carries, value_of_counted, word_carries}
@@ -97,7 +98,7 @@ module _ {K : Type 0} {element : K → Type 0} {zero_of one_of : K} {plus times_
   sums_same elements few = ap (summed row_cmp plus) (pairs_same elements few) ∙ values_summed (map (element_reannotated counted) elements)
 
   module _ (parameters : Parameters) (agree : List (Annotated Monomial) → List (Annotated Monomial) → Bool) (alike : List (Annotated K) → List (Annotated K) → Bool) (ignore : IgnoreAnnotations agree alike)
-      (catalogue : List Table) (entries : List Entry) (spans : ℕ → List Span) (point : y.State) (query : Select) (room : HasRoom parameters entries spans query) where
+      (catalogue : List Table) (entries : List Entry) (spans : ℕ → List Span) (point : y.Point) (query : Select) (room : HasRoom parameters entries spans query) where
     -- the test of equal tables, over words
     abbrev agree_words : List (Annotated (List Token)) → List (Annotated (List Token)) → Bool
     agree_words rows others = agree (map (reannotated counted) rows) (map (reannotated counted) others)

@@ -106,7 +106,7 @@ room entries versions sound few select items =
 -- ---- the program of a state
 
 module _ {K : Type 0} (domain : Annotations K) (image : IsImage domain) (plus : K → K → K) (entries : List Entry) (versions : List Versions) (sound : IsSound entries versions) (select : Select)
-    (fits : select_fits (tables_in entries) select ≡ true) (point : y.State) (known : log_refusal entries point ≡ None) where
+    (fits : select_fits (tables_in entries) select ≡ true) (point : y.Point) (known : log_refusal entries point ≡ None) where
   abbrev columns : ℕ → ℕ
   columns = width_of (tables_in entries)
 
@@ -163,7 +163,7 @@ module _ {K : Type 0} (domain : Annotations K) (image : IsImage domain) (plus : 
   expected = summed_answer parameters plus domain agree (tables_in entries) entries spans point select
 
 module _ {K : Type 0} (domain : Annotations K) (image : IsImage domain) (entries : List Entry) (versions : List Versions) (sound : IsSound entries versions) (select : Select) where
-  stops : (point : y.State)
+  stops : (point : y.Point)
       → own_stop domain parameters entries point (env domain image (log_of entries) (spans_of versions) (spans_of versions) (versions_in entries))
       ≡ option_map (refusal_at (transaction_at point))
       (program_stop domain MAX_TABLE_ROWS MAX_NODES (env domain image (log_of entries) (spans_of versions) (spans_of versions) (versions_in entries)) (program_at (width_of (tables_in entries)) entries point select))
@@ -171,12 +171,12 @@ module _ {K : Type 0} (domain : Annotations K) (image : IsImage domain) (entries
   stops (y.after t j) =
       run_refused domain parameters (log_of entries) t (env domain image (log_of entries) (spans_of versions) (spans_of versions) (versions_in entries)) j
       ∙ ap (option_map (refusal_at t)) (sym (steps_stop_is domain image entries (spans_of versions) (spans_of versions) sound.statements sound.spans (versions_in entries) MAX_TABLE_ROWS t j (program_at (width_of (tables_in entries)) entries (y.after t j) select).last))
-  stops (y.State.commit t) =
+  stops (y.Point.commit t) =
       run_refused domain parameters (log_of entries) t (env domain image (log_of entries) (spans_of versions) (spans_of versions) (versions_in entries)) (statement_count t entries)
-      ∙ ap (option_map (refusal_at t)) (sym (steps_stop_is domain image entries (spans_of versions) (spans_of versions) sound.statements sound.spans (versions_in entries) MAX_TABLE_ROWS t (statement_count t entries) (program_at (width_of (tables_in entries)) entries (y.State.commit t) select).last))
+      ∙ ap (option_map (refusal_at t)) (sym (steps_stop_is domain image entries (spans_of versions) (spans_of versions) sound.statements sound.spans (versions_in entries) MAX_TABLE_ROWS t (statement_count t entries) (program_at (width_of (tables_in entries)) entries (y.Point.commit t) select).last))
 
 module _ {K : Type 0} (domain : Annotations K) (image : IsImage domain) (plus : K → K → K) (entries : List Entry) (versions : List Versions) (sound : IsSound entries versions) (select : Select)
-    (fits : select_fits (tables_in entries) select ≡ true) (point : y.State) (known : log_refusal entries point ≡ None) where
+    (fits : select_fits (tables_in entries) select ≡ true) (point : y.Point) (known : log_refusal entries point ≡ None) where
   abbrev asked : Program
   asked = program domain image plus entries versions sound select fits point known
 
@@ -263,7 +263,7 @@ module _ {K : Type 0} (domain : Annotations K) (image : IsImage domain) (plus : 
         by exec.NoMemory ran = tt
 
 -- a state that the log does not have
-pub log_refuses : {K : Type 0} (domain : Annotations K) (plus : K → K → K) {X : Type 0} (view : X → List (List Cell × K)) (entries : List Entry) (versions : List Versions) (select : Select) (point : y.State) (refusal : Refusal)
+pub log_refuses : {K : Type 0} (domain : Annotations K) (plus : K → K → K) {X : Type 0} (view : X → List (List Cell × K)) (entries : List Entry) (versions : List Versions) (select : Select) (point : y.Point) (refusal : Refusal)
     → log_refusal entries point ≡ Some refusal → Gives view (Err (Refused refusal)) (summed_answer parameters plus domain agree (tables_in entries) entries (spans_of versions) point select)
 log_refuses {K} domain plus view entries versions select point refusal is =
     subst (λ (d : Result (List (List Cell × K)) Refusal). Gives view (Err (Refused refusal)) d)

@@ -96,14 +96,14 @@ module _ {M N : Type 0} (domain : Annotations M) (other : Annotations N) (h : M 
           (computed_reannotated log (suc u) (suc u)) (rows_reannotated (suc u)) in
           λ i. option_or (before i) (option_or (option_map stop_refusal (own i)) (last i))
 
-      own_stop_reannotated : (entries : List Entry) (point : y.State) → own_stop other parameters entries point (annotated_versions other entries spans) ≡ own_stop domain parameters entries point (annotated_versions domain entries spans)
+      own_stop_reannotated : (entries : List Entry) (point : y.Point) → own_stop other parameters entries point (annotated_versions other entries spans) ≡ own_stop domain parameters entries point (annotated_versions domain entries spans)
       own_stop_reannotated entries (y.as_of version) = refl
       own_stop_reannotated entries (y.after t k) =
           ap (option_map stop_refusal) (run_stop_reannotated domain other h keeps (annotated_versions domain entries spans) (annotated_versions other entries spans) (versions_reannotated entries) parameters (log_of entries) t k)
-      own_stop_reannotated entries (y.State.commit t) =
+      own_stop_reannotated entries (y.Point.commit t) =
           ap (option_map stop_refusal) (run_stop_reannotated domain other h keeps (annotated_versions domain entries spans) (annotated_versions other entries spans) (versions_reannotated entries) parameters (log_of entries) t (statement_count t entries))
 
-      module _ (entries : List Entry) (point : y.State) where
+      module _ (entries : List Entry) (point : y.Point) where
         -- the same refusal
         pub refusal_reannotated : history_refusal other parameters alike catalogue entries spans point ≡ history_refusal domain parameters agree catalogue entries spans point
         refusal_reannotated =

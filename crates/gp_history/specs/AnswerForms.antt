@@ -37,7 +37,7 @@ module _ {K : Type 0} (plus : K → K → K) where
 
 module _ (parameters : Parameters) {K : Type 0} (plus : K → K → K) where
   -- what is computed with the elements of the semiring as annotations
-  abbrev pub summed_answer : Annotations K → (List (Annotated K) → List (Annotated K) → Bool) → List Table → List Entry → (ℕ → List Span) → y.State → Select → Result (List (List Cell × K)) Refusal
+  abbrev pub summed_answer : Annotations K → (List (Annotated K) → List (Annotated K) → Bool) → List Table → List Entry → (ℕ → List Span) → y.Point → Select → Result (List (List Cell × K)) Refusal
   summed_answer kind agree catalogue entries spans point query = limited parameters.answer (sums_of plus) (all_elements kind parameters agree catalogue entries spans point query)
 
 -- strictly, so that none is there twice

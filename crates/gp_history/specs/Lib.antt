@@ -2,6 +2,7 @@ pub mod Agreement
 pub mod Annotating
 pub mod Changes
 pub mod Decoded
+pub mod Histories
 pub mod Images
 pub mod Keeping
 pub mod Matching

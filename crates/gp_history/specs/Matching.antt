@@ -2,7 +2,7 @@
 use Rattle.std.specs.Prelude.{ℕ, List, ◌∷◌, ◌++◌, drop, map, Option, Some, None}
 use Rattle.std.specs.List.Sorted.{IsPermutation}
 use Rattle.gp_base.specs.declared.cell.Cell.{Cell}
-use Rattle.gp_base.specs.Annotated.{plain}
+use Rattle.gp_base.specs.Annotated.{unannotated}
 use Rattle.gp_kexec.specs.declared.held.Held.{Held}
 use Rattle.gp_versions.specs.declared.span.Span.{Span}
 use Rattle.gp_versions.specs.Spans.{row_of, rows_at}
@@ -16,11 +16,11 @@ keys_from kept written at = map held_key (drop at.kept kept) ++ map held_key (dr
 
 -- the key of the row of a span
 abbrev pub span_key : Span → List Cell
-span_key span = key_of (row_of plain span)
+span_key span = key_of (row_of unannotated span)
 
 -- the keys of the rows that a version has of these spans
 abbrev pub keys_of : ℕ → List Span → List (List Cell)
-keys_of version spans = map key_of (rows_at plain version spans)
+keys_of version spans = map key_of (rows_at unannotated version spans)
 
 -- The row of a span was found: if the rows behind it are those of other spans, then with it they are those of all.
 abbrev pub TakesRow : {M : Type 0} → List (Held M) → List (Held M) → Places → ℕ → Span → Option Places → Type 0

@@ -21,7 +21,7 @@ use Rattle.gp_machine.specs.Questions.{annotation_stop, given, log_refusal, need
 use Rattle.gp_kexec.specs.InSemiring.{in_semiring}
 use Rattle.gp_history.specs.DistinctRows.{distinct_rows}
 
-module _ {M : Type 0} (domain : Annotations M) (parameters : Parameters) (agree : List (Annotated M) → List (Annotated M) → Bool) (catalogue : List Table) (entries : List Entry) (spans : ℕ → List Span) (point : y.State) where
+module _ {M : Type 0} (domain : Annotations M) (parameters : Parameters) (agree : List (Annotated M) → List (Annotated M) → Bool) (catalogue : List Table) (entries : List Entry) (spans : ℕ → List Span) (point : y.Point) where
   -- the refusals by the log, by the versions up to the one that is needed, and by the run that is asked about
   abbrev pub history_refusal : Option Refusal
   history_refusal =

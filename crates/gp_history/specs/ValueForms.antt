@@ -19,11 +19,11 @@ use Rattle.gp_history.specs.ValueAnswers.{all_elements, limited, values_of}
 
 module _ (parameters : Parameters) {K : Type 0} (plus : K → K → K) where
   -- what the question asks for: the values of the annotated answer
-  abbrev pub value_answer : K → K → (K → K → K) → (Token → K) → (List (Annotated Monomial) → List (Annotated Monomial) → Bool) → List Table → List Entry → (ℕ → List Span) → y.State → Select → Result (List (List Cell × K)) Refusal
+  abbrev pub value_answer : K → K → (K → K → K) → (Token → K) → (List (Annotated Monomial) → List (Annotated Monomial) → Bool) → List Table → List Entry → (ℕ → List Span) → y.Point → Select → Result (List (List Cell × K)) Refusal
   value_answer zero_of one_of times value agree catalogue entries spans point query =
       limited parameters.answer (values_of plus zero_of one_of times value) (all_elements monomials parameters agree catalogue entries spans point query)
 
   -- what the question asks for of the history
-  abbrev pub held_value_answer : K → K → (K → K → K) → (Token → K) → State Monomial → y.State → Select → Result (List (List Cell × K)) Refusal
+  abbrev pub held_value_answer : K → K → (K → K → K) → (Token → K) → State Monomial → y.Point → Select → Result (List (List Cell × K)) Refusal
   held_value_answer zero_of one_of times value state point query =
       limited parameters.answer (values_of plus zero_of one_of times value) (given (log_refusal state.entries point) (answer monomials query (held_at state point)))

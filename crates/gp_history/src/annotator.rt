@@ -3,15 +3,12 @@
 ghost use Rattle.std.specs.Prelude.{◌≡◌, ◌<◌, ℕ, map, IfOk};
 ghost use Rattle.gp_algebra.specs.QueryViews.{annotated_program_view};
 ghost use Rattle.gp_base.specs.Annotated.{Annotations};
-ghost use Rattle.gp_machine.specs.Entries as m;
-ghost use Rattle.gp_reenact.specs.Reenacting.{spans_of};
-ghost use Rattle.gp_history.specs.Changes.{Publishes, maker_program, past_of};
 ghost use Rattle.gp_history.specs.Images.{IsImage};
 ghost use Rattle.gp_history.specs.Narrowing.{narrow_spans, narrow_versions};
 ghost use Rattle.gp_history.specs.Noted.{row_view};
-ghost use Rattle.gp_history.specs.Sound.{IsSound};
-ghost use Rattle.gp_log.specs.Contents.{entries, tables};
+ghost use Rattle.gp_log.specs.Contents.{commits, tables};
 ghost use Rattle.gp_log.specs.LogFitting.{SpansFit};
+ghost use Rattle.gp_history.specs.Histories as h;
 
 use crate::narrowed::Narrowed;
 use gp_algebra::AProgram;
@@ -56,17 +53,17 @@ pub trait Annotator<A: Drop> {
         known: &Narrowed<'_, A>,
         of: &Publication,
     ) -> Result<Vec<Held<A>>, ExecStop>
-        requires sound { IsSound (entries log.now) versions.now }
-        requires within { of.now.before < m.versions_in (entries log.now) }
-        requires program { annotated_program_view of.now.program
-            ≡ maker_program (entries log.now) of.now.before of.now.table }
+        requires sound { h.IsSound log.now versions.now }
+        requires within { of.now.before < commits log.now }
+        requires program { annotated_program_view of.now.program ≡ h.maker_program log.now
+            of.now.before of.now.table }
         requires fit { SpansFit (tables log.now) (narrow_spans known.now) }
-        requires known { (version table : ℕ) → narrow_versions known.now version table
-            ≡ past_of (domain self.now) (m.log_of (entries log.now)) (spans_of versions.now)
-            of.now.before (narrow_spans known.now) version table }
-        ensures { Publishes (domain self.now) (m.log_of (entries log.now))
-            (spans_of versions.now) of.now.before (narrow_spans known.now) known.now.most
-            (λ rows. map row_view rows.items) of.now.table result };
+        requires known { (version table : ℕ) → narrow_versions known.now version table ≡ h.past_of
+            (domain self.now) log.now versions.now of.now.before (narrow_spans known.now) version
+            table }
+        ensures { h.Publishes (domain self.now) log.now versions.now of.now.before
+            (narrow_spans known.now) known.now.most (λ rows. map row_view rows.items) of.now.table
+            result };
 
     /// Its annotations are what lists of tokens stand for.
     ghost is_image: { (annotator : Self) → IsImage (domain annotator) };

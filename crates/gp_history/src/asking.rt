@@ -3,11 +3,11 @@
 ghost use Rattle.std.specs.Prelude.{◌≡◌, None};
 ghost use Rattle.gp_grammar.specs.Syntax as y;
 ghost use Rattle.gp_machine.specs.Entries as m;
-ghost use Rattle.gp_machine.specs.Questions as q;
 ghost use Rattle.gp_reenact.specs.Reenacting as r;
-ghost use Rattle.gp_syntax.specs.Views.{state_view};
+ghost use Rattle.gp_syntax.specs.Views.{point_view};
 ghost use Rattle.gp_history.specs.Provenance.{IsInTables, Refuses};
-ghost use Rattle.gp_log.specs.Contents.{entries, tables};
+ghost use Rattle.gp_log.specs.Contents.{HasPoint, entries, tables};
+ghost use Rattle.gp_history.specs.Histories as h;
 
 use crate::error::HistoryStop;
 use gp_base::Refusal;
@@ -15,31 +15,29 @@ use gp_compose::version_of;
 use gp_exec::ExecStop;
 use gp_log::Log;
 use gp_reenact::ReenactStop;
-use gp_syntax::State;
+use gp_syntax::Point;
 
 /// The version that a statement of a transaction read.
 fn statement_version(log: &Log, t: u64, k: u64) -> u32
-    requires { q.log_refusal (entries log.now) (y.after t k) ≡ None }
+    requires { HasPoint log.now (y.after t k) }
     ensures { result ≡ m.statement_version t k (entries log.now) }
 {
-    // Transactions and statements are numbered by 32 bits. That is known of a log where it is asked for their number.
-    let _transactions = log.transactions();
+    log.bounds();
+    // Statements are numbered by 32 bits. That is known of a log where it is asked for their number.
     let _statements = log.statement_count(t as u32);
     log.version_read_by(t as u32, k as u32)
 }
 
 /// The last version whose annotations a state needs.
-pub fn needed_version(log: &Log, state: State) -> u32
-    requires { q.log_refusal (entries log.now) (state_view state) ≡ None }
-    ensures { result ≡ q.needed_version (entries log.now) (state_view state) }
+pub fn needed_version(log: &Log, state: Point) -> u32
+    requires { HasPoint log.now (point_view state) }
+    ensures { result ≡ h.needed_version log.now (point_view state) }
 {
-    // Versions and transactions are numbered by 32 bits. That is known of a log where it is asked for their number.
-    let _commits = log.commits();
-    let _count = log.transactions();
+    log.bounds();
     match state {
-        State::AsOf { v } => v as u32,
-        State::After { t, k } => statement_version(log, t, k),
-        State::Commit { t } => match version_of(log, t as u32) {
+        Point::AsOf { v } => v as u32,
+        Point::After { t, k } => statement_version(log, t, k),
+        Point::Commit { t } => match version_of(log, t as u32) {
             Some(version) => version.saturating_sub(1),
             None => 0,
         },
@@ -47,14 +45,14 @@ pub fn needed_version(log: &Log, state: State) -> u32
 }
 
 /// The transaction of a state, or 0 for a version.
-pub fn transaction_at(log: &Log, state: State) -> u32
-    requires { q.log_refusal (entries log.now) (state_view state) ≡ None }
-    ensures { result ≡ r.transaction_at (state_view state) }
+pub fn transaction_at(log: &Log, state: Point) -> u32
+    requires { HasPoint log.now (point_view state) }
+    ensures { result ≡ r.transaction_at (point_view state) }
 {
-    let _count = log.transactions();
+    log.bounds();
     match state {
-        State::AsOf { .. } => 0,
-        State::After { t, .. } | State::Commit { t } => t as u32,
+        Point::AsOf { .. } => 0,
+        Point::After { t, .. } | Point::Commit { t } => t as u32,
     }
 }
 

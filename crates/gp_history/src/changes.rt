@@ -1,18 +1,14 @@
 //! What a commit changes, table by table.
 
-ghost use Rattle.std.specs.Prelude.{◌≡◌, ◌<◌, ◌&&◌, not, true, length, map};
+ghost use Rattle.std.specs.Prelude.{◌≡◌, ◌<◌, ◌&&◌, not, true, map};
 ghost use Rattle.std.specs.List.{list_any};
 ghost use Rattle.gp_algebra.specs.Fitting.{is_there};
 ghost use Rattle.gp_algebra.specs.QueryViews.{annotated_program_view, annotated_view};
-ghost use Rattle.gp_machine.specs.Entries as m;
-ghost use Rattle.gp_reenact.specs.Reenacting.{spans_of};
-ghost use Rattle.gp_history.specs.Changes.{AreChanges, ChangesTable, FindsRows, commit_stop, is_scan, is_touched, maker, maker_program, stopped};
+ghost use Rattle.gp_history.specs.Changes.{FindsRows, is_scan, is_touched, stopped};
 ghost use Rattle.gp_history.specs.Annotating.{Annotates};
-ghost use Rattle.gp_history.specs.Narrowing.{IsNarrow};
 ghost use Rattle.gp_history.specs.Noted.{row_view};
-ghost use Rattle.gp_history.specs.Sound.{IsSound};
-ghost use Rattle.gp_history.specs.SpanAnnotations.{AreAnnotated};
-ghost use Rattle.gp_log.specs.Contents.{entries, tables};
+ghost use Rattle.gp_log.specs.Contents.{commits, tables};
+ghost use Rattle.gp_history.specs.Histories as h;
 
 use crate::agreement::agree;
 use crate::annotated::Annotated;
@@ -78,18 +74,18 @@ fn whole_change<A: Drop, N: Annotator<A>>(
     t: u32,
     of: &Publication,
 ) -> Result<Option<BTreeMap<RowId, A>>, HistoryStop>
-    requires sound { IsSound (entries log.now) versions.now }
-    requires within { of.now.before < m.versions_in (entries log.now) }
-    requires maker { t ≡ maker (m.log_of (entries log.now)) of.now.before }
-    requires program { annotated_program_view of.now.program
-        ≡ maker_program (entries log.now) of.now.before of.now.table }
-    requires known { AreAnnotated (N.domain annotator.now) (m.log_of (entries log.now))
-        (spans_of versions.now) of.now.before known.now }
-    ensures { ChangesTable (N.domain annotator.now) (m.log_of (entries log.now))
-        (spans_of versions.now) of.now.before of.now.table result }
+    requires sound { h.IsSound log.now versions.now }
+    requires within { of.now.before < commits log.now }
+    requires maker { t ≡ h.maker log.now of.now.before }
+    requires program { annotated_program_view of.now.program ≡ h.maker_program log.now of.now.before
+        of.now.table }
+    requires known { h.AreAnnotated (N.domain annotator.now) log.now versions.now of.now.before
+        known.now }
+    ensures { h.ChangesTable (N.domain annotator.now) log.now versions.now of.now.before
+        of.now.table result }
 {
-    // The number of commits has 32 bits, and row versions of one identity never overlap.
-    let _commits = log.commits();
+    log.bounds();
+    // Row versions of one identity never overlap. That is known of them where they are asked for.
     let _all = spans_in(versions, of.table as usize);
     let whole = Narrowed::whole(alloc, versions, known)?;
     match annotator.rows(alloc, log, versions, &whole, of) {
@@ -119,19 +115,15 @@ fn table_change<A: Drop, N: Annotator<A>>(
     t: u32,
     table: u32,
 ) -> Result<Option<BTreeMap<RowId, A>>, HistoryStop>
-    requires sound { IsSound (entries log.now) versions.now }
-    requires within { before < m.versions_in (entries log.now) }
-    requires maker { t ≡ maker (m.log_of (entries log.now)) before }
+    requires sound { h.IsSound log.now versions.now }
+    requires within { before < commits log.now }
+    requires maker { t ≡ h.maker log.now before }
     requires there { is_there (tables log.now) table ≡ true }
-    requires known { AreAnnotated (N.domain annotator.now) (m.log_of (entries log.now))
-        (spans_of versions.now) before known.now }
-    requires narrowed { IsNarrow (m.log_of (entries log.now)) t before
-        (spans_of versions.now) known.now narrowed.now }
-    ensures { ChangesTable (N.domain annotator.now) (m.log_of (entries log.now))
-        (spans_of versions.now) before table result }
+    requires known { h.AreAnnotated (N.domain annotator.now) log.now versions.now before known.now }
+    requires narrowed { h.IsNarrow log.now versions.now t before known.now narrowed.now }
+    ensures { h.ChangesTable (N.domain annotator.now) log.now versions.now before table result }
 {
-    // The number of commits has 32 bits.
-    let _commits = log.commits();
+    log.bounds();
     let of = Publication {
         before,
         table,
@@ -150,11 +142,10 @@ fn table_change<A: Drop, N: Annotator<A>>(
 
 /// The transaction that made the version after this one.
 fn maker_after(log: &Log, before: u32) -> u32
-    requires { before < m.versions_in (entries log.now) }
-    ensures { result ≡ maker (m.log_of (entries log.now)) before }
+    requires { before < commits log.now }
+    ensures { result ≡ h.maker log.now before }
 {
-    // The number of commits has 32 bits.
-    let _commits = log.commits();
+    log.bounds();
     log.maker(before + 1)
 }
 
@@ -168,15 +159,12 @@ pub fn changes_of<A: Drop, N: Annotator<A>>(
     known: &Annotated<A>,
     before: u32,
 ) -> Result<Vec<Option<BTreeMap<RowId, A>>>, HistoryStop>
-    requires sound { IsSound (entries log.now) versions.now }
-    requires within { before < m.versions_in (entries log.now) }
-    requires known { AreAnnotated (N.domain annotator.now) (m.log_of (entries log.now))
-        (spans_of versions.now) before known.now }
-    ensures { Annotates (λ changes. AreChanges (N.domain annotator.now)
-        (m.log_of (entries log.now)) (spans_of versions.now) before
-        (length (tables log.now)) changes.items) (tables log.now) result
-        (commit_stop (N.domain annotator.now) (m.log_of (entries log.now))
-        (spans_of versions.now) before (tables log.now)) }
+    requires sound { h.IsSound log.now versions.now }
+    requires within { before < commits log.now }
+    requires known { h.AreAnnotated (N.domain annotator.now) log.now versions.now before known.now }
+    ensures { Annotates (λ changes. h.AreChanges (N.domain annotator.now) log.now versions.now
+        before changes.items) (tables log.now) result (h.commit_stop (N.domain annotator.now)
+        log.now versions.now before) }
 {
     let t = maker_after(log, before);
     let narrowed = Narrowed::of_commit(alloc, log, versions, known, before, t)?;

@@ -2,7 +2,7 @@
 
 ghost use Rattle.std.specs.Prelude.{◌≡◌, map, IfOk};
 ghost use Rattle.gp_kexec.specs.Rows.{environment_view, stored_view};
-ghost use Rattle.gp_kexec.specs.Valuing.{values_by};
+ghost use Rattle.gp_kexec.specs.Valuing.{values_in};
 ghost use Rattle.gp_reenact.specs.Reenacting.{spans_of};
 ghost use Rattle.gp_history.specs.Images.{values_are_images};
 ghost use Rattle.gp_history.specs.Narrowing.{narrow_versions};
@@ -99,7 +99,7 @@ pub fn k_env<K: Semiring>(
 }
 
 impl<K: Semiring, F: Answers<K>> Annotator<K> for Valuation<K, F> {
-    ghost domain = { λ valuation. values_by K.one_of K.times_of K.number_of K.itself_of valuation };
+    ghost domain = { λ valuation. values_in K.Semiring valuation };
 
     fn one(&self, alloc: Global) -> Result<K, NoMemory> {
         K::one(alloc)

@@ -1,15 +1,9 @@
 //! Annotations that are kept from one question to the next.
 
 ghost use Rattle.std.specs.Prelude.{◌≡◌, ◌<◌, ◌≤◌, suc, IfOk};
-ghost use Rattle.gp_log.specs.Contents.{entries, tables};
-ghost use Rattle.gp_log.specs.Parameters.{parameters};
-ghost use Rattle.gp_machine.specs.Entries as m;
-ghost use Rattle.gp_machine.specs.Questions.{annotation_stop};
-ghost use Rattle.gp_reenact.specs.Reenacting.{spans_of};
-ghost use Rattle.gp_history.specs.Agreement.{agree};
+ghost use Rattle.gp_log.specs.Contents.{commits, tables};
 ghost use Rattle.gp_history.specs.Annotating.{Annotates};
-ghost use Rattle.gp_history.specs.Keeping.{GoesOn, IsKept, MayBeKept, Reaches};
-ghost use Rattle.gp_history.specs.Sound.{IsSound};
+ghost use Rattle.gp_history.specs.Histories as h;
 
 use crate::annotated::Annotated;
 use crate::annotating::next_annotated;
@@ -37,16 +31,14 @@ fn next_kept<A: Drop, N: Annotator<A>>(
     versions: &[VersionTable],
     kept: Kept<A>,
 ) -> Result<Kept<A>, HistoryStop>
-    requires sound { IsSound (entries log.now) versions.now }
-    requires kept { IsKept (N.domain annotator.now) (entries log.now) (spans_of versions.now) kept }
-    requires more { kept.version < m.versions_in (entries log.now) }
-    ensures { Annotates (GoesOn (N.domain annotator.now) (entries log.now)
-        (spans_of versions.now) kept.version) (tables log.now) result
-        (annotation_stop (N.domain annotator.now) parameters agree (tables log.now)
-        (m.log_of (entries log.now)) (spans_of versions.now) (suc kept.version)) }
+    requires sound { h.IsSound log.now versions.now }
+    requires kept { h.IsKept (N.domain annotator.now) log.now versions.now kept }
+    requires more { kept.version < commits log.now }
+    ensures { Annotates (h.GoesOn (N.domain annotator.now) log.now versions.now kept.version)
+        (tables log.now) result (h.annotation_stop (N.domain annotator.now) log.now versions.now
+        (suc kept.version)) }
 {
-    // The number of commits has 32 bits.
-    let _commits = log.commits();
+    log.bounds();
     let version = kept.version;
     match next_annotated(alloc, annotator, log, versions, kept.annotated, version) {
         Ok(annotated) => Ok(Kept {
@@ -65,10 +57,8 @@ fn begun<A: Drop, N: Annotator<A>>(
     versions: &[VersionTable],
     kept: Option<Kept<A>>,
 ) -> Result<Kept<A>, NoMemory>
-    requires kept { MayBeKept (N.domain annotator.now) (entries log.now)
-        (spans_of versions.now) kept }
-    ensures { IfOk result
-        (IsKept (N.domain annotator.now) (entries log.now) (spans_of versions.now)) }
+    requires kept { h.MayBeKept (N.domain annotator.now) log.now versions.now kept }
+    ensures { IfOk result (h.IsKept (N.domain annotator.now) log.now versions.now) }
 {
     match kept {
         Some(kept) => Ok(kept),
@@ -89,14 +79,11 @@ pub fn annotate_on<A: Drop, N: Annotator<A>>(
     kept: Option<Kept<A>>,
     v: u32,
 ) -> Result<Kept<A>, HistoryStop>
-    requires sound { IsSound (entries log.now) versions.now }
-    requires within { v ≤ m.versions_in (entries log.now) }
-    requires kept { MayBeKept (N.domain annotator.now) (entries log.now)
-        (spans_of versions.now) kept }
-    ensures { Annotates (Reaches (N.domain annotator.now) (entries log.now)
-        (spans_of versions.now) v) (tables log.now) result
-        (annotation_stop (N.domain annotator.now) parameters agree (tables log.now)
-        (m.log_of (entries log.now)) (spans_of versions.now) v) }
+    requires sound { h.IsSound log.now versions.now }
+    requires within { v ≤ commits log.now }
+    requires kept { h.MayBeKept (N.domain annotator.now) log.now versions.now kept }
+    ensures { Annotates (h.Reaches (N.domain annotator.now) log.now versions.now v) (tables log.now)
+        result (h.annotation_stop (N.domain annotator.now) log.now versions.now v) }
 {
     let mut known = begun(alloc, annotator, log, versions, kept)?;
     while known.version < v {

@@ -41,7 +41,7 @@ pub fn histories_are_annotated()
         (log_of (after monomials parameters start lines).entries) spans u ≡ None }
     ensures answers { (lines : List Line) (spans : ℕ → List Span) → ((table : ℕ)
         → IsPermutation (spans table) (state_spans (after monomials parameters start lines) table))
-        → (point : y.State) (query : Select) → AreAlike
+        → (point : y.Point) (query : Select) → AreAlike
         (annotated_answer monomials parameters agree (after monomials parameters start lines).catalogue
         (after monomials parameters start lines).entries spans point query)
         (held_answer monomials parameters (after monomials parameters start lines) point query) }

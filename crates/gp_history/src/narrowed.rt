@@ -10,15 +10,14 @@ ghost use Rattle.std.specs.Prelude.{◌≡◌, ◌+◌, ◌≤◌, ◌<◌, ◌&
 ghost use Rattle.std.specs.List.{list_all};
 ghost use Rattle.std.specs.Option.{option_map};
 ghost use Rattle.gp_algebra.specs.Views.{statement_view};
-ghost use Rattle.gp_history.specs.Changes.{maker};
 ghost use Rattle.gp_history.specs.Narrowing as n;
-ghost use Rattle.gp_history.specs.Narrowing.{Covers, IsLeft, IsLeftBy, IsNarrow, narrow_annotations, narrow_spans, narrow_versions, part_annotations, part_of, part_spans, tests_are_simple};
-ghost use Rattle.gp_history.specs.Sound.{IsSound};
+ghost use Rattle.gp_history.specs.Narrowing.{IsLeft, IsLeftBy, narrow_annotations, narrow_spans, narrow_versions, part_annotations, part_of, part_spans, tests_are_simple};
 ghost use Rattle.gp_history.specs.SpanAnnotations.{versions_with};
-ghost use Rattle.gp_log.specs.Contents.{entries};
+ghost use Rattle.gp_log.specs.Contents.{commits, entries};
 ghost use Rattle.gp_log.specs.Sessions.{KeepsSessions};
 ghost use Rattle.gp_machine.specs.Entries as m;
 ghost use Rattle.gp_reenact.specs.Reenacting.{spans_of};
+ghost use Rattle.gp_history.specs.Histories as h;
 
 use crate::annotated::Annotated;
 use crate::inert::{all_leave, are_swept, insert_into};
@@ -67,12 +66,11 @@ impl Reach {
 /// The versions from the BEGIN of the transaction that made the version after this one, up to that one.
 fn reach_of(log: &Log, t: u32, before: u32) -> Reach
     requires sessions { KeepsSessions (entries log.now) }
-    requires within { before < m.versions_in (entries log.now) }
-    requires maker { t ≡ maker (m.log_of (entries log.now)) before }
-    ensures { Covers (m.log_of (entries log.now)) t before result }
+    requires within { before < commits log.now }
+    requires maker { t ≡ h.maker log.now before }
+    ensures { h.Covers log.now t before result }
 {
-    // The number of commits has 32 bits.
-    let _commits = log.commits();
+    log.bounds();
     match log.begin_version(t) {
         Some(first) => Reach {
             first,
@@ -352,13 +350,12 @@ impl<'a, A: Drop> Narrowed<'a, A> {
         before: u32,
         t: u32,
     ) -> Result<Narrowed<'a, A>, NoMemory>
-        requires sound { IsSound (entries log.now) versions.now }
-        requires within { before < m.versions_in (entries log.now) }
-        requires maker { t ≡ maker (m.log_of (entries log.now)) before }
+        requires sound { h.IsSound log.now versions.now }
+        requires within { before < commits log.now }
+        requires maker { t ≡ h.maker log.now before }
         requires known { (table : ℕ) → length (slice_index_or known.now table [])
             ≡ length (spans_of versions.now table) }
-        ensures { IfOk result (IsNarrow (m.log_of (entries log.now)) t before
-            (spans_of versions.now) known.now) }
+        ensures { IfOk result (h.IsNarrow log.now versions.now t before known.now) }
     {
         let statements = statements_of(alloc, log, t)?;
         let reach = reach_of(log, t, before);

@@ -8,20 +8,14 @@ ghost use Rattle.gp_algebra.specs.Views.{select_view};
 ghost use Rattle.gp_algebra.specs.WellBuilt.{is_well_built};
 ghost use Rattle.gp_base.specs.Annotated.{monomials};
 ghost use Rattle.gp_compose.specs.Composing.{QueryFits, program_in};
-ghost use Rattle.gp_log.specs.Contents.{entries, tables};
-ghost use Rattle.gp_log.specs.Parameters.{parameters};
-ghost use Rattle.gp_machine.specs.Entries as m;
-ghost use Rattle.gp_machine.specs.Questions as q;
-ghost use Rattle.gp_machine.specs.Questions.{annotated_answer, annotation_stop};
+ghost use Rattle.gp_log.specs.Contents.{HasPoint, commits, tables};
 ghost use Rattle.gp_prov.specs.Encoding.{encoded};
 ghost use Rattle.gp_prov.specs.ToPlain as to;
 ghost use Rattle.gp_reenact.specs.Reenacting.{RunsOver, spans_of};
-ghost use Rattle.gp_syntax.specs.Views.{state_view};
-ghost use Rattle.gp_history.specs.Agreement.{agree};
-ghost use Rattle.gp_history.specs.Keeping.{MayBeKept, Reaches};
+ghost use Rattle.gp_syntax.specs.Views.{point_view};
 ghost use Rattle.gp_history.specs.Provenance.{AnnotatesOr, Proves};
-ghost use Rattle.gp_history.specs.Sound.{IsSound};
 ghost use Rattle.gp_history.specs.SpanAnnotations.{versions_with};
+ghost use Rattle.gp_history.specs.Histories as h;
 
 use crate::annotated::Annotated;
 use crate::asking::{needed_version, refused, stopped, transaction_at};
@@ -35,7 +29,7 @@ use gp_log::Log;
 use gp_merge::{merge, merged_programs_are_normal, merged_programs_mean_the_same};
 use gp_prov::to_plain;
 use gp_reenact::{ReenactStop, log_refusal};
-use gp_syntax::State;
+use gp_syntax::Point;
 use gp_versions::VersionTable;
 use std::alloc::Global;
 use std::mem;
@@ -48,12 +42,11 @@ fn annotated_to(
     kept: Option<Kept<Monomial>>,
     v: u32,
 ) -> Result<Kept<Monomial>, ReenactStop>
-    requires sound { IsSound (entries log.now) versions.now }
-    requires within { v ≤ m.versions_in (entries log.now) }
-    requires kept { MayBeKept monomials (entries log.now) (spans_of versions.now) kept }
-    ensures { AnnotatesOr (Reaches monomials (entries log.now) (spans_of versions.now) v) result
-        (annotation_stop monomials parameters agree (tables log.now)
-        (m.log_of (entries log.now)) (spans_of versions.now) v) }
+    requires sound { h.IsSound log.now versions.now }
+    requires within { v ≤ commits log.now }
+    requires kept { h.MayBeKept monomials log.now versions.now kept }
+    ensures { AnnotatesOr (h.Reaches monomials log.now versions.now v) result
+        (h.annotation_stop monomials log.now versions.now v) }
 {
     match annotate_on(alloc, &Monomials, log, versions, kept, v) {
         Ok(known) => Ok(known),
@@ -62,12 +55,12 @@ fn annotated_to(
 }
 
 /// The program of a query over a state, with columns for provenance.
-fn planned(alloc: Global, log: &Log, state: State, select: &Select) -> Result<PProgram, NoMemory>
+fn planned(alloc: Global, log: &Log, state: Point, select: &Select) -> Result<PProgram, NoMemory>
     requires query { QueryFits log.now (select_view select.now) }
-    requires known { q.log_refusal (entries log.now) (state_view state) ≡ None }
+    requires known { HasPoint log.now (point_view state) }
     ensures { IfOk result (λ plain. program_view plain ≡ to.plain_program
         (width_of (tables log.now)) true
-        (program_in log.now (state_view state) (select_view select.now))) }
+        (program_in log.now (point_view state) (select_view select.now))) }
 {
     match program(alloc, log, state, select) {
         Ok(program) => to_plain(alloc, &program, log.catalog(), true),
@@ -105,14 +98,13 @@ pub fn provenance(
     alloc: Global,
     log: &Log,
     versions: &[VersionTable],
-    state: State,
+    state: Point,
     select: &Select,
 ) -> Result<Vec<Row>, ReenactStop>
-    requires sound { IsSound (entries log.now) versions.now }
+    requires sound { h.IsSound log.now versions.now }
     requires fits { select_fits (tables log.now) (select_view select.now) ≡ true }
-    ensures { Proves (λ rows. rows.items) result
-        (annotated_answer monomials parameters agree (tables log.now)
-        (entries log.now) (spans_of versions.now) (state_view state) (select_view select.now)) }
+    ensures { Proves (λ rows. rows.items) result (h.provenance_answer log.now versions.now
+        (point_view state) (select_view select.now)) }
 {
     let mut none = None;
     provenance_from(alloc, log, versions, state, select, &mut none)
@@ -124,17 +116,16 @@ pub fn provenance_from(
     alloc: Global,
     log: &Log,
     versions: &[VersionTable],
-    state: State,
+    state: Point,
     select: &Select,
     kept: &mut Option<Kept<Monomial>>,
 ) -> Result<Vec<Row>, ReenactStop>
-    requires sound { IsSound (entries log.now) versions.now }
+    requires sound { h.IsSound log.now versions.now }
     requires fits { select_fits (tables log.now) (select_view select.now) ≡ true }
-    requires kept { MayBeKept monomials (entries log.now) (spans_of versions.now) kept.old }
-    ensures kept { MayBeKept monomials (entries log.now) (spans_of versions.now) kept.new }
-    ensures answer { Proves (λ rows. rows.items) result
-        (annotated_answer monomials parameters agree (tables log.now)
-        (entries log.now) (spans_of versions.now) (state_view state) (select_view select.now)) }
+    requires kept { h.MayBeKept monomials log.now versions.now kept.old }
+    ensures kept { h.MayBeKept monomials log.now versions.now kept.new }
+    ensures answer { Proves (λ rows. rows.items) result (h.provenance_answer log.now versions.now
+        (point_view state) (select_view select.now)) }
 {
     if let Some(refusal) = log_refusal(log, state) {
         return Err(ReenactStop::Refused(refusal));
@@ -147,18 +138,17 @@ fn kept_provenance(
     alloc: Global,
     log: &Log,
     versions: &[VersionTable],
-    state: State,
+    state: Point,
     select: &Select,
     kept: &mut Option<Kept<Monomial>>,
 ) -> Result<Vec<Row>, ReenactStop>
-    requires sound { IsSound (entries log.now) versions.now }
+    requires sound { h.IsSound log.now versions.now }
     requires fits { select_fits (tables log.now) (select_view select.now) ≡ true }
-    requires known { q.log_refusal (entries log.now) (state_view state) ≡ None }
-    requires kept { MayBeKept monomials (entries log.now) (spans_of versions.now) kept.old }
-    ensures kept { MayBeKept monomials (entries log.now) (spans_of versions.now) kept.new }
-    ensures answer { Proves (λ rows. rows.items) result
-        (annotated_answer monomials parameters agree (tables log.now)
-        (entries log.now) (spans_of versions.now) (state_view state) (select_view select.now)) }
+    requires known { HasPoint log.now (point_view state) }
+    requires kept { h.MayBeKept monomials log.now versions.now kept.old }
+    ensures kept { h.MayBeKept monomials log.now versions.now kept.new }
+    ensures answer { Proves (λ rows. rows.items) result (h.provenance_answer log.now versions.now
+        (point_view state) (select_view select.now)) }
 {
     let old = mem::replace(kept, None);
     let known = match annotated_to(alloc, log, versions, old, needed_version(log, state)) {
@@ -176,17 +166,16 @@ fn known_provenance(
     log: &Log,
     versions: &[VersionTable],
     known: &Kept<Monomial>,
-    state: State,
+    state: Point,
     select: &Select,
 ) -> Result<Vec<Row>, ReenactStop>
-    requires sound { IsSound (entries log.now) versions.now }
+    requires sound { h.IsSound log.now versions.now }
     requires fits { select_fits (tables log.now) (select_view select.now) ≡ true }
-    requires known { q.log_refusal (entries log.now) (state_view state) ≡ None }
-    requires reaches { Reaches monomials (entries log.now) (spans_of versions.now)
-        (q.needed_version (entries log.now) (state_view state)) known.now }
-    ensures { Proves (λ rows. rows.items) result
-        (annotated_answer monomials parameters agree (tables log.now)
-        (entries log.now) (spans_of versions.now) (state_view state) (select_view select.now)) }
+    requires known { HasPoint log.now (point_view state) }
+    requires reaches { h.Reaches monomials log.now versions.now
+        (h.needed_version log.now (point_view state)) known.now }
+    ensures { Proves (λ rows. rows.items) result (h.provenance_answer log.now versions.now
+        (point_view state) (select_view select.now)) }
 {
     let plain = planned(alloc, log, state, select)?;
     match rows_over(alloc, versions, &known.annotated, &plain) {

@@ -1,14 +1,12 @@
 //! The programs of the tables that a transaction published.
 
-ghost use Rattle.std.specs.Prelude.{◌≡◌, true, IfOk, None};
+ghost use Rattle.std.specs.Prelude.{◌≡◌, true, IfOk};
 ghost use Rattle.gp_algebra.specs.AnnotatedQueries as q;
 ghost use Rattle.gp_algebra.specs.Fitting.{is_there};
 ghost use Rattle.gp_algebra.specs.QueryViews.{annotated_program_view, annotated_view};
 ghost use Rattle.gp_compose.specs.Composing.{published_in};
 ghost use Rattle.gp_grammar.specs.Syntax as y;
-ghost use Rattle.gp_log.specs.Contents.{entries, tables};
-ghost use Rattle.gp_log.specs.LogFitting.{statements_fit};
-ghost use Rattle.gp_machine.specs.Questions.{log_refusal};
+ghost use Rattle.gp_log.specs.Contents.{HasPoint, StatementsFit, tables};
 ghost use Rattle.gp_history.specs.Changes.{is_scan};
 
 use gp_algebra::{AProgram, AQuery};
@@ -30,8 +28,8 @@ pub fn is_scan(query: &AQuery) -> bool
 /// The program of a table that a transaction which made a version published.
 pub fn published_program(alloc: Global, log: &Log, t: u32, table: u32) -> Result<AProgram, NoMemory>
     requires there { is_there (tables log.now) table ≡ true }
-    requires statements { statements_fit (tables log.now) (entries log.now) ≡ true }
-    requires known { log_refusal (entries log.now) (y.State.commit t) ≡ None }
+    requires statements { StatementsFit log.now }
+    requires known { HasPoint log.now (y.Point.commit t) }
     ensures { IfOk result (λ program.
         annotated_program_view program ≡ published_in log.now t table) }
 {

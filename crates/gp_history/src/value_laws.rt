@@ -22,7 +22,8 @@ ghost use Rattle.gp_machine.specs.HistorySpans.{state_spans};
 ghost use Rattle.gp_machine.specs.Parameters.{Parameters};
 ghost use Rattle.gp_machine.specs.State.{State, start};
 ghost use Rattle.gp_machine.specs.Unstopped.{IsUnstopped};
-ghost use Rattle.gp_semiring.specs.Values.{monomial_value, values_as_annotations};
+ghost use Rattle.gp_semiring.specs.Values.{monomial_value};
+ghost use Rattle.gp_kexec.specs.Valuing.{values_as_annotations};
 ghost use Rattle.gp_kexec.specs.SemiringForms.{words};
 ghost use Rattle.gp_history.specs.DistinctRows.{distinct_rows};
 ghost use Rattle.gp_history.specs.AnswerForms.{AreAscending, IgnoreAnnotations, carried, occurs_in, summed_answer};
@@ -52,7 +53,7 @@ pub fn annotated_answers_are_carried<M, N>()
         → ((rows others : List (Annotated M))
         → alike (map (reannotated h) rows) (map (reannotated h) others) ≡ agree rows others)
         → (catalogue : List Table) (entries : List Entry) (spans : ℕ → List Span)
-        (point : y.State) (query : Select)
+        (point : y.Point) (query : Select)
         → all_elements other parameters alike catalogue entries spans point query
         ≡ carried h (all_elements domain parameters agree catalogue entries spans point query) }
 {}
@@ -93,7 +94,7 @@ pub fn values_are_sums_over_the_history<K: Semiring>()
         → (parameters : Parameters) (agree : List (Annotated Monomial) → List (Annotated Monomial) → Bool)
         (alike : List (Annotated K) → List (Annotated K) → Bool) → IgnoreAnnotations agree alike
         → (catalogue : List Table) (entries : List Entry) (spans : ℕ → List Span)
-        (point : y.State) (query : Select) → HasRoom parameters entries spans query
+        (point : y.Point) (query : Select) → HasRoom parameters entries spans query
         → summed_answer parameters K.plus_of (values_as_annotations K.one_of K.times_of value) alike
         catalogue entries spans point query
         ≡ value_answer parameters K.plus_of K.zero_of K.one_of K.times_of value agree
@@ -110,7 +111,7 @@ pub fn values_are_those_of_the_history<K: Semiring>()
         → (agree : List (Annotated Monomial) → List (Annotated Monomial) → Bool)
         → ((rows others : List (Annotated Monomial))
         → IsPermutation (identified rows) (identified others) → agree rows others ≡ true)
-        → (point : y.State) (query : Select)
+        → (point : y.Point) (query : Select)
         → value_answer parameters K.plus_of K.zero_of K.one_of K.times_of value agree
         (after monomials parameters start lines).catalogue (after monomials parameters start lines).entries
         spans point query
@@ -123,7 +124,7 @@ pub fn values_are_those_of_the_history<K: Semiring>()
         → (agree : List (Annotated Monomial) → List (Annotated Monomial) → Bool)
         → ((rows others : List (Annotated Monomial))
         → IsPermutation (identified rows) (identified others) → agree rows others ≡ true)
-        → (point : y.State) (query : Select)
+        → (point : y.Point) (query : Select)
         → value_answer parameters K.plus_of K.zero_of K.one_of K.times_of value agree state.catalogue
         state.entries spans point query
         ≡ held_value_answer parameters K.plus_of K.zero_of K.one_of K.times_of value state point query }

@@ -9,24 +9,17 @@ ghost use Rattle.gp_base.specs.Annotated.{monomials};
 ghost use Rattle.gp_compose.specs.Composing.{QueryFits, program_in};
 ghost use Rattle.gp_kexec.specs.Rows.{pair_view};
 ghost use Rattle.gp_kexec.specs.Running.{IsSomeProgram};
-ghost use Rattle.gp_kexec.specs.Valuing.{values_by};
-ghost use Rattle.gp_log.specs.Contents.{entries, tables};
-ghost use Rattle.gp_log.specs.Parameters.{parameters};
-ghost use Rattle.gp_machine.specs.Entries as m;
-ghost use Rattle.gp_machine.specs.Questions as q;
-ghost use Rattle.gp_machine.specs.Questions.{annotation_stop};
+ghost use Rattle.gp_kexec.specs.Valuing.{values_in};
+ghost use Rattle.gp_log.specs.Contents.{HasPoint, commits, tables};
 ghost use Rattle.gp_reenact.specs.Reenacting.{spans_of};
-ghost use Rattle.gp_syntax.specs.Views.{state_view};
+ghost use Rattle.gp_syntax.specs.Views.{point_view};
 ghost use Rattle.gp_semiring.specs.Values.{token_value};
-ghost use Rattle.gp_history.specs.ValueForms.{value_answer};
-ghost use Rattle.gp_history.specs.Agreement.{agree};
 ghost use Rattle.gp_history.specs.Annotating.{Annotates};
-ghost use Rattle.gp_history.specs.Keeping.{MayBeKept, Reaches};
 ghost use Rattle.gp_history.specs.Provenance.{AnnotatesOr};
 ghost use Rattle.gp_history.specs.Running.{SumsOver};
-ghost use Rattle.gp_history.specs.Sound.{IsSound};
 ghost use Rattle.gp_history.specs.SpanAnnotations.{versions_with};
 ghost use Rattle.gp_history.specs.Values.{Gives, HasFewItems};
+ghost use Rattle.gp_history.specs.Histories as h;
 
 use crate::annotated::Annotated;
 use crate::asking::{needed_version, refused, stopped, transaction_at};
@@ -42,7 +35,7 @@ use gp_kexec::{KRow, run_k};
 use gp_log::Log;
 use gp_reenact::{ReenactStop, log_refusal};
 use gp_semiring::{Answers, Semiring, Valuation};
-use gp_syntax::State;
+use gp_syntax::Point;
 use gp_versions::VersionTable;
 use std::alloc::Global;
 use std::mem;
@@ -56,16 +49,11 @@ fn annotate_in_on<K: Semiring, F: Answers<K>>(
     v: u32,
     valuation: &Valuation<K, F>,
 ) -> Result<Kept<K>, HistoryStop>
-    requires sound { IsSound (entries log.now) versions.now }
-    requires within { v ≤ m.versions_in (entries log.now) }
-    requires kept { MayBeKept
-        (values_by K.one_of K.times_of K.number_of K.itself_of valuation.now)
-        (entries log.now) (spans_of versions.now) kept }
-    ensures { Annotates (Reaches
-        (values_by K.one_of K.times_of K.number_of K.itself_of valuation.now)
-        (entries log.now) (spans_of versions.now) v) (tables log.now) result
-        (annotation_stop monomials parameters agree (tables log.now)
-        (m.log_of (entries log.now)) (spans_of versions.now) v) }
+    requires sound { h.IsSound log.now versions.now }
+    requires within { v ≤ commits log.now }
+    requires kept { h.MayBeKept (values_in K.Semiring valuation.now) log.now versions.now kept }
+    ensures { Annotates (h.Reaches (values_in K.Semiring valuation.now) log.now versions.now v)
+        (tables log.now) result (h.annotation_stop monomials log.now versions.now v) }
 {
     annotate_on(alloc, valuation, log, versions, kept, v)
 }
@@ -79,16 +67,11 @@ fn annotated_to<K: Semiring, F: Answers<K>>(
     v: u32,
     valuation: &Valuation<K, F>,
 ) -> Result<Kept<K>, ReenactStop>
-    requires sound { IsSound (entries log.now) versions.now }
-    requires within { v ≤ m.versions_in (entries log.now) }
-    requires kept { MayBeKept
-        (values_by K.one_of K.times_of K.number_of K.itself_of valuation.now)
-        (entries log.now) (spans_of versions.now) kept }
-    ensures { AnnotatesOr (Reaches
-        (values_by K.one_of K.times_of K.number_of K.itself_of valuation.now)
-        (entries log.now) (spans_of versions.now) v) result
-        (annotation_stop monomials parameters agree (tables log.now)
-        (m.log_of (entries log.now)) (spans_of versions.now) v) }
+    requires sound { h.IsSound log.now versions.now }
+    requires within { v ≤ commits log.now }
+    requires kept { h.MayBeKept (values_in K.Semiring valuation.now) log.now versions.now kept }
+    ensures { AnnotatesOr (h.Reaches (values_in K.Semiring valuation.now) log.now versions.now v)
+        result (h.annotation_stop monomials log.now versions.now v) }
 {
     match annotate_in_on(alloc, log, versions, kept, v, valuation) {
         Ok(known) => Ok(known),
@@ -97,11 +80,11 @@ fn annotated_to<K: Semiring, F: Answers<K>>(
 }
 
 /// The program of a query over a state.
-fn planned(alloc: Global, log: &Log, state: State, select: &Select) -> Result<AProgram, NoMemory>
+fn planned(alloc: Global, log: &Log, state: Point, select: &Select) -> Result<AProgram, NoMemory>
     requires query { QueryFits log.now (select_view select.now) }
-    requires known { q.log_refusal (entries log.now) (state_view state) ≡ None }
+    requires known { HasPoint log.now (point_view state) }
     ensures { IfOk result (λ program. annotated_program_view program
-        ≡ program_in log.now (state_view state) (select_view select.now)) }
+        ≡ program_in log.now (point_view state) (select_view select.now)) }
 {
     match program(alloc, log, state, select) {
         Ok(program) => Ok(program),
@@ -119,9 +102,9 @@ fn sums_over<K: Semiring, F: Answers<K>>(
     valuation: &Valuation<K, F>,
 ) -> Result<Vec<KRow<K>>, ExecStop>
     requires { IsSomeProgram (annotated_program_view program.now) }
-    ensures { SumsOver (values_by K.one_of K.times_of K.number_of K.itself_of valuation.now)
-        K.plus_of (λ rows. map pair_view rows.items) result
-        (versions_with (spans_of versions.now) known.now) (annotated_program_view program.now) }
+    ensures { SumsOver (values_in K.Semiring valuation.now) K.plus_of
+        (λ rows. map pair_view rows.items) result (versions_with (spans_of versions.now) known.now)
+        (annotated_program_view program.now) }
 {
     let asked = scans_of(alloc, program)?;
     let env = k_env(alloc, versions, known, &asked)?;
@@ -136,18 +119,17 @@ pub fn values<K: Semiring, F: Answers<K>>(
     alloc: Global,
     log: &Log,
     versions: &[VersionTable],
-    state: State,
+    state: Point,
     select: &Select,
     valuation: &Valuation<K, F>,
 ) -> Result<Vec<KRow<K>>, ReenactStop>
-    requires sound { IsSound (entries log.now) versions.now }
+    requires sound { h.IsSound log.now versions.now }
     requires fits { select_fits (tables log.now) (select_view select.now) ≡ true }
     requires few { HasFewItems (select_view select.now) }
     ensures { Gives (λ rows. map pair_view rows.items) result
-        (value_answer parameters K.plus_of K.zero_of K.one_of K.times_of
-        (token_value K.one_of K.number_of K.itself_of valuation.now) agree
-        (tables log.now) (entries log.now)
-        (spans_of versions.now) (state_view state) (select_view select.now)) }
+        (h.value_answer K.plus_of K.zero_of K.one_of K.times_of
+        (token_value K.one_of K.number_of K.itself_of valuation.now) log.now versions.now
+        (point_view state) (select_view select.now)) }
 {
     let mut none = None;
     values_from(alloc, log, versions, state, select, valuation, &mut none)
@@ -159,25 +141,20 @@ pub fn values_from<K: Semiring, F: Answers<K>>(
     alloc: Global,
     log: &Log,
     versions: &[VersionTable],
-    state: State,
+    state: Point,
     select: &Select,
     valuation: &Valuation<K, F>,
     kept: &mut Option<Kept<K>>,
 ) -> Result<Vec<KRow<K>>, ReenactStop>
-    requires sound { IsSound (entries log.now) versions.now }
+    requires sound { h.IsSound log.now versions.now }
     requires fits { select_fits (tables log.now) (select_view select.now) ≡ true }
     requires few { HasFewItems (select_view select.now) }
-    requires kept { MayBeKept
-        (values_by K.one_of K.times_of K.number_of K.itself_of valuation.now)
-        (entries log.now) (spans_of versions.now) kept.old }
-    ensures kept { MayBeKept
-        (values_by K.one_of K.times_of K.number_of K.itself_of valuation.now)
-        (entries log.now) (spans_of versions.now) kept.new }
+    requires kept { h.MayBeKept (values_in K.Semiring valuation.now) log.now versions.now kept.old }
+    ensures kept { h.MayBeKept (values_in K.Semiring valuation.now) log.now versions.now kept.new }
     ensures answer { Gives (λ rows. map pair_view rows.items) result
-        (value_answer parameters K.plus_of K.zero_of K.one_of K.times_of
-        (token_value K.one_of K.number_of K.itself_of valuation.now) agree
-        (tables log.now) (entries log.now)
-        (spans_of versions.now) (state_view state) (select_view select.now)) }
+        (h.value_answer K.plus_of K.zero_of K.one_of K.times_of
+        (token_value K.one_of K.number_of K.itself_of valuation.now) log.now versions.now
+        (point_view state) (select_view select.now)) }
 {
     if let Some(refusal) = log_refusal(log, state) {
         return Err(ReenactStop::Refused(refusal));
@@ -190,26 +167,21 @@ fn kept_values<K: Semiring, F: Answers<K>>(
     alloc: Global,
     log: &Log,
     versions: &[VersionTable],
-    state: State,
+    state: Point,
     select: &Select,
     valuation: &Valuation<K, F>,
     kept: &mut Option<Kept<K>>,
 ) -> Result<Vec<KRow<K>>, ReenactStop>
-    requires sound { IsSound (entries log.now) versions.now }
+    requires sound { h.IsSound log.now versions.now }
     requires fits { select_fits (tables log.now) (select_view select.now) ≡ true }
     requires few { HasFewItems (select_view select.now) }
-    requires known { q.log_refusal (entries log.now) (state_view state) ≡ None }
-    requires kept { MayBeKept
-        (values_by K.one_of K.times_of K.number_of K.itself_of valuation.now)
-        (entries log.now) (spans_of versions.now) kept.old }
-    ensures kept { MayBeKept
-        (values_by K.one_of K.times_of K.number_of K.itself_of valuation.now)
-        (entries log.now) (spans_of versions.now) kept.new }
+    requires known { HasPoint log.now (point_view state) }
+    requires kept { h.MayBeKept (values_in K.Semiring valuation.now) log.now versions.now kept.old }
+    ensures kept { h.MayBeKept (values_in K.Semiring valuation.now) log.now versions.now kept.new }
     ensures answer { Gives (λ rows. map pair_view rows.items) result
-        (value_answer parameters K.plus_of K.zero_of K.one_of K.times_of
-        (token_value K.one_of K.number_of K.itself_of valuation.now) agree
-        (tables log.now) (entries log.now)
-        (spans_of versions.now) (state_view state) (select_view select.now)) }
+        (h.value_answer K.plus_of K.zero_of K.one_of K.times_of
+        (token_value K.one_of K.number_of K.itself_of valuation.now) log.now versions.now
+        (point_view state) (select_view select.now)) }
 {
     let old = mem::replace(kept, None);
     let known = match annotated_to(
@@ -234,27 +206,23 @@ fn known_values<K: Semiring, F: Answers<K>>(
     log: &Log,
     versions: &[VersionTable],
     known: &Kept<K>,
-    state: State,
+    state: Point,
     select: &Select,
     valuation: &Valuation<K, F>,
 ) -> Result<Vec<KRow<K>>, ReenactStop>
-    requires sound { IsSound (entries log.now) versions.now }
+    requires sound { h.IsSound log.now versions.now }
     requires fits { select_fits (tables log.now) (select_view select.now) ≡ true }
     requires few { HasFewItems (select_view select.now) }
-    requires known { q.log_refusal (entries log.now) (state_view state) ≡ None }
-    requires reaches { Reaches
-        (values_by K.one_of K.times_of K.number_of K.itself_of valuation.now)
-        (entries log.now) (spans_of versions.now)
-        (q.needed_version (entries log.now) (state_view state)) known.now }
+    requires known { HasPoint log.now (point_view state) }
+    requires reaches { h.Reaches (values_in K.Semiring valuation.now) log.now versions.now
+        (h.needed_version log.now (point_view state)) known.now }
     ensures { Gives (λ rows. map pair_view rows.items) result
-        (value_answer parameters K.plus_of K.zero_of K.one_of K.times_of
-        (token_value K.one_of K.number_of K.itself_of valuation.now) agree
-        (tables log.now) (entries log.now)
-        (spans_of versions.now) (state_view state) (select_view select.now)) }
+        (h.value_answer K.plus_of K.zero_of K.one_of K.times_of
+        (token_value K.one_of K.number_of K.itself_of valuation.now) log.now versions.now
+        (point_view state) (select_view select.now)) }
 {
     values_are_sums_over_the_history::<K>();
-    // The number of commits has 32 bits.
-    let _commits = log.commits();
+    log.bounds();
     let program = planned(alloc, log, state, select)?;
     match sums_over(alloc, versions, &known.annotated, &program, valuation) {
         Ok(rows) => Ok(rows),

@@ -14,8 +14,7 @@ use Rattle.gp_ask.specs.declared.answered.Answered.{Answered}
 use Rattle.gp_ask.specs.declared.answered.Answered.TheVariants.{Refused}
 use Rattle.gp_ask.specs.declared.format.Format.{Format}
 use Rattle.gp_ask.specs.declared.format.Format.TheVariants.{Text, Csv}
-use Rattle.gp_ask.specs.Explained.{ExplainsRead}
-use Rattle.gp_ask.specs.QuestionFiles.{ExplainsIn, ExplainsQuestions, answers_text, has_refused, line_answer_in, line_answer_text}
+use Rattle.gp_ask.specs.QuestionFiles.{ExplainsIn, ExplainsQuestions, ExplainsRead, answers_text, has_refused, line_answer_in, line_answer_text}
 use Rattle.gp_ask.specs.Formats.{answers_in, asks_rows, text_in}
 use Rattle.gp_machine.specs.Entries.{Entry}
 use Rattle.gp_ask.specs.Questions.{answered, is_refused}

@@ -4,7 +4,8 @@ use Rattle.std.specs.Prelude.{slice_index}
 use Rattle.std.specs.List.{sum_by}
 use Rattle.std.proofs.lemmas.List.Sums.{sum_by-cons}
 use Rattle.std.specs.List.Sorted.{IsStrictlyIncreasing}
-use Rattle.gp_syntax.specs.Lines.{numbers_of, script_lines}
+use Rattle.gp_syntax.specs.Lines.{script_lines}
+use Rattle.gp_syntax.specs.LineForms.{numbers_of}
 
 abbrev pub one : ℕ × List ℕ → ℕ
 one line = 1

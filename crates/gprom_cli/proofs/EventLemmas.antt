@@ -5,8 +5,8 @@ use Rattle.gp_script.specs.declared.script.TheConstants.{MAX_SCRIPT_LENGTH}
 use Rattle.gp_script.specs.History.{IsScript, ReadLine, has_refusal, replies_to}
 use Rattle.gp_script.proofs.ReadHistory.{one-script}
 use Rattle.gp_dump.specs.declared.dump.TheConstants.{MAX_DUMP_LENGTH}
-use Rattle.gp_dump.specs.Dumps.{Dump, WellFormed}
-use Rattle.gp_dump.specs.Rules.{FirstFault}
+use Rattle.gp_dump.specs.Dumps.{Dump}
+use Rattle.gp_dump.specs.Rules.{FirstFault, WellFormed}
 use Rattle.gp_dump.specs.Verdicts.{Verdict, Holds, verdict_on, fault_in}
 use Rattle.gp_dump.proofs.FaultLemmas.{fault-is}
 use Rattle.gp_csv.specs.Faults.{Fault}

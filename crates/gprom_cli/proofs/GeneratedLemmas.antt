@@ -9,7 +9,7 @@ use Rattle.std.proofs.lemmas.List.Sums.{sum_by-cons}
 use Rattle.gp_script.specs.declared.script.TheConstants.{MAX_SCRIPT_LENGTH}
 use Rattle.gprom_cli.specs.declared.generated.TheConstants.{MAX_ROUNDS}
 use Rattle.gp_base.specs.Numbered.{newline}
-use Rattle.gprom_cli.specs.Generated.{Pieces, amount, closing_lines, destination, generated_lines, generated_script, line_text, lines_text, opening_lines, question_lines, replay_line, round_lines, rounds_lines, source}
+use Rattle.gprom_cli.specs.Generated.{Pieces, amount, closing_lines, destination, generated_questions, generated_script, line_text, lines_text, opening_lines, replay_line, round_lines, rounds_lines, source}
 
 -- ---- lines as pieces
 
@@ -28,16 +28,16 @@ lines-pieces (line ∷ lines) =
 
 -- ---- the script
 
-round-more : (round : ℕ) → lines_text (generated_lines (suc round)) ≡ lines_text (generated_lines round) ++ lines_text (round_lines (suc round))
+round-more : (round : ℕ) → generated_script (suc round) ≡ generated_script round ++ lines_text (round_lines (suc round))
 round-more round =
     ap lines_text (sym (append_assoc opening_lines (rounds_lines round) (round_lines (suc round))))
     ∙ flat_map-append line_text (opening_lines ++ rounds_lines round) (round_lines (suc round))
 
 -- one more round
-pub round-next : (round : ℕ) → lines_text (generated_lines (round + 1)) ≡ lines_text (generated_lines round) ++ lines_text (round_lines (round + 1))
+pub round-next : (round : ℕ) → generated_script (round + 1) ≡ generated_script round ++ lines_text (round_lines (round + 1))
 round-next round =
     let next : suc round ≡ round + 1 = omega arith in
-    subst (λ (other : ℕ). lines_text (generated_lines other) ≡ lines_text (generated_lines round) ++ lines_text (round_lines other)) next (round-more round)
+    subst (λ (other : ℕ). generated_script other ≡ generated_script round ++ lines_text (round_lines other)) next (round-more round)
 
 -- ---- the questions
 
@@ -46,13 +46,13 @@ flat_map-map [] = refl
 flat_map-map (t ∷ committed) = ap (λ (rest : List ℕ). line_text (replay_line t) ++ rest) (flat_map-map committed)
 
 pub questions-parts : (committed : List ℕ) (last : ℕ)
-    → flat_map (λ (t : ℕ). line_text (replay_line t)) committed ++ lines_text (closing_lines last) ≡ lines_text (question_lines committed last)
+    → flat_map (λ (t : ℕ). line_text (replay_line t)) committed ++ lines_text (closing_lines last) ≡ generated_questions committed last
 questions-parts committed last =
     ap (λ (text : List ℕ). text ++ lines_text (closing_lines last)) (sym (flat_map-map committed))
     ∙ sym (flat_map-append line_text (map replay_line committed) (closing_lines last))
 
 pub questions-all : (committed : List ℕ) (last i : ℕ) (text : List ℕ) → length committed ≤ i → text ≡ flat_map (λ (t : ℕ). line_text (replay_line t)) (take i committed)
-    → text ++ lines_text (closing_lines last) ≡ lines_text (question_lines committed last)
+    → text ++ lines_text (closing_lines last) ≡ generated_questions committed last
 questions-all committed last i text all so_far =
     ap (λ (x : List ℕ). x ++ lines_text (closing_lines last)) (so_far ∙ ap (flat_map (λ (t : ℕ). line_text (replay_line t))) (take_all i committed all))
     ∙ questions-parts committed last
@@ -83,12 +83,12 @@ round-length round =
     let much = small (amount round) (omega arith) in
     omega (arith, lines-length (round_lines round), from, to, much)
 
-rounds-length : (rounds : ℕ) → length (lines_text (generated_lines rounds)) ≤ 400 + 300 * rounds
+rounds-length : (rounds : ℕ) → length (generated_script rounds) ≤ 400 + 300 * rounds
 rounds-length zero = omega (arith, lines-length opening_lines)
 rounds-length (suc rounds) =
     let before = rounds-length rounds in
     let round = round-length (suc rounds) in
-    let all = ap length (round-more rounds) ∙ length-append (lines_text (generated_lines rounds)) (lines_text (round_lines (suc rounds))) in
+    let all = ap length (round-more rounds) ∙ length-append (generated_script rounds) (lines_text (round_lines (suc rounds))) in
     omega (arith, before, round, all)
 
 -- a generated script is short enough to be run

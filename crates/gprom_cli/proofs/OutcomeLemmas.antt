@@ -3,7 +3,7 @@ use Rattle.std.proofs.Common.{◌≡◌, ℕ, ◌+◌, ◌<◌, ◌≤◌, List,
 use Rattle.std.specs.List.{sum_by}
 use Rattle.std.proofs.lemmas.List.{length-map}
 use Rattle.std.proofs.lemmas.List.Sums.{sum_by-cons}
-use Rattle.gp_base.specs.Annotated.{monomials, plain}
+use Rattle.gp_base.specs.Annotated.{monomials, unannotated}
 use Rattle.gp_base.specs.Tokens.{Monomial}
 use Rattle.gp_grammar.specs.Reading.{question_of, read_lines, script_line_of}
 use Rattle.gp_grammar.specs.Syntax as y
@@ -16,7 +16,8 @@ use Rattle.gp_script.specs.Scripts.{final_state, lines_as_read, replies_of}
 use Rattle.gp_script.specs.declared.script.TheConstants.{MAX_SCRIPT_LENGTH}
 use Rattle.gp_script.proofs.ReadHistory.{is-script, one-script, replies-read, state-read}
 use Rattle.gp_dump.specs.declared.dump.TheConstants.{MAX_DUMP_LENGTH}
-use Rattle.gp_dump.specs.Dumps.{Dump, WellFormed, dump_of, spans_in, written_text}
+use Rattle.gp_dump.specs.Dumps.{Dump, dump_of, spans_in, written_text}
+use Rattle.gp_dump.specs.Rules.{WellFormed}
 use Rattle.gp_csv.specs.Faults.{refuse}
 use Rattle.gp_load.specs.Loading.{LoadsText, loaded_of}
 use Rattle.gp_ask.specs.declared.answered.Answered.{Answered}
@@ -43,7 +44,7 @@ use Rattle.gprom_cli.specs.Steps.{Answers, Ends, is_answered, script_dump}
 -- ---- scripts
 
 pub dump-read : (script : List ℕ) → history_dump (lines_as_read script) ≡ script_dump script
-dump-read script = ap (λ (state : State (Unit {0})). written_text (dump_of state)) (state-read plain script)
+dump-read script = ap (λ (state : State (Unit {0})). written_text (dump_of state)) (state-read unannotated script)
 
 pub text-read : (script : List ℕ) → replies_text (replies_to (lines_as_read script)) ≡ replies_text (replies_of script)
 text-read script = ap replies_text (replies-read script)
@@ -99,14 +100,14 @@ summary-at rounds script file state held =
 
 -- the questions about the history of the generated script
 abbrev asked_of : ℕ → List ℕ
-asked_of rounds = questions_about (last_state plain (lines_as_read (generated_script rounds))).entries
+asked_of rounds = questions_about (last_state unannotated (lines_as_read (generated_script rounds))).entries
 
 summary-read : (rounds : ℕ) → summary_of rounds ≡ summary_for rounds (lines_as_read (generated_script rounds)) (questions_as_read (asked_of rounds))
 summary-read rounds =
     let script = generated_script rounds in
-    let state = sym (state-read plain script) in
+    let state = sym (state-read unannotated script) in
     let held = sym (state-read monomials script) in
-    summary-at rounds script (questions_about (final_state plain script).entries) (final_state plain script) (final_state monomials script)
+    summary-at rounds script (questions_about (final_state unannotated script).entries) (final_state unannotated script) (final_state monomials script)
     ∙ (λ i. summary_at rounds (lines_as_read script) (state i) (held i) (questions_as_read (questions_about (state i).entries)))
 
 pub is-summary : (rounds : ℕ) → IsSummary rounds (summary_of rounds)
@@ -121,10 +122,10 @@ is-summary rounds = record {
 pub one-summary : (rounds : ℕ) (summary : Summary) → IsSummary rounds summary → summary ≡ summary_of rounds
 one-summary rounds summary made =
     let lines = one-script (generated_script rounds) made.lines made.are in
-    let questions : made.questions ≡ questions_as_read (questions_about (last_state plain made.lines).entries) = one-file (questions_about (last_state plain made.lines).entries) made.questions made.asked in
+    let questions : made.questions ≡ questions_as_read (questions_about (last_state unannotated made.lines).entries) = one-file (questions_about (last_state unannotated made.lines).entries) made.questions made.asked in
     made.is
     ∙ ap (summary_for rounds made.lines) questions
-    ∙ ap (λ (ls : List ReadLine). summary_for rounds ls (questions_as_read (questions_about (last_state plain ls).entries))) lines
+    ∙ ap (λ (ls : List ReadLine). summary_for rounds ls (questions_as_read (questions_about (last_state unannotated ls).entries))) lines
     ∙ sym (summary-read rounds)
 
 -- ---- the ends of `run`, after the script was read

@@ -10,7 +10,8 @@ use Rattle.gp_io.specs.Events.{Event, Read, Missing, Unreadable, Replaced, NotRe
 use Rattle.gp_script.specs.History.{ReadLine, has_refusal, last_state, replies_text, replies_to}
 use Rattle.gp_script.specs.declared.script.TheConstants.{MAX_SCRIPT_LENGTH}
 use Rattle.gp_dump.specs.declared.dump.TheConstants.{MAX_DUMP_LENGTH}
-use Rattle.gp_dump.specs.Dumps.{Dump, WellFormed}
+use Rattle.gp_dump.specs.Dumps.{Dump}
+use Rattle.gp_dump.specs.Rules.{WellFormed}
 use Rattle.gp_csv.specs.Faults.{Fault}
 use Rattle.gp_load.specs.Loading.{loaded_of}
 use Rattle.gp_ask.specs.declared.format.Format.{Format}

@@ -1,6 +1,6 @@
 -- The promises of a call by its outcome and by laws, and what follows from them.
 use Rattle.std.proofs.Common.{◌≡◌, ℕ, ◌≤◌, ◌⊎◌, inl, inr, List, [], ◌∷◌, length, Option, Some, None, Result, Ok, Err, refl, sym, ap, ◌∙◌, subst, ⊎_elim}
-use Rattle.gp_base.specs.Annotated.{monomials, plain}
+use Rattle.gp_base.specs.Annotated.{monomials, unannotated}
 use Rattle.gp_base.specs.Tokens.{Monomial}
 use Rattle.gp_grammar.specs.Syntax as y
 use Rattle.gp_grammar.proofs.ReadOnce.{questions-once, scripts-once}
@@ -16,7 +16,10 @@ use Rattle.gp_script.specs.History.{IsScript, ReadLine, has_refusal, last_state,
 use Rattle.gp_script.specs.Scripts.{final_state, lines_as_read, lines_read}
 use Rattle.gp_script.specs.declared.script.TheConstants.{MAX_SCRIPT_LENGTH}
 use Rattle.gp_dump.specs.declared.dump.TheConstants.{MAX_DUMP_LENGTH}
-use Rattle.gp_dump.specs.Dumps.{Dump, dump_of, IsDump, WellFormed, written_text}
+use Rattle.gp_dump.specs.Dumps.{Dump, dump_of, written_text}
+use Rattle.gp_dump.specs.WholeDumps.{IsDump}
+use Rattle.gp_dump.specs.Rules.{WellFormed}
+use Rattle.gp_dump.proofs.FaultLemmas.{kept-is}
 use Rattle.gp_dump.proofs.LawLemmas as dumps
 use Rattle.gp_script.proofs.ReadHistory.{one-script, state-read}
 use Rattle.gp_csv.specs.Faults.{Fault}
@@ -89,8 +92,8 @@ module _ (script : List ℕ) (lines : List ReadLine) (are : IsScript script line
   same-dump : history_dump lines ≡ script_dump script
   same-dump = ap history_dump same-lines ∙ dump-read script
 
-  same-plain : last_state plain lines ≡ final_state plain script
-  same-plain = ap (last_state plain) same-lines ∙ state-read plain script
+  same-plain : last_state unannotated lines ≡ final_state unannotated script
+  same-plain = ap (last_state unannotated) same-lines ∙ state-read unannotated script
 
   same-held : last_state monomials lines ≡ final_state monomials script
   same-held = ap (last_state monomials) same-lines ∙ state-read monomials script
@@ -99,15 +102,15 @@ module _ (script : List ℕ) (lines : List ReadLine) (are : IsScript script line
 
 -- what laws say of the dumps of scripts, and of histories
 pub record DumpLaws : Type 0 where
-  pub formed : (script : List ℕ) → length script ≤ MAX_SCRIPT_LENGTH → IsDump (dump_of (final_state plain script))
+  pub formed : (script : List ℕ) → length script ≤ MAX_SCRIPT_LENGTH → IsDump (dump_of (final_state unannotated script))
   pub unchanged : (script : List ℕ) → length script ≤ MAX_SCRIPT_LENGTH
-      → (remaking_refusal (final_state plain script).entries ≡ None) × (replayed_dump (final_state plain script).entries ≡ dump_of (final_state plain script))
-  pub held : (lines : List Line) (question : y.Question) → answer_to (dump_of (after plain parameters start lines)) question ≡ held_to (after monomials parameters start lines) question
+      → (remaking_refusal (final_state unannotated script).entries ≡ None) × (replayed_dump (final_state unannotated script).entries ≡ dump_of (final_state unannotated script))
+  pub held : (lines : List Line) (question : y.Question) → answer_to (dump_of (after unannotated parameters start lines)) question ≡ held_to (after monomials parameters start lines) question
   pub checked : (dump : Dump) → IsDump dump → difference dump ≡ None → IsOfHistory dump
   pub first : (dump : Dump) (line : ℕ) → IsDump dump → difference dump ≡ Some line → DiffersFirst dump line
 
 -- of a state of a script, by its lines
-by-lines : (P : State (Unit {0}) → Type 0) (script : List ℕ) (lines : List ReadLine) → IsScript script lines → P (final_state plain script) → P (last_state plain lines)
+by-lines : (P : State (Unit {0}) → Type 0) (script : List ℕ) (lines : List ReadLine) → IsScript script lines → P (final_state unannotated script) → P (last_state unannotated lines)
 by-lines P script lines are is = subst P (sym (same-plain script lines are)) is
 
 pub promised : DumpLaws → (call : Call) → HasOutcome call → Promises call
@@ -117,11 +120,12 @@ promised laws call has = record {
   questions = λ file. questions-once (script_lines file);
   formed = λ script lines short are.
       by-lines (λ (state : State (Unit {0})). WellFormed (written_text (dump_of state)) (dump_of state)) script lines are
-      (dumps.written-well-formed (dump_of (final_state plain script)) (laws.formed script short));
+      (dumps.written-well-formed (dump_of (final_state unannotated script)) (laws.formed script short));
   unchanged = λ script lines short are.
       by-lines (λ (state : State (Unit {0})). (remaking_refusal state.entries ≡ None) × (replayed_dump state.entries ≡ dump_of state)) script lines are (laws.unchanged script short);
   held = laws.held;
-  checked = λ contents rules. (laws.checked contents rules, λ line is. laws.first contents line rules is);
+  checked = λ bytes contents formed.
+      let rules = (dumps.whole-text bytes contents formed).rules in (laws.checked contents rules, λ line is. laws.first contents line rules is);
 }
 
 -- ---- what follows
@@ -132,7 +136,7 @@ generated-told call rounds (event ∷ events) due = due
 
 -- the state of a script is that of its lines, as the history machine takes them
 pub record ScriptLaws : Type 0 where
-  pub plainly : (script : List ℕ) → final_state plain script ≡ after plain parameters start (lines_read (script_lines script))
+  pub plainly : (script : List ℕ) → final_state unannotated script ≡ after unannotated parameters start (lines_read (script_lines script))
   pub annotated : (script : List ℕ) → final_state monomials script ≡ after monomials parameters start (lines_read (script_lines script))
 
 module _ (laws : ScriptLaws) (call : Call) (promises : Promises call) where
@@ -163,10 +167,10 @@ module _ (laws : ScriptLaws) (call : Call) (promises : Promises call) where
         (clean-cause call.status call.command call.events is (cause-at call.status has refl written), no-failures has written)
 
     writes : WritesTold call (told call.command call.events)
-    writes = writes-told dumps.read call has
+    writes = writes-told kept-is call has
 
     determined : (ended : Status) (text : List ℕ) (status : Status) → ComesTo ended call.command call.events text status → WritesOutput text status call.sink call.sink_after call.status
-    determined ended text status comes = subst (WritesTold call) (told-is dumps.read ended call.command call.events text status comes) writes
+    determined ended text status comes = subst (WritesTold call) (told-is kept-is ended call.command call.events text status comes) writes
 
     -- what such a command comes to, after such events
     determined-as : (command : Option Command) (events : List Event) → call.command ≡ command → call.events ≡ events → (ended : Status) (text : List ℕ) (status : Status) → ComesTo ended command events text status
@@ -285,7 +289,7 @@ module _ (laws : ScriptLaws) (call : Call) (promises : Promises call) where
 
     recorded : (format : Format) (dump name bytes asked : List ℕ) (contents : Dump) (lines : List Line) (questions : List ReadQuestion) → call.command ≡ Some (Ask format dump name)
         → call.events ≡ read_of dump MAX_DUMP_LENGTH bytes ∷ read_of name MAX_SCRIPT_LENGTH asked ∷ [] → length bytes ≤ MAX_DUMP_LENGTH → length asked ≤ MAX_SCRIPT_LENGTH
-        → WellFormed bytes contents → contents ≡ dump_of (after plain parameters start lines) → AreQuestions asked questions
+        → WellFormed bytes contents → contents ≡ dump_of (after unannotated parameters start lines) → AreQuestions asked questions
         → WritesOutput (answer_texts format (held_to (after monomials parameters start lines)) questions)
         (answered_status (refuses_some format (held_to (after monomials parameters start lines)) questions)) call.sink call.sink_after call.status
     recorded format dump name bytes asked contents lines questions ask is few short formed made are =
@@ -300,9 +304,9 @@ module _ (laws : ScriptLaws) (call : Call) (promises : Promises call) where
         call.sink call.sink_after call.status
     held format dump name script asked lines questions ask is runs few short are =
         let own : List Line = lines_read (script_lines script) in
-        let plainly : last_state plain lines ≡ after plain parameters start own = same-plain script lines runs.are ∙ laws.plainly script in
+        let plainly : last_state unannotated lines ≡ after unannotated parameters start own = same-plain script lines runs.are ∙ laws.plainly script in
         let annotated : last_state monomials lines ≡ after monomials parameters start own = same-held script lines runs.are ∙ laws.annotated script in
-        answers-by format dump name (history_dump lines) asked (dump_of (last_state plain lines)) questions ask is few short (promises.formed script lines runs.short runs.are) are
+        answers-by format dump name (history_dump lines) asked (dump_of (last_state unannotated lines)) questions ask is few short (promises.formed script lines runs.short runs.are) are
         (held_to (last_state monomials lines))
         (λ question.
         ap (λ (state : State (Unit {0})). answer_to (dump_of state) question) plainly ∙ promises.held own question ∙ ap (λ (state : State Monomial). held_to state question) (sym annotated))
@@ -312,7 +316,7 @@ module _ (laws : ScriptLaws) (call : Call) (promises : Promises call) where
         → WellFormed bytes contents → AreQuestions asked questions → IsAnswered call.status → ExplainsLines contents.entries questions
     explained-by (c.comes_to text status comes _) dump name bytes asked contents questions ask is short formed are done =
         let follows : AskFollows call.status (Some (Ask Text dump name)) call.events =
-        subst (λ (o : Option Command). AskFollows call.status o call.events) ask (ask-follows dumps.read call.status call.command call.events text status comes) in
+        subst (λ (o : Option Command). AskFollows call.status o call.events) ask (ask-follows kept-is call.status call.command call.events text status comes) in
         follows dump name bytes asked contents questions is short formed are done
     explained-by (c.out_of_memory reads quiet memory) dump name bytes asked contents questions ask is short formed are done = absurd (not-answered (subst IsAnswered memory done))
 

@@ -11,7 +11,7 @@ use Rattle.gp_base.specs.declared.refusal.Refusal.{Refusal}
 use Rattle.gp_base.specs.declared.refusal.Refusal.TheVariants.{E27}
 use Rattle.gp_base.specs.Order.{row_cmp, sorted_by}
 use Rattle.gp_base.specs.Tokens.{Monomial}
-use Rattle.gp_base.specs.Annotated.{Annotated, monomials, plain}
+use Rattle.gp_base.specs.Annotated.{Annotated, monomials, unannotated}
 use Rattle.gp_base.specs.declared.table.Table.{Table}
 use Rattle.gp_base.specs.declared.token.Token.{Token}
 use Rattle.gp_grammar.specs.declared.semiring_name.SemiringName.{SemiringName}
@@ -55,15 +55,16 @@ use Rattle.gp_compose.specs.Seen.{changes_refusal, saw_refusal}
 use Rattle.gp_reenact.specs.Looking.{saw_answer}
 use Rattle.gp_ask.specs.Answers.{versions_answer}
 use Rattle.gp_ask.specs.Computed.{computed_answer, what_if_answer}
-use Rattle.gp_ask.specs.Asking.{ask_to, dump_program, dump_provenance, dump_remaining, dump_rows, of_elements, query_answer, spans_at, with_monomials}
+use Rattle.gp_ask.specs.Asking.{ask_to, of_elements, query_answer, spans_at, with_monomials}
+use Rattle.gp_ask.specs.AskingForms.{dump_program, dump_provenance, dump_remaining, dump_rows, rules_of}
 use Rattle.gp_ask.specs.ValueForms.{dump_minimal, dump_valued, dump_values}
 use Rattle.gp_ask.specs.Deltas.{Signed, delta, signed_text}
 use Rattle.gp_ask.specs.Differences as answers
 use Rattle.gp_ask.specs.Differences.{causes_of, committed_writes, diff_of, side_answer, without_in}
 use Rattle.gp_ask.specs.Hypothetical.{asking_refusal, changed_answer, remaking_refusal, replayed_dump}
-use Rattle.gp_ask.specs.Values.{outside_refusal, rules_of, semiring_of, unless_refused, value_of, valued, with_values}
+use Rattle.gp_ask.specs.Values.{outside_refusal, rule_of, semiring_of, unless_refused, value_of, valued, with_values}
 use Rattle.gp_ask.specs.Questions.{answered}
-use Rattle.gp_ask.specs.Remaining.{are_too_many, has_left_out, pattern_of, remaining, remaining_answer}
+use Rattle.gp_ask.specs.Remaining.{are_too_many, has_left_out, remaining, remaining_answer}
 use Rattle.gp_ask.specs.Replays.{dump_in}
 use Rattle.gp_ask.specs.Witnesses.{minimal_of}
 use Rattle.gprom_cli.specs.Summary.{row_count}
@@ -137,13 +138,13 @@ few-unless None answered few = few
 
 -- ---- the answers of the history machine
 
-module _ (entries : List Entry) (spans : ℕ → List Span) (point : y.State) (query : Select) where
+module _ (entries : List Entry) (spans : ℕ → List Span) (point : y.Point) (query : Select) where
   few-plain : AreFew (rows_answer parameters entries spans point query)
   few-plain =
-      let versions = as_of plain spans in
-      let elements = answer plain query (at_point plain entries point versions) in
-      let stop = own_stop plain parameters entries point versions in
-      let over = answer_refusal plain parameters elements in
+      let versions = as_of unannotated spans in
+      let elements = answer unannotated query (at_point unannotated entries point versions) in
+      let stop = own_stop unannotated parameters entries point versions in
+      let over = answer_refusal unannotated parameters elements in
       behind elements (log_refusal entries point) (option_or stop over) (behind elements stop over (limit elements))
 
   few-annotated : (catalogue : List Table) → AreFew (annotated_answer monomials parameters agree catalogue entries spans point query)
@@ -175,7 +176,7 @@ few-versions : (name : List ℕ) (tables : List (List Span)) (place : Option ℕ
 few-versions name tables None = omega arith
 few-versions name tables (Some place) = omega arith
 
-module _ (dump : Dump) (point : y.State) (select : Select) where
+module _ (dump : Dump) (point : y.Point) (select : Select) where
   few-semiring : (name : SemiringName) (rules : List Rule × Option ℕ) → HasFew (dump_values (semiring_of name) name rules dump point select)
   few-semiring name rules =
       let semiring = semiring_of name in
@@ -209,7 +210,7 @@ module _ (dump : Dump) (point : y.State) (select : Select) where
       (behind rest refusal (cond (are_too_many (has_left_out patterns) select db) (Some E27) None)
       (either rest (nat_lt parameters.answer (length (distinct_rows (cells_of (answer monomials select db))))) (nat_lt parameters.answer (length rest)) refl))
 
-few-ask : (dump : Dump) (how : y.How) (point : y.State) (query : y.Query) → HasFew (ask_to dump how point query)
+few-ask : (dump : Dump) (how : y.How) (point : y.Point) (query : y.Query) → HasFew (ask_to dump how point query)
 few-ask dump y.rows point query =
     few-checked (dump_rows dump point) (log_refusal dump.entries point) (checked_query (tables_in dump.entries) query)
     (λ select. few-elements (rows_answer parameters dump.entries (spans_at dump.tables) point select) (few-plain dump.entries (spans_at dump.tables) point select))
@@ -222,17 +223,17 @@ few-ask dump (y.value name rules other) point query =
     few-checked (dump_valued name rules other dump point) (log_refusal dump.entries point) (checked_query (tables_in dump.entries) query)
     (λ select. few-by-rules dump point select name rules other)
 few-ask dump (y.without patterns) point query =
-    few-checked (dump_remaining (map pattern_of patterns) dump point) (log_refusal dump.entries point) (checked_query (tables_in dump.entries) query)
-    (λ select. few-remaining dump point select (map pattern_of patterns))
+    few-checked (dump_remaining (map rule_of patterns) dump point) (log_refusal dump.entries point) (checked_query (tables_in dump.entries) query)
+    (λ select. few-remaining dump point select (map rule_of patterns))
 
 -- ---- questions about changes
 
-few-remade : (entries : List Entry) (how : y.How) (point : y.State) (query : y.Query)
+few-remade : (entries : List Entry) (how : y.How) (point : y.Point) (query : y.Query)
     → HasFew (unless_refused (asking_refusal entries how point query) (unless_refused (remaking_refusal entries) (ask_to (replayed_dump entries) how point query)))
 few-remade entries how point query =
     few-unless (asking_refusal entries how point query) _ (few-unless (remaking_refusal entries) _ (few-ask (replayed_dump entries) how point query))
 
-few-changed : (found : Result (List Entry) Refusal) (how : y.How) (point : y.State) (query : y.Query) → HasFew (changed_answer (λ own. ask_to (replayed_dump own)) found how point query)
+few-changed : (found : Result (List Entry) Refusal) (how : y.How) (point : y.Point) (query : y.Query) → HasFew (changed_answer (λ own. ask_to (replayed_dump own)) found how point query)
 few-changed (Err refusal) how point query = omega arith
 few-changed (Ok entries) (y.explain prov) point query = few-ask (dump_in entries []) (y.explain prov) point query
 few-changed (Ok entries) y.rows point query = few-remade entries y.rows point query
@@ -242,9 +243,9 @@ few-changed (Ok entries) (y.without patterns) point query = few-remade entries (
 
 few-saw : (entries : List Entry) (spans : ℕ → List Span) (t k : ℕ) (query : Select) → AreFew (saw_answer parameters entries spans t k query)
 few-saw entries spans t k query =
-    let elements = answer plain query (run plain (log_of entries) t k (as_of plain spans)) in
-    let stop = option_map stop_refusal (run_stop plain parameters (log_of entries) t k (as_of plain spans)) in
-    let over = answer_refusal plain parameters elements in
+    let elements = answer unannotated query (run unannotated (log_of entries) t k (as_of unannotated spans)) in
+    let stop = option_map stop_refusal (run_stop unannotated parameters (log_of entries) t k (as_of unannotated spans)) in
+    let over = answer_refusal unannotated parameters elements in
     behind elements (saw_refusal t k entries) (option_or stop over) (behind elements stop over (limit elements))
 
 -- ---- changes have no rows

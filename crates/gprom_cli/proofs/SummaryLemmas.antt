@@ -4,7 +4,7 @@ use Rattle.std.specs.List.{sum_by}
 use Rattle.std.proofs.lemmas.List.{append-nil, length-append, map-append}
 use Rattle.std.proofs.lemmas.List.Concat.{flat_map-append}
 use Rattle.std.proofs.lemmas.List.Sums.{sum-map, sum_by-cons}
-use Rattle.gp_base.specs.Annotated.{monomials, plain}
+use Rattle.gp_base.specs.Annotated.{monomials, unannotated}
 use Rattle.gp_syntax.specs.Lines.{script_lines}
 use Rattle.gp_versions.specs.declared.span.Span.{Span}
 use Rattle.gp_versions.specs.Spans.{Versions}
@@ -13,18 +13,32 @@ use Rattle.gp_machine.specs.Entries.{Entry, fate_of, is_begin, is_commit, transa
 use Rattle.gp_log.specs.declared.limit.TheConstants.{MAX_ENTRIES}
 use Rattle.gp_script.specs.declared.script.TheConstants.{MAX_SCRIPT_LENGTH}
 use Rattle.gp_script.specs.Scripts.{final_state}
-use Rattle.gp_dump.specs.Dumps.{Dump, IsDump, dump_of, spans_in}
+use Rattle.gp_dump.specs.Dumps.{Dump, dump_of, spans_in}
+use Rattle.gp_dump.specs.WholeDumps.{IsDump}
 use Rattle.gp_dump.specs.Verdicts.{Holds, Fails, verdict_on}
 use Rattle.gp_dump.specs.Views.{tables_view}
-use Rattle.gp_dump.proofs.LawLemmas.{read, written-well-formed}
+use Rattle.gp_dump.proofs.FaultLemmas.{kept-is}
+use Rattle.gp_dump.proofs.LawLemmas.{written-well-formed}
 use Rattle.gp_ask.specs.Answers.{held_to}
 use Rattle.gp_ask.specs.Computed.{computed_answer}
 use Rattle.gprom_cli.specs.declared.summary.Summary.{Summary}
 use Rattle.gprom_cli.specs.Steps.{script_dump}
 use Rattle.gprom_cli.specs.Generated.{Pieces, closing_lines, generated_questions, generated_script, line_text, lines_text, replay_line}
-use Rattle.gprom_cli.specs.Summary.{committed_in, committed_up_to, has_committed, is_lost, lost_in, lost_up_to, questions_about}
-use Rattle.gprom_cli.specs.Summaries.{rows_in, summary_by, summary_of, summary_with}
+use Rattle.gprom_cli.specs.Summary.{committed_in, has_committed, is_lost, lost_in, questions_about, with_fate}
+use Rattle.gprom_cli.specs.Summaries.{committed_up_to, lost_up_to, rows_in, summary_by, summary_of, summary_with}
 use Rattle.gprom_cli.proofs.GeneratedLemmas.{lines-length, wide}
+
+-- ---- those that were lost are as many as are counted
+
+one-longer : (b : Bool) (ts : List ℕ) (t : ℕ) → length (ts ++ cond b (t ∷ []) []) ≡ length ts + cond b 1 0
+one-longer true ts t = length-append ts (t ∷ [])
+one-longer false ts t = let same = ap (λ (all : List ℕ). length all) (append-nil ts) in omega (arith, same)
+
+lost-counted : (entries : List Entry) (t : ℕ) → lost_up_to entries t ≡ length (with_fate entries is_lost t)
+lost-counted entries zero = refl
+lost-counted entries (suc t) =
+    ap (λ (n : ℕ). n + cond (is_lost (fate_of (suc t) entries)) 1 0) (lost-counted entries t)
+    ∙ sym (one-longer (is_lost (fate_of (suc t) entries)) (with_fate entries is_lost t) (suc t))
 
 -- ---- one transaction more
 
@@ -123,29 +137,31 @@ short-questions entries few =
 -- ---- the dump that was read back
 
 -- a dump that was read is the one that was written
-pub same-dump : (script bytes : List ℕ) (dump : Dump) → IsDump (dump_of (final_state plain script)) → bytes ≡ script_dump script → verdict_on bytes ≡ Holds dump → dump ≡ dump_of (final_state plain script)
+pub same-dump : (script bytes : List ℕ) (dump : Dump) → IsDump (dump_of (final_state unannotated script)) → bytes ≡ script_dump script → verdict_on bytes ≡ Holds dump → dump ≡ dump_of (final_state unannotated script)
 same-dump script bytes dump rules same holds =
-    let written = read (script_dump script) (dump_of (final_state plain script)) (written-well-formed (dump_of (final_state plain script)) rules) in
-    let both : Holds dump ≡ Holds (dump_of (final_state plain script)) = sym holds ∙ ap verdict_on same ∙ written in
+    let written = kept-is (script_dump script) (dump_of (final_state unannotated script)) (written-well-formed (dump_of (final_state unannotated script)) rules) in
+    let both : Holds dump ≡ Holds (dump_of (final_state unannotated script)) = sym holds ∙ ap verdict_on same ∙ written in
     cc
 
 -- and it is read
-pub no-fault-there : (script bytes : List ℕ) (f line : ℕ) → IsDump (dump_of (final_state plain script)) → bytes ≡ script_dump script → verdict_on bytes ≡ Fails f line → ⊥
+pub no-fault-there : (script bytes : List ℕ) (f line : ℕ) → IsDump (dump_of (final_state unannotated script)) → bytes ≡ script_dump script → verdict_on bytes ≡ Fails f line → ⊥
 no-fault-there script bytes f line rules same fails =
-    let written = read (script_dump script) (dump_of (final_state plain script)) (written-well-formed (dump_of (final_state plain script)) rules) in
-    let both : Fails f line ≡ Holds (dump_of (final_state plain script)) = sym fails ∙ ap verdict_on same ∙ written in
+    let written = kept-is (script_dump script) (dump_of (final_state unannotated script)) (written-well-formed (dump_of (final_state unannotated script)) rules) in
+    let both : Fails f line ≡ Holds (dump_of (final_state unannotated script)) = sym fails ∙ ap verdict_on same ∙ written in
     cc
 
 -- ---- the summary
 
 -- its numbers, one by one
 pub same-summary : (rounds : ℕ) (script : List ℕ) (dump : Dump) (questions : List ℕ) (lines committed lost spans asked rows : ℕ)
-    → lines ≡ length (script_lines script) → committed ≡ length (committed_in dump.entries) → lost ≡ lost_in dump.entries → spans ≡ spans_in dump.tables
+    → lines ≡ length (script_lines script) → committed ≡ length (committed_in dump.entries) → lost ≡ lost_up_to dump.entries (transactions_in dump.entries) → spans ≡ spans_in dump.tables
     → asked ≡ length (script_lines questions) → rows ≡ rows_in (computed_answer dump) questions
     → record { rounds = rounds; lines = lines; committed = committed; lost = lost; spans = spans; questions = asked; rows = rows } ≡ summary_by rounds script dump (computed_answer dump) questions
-same-summary rounds script dump questions lines committed lost spans asked rows a b c d e f = rw (a, b, c, d, e, f) refl
+same-summary rounds script dump questions lines committed lost spans asked rows a b c d e f =
+    let counted : lost ≡ lost_in dump.entries = c ∙ lost-counted dump.entries (transactions_in dump.entries) in
+    rw (a, b, counted, d, e, f) refl
 
-module _ (rounds : ℕ) (script : List ℕ) (dump : Dump) (committed questions : List ℕ) (is_script : script ≡ generated_script rounds) (is_dump : dump ≡ dump_of (final_state plain script))
+module _ (rounds : ℕ) (script : List ℕ) (dump : Dump) (committed questions : List ℕ) (is_script : script ≡ generated_script rounds) (is_dump : dump ≡ dump_of (final_state unannotated script))
     (is_committed : committed ≡ committed_in dump.entries) (is_questions : questions ≡ generated_questions committed (versions_in dump.entries)) where
   pub questions-are : questions ≡ questions_about dump.entries
   questions-are = is_questions ∙ ap (λ (ts : List ℕ). generated_questions ts (versions_in dump.entries)) is_committed
@@ -154,10 +170,10 @@ module _ (rounds : ℕ) (script : List ℕ) (dump : Dump) (committed questions :
   abbrev pub told : Summary
   told = summary_by rounds script dump (computed_answer dump) questions
 
-  module _ (rows : (asked : List ℕ) → rows_in (computed_answer (dump_of (final_state plain script))) asked ≡ rows_in (held_to (final_state monomials script)) asked) where
+  module _ (rows : (asked : List ℕ) → rows_in (computed_answer (dump_of (final_state unannotated script))) asked ≡ rows_in (held_to (final_state monomials script)) asked) where
     pub summary-is : told ≡ summary_of rounds
     summary-is =
-        let state = final_state plain script in
+        let state = final_state unannotated script in
         let there : told ≡ summary_by rounds script (dump_of state) (computed_answer (dump_of state)) (questions_about (dump_of state).entries) =
         ap (λ (asked : List ℕ). summary_by rounds script dump (computed_answer dump) asked) questions-are
         ∙ ap (λ (d : Dump). summary_by rounds script d (computed_answer d) (questions_about d.entries)) is_dump in

@@ -7,7 +7,8 @@ use Rattle.gp_script.specs.Scripts.{replies_of}
 use Rattle.gp_script.specs.declared.script.TheConstants.{MAX_SCRIPT_LENGTH}
 use Rattle.gp_script.proofs.ReadHistory.{one-script}
 use Rattle.gp_dump.specs.declared.dump.TheConstants.{MAX_DUMP_LENGTH}
-use Rattle.gp_dump.specs.Dumps.{Dump, WellFormed}
+use Rattle.gp_dump.specs.Dumps.{Dump}
+use Rattle.gp_dump.specs.Rules.{WellFormed}
 use Rattle.gp_dump.specs.Verdicts.{Verdict, Holds, Fails, verdict_on, fault_in}
 use Rattle.gp_dump.proofs.FaultLemmas.{fault-is}
 use Rattle.gp_csv.specs.Faults.{Fault}

@@ -2,7 +2,7 @@
 use Rattle.std.proofs.Common.{◌≡◌, ℕ, zero, suc, List, [], ◌∷◌, ◌++◌, length, None, refl, ap, ◌∙◌}
 use Rattle.std.specs.Option.{option_map}
 use Rattle.gp_base.specs.declared.table.Table.{Table}
-use Rattle.gp_base.specs.Annotated.{plain}
+use Rattle.gp_base.specs.Annotated.{unannotated}
 use Rattle.gp_versions.specs.declared.span.Span.{Span}
 use Rattle.gp_machine.specs.Entries.{log_of, versions_in}
 use Rattle.gp_machine.specs.HistorySpans.{state_spans}
@@ -10,7 +10,8 @@ use Rattle.gp_machine.specs.Replayed.{replayed_state}
 use Rattle.gp_machine.specs.ReplayForms.{replayed_spans}
 use Rattle.gp_machine.specs.State.{State}
 use Rattle.gp_log.specs.LogFacts.{tables_in}
-use Rattle.gp_dump.specs.Dumps.{dump_of, dump_with, spans_in_order}
+use Rattle.gp_dump.specs.Dumps.{dump_of, spans_in_order}
+use Rattle.gp_dump.specs.WholeDumps.{dump_with}
 use Rattle.gp_whatif.specs.Replays.{stop_upto}
 use Rattle.gp_ask.specs.Hypothetical.{remaking_refusal, replay_refusal, replayed_dump}
 
@@ -25,9 +26,9 @@ module _ (one other : State (Unit {0})) (same : (place : ℕ) → state_spans on
       ∙ ap (λ (own : List Span). spans_in_order other count ++ own ∷ []) (same count)
 
 pub is-remade : (state : State (Unit {0})) → tables_in state.entries ≡ state.catalogue → stop_upto state.entries (versions_in state.entries) ≡ None
-    → ((place : ℕ) → replayed_spans plain (log_of state.entries) (length (tables_in state.entries)) (versions_in state.entries) place ≡ state_spans state place) → IsRemade state
+    → ((place : ℕ) → replayed_spans unannotated (log_of state.entries) (length (tables_in state.entries)) (versions_in state.entries) place ≡ state_spans state place) → IsRemade state
 is-remade state tables none spans = (
   ap (option_map (replay_refusal state.entries)) none,
-  ap (λ (own : List Table). dump_with state.entries (spans_in_order (replayed_state plain (tables_in state.entries) state.entries) (length own))) tables
-      ∙ ap (dump_with state.entries) (spans-same (replayed_state plain (tables_in state.entries) state.entries) state spans (length state.catalogue)),
+  ap (λ (own : List Table). dump_with state.entries (spans_in_order (replayed_state unannotated (tables_in state.entries) state.entries) (length own))) tables
+      ∙ ap (dump_with state.entries) (spans-same (replayed_state unannotated (tables_in state.entries) state.entries) state spans (length state.catalogue)),
 )

@@ -55,12 +55,10 @@ command_of_table word csv table script =
     if bytes_eq word (codes "load") then option_map (λ name. Load csv name script) (table_name table) else None
 
 abbrev pub command_of_words : List (List ℕ) → Option Command
-command_of_words [] = None
-command_of_words (word ∷ []) = None
 command_of_words (word ∷ first ∷ []) = command_of_number word first
 command_of_words (word ∷ first ∷ second ∷ []) = command_of_names word first second
 command_of_words (word ∷ first ∷ second ∷ third ∷ []) = command_of_table word first second third
-command_of_words (word ∷ first ∷ second ∷ third ∷ other ∷ others) = None
+command_of_words words = None
 
 -- the command that the arguments ask for, if they ask for one
 abbrev pub command_of : List (List ℕ) → Option Command

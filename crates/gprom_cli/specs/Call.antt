@@ -2,15 +2,15 @@
 use Rattle.std.specs.Prelude.{◌≡◌, ℕ, ◌+◌, ◌≤◌, ◌<◌, ◌⊎◌, Bool, List, [], ◌∷◌, ◌++◌, length, Option, Some, None, Ok, if◌then◌else◌, nat_lt, codes}
 use Rattle.std.specs.Fmt.{decimal}
 use Rattle.std.specs.List.{concat}
-use Rattle.gp_base.specs.Annotated.{plain}
+use Rattle.gp_base.specs.Annotated.{unannotated}
 use Rattle.gp_base.specs.Numbered.{newline}
 use Rattle.gp_io.specs.Events.{Event, Read, Missing, Unreadable, Replaced, NotReplaced}
 use Rattle.gp_io.specs.Sink.{SinkState, after_failure, after_write}
 use Rattle.gp_script.specs.History.{IsScript, ReadLine, has_refusal, last_state, replies_text, replies_to}
 use Rattle.gp_script.specs.declared.script.TheConstants.{MAX_SCRIPT_LENGTH}
 use Rattle.gp_dump.specs.declared.dump.TheConstants.{MAX_DUMP_LENGTH}
-use Rattle.gp_dump.specs.Dumps.{Dump, WellFormed, dump_of, written_text}
-use Rattle.gp_dump.specs.Rules.{FirstFault}
+use Rattle.gp_dump.specs.Dumps.{Dump, dump_of, written_text}
+use Rattle.gp_dump.specs.Rules.{FirstFault, WellFormed}
 use Rattle.gp_csv.specs.Faults.{refuse}
 use Rattle.gp_load.specs.Loading.{LoadsText, loaded_of}
 use Rattle.gp_ask.specs.declared.format.Format.{Format}
@@ -83,7 +83,7 @@ answered_status refused = if refused then exit.Refused else exit.Done
 
 -- the text of the dump of a history
 abbrev pub history_dump : List ReadLine → List ℕ
-history_dump lines = written_text (dump_of (last_state plain lines))
+history_dump lines = written_text (dump_of (last_state unannotated lines))
 
 -- every line was answered
 abbrev pub IsAnswered : Status → Type 0

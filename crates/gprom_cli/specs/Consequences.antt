@@ -1,13 +1,14 @@
 -- Part of the statement: what follows from the promises of a call, by what was asked and what the shelf has done. The law `promises_have_consequences`
 -- says that it does.
 use Rattle.std.specs.Prelude.{◌≡◌, ◌⊎◌, ℕ, ◌≤◌, List, [], ◌∷◌, ◌++◌, length, map, Option, Some, None, Result, Ok, Err}
-use Rattle.gp_base.specs.Annotated.{monomials, plain}
+use Rattle.gp_base.specs.Annotated.{monomials, unannotated}
 use Rattle.gp_io.specs.Events.{Event, Read, Missing, Unreadable, Replaced, NotReplaced}
 use Rattle.gp_io.specs.Sink.{SinkState}
 use Rattle.gp_script.specs.History.{ReadLine, has_refusal, last_state, replies_text, replies_to}
 use Rattle.gp_script.specs.declared.script.TheConstants.{MAX_SCRIPT_LENGTH}
 use Rattle.gp_dump.specs.declared.dump.TheConstants.{MAX_DUMP_LENGTH}
-use Rattle.gp_dump.specs.Dumps.{Dump, WellFormed, dump_of}
+use Rattle.gp_dump.specs.Dumps.{Dump, dump_of}
+use Rattle.gp_dump.specs.Rules.{WellFormed}
 use Rattle.gp_log.specs.Parameters.{parameters}
 use Rattle.gp_machine.specs.Event.{Line, after}
 use Rattle.gp_machine.specs.State.{start}
@@ -30,8 +31,7 @@ use Rattle.gprom_cli.specs.Summary.{IsSummary, summary_text}
 
 -- what a command asks of the shelf, in order
 pub data Step : Type 0 where
-  reads : List ℕ → Step
-  replaces : List ℕ → Step
+  reads replaces : List ℕ → Step
 
 abbrev pub steps_of : Option Command → List Step
 steps_of None = []
@@ -56,9 +56,7 @@ abbrev pub AllDone : List Event → Type 0
 AllDone [] = Unit {0}
 AllDone (Read name most bytes ∷ events) = AllDone events
 AllDone (Replaced name bytes ∷ events) = AllDone events
-AllDone (Missing name ∷ events) = ⊥
-AllDone (Unreadable name ∷ events) = ⊥
-AllDone (NotReplaced name bytes ∷ events) = ⊥
+AllDone (event ∷ events) = ⊥
 
 -- this is what the shelf did last
 abbrev pub IsLast : Event → List Event → Type 0
@@ -130,7 +128,7 @@ pub record Consequences (call : Call) : Type 0 where
   -- Where the dump is that of a history, `ask` and `export` answer every question as that history held it, whichever lines it was of.
   pub recorded : (format : Format) (dump name bytes asked : List ℕ) (contents : Dump) (lines : List Line) (questions : List ReadQuestion) → call.command ≡ Some (Ask format dump name)
       → call.events ≡ read_of dump MAX_DUMP_LENGTH bytes ∷ read_of name MAX_SCRIPT_LENGTH asked ∷ [] → length bytes ≤ MAX_DUMP_LENGTH → length asked ≤ MAX_SCRIPT_LENGTH
-      → WellFormed bytes contents → contents ≡ dump_of (after plain parameters start lines) → AreQuestions asked questions
+      → WellFormed bytes contents → contents ≡ dump_of (after unannotated parameters start lines) → AreQuestions asked questions
       → WritesOutput (answer_texts format (held_to (after monomials parameters start lines)) questions)
       (answered_status (refuses_some format (held_to (after monomials parameters start lines)) questions)) call.sink call.sink_after call.status
   -- `gen` writes the summary of the history of the generated script: its dump, and the rows with which that history, annotated, answered the generated

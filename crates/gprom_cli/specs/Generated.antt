@@ -54,11 +54,8 @@ abbrev pub rounds_lines : ℕ → List Pieces
 rounds_lines zero = []
 rounds_lines (suc round) = rounds_lines round ++ round_lines (suc round)
 
-abbrev pub generated_lines : ℕ → List Pieces
-generated_lines rounds = opening_lines ++ rounds_lines rounds
-
 abbrev pub generated_script : ℕ → List ℕ
-generated_script rounds = lines_text (generated_lines rounds)
+generated_script rounds = lines_text (opening_lines ++ rounds_lines rounds)
 
 -- ---- the questions
 
@@ -74,8 +71,5 @@ closing_lines last =
     ∷ []
 
 -- a question for each of these transactions, then two about the last version
-abbrev pub question_lines : List ℕ → ℕ → List Pieces
-question_lines committed last = map replay_line committed ++ closing_lines last
-
 abbrev pub generated_questions : List ℕ → ℕ → List ℕ
-generated_questions committed last = lines_text (question_lines committed last)
+generated_questions committed last = lines_text (map replay_line committed ++ closing_lines last)

@@ -1,13 +1,13 @@
 -- Machinery: what the steps of a call come to.
 use Rattle.std.specs.Prelude.{◌≡◌, ℕ, ◌≤◌, ◌<◌, Bool, List, [], ◌∷◌, ◌++◌, length, Option, Result, Ok, Err, IfOk, codes}
-use Rattle.gp_base.specs.Annotated.{plain}
+use Rattle.gp_base.specs.Annotated.{unannotated}
 use Rattle.gp_io.specs.Events.{Event, Missing, Unreadable}
 use Rattle.gp_io.specs.Sink.{SinkState, after_write}
 use Rattle.gp_io.specs.declared.error.SinkStop.{SinkStop}
 use Rattle.gp_io.specs.declared.error.SinkStop.TheVariants.{Failed, NoMemory}
 use Rattle.gp_script.specs.Scripts.{final_state}
-use Rattle.gp_dump.specs.Dumps.{Dump, WellFormed, dump_of, written_text}
-use Rattle.gp_dump.specs.Rules.{FirstFault}
+use Rattle.gp_dump.specs.Dumps.{Dump, dump_of, written_text}
+use Rattle.gp_dump.specs.Rules.{FirstFault, WellFormed}
 use Rattle.gp_ask.specs.declared.format.Format.{Format}
 use Rattle.gp_ask.specs.Answers.{answer_to}
 use Rattle.gp_ask.specs.Explained.{ExplainsLines}
@@ -20,7 +20,7 @@ use Rattle.gprom_cli.specs.Call.{HasOutcome, IsAnswered, WritesOutput, answered_
 
 -- the text of the dump of a script
 abbrev pub script_dump : List ℕ → List ℕ
-script_dump script = written_text (dump_of (final_state plain script))
+script_dump script = written_text (dump_of (final_state unannotated script))
 
 -- a call that begins where the shelf has done the first events, and ends where it has done the second
 pub record Ends (command : Option Command) (before after : List Event) (sink sink_after : SinkState) (status : Status) : Type 0 where

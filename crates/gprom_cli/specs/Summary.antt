@@ -1,10 +1,10 @@
 -- Part of the statement: the summary of `gen`: what the history of a generated script comes to, and what it answers to the generated questions.
-use Rattle.std.specs.Prelude.{◌≡◌, ℕ, zero, suc, ◌+◌, Bool, true, false, List, [], ◌∷◌, ◌++◌, length, if◌then◌else◌, codes}
+use Rattle.std.specs.Prelude.{◌≡◌, ℕ, zero, suc, Bool, true, false, List, [], ◌∷◌, ◌++◌, length, if◌then◌else◌, codes}
 use Rattle.std.specs.Fmt.{decimal}
 use Rattle.std.specs.List.{sum_by}
 use Rattle.gp_base.specs.declared.refusal.Fate.{Fate}
 use Rattle.gp_base.specs.declared.refusal.Fate.TheVariants as fate
-use Rattle.gp_base.specs.Annotated.{monomials, plain}
+use Rattle.gp_base.specs.Annotated.{monomials, unannotated}
 use Rattle.gp_machine.specs.Entries.{Entry, fate_of, transactions_in, versions_in}
 use Rattle.gp_script.specs.History.{IsScript, ReadLine, last_state}
 use Rattle.gp_dump.specs.Dumps.{dump_of, spans_in}
@@ -26,21 +26,17 @@ is_lost fate.Lost = true
 is_lost other = false
 
 module _ (entries : List Entry) where
-  -- those of the transactions up to this one that committed, in order
-  abbrev pub committed_up_to : ℕ → List ℕ
-  committed_up_to zero = []
-  committed_up_to (suc t) = committed_up_to t ++ (if has_committed (fate_of (suc t) entries) then suc t ∷ [] else [])
+  -- the transactions up to this one whose fates pass a test, in order
+  abbrev pub with_fate : (Fate → Bool) → ℕ → List ℕ
+  with_fate test zero = []
+  with_fate test (suc t) = with_fate test t ++ (if test (fate_of (suc t) entries) then suc t ∷ [] else [])
 
+  -- those that committed, and how many were lost
   abbrev pub committed_in : List ℕ
-  committed_in = committed_up_to (transactions_in entries)
-
-  -- how many of the transactions up to this one were lost
-  abbrev pub lost_up_to : ℕ → ℕ
-  lost_up_to zero = zero
-  lost_up_to (suc t) = lost_up_to t + (if is_lost (fate_of (suc t) entries) then 1 else 0)
+  committed_in = with_fate has_committed (transactions_in entries)
 
   abbrev pub lost_in : ℕ
-  lost_in = lost_up_to (transactions_in entries)
+  lost_in = length (with_fate is_lost (transactions_in entries))
 
 -- ---- the rows of answers
 
@@ -59,7 +55,7 @@ questions_about entries = generated_questions (committed_in entries) (versions_i
 -- of a history, and of the questions that it was asked with monomials
 abbrev pub summary_for : ℕ → List ReadLine → List ReadQuestion → Summary
 summary_for rounds lines questions =
-    let dump = dump_of (last_state plain lines) in
+    let dump = dump_of (last_state unannotated lines) in
     record {
       rounds = rounds;
       lines = length lines;
@@ -75,7 +71,7 @@ pub record IsSummary (rounds : ℕ) (summary : Summary) : Type 0 where
   pub lines : List ReadLine
   pub are : IsScript (generated_script rounds) lines
   pub questions : List ReadQuestion
-  pub asked : AreQuestions (questions_about (last_state plain lines).entries) questions
+  pub asked : AreQuestions (questions_about (last_state unannotated lines).entries) questions
   pub is : summary ≡ summary_for rounds lines questions
 
 -- ---- its text

@@ -1,7 +1,7 @@
 //! Laws of dumps, of the dumps of scripts, and of calls over files in memory. Each function does nothing: its postconditions are the laws, and it cites laws of the crates below.
 
 ghost use Rattle.std.specs.Prelude.{◌≡◌, ◌≤◌, ℕ, List, ◌++◌, None, Some, length};
-ghost use Rattle.gp_base.specs.Annotated.{monomials, plain};
+ghost use Rattle.gp_base.specs.Annotated.{monomials, unannotated};
 ghost use Rattle.gp_grammar.specs.Syntax as y;
 ghost use Rattle.gp_io.specs.Contents.{contents_of};
 ghost use Rattle.gp_io.specs.MemoryFiles.{calm_files, mem_files};
@@ -13,7 +13,8 @@ ghost use Rattle.gp_machine.specs.State.{start};
 ghost use Rattle.gp_replay.specs.Differences.{IsOfHistory, difference};
 ghost use Rattle.gp_replay.specs.FirstDifferences.{DiffersFirst};
 ghost use Rattle.gp_script.specs.Scripts.{final_state};
-ghost use Rattle.gp_dump.specs.Dumps.{Dump, IsDump, dump_of};
+ghost use Rattle.gp_dump.specs.Dumps.{Dump, dump_of};
+ghost use Rattle.gp_dump.specs.WholeDumps.{IsDump};
 ghost use Rattle.gp_ask.specs.declared.format.Format.{Format};
 ghost use Rattle.gp_ask.specs.Answers.{answer_to, held_to};
 ghost use Rattle.gp_ask.specs.Computed.{computed_answer};
@@ -37,14 +38,14 @@ use gp_whatif::histories_are_replayed_as_they_were;
 /// of the script held. The commits of its log, made again with nothing changed, do not stop, and lead to this dump (`unchanged`).
 pub fn scripts_have_well_formed_dumps()
     ensures formed { (script : List ℕ) → length script ≤ MAX_SCRIPT_LENGTH
-        → IsDump (dump_of (final_state plain script)) }
+        → IsDump (dump_of (final_state unannotated script)) }
     ensures rows { (script questions : List ℕ) → length script ≤ MAX_SCRIPT_LENGTH
-        → rows_in (computed_answer (dump_of (final_state plain script))) questions
+        → rows_in (computed_answer (dump_of (final_state unannotated script))) questions
         ≡ rows_in (held_to (final_state monomials script)) questions }
     ensures unchanged { (script : List ℕ) → length script ≤ MAX_SCRIPT_LENGTH
-        → (remaking_refusal (final_state plain script).entries ≡ None)
-        × (replayed_dump (final_state plain script).entries
-        ≡ dump_of (final_state plain script)) }
+        → (remaking_refusal (final_state unannotated script).entries ≡ None)
+        × (replayed_dump (final_state unannotated script).entries
+        ≡ dump_of (final_state unannotated script)) }
 {
     scripts_lead_to_histories::<()>();
     scripts_lead_to_histories::<Monomial>();
@@ -60,7 +61,7 @@ pub fn scripts_have_well_formed_dumps()
 /// makes it (`first`).
 pub fn dumps_of_histories_are_known()
     ensures held { (lines : List Line) (question : y.Question)
-        → answer_to (dump_of (after plain parameters start lines)) question
+        → answer_to (dump_of (after unannotated parameters start lines)) question
         ≡ held_to (after monomials parameters start lines) question }
     ensures checked { (dump : Dump) → IsDump dump → difference dump ≡ None → IsOfHistory dump }
     ensures first { (dump : Dump) (line : ℕ) → IsDump dump

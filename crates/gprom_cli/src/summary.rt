@@ -3,9 +3,10 @@
 
 ghost use Rattle.std.specs.Prelude.{◌≡◌, ◌≤◌, ◌++◌, ◌∷◌, [], ℕ, IfOk, OnOk, length, true};
 ghost use Rattle.std.specs.Fmt.{decimal};
-ghost use Rattle.gp_base.specs.Annotated.{plain};
+ghost use Rattle.gp_base.specs.Annotated.{unannotated};
 ghost use Rattle.gp_check.specs.Valid.{tables_are_valid};
-ghost use Rattle.gp_dump.specs.Dumps.{IsDump, dump_of, spans_in};
+ghost use Rattle.gp_dump.specs.Dumps.{dump_of, spans_in};
+ghost use Rattle.gp_dump.specs.WholeDumps.{IsDump};
 ghost use Rattle.gp_dump.specs.Views.{dump_view};
 ghost use Rattle.gp_log.specs.Contents.{entries};
 ghost use Rattle.gp_log.specs.LogFacts.{tables_in};
@@ -15,8 +16,8 @@ ghost use Rattle.gp_script.specs.Scripts.{final_state};
 ghost use Rattle.gp_syntax.specs.Lines.{script_lines};
 ghost use Rattle.gprom_cli.specs.Call.{WritesOutput};
 ghost use Rattle.gprom_cli.specs.Generated.{line_text};
-ghost use Rattle.gprom_cli.specs.Summary.{committed_in, has_committed, is_lost, lost_in, row_count, summary_text};
-ghost use Rattle.gprom_cli.specs.Summaries.{line_rows, rows_in, summary_of};
+ghost use Rattle.gprom_cli.specs.Summary.{committed_in, has_committed, is_lost, row_count, summary_text};
+ghost use Rattle.gprom_cli.specs.Summaries.{line_rows, lost_up_to, rows_in, summary_of};
 
 use crate::generated::{MAX_ROUNDS, generate_questions, generate_script};
 use crate::laws::scripts_have_well_formed_dumps;
@@ -87,7 +88,7 @@ fn committed(alloc: Global, log: &Log) -> Result<Vec<u32>, NoMemory>
 
 /// How many transactions were lost.
 fn count_lost(log: &Log) -> u32
-    ensures { result ≡ lost_in (entries log.now) }
+    ensures { result ≡ lost_up_to (entries log.now) (transactions_in (entries log.now)) }
 {
     let mut lost = 0;
     let mut t = 0;
@@ -166,7 +167,7 @@ fn count_rows(alloc: Global, dump: &Dump, questions: &[u8]) -> Result<u64, NoMem
 /// Runs a script, and reads its dump back.
 fn read_back(alloc: Global, script: &[u8]) -> Result<Dump, NoMemory>
     requires { length script.now ≤ MAX_SCRIPT_LENGTH }
-    ensures dump { IfOk result (λ dump. dump_view dump ≡ dump_of (final_state plain script.now)) }
+    ensures dump { IfOk result (λ dump. dump_view dump ≡ dump_of (final_state unannotated script.now)) }
     ensures rules { IfOk result (λ dump. IsDump (dump_view dump)) }
     ensures valid { IfOk result (λ dump.
         tables_are_valid (tables_in (dump_view dump).entries) ≡ true) }

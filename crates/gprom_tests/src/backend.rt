@@ -6,7 +6,7 @@ ghost use Rattle.gp_grammar.specs.Syntax as y;
 ghost use Rattle.gp_syntax.specs.Views.{how_view, question_view};
 ghost use Rattle.gp_check.specs.Valid.{tables_are_valid};
 ghost use Rattle.gp_log.specs.LogFacts.{tables_in};
-ghost use Rattle.gp_dump.specs.Dumps.{IsDump};
+ghost use Rattle.gp_dump.specs.WholeDumps.{IsDump};
 ghost use Rattle.gp_dump.specs.Views.{dump_view};
 ghost use Rattle.gp_ask.specs.Answerable.{question_is_valid};
 ghost use Rattle.gp_ask.specs.Formats.{asks_rows};
@@ -47,7 +47,7 @@ impl Backend for Fixed {
 
 /// Whether rows are asked for.
 fn are_asked(how: &How) -> bool
-    ensures { (state : y.State) (query : y.Query)
+    ensures { (state : y.Point) (query : y.Query)
         → result ≡ asks_rows (y.ask (how_view how.now) state query) }
 {
     match how {

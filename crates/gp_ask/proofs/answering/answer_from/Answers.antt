@@ -1,8 +1,12 @@
+use Rattle.std.proofs.Common.{sym, subst, ◌≡◌}
+use Rattle.std.specs.Prelude.{IfOk}
 use Rattle.std.proofs.lemmas.Bool.{and_parts}
 use Rattle.gp_check.specs.Valid.{query_is_valid}
-use Rattle.gp_syntax.specs.Views.{how_view, query_view, side_view, state_view}
+use Rattle.gp_syntax.specs.declared.question.Question.{Question}
+use Rattle.gp_syntax.specs.Views.{how_view, query_view, question_view, side_view, point_view}
 use Rattle.gp_dump.specs.Views.{dump_view}
 use Rattle.gp_ask.specs.Answerable.{has_few_items}
+use Rattle.gp_ask.specs.Computed.{computed_answer}
 use Rattle.gp_ask.proofs.ProvenanceLemmas.{answerable}
 use Rattle.gp_ask.proofs.ReadLemmas.{valid-diff, valid-parts}
 use Rattle.gp_ask.proofs.answering.answer_from.Goals as goal
@@ -59,7 +63,22 @@ pub ask_answer-requires-clause-rules : goal.ask_answer-requires-clause-rules
 ask_answer-requires-clause-rules c = answerable (dump_view c.args.dump.now) c.requires.rules
 
 pub ask_answer-requires-clause-query : goal.ask_answer-requires-clause-query
-ask_answer-requires-clause-query c = (valid-parts (how_view c.in-Ask.how) (state_view c.in-Ask.state) (query_view c.in-Ask.query) (rw c.in-Ask.is at c.requires.question)).0
+ask_answer-requires-clause-query c = (valid-parts (how_view c.in-Ask.how) (point_view c.in-Ask.state) (query_view c.in-Ask.query) (rw c.in-Ask.is at c.requires.question)).0
 
 pub ask_answer-requires-clause-few : goal.ask_answer-requires-clause-few
-ask_answer-requires-clause-few c = (valid-parts (how_view c.in-Ask.how) (state_view c.in-Ask.state) (query_view c.in-Ask.query) (rw c.in-Ask.is at c.requires.question)).1
+ask_answer-requires-clause-few c = (valid-parts (how_view c.in-Ask.how) (point_view c.in-Ask.state) (query_view c.in-Ask.query) (rw c.in-Ask.is at c.requires.question)).1
+
+pub returns-in-Diff-clause-answered : goal.returns-in-Diff-clause-answered
+returns-in-Diff-clause-answered c =
+    subst (λ (question : Question). IfOk c.diff_answer.result (λ answered. answered ≡ computed_answer (dump_view c.args.dump.now) (question_view question)))
+    (sym c.in-Diff.is) c.diff_answer.ensures.answered
+
+pub returns-in-Causes-clause-answered : goal.returns-in-Causes-clause-answered
+returns-in-Causes-clause-answered c =
+    subst (λ (question : Question). IfOk c.causes_answer.result (λ answered. answered ≡ computed_answer (dump_view c.args.dump.now) (question_view question)))
+    (sym c.in-Causes.is) c.causes_answer.ensures.answered
+
+pub returns-in-Ask-clause-answered : goal.returns-in-Ask-clause-answered
+returns-in-Ask-clause-answered c =
+    subst (λ (question : Question). IfOk c.ask_answer.result (λ answered. answered ≡ computed_answer (dump_view c.args.dump.now) (question_view question)))
+    (sym c.in-Ask.is) c.ask_answer.ensures.answered

@@ -4,7 +4,7 @@ use Rattle.gp_dump.specs.Views.{dump_view}
 use Rattle.gp_grammar.specs.Syntax as y
 use Rattle.gp_grammar.specs.Syntax.{LogChange}
 use Rattle.gp_log.specs.Parameters.{parameters}
-use Rattle.gp_syntax.specs.Views.{change_view, how_view, kept_view, query_view, state_view}
+use Rattle.gp_syntax.specs.Views.{change_view, how_view, kept_view, query_view, point_view}
 use Rattle.gp_whatif.specs.Changed.{changed}
 use Rattle.gp_ask.specs.declared.answered.Answered.{Answered}
 use Rattle.gp_ask.specs.Computed.{computed_answer, what_if_answer}
@@ -48,7 +48,7 @@ pub returns : goal.returns
 returns c =
     let dump = dump_view c.args.asked.now.dump.now in
     let how = how_view c.args.asked.now.kept.now.how in
-    let point = state_view c.args.asked.now.kept.now.state in
+    let point = point_view c.args.asked.now.kept.now.state in
     let query = query_view c.args.asked.now.query.now in
     IfOk-weaker c.what_if_from.result (λ (a : Answered). a ≡ computed_answer dump (y.what_if (change_view c.dropping-change.result) how point query))
     (λ (a : Answered). a ≡ without_in (what_if_answer dump.entries) (kept_view c.args.asked.now.kept.now) query (write_view c.args.own))

@@ -2,7 +2,7 @@ use Rattle.std.proofs.Common.{List, Option, ap, refl, ℕ, ◌∙◌, ◌≡◌}
 use Rattle.std.proofs.lemmas.Result.{IfOk-weaker}
 use Rattle.gp_dump.specs.Views.{dump_view}
 use Rattle.gp_grammar.specs.Syntax.{LogChange}
-use Rattle.gp_syntax.specs.Views.{how_view, query_view, state_view}
+use Rattle.gp_syntax.specs.Views.{how_view, query_view, point_view}
 use Rattle.gp_ask.specs.Differences.{cause_of, rows_in}
 use Rattle.gp_ask.specs.Computed.{what_if_answer}
 use Rattle.gp_ask.specs.Writes.{IsLine, listed_line, write_view}
@@ -30,7 +30,7 @@ pub returns : goal.returns
 returns c =
     let dump = dump_view c.args.asked.now.dump.now in
     let how = how_view c.args.asked.now.kept.now.how in
-    let point = state_view c.args.asked.now.kept.now.state in
+    let point = point_view c.args.asked.now.kept.now.state in
     let query = query_view c.args.asked.now.query.now in
     let rows = c.args.asked.now.rows.now in
     let own = write_view c.args.own in

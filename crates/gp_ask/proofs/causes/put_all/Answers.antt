@@ -21,9 +21,13 @@ loop-before-preserved c =
       subst (λ (version : ℕ). ArePut c.args.asked.now c.args.writes.now version c.put_version.new.lines) next c.in_ok-put_version.ensures,
     )
 
-pub make_version-requires-clause-few : goal.make_version-requires-clause-few
-make_version-requires-clause-few c =
-    omega (arith, ap length c.deref_mut.ensures.value, c.loop-before.invariant.0.count, ap length c.catalog.ensures, c.len-count.ensures.len, c.len-count.ensures.within)
-
-pub make_version-requires-clause-replayable : goal.make_version-requires-clause-replayable
-make_version-requires-clause-replayable c = replayable (dump_view c.args.asked.now.dump.now) c.requires.asked.rules
+pub make_version-requires : goal.make_version-requires
+make_version-requires c = record {
+  next = record {
+    replayable = replayable (dump_view c.args.asked.now.dump.now) c.requires.asked.rules;
+    within = omega (arith, c.loop-before-test.true, c.commits-before-end.ensures);
+    made = rw c.deref_mut.ensures.value c.loop-before.invariant.0;
+    few = omega (arith, ap length c.deref_mut.ensures.value, c.loop-before.invariant.0.count, c.bounds.ensures.tables);
+    few_versions = omega (arith, c.loop-before-test.true, c.commits-before-end.ensures, c.bounds.ensures.commits);
+  };
+}

@@ -23,17 +23,20 @@ use Rattle.gp_ask.proofs.ChangesLemmas.{found-is, refused-is, sets-simple, targe
 use Rattle.gp_ask.proofs.ReenactedLemmas.{dump-spans}
 use Rattle.gp_ask.proofs.changes.written_changes.Goals as goal
 
-pub looked-requires-clause-here : goal.looked-requires-clause-here
-looked-requires-clause-here c =
+pub looked-requires-clause-statement : goal.looked-requires-clause-statement
+looked-requires-clause-statement c =
     let first = c.requires.first in
+    let most = c.requires.most in
     let next : c.args.k ≡ suc (c.args.k - 1) = omega arith in
-    subst (λ n. statement_at c.args.t n (log_view c.args.dump.now.log.entries) ≡ Some (statement_view c.args.stmt.now)) next c.requires.here
+    record {
+      known = c.requires.known;
+      most = omega arith;
+      here = subst (λ n. statement_at c.args.t n (log_view c.args.dump.now.log.entries) ≡ Some (statement_view c.args.stmt.now)) next c.requires.here;
+      statements = c.requires.rules.statements;
+    }
 
 pub looked-requires-clause-writes : goal.looked-requires-clause-writes
 looked-requires-clause-writes c = writes-target (statement_view c.args.stmt.now) c.args.table c.requires.target
-
-pub looked-requires-clause-statements : goal.looked-requires-clause-statements
-looked-requires-clause-statements c = c.requires.rules.statements
 
 pub looked-requires-clause-spans : goal.looked-requires-clause-spans
 looked-requires-clause-spans c =

@@ -4,7 +4,7 @@ use Rattle.gp_syntax.specs.Views.{question_view}
 use Rattle.gp_dump.specs.Views.{dump_view}
 use Rattle.gp_ask.specs.declared.answered.Answered.TheVariants.{Refused}
 use Rattle.gp_ask.specs.Computed.{computed_answer}
-use Rattle.gp_ask.specs.Explained.{ExplainsRead}
+use Rattle.gp_ask.specs.QuestionFiles.{ExplainsRead}
 use Rattle.gp_ask.specs.Formats.{answers_in}
 use Rattle.gp_ask.proofs.FormatLemmas.{explains-in}
 use Rattle.gp_ask.proofs.ReadLemmas.{read-valid, refused-text, unread-explains}

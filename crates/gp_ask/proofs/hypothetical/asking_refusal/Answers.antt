@@ -6,7 +6,7 @@ use Rattle.gp_check.specs.Checking.{checked_query}
 use Rattle.gp_log.specs.LogFacts.{tables_in}
 use Rattle.gp_log.specs.Logs.{log_view}
 use Rattle.gp_machine.specs.Questions.{log_refusal}
-use Rattle.gp_syntax.specs.Views.{how_view, query_view, state_view}
+use Rattle.gp_syntax.specs.Views.{how_view, query_view, point_view}
 use Rattle.gp_ask.specs.Hypothetical as h
 use Rattle.gp_ask.proofs.WhatIfLemmas.{asked_refusal}
 use Rattle.gp_ask.proofs.hypothetical.asking_refusal.Goals as goal
@@ -14,7 +14,7 @@ use Rattle.gp_ask.proofs.hypothetical.asking_refusal.Goals as goal
 pub returns-in-Ok : goal.returns-in-Ok
 returns-in-Ok c =
     let entries = log_view c.args.log.now.entries in
-    let point = state_view c.args.state in
+    let point = point_view c.args.state in
     let query = query_view c.args.query.now in
     let how = how_view c.args.how.now in
     IfOk-weaker c.rules_refusal.result (λ (r : Option Refusal). r ≡ h.rules_refusal how) (λ (r : Option Refusal). r ≡ h.asking_refusal entries how point query)

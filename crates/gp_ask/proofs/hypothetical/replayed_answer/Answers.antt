@@ -2,7 +2,7 @@ use Rattle.std.proofs.Common.{List, sym, subst, ◌∙◌, ◌≡◌}
 use Rattle.std.proofs.lemmas.Result.{IfOk-weaker}
 use Rattle.gp_grammar.specs.Syntax as y
 use Rattle.gp_log.specs.Logs.{log_view}
-use Rattle.gp_syntax.specs.Views.{how_view, query_view, state_view}
+use Rattle.gp_syntax.specs.Views.{how_view, query_view, point_view}
 use Rattle.gp_versions.specs.Spans.{Versions}
 use Rattle.gp_dump.specs.Views.{tables_view}
 use Rattle.gp_ask.specs.declared.answered.Answered.{Answered}
@@ -28,7 +28,7 @@ pub returns-in-Ok : goal.returns-in-Ok
 returns-in-Ok c =
     let entries = log_view c.args.log.entries in
     let how = how_view c.args.how.now in
-    let point = state_view c.args.state in
+    let point = point_view c.args.state in
     let query = query_view c.args.query.now in
     let expected : Answered = unless_refused (h.remaking_refusal entries) (ask_to (h.replayed_dump entries) how point query) in
     IfOk-weaker c.ask_answer.result (λ (a : Answered). a ≡ computed_answer (dump_in entries (tables_view c.from_vec-versions.result)) (y.ask how point query)) (λ (a : Answered). a ≡ expected)

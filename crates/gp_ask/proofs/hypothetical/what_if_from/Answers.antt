@@ -5,7 +5,7 @@ use Rattle.gp_check.specs.Valid.{tables_are_valid}
 use Rattle.gp_grammar.specs.Syntax as y
 use Rattle.gp_log.specs.Parameters.{parameters}
 use Rattle.gp_log.specs.Logs.{log_view}
-use Rattle.gp_syntax.specs.Views.{change_view, how_view, query_view, state_view}
+use Rattle.gp_syntax.specs.Views.{change_view, how_view, query_view, point_view}
 use Rattle.gp_dump.specs.Views.{dump_view}
 use Rattle.gp_ask.specs.declared.answered.Answered.{Answered}
 use Rattle.gp_ask.specs.Computed.{computed_answer}
@@ -40,7 +40,7 @@ returns-in-Ok-clause-answered c =
     let new = log_view c.in-Ok.log.entries in
     let change = change_view c.args.change.now in
     let how = how_view c.args.how.now in
-    let point = state_view c.args.state in
+    let point = point_view c.args.state in
     let query = query_view c.args.query.now in
     IfOk-weaker c.remade_answer.result (λ (a : Answered). a ≡ remade_answer (ask_to (replayed_dump new)) new how point query)
     (λ (a : Answered). a ≡ computed_answer (dump_view c.args.dump.now) (y.what_if change how point query))
@@ -52,7 +52,7 @@ returns-in-Ok-clause-explained c =
     let new = log_view c.in-Ok.log.entries in
     let change = change_view c.args.change.now in
     let how = how_view c.args.how.now in
-    let point = state_view c.args.state in
+    let point = point_view c.args.state in
     let query = query_view c.args.query.now in
     IfOk-weaker c.remade_answer.result (λ (a : Answered). ExplainsQuestion new (y.ask how point query)) (λ (a : Answered). ExplainsQuestion entries (y.what_if change how point query))
     (λ a says. explains_changed entries change how point query new c.in-Ok.ensures.changed says) c.remade_answer.ensures.explained

@@ -1,6 +1,6 @@
 use Rattle.std.proofs.Common.{◌≡◌, ◌≤◌, ℕ, List, [], length, None, refl, sym, ◌∙◌, subst}
 use Rattle.std.specs.List.Sorted.{IsPermutation}
-use Rattle.gp_base.specs.Annotated.{monomials, plain}
+use Rattle.gp_base.specs.Annotated.{monomials, unannotated}
 use Rattle.gp_base.specs.Tokens.{Monomial}
 use Rattle.gp_algebra.specs.Reannotation.{forgotten}
 use Rattle.gp_base.proofs.Bags.{SameBag}
@@ -31,7 +31,7 @@ use Rattle.gp_ask.proofs.laws.histories_answer_as_their_dumps.Goals as goal
 pub returns : goal.returns
 returns c = λ lines question.
     let state : State Monomial = after monomials parameters start lines in
-    let same : after plain parameters start lines ≡ forgetting state = c.annotations_change_no_reply.ensures.forgetting monomials parameters lines in
+    let same : after unannotated parameters start lines ≡ forgetting state = c.annotations_change_no_reply.ensures.forgetting monomials parameters lines in
     let coherent : IsCoherent state.entries =
     subst (λ (s : State (Unit {0})). IsCoherent s.entries) same (c.changed_logs_are_coherent.ensures.histories parameters lines targets-checked) in
     let kept : (table : ℕ) → state_spans (forgetting state) table ≡ state_spans state table = λ table. c.annotations_change_no_reply.ensures.spans forgotten state table in
@@ -41,7 +41,7 @@ returns c = λ lines question.
     λ table. subst (λ (own : List Span). IsPermutation (spans table) own) (kept table) (dumped (forgetting state) beyond table) in
     let sessions : KeepsSessions state.entries = coherent.sessions in
     let reached : IsReached monomials parameters state = all_reached monomials parameters lines in
-    let plainly : IsReached plain parameters (forgetting state) = subst (IsReached plain parameters) same (all_reached plain parameters lines) in
+    let plainly : IsReached unannotated parameters (forgetting state) = subst (IsReached unannotated parameters) same (all_reached unannotated parameters lines) in
     let once : MakesOnce state.entries = c.identities_begin_with_their_committers.ensures.once monomials parameters lines in
     let tables : List (List Span) = (dump_of (forgetting state)).tables in
     let bags : (table : ℕ) → SameBag (spans table) (state_spans (forgetting state) table) = λ table. unpermuted _ _ (dumped (forgetting state) beyond table) in

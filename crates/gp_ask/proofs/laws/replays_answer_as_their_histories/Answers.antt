@@ -1,6 +1,6 @@
 use Rattle.std.proofs.Common.{List, length, refl, sym, ◌∙◌, subst}
 use Rattle.std.specs.List.Sorted.{IsPermutation}
-use Rattle.gp_base.specs.Annotated.{monomials, plain}
+use Rattle.gp_base.specs.Annotated.{monomials, unannotated}
 use Rattle.gp_algebra.specs.Reannotation.{forgotten}
 use Rattle.gp_log.specs.Parameters.{parameters}
 use Rattle.gp_log.specs.LogFacts.{tables_in}
@@ -14,7 +14,7 @@ pub returns : goal.returns
 returns c = λ entries order none tables are how point query.
     let forgets = c.annotations_commute.ensures.forgetting monomials in
     let unstopped = c.histories_do_not_stop.ensures.replayed monomials parameters (tables_in entries) entries order
-    (sym (c.annotations_change_no_replay.ensures.stops monomials plain forgotten forgets parameters (log_of entries) (length (tables_in entries)) (versions_in entries)) ∙ none) in
+    (sym (c.annotations_change_no_replay.ensures.stops monomials unannotated forgotten forgets parameters (log_of entries) (length (tables_in entries)) (versions_in entries)) ∙ none) in
     c.unstopped_histories_answer_as_their_dumps.ensures (replayed_state monomials (tables_in entries) entries) unstopped refl tables
     (λ place. subst (λ (own : List Span). IsPermutation (spans_at tables place) own)
-    (c.annotations_change_no_replay.ensures.spans monomials plain forgotten forgets (log_of entries) (length (tables_in entries)) (versions_in entries) place) (are place)) how point query
+    (c.annotations_change_no_replay.ensures.spans monomials unannotated forgotten forgets (log_of entries) (length (tables_in entries)) (versions_in entries) place) (are place)) how point query

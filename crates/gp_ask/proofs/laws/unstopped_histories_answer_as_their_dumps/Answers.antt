@@ -1,6 +1,6 @@
 use Rattle.std.proofs.Common.{ℕ, List, [], subst, sym}
 use Rattle.std.specs.List.Sorted.{IsPermutation}
-use Rattle.gp_base.specs.Annotated.{monomials, plain}
+use Rattle.gp_base.specs.Annotated.{monomials, unannotated}
 use Rattle.gp_algebra.specs.Reannotation.{forgotten}
 use Rattle.gp_grammar.specs.declared.semiring_name.SemiringName.{SemiringName}
 use Rattle.gp_history.specs.Agreement.{agree}
@@ -19,8 +19,8 @@ use Rattle.gp_ask.proofs.laws.unstopped_histories_answer_as_their_dumps.Goals as
 pub returns : goal.returns
 returns c = λ state unstopped kept tables are how point query.
     let spans : ℕ → List Span = spans_at tables in
-    let plainly : IsUnstopped plain parameters (forgetting state) =
-    c.annotations_change_no_replay.ensures.unstopped monomials plain forgotten (c.annotations_commute.ensures.forgetting monomials) parameters state unstopped in
+    let plainly : IsUnstopped unannotated parameters (forgetting state) =
+    c.annotations_change_no_replay.ensures.unstopped monomials unannotated forgotten (c.annotations_commute.ensures.forgetting monomials) parameters state unstopped in
     let moved : (table : ℕ) → IsPermutation (spans table) (state_spans (forgetting state) table) =
     λ table. subst (λ (own : List Span). IsPermutation (spans table) own) (sym (c.annotations_change_no_reply.ensures.spans forgotten state table)) (are table) in
     let values : (name : SemiringName) → AreHeld state spans name =
@@ -32,7 +32,7 @@ returns c = λ state unstopped kept tables are how point query.
     (λ rules point select. c.rules_give_the_values_of_the_history-5.ensures rules state unstopped spans are point select)
     (λ rules point select. c.rules_give_the_values_of_the_history-6.ensures rules state unstopped spans are point select) in
     let annotated = c.unstopped_histories_answer_their_questions.ensures.annotated monomials parameters state unstopped spans are agree (λ rows others same. c.agreement_is_having_the_same_rows.ensures.agrees rows others same) in
-    held.asked (c.annotations_commute.ensures.answers monomials plain forgotten (c.annotations_commute.ensures.forgetting monomials)) state kept tables
+    held.asked (c.annotations_commute.ensures.answers monomials unannotated forgotten (c.annotations_commute.ensures.forgetting monomials)) state kept tables
     (c.unstopped_histories_answer_their_questions.ensures.rows parameters (forgetting state) plainly spans moved) annotated values
     (λ point. log_refuses parameters agree state spans point (annotated point []))
     (λ point select known. c.unstopped_histories_answer_their_questions.ensures.elements monomials parameters state unstopped spans are point (asked state.entries point known) select)

@@ -4,7 +4,7 @@ use Rattle.gp_base.specs.Annotated.{monomials}
 use Rattle.gp_algebra.specs.Views.{select_view}
 use Rattle.gp_dump.specs.Views.{dump_view}
 use Rattle.gp_reenact.specs.Reenacting.{spans_of}
-use Rattle.gp_syntax.specs.Views.{state_view}
+use Rattle.gp_syntax.specs.Views.{point_view}
 use Rattle.gp_ask.proofs.ProvenanceLemmas.{kept-of, of-kept, proves-moved, sound-versions, spans-are}
 use Rattle.gp_ask.proofs.provenance.rows_with_monomials.Goals as goal
 
@@ -19,5 +19,5 @@ returns-clause-kept c = of-kept c.args.dump.now c.as_slice.result.now c.as_slice
 
 pub returns-clause-answer : goal.returns-clause-answer
 returns-clause-answer c =
-    proves-moved (dump_view c.args.dump.now) (state_view c.args.state) (select_view c.args.select.now) (λ (rows : Vec Row Global). rows.items) c.provenance_from.result (spans_of c.as_slice.result.now)
+    proves-moved (dump_view c.args.dump.now) (point_view c.args.state) (select_view c.args.select.now) (λ (rows : Vec Row Global). rows.items) c.provenance_from.result (spans_of c.as_slice.result.now)
     (spans-are c.args.dump.now c.as_slice.result.now c.as_slice.ensures) c.provenance_from.ensures.answer

@@ -1,7 +1,7 @@
 use Rattle.std.proofs.Common.{false, List, ap, subst, sym, refl, ℕ, ◌∙◌, ◌≡◌}
 use Rattle.std.proofs.lemmas.Result.{IfOk-weaker}
 use Rattle.gp_grammar.specs.Syntax as y
-use Rattle.gp_syntax.specs.Views.{query_view, state_view}
+use Rattle.gp_syntax.specs.Views.{query_view, point_view}
 use Rattle.gp_algebra.specs.Plain.{PlainEnvironment}
 use Rattle.gp_check.specs.Checking.{checked_query}
 use Rattle.gp_exec.specs.Backends.{Executes}
@@ -26,7 +26,7 @@ pub returns : goal.returns
 returns c =
     let dump = c.args.dump.now in
     let entries = log_view dump.log.entries in
-    let point = state_view c.args.state in
+    let point = point_view c.args.state in
     let question = y.ask y.rows point (query_view c.args.query.now) in
     let expected = log_refusal entries point in
     let checked = checked_query (tables_in entries) (query_view c.args.query.now) in

@@ -1,6 +1,6 @@
 use Rattle.std.proofs.Common.{◌≡◌, map, take}
 use Rattle.gp_syntax.specs.Views.{rule_view}
-use Rattle.gp_ask.specs.Remaining.{pattern_of}
+use Rattle.gp_ask.specs.AskingForms.{pattern_of}
 use Rattle.gp_ask.proofs.rules.patterns_in_order.Given as goal
 
 -- the rules so far

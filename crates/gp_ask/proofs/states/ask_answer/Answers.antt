@@ -5,19 +5,34 @@ use Rattle.gp_dump.specs.Views.{dump_view}
 use Rattle.gp_grammar.specs.Syntax as y
 use Rattle.gp_syntax.specs.declared.question.How.{How}
 use Rattle.gp_syntax.specs.declared.question.Rule.{Rule}
-use Rattle.gp_syntax.specs.Views.{how_view, query_view, rule_view, state_view}
+use Rattle.gp_syntax.specs.Views.{how_view, query_view, rule_view, point_view}
 use Rattle.gp_ask.specs.declared.answered.Answered.{Answered}
 use Rattle.gp_ask.specs.Computed.{computed_answer}
-use Rattle.gp_ask.specs.Asking.{dump_query}
+use Rattle.gp_ask.specs.AskingForms.{dump_query, rules_of}
 use Rattle.gp_ask.specs.ValueForms.{dump_values}
-use Rattle.gp_ask.specs.Values.{rules_of, semiring_of}
+use Rattle.gp_ask.specs.Values.{semiring_of}
 use Rattle.gp_ask.proofs.WitnessLemmas.{asked_values}
 use Rattle.gp_ask.proofs.states.ask_answer.Goals as goal
+
+pub returns-in-Rows-clause-answered : goal.returns-in-Rows-clause-answered
+returns-in-Rows-clause-answered c =
+    subst (λ (how : How). IfOk c.query_answer.result (λ answered. answered ≡ computed_answer (dump_view c.args.dump.now) (y.ask (how_view how) (point_view c.args.state) (query_view c.args.query.now))))
+    (sym c.in-Rows.is) c.query_answer.ensures
+
+pub returns-in-Provenance-clause-answered : goal.returns-in-Provenance-clause-answered
+returns-in-Provenance-clause-answered c =
+    subst (λ (how : How). IfOk c.provenance_answer.result (λ answered. answered ≡ computed_answer (dump_view c.args.dump.now) (y.ask (how_view how) (point_view c.args.state) (query_view c.args.query.now))))
+    (sym c.in-Provenance.is) c.provenance_answer.ensures.answered
+
+pub returns-in-Explain-clause-answered : goal.returns-in-Explain-clause-answered
+returns-in-Explain-clause-answered c =
+    subst (λ (how : How). IfOk c.program_answer.result (λ answered. answered ≡ computed_answer (dump_view c.args.dump.now) (y.ask (how_view how) (point_view c.args.state) (query_view c.args.query.now))))
+    (sym c.in-Explain.is) c.program_answer.ensures.answered
 
 pub returns-in-Value-clause-answered : goal.returns-in-Value-clause-answered
 returns-in-Value-clause-answered c =
     let dump = dump_view c.args.dump.now in
-    let point = state_view c.args.state in
+    let point = point_view c.args.state in
     let query = query_view c.args.query.now in
     let name = c.in-Value.semiring in
     let other = c.in-Value.other in
@@ -33,7 +48,7 @@ returns-in-Value-clause-answered c =
 pub returns-in-Without-clause-answered : goal.returns-in-Without-clause-answered
 returns-in-Without-clause-answered c =
     let dump = dump_view c.args.dump.now in
-    let point = state_view c.args.state in
+    let point = point_view c.args.state in
     let query = query_view c.args.query.now in
     subst (λ (how : How). IfOk c.remaining_answer.result (λ answered. answered ≡ computed_answer dump (y.ask (how_view how) point query)))
     (sym c.in-Without.is)

@@ -1,6 +1,6 @@
 use Rattle.std.proofs.Common.{List, Option, subst}
 use Rattle.gp_base.specs.declared.refusal.Refusal.{Refusal}
-use Rattle.gp_kexec.specs.Valuing.{values_by}
+use Rattle.gp_kexec.specs.Valuing.{values_in}
 use Rattle.gp_log.specs.LogFacts.{tables_in}
 use Rattle.gp_log.specs.Logs.{log_view}
 use Rattle.gp_machine.specs.Entries.{log_of}
@@ -15,7 +15,7 @@ pub returns : goal.returns
 returns g c =
     let k = g.K.Semiring in
     let met = g.met.K.Semiring in
-    let domain = values_by k.one_of k.times_of k.number_of k.itself_of c.args.valuation.now in
+    let domain = values_in k c.args.valuation.now in
     let entries = log_view c.args.log.now.entries in
     subst (λ (expected : Option Refusal). Annotates (λ (all : List (List g.row.K.Denot)). AreAnnotated domain (log_of entries) (spans_of c.args.versions.now) c.args.v all) (tables_in entries) c.annotate_by.result expected)
     (stop_same domain (values_are_images met.laws k.number_of k.itself_of met.number_in met.itself_in c.args.valuation.now) entries (spans_of c.args.versions.now) c.args.v) c.annotate_by.ensures

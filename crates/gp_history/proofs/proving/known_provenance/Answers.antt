@@ -11,7 +11,7 @@ use Rattle.gp_machine.specs.Entries.{log_of, versions_in}
 use Rattle.gp_machine.specs.Questions.{annotated_answer, annotation_stop, needed_version}
 use Rattle.gp_reenact.specs.declared.error.ReenactStop.{ReenactStop}
 use Rattle.gp_reenact.specs.Reenacting.{spans_of, stopped}
-use Rattle.gp_syntax.specs.Views.{state_view}
+use Rattle.gp_syntax.specs.Views.{point_view}
 use Rattle.gp_history.specs.Agreement.{agree}
 use Rattle.gp_history.specs.Provenance.{Proves}
 use Rattle.gp_history.proofs.KeepingLemmas.{none_before}
@@ -26,7 +26,7 @@ pub rows_over-requires : goal.rows_over-requires
 rows_over-requires c =
     let entries = log_view c.args.log.now.entries in
     ap is_well_built c.in_ok-plain.ensures
-    ∙ plain_is_built entries c.args.versions.now c.requires.sound (select_view c.args.select.now) c.requires.fits (state_view c.args.state) c.requires.known (versions_in entries)
+    ∙ plain_is_built entries c.args.versions.now c.requires.sound (select_view c.args.select.now) c.requires.fits (point_view c.args.state) c.requires.known (versions_in entries)
 
 pub returns-in-Ok : goal.returns-in-Ok
 returns-in-Ok c =
@@ -34,7 +34,7 @@ returns-in-Ok c =
     let versions = c.args.versions.now in
     let spans = spans_of versions in
     let select = select_view c.args.select.now in
-    let point = state_view c.args.state in
+    let point = point_view c.args.state in
     let view = λ (rows : Vec Row Global). rows.items in
     let kept = c.args.known.now in
     let reaches = c.requires.reaches in
@@ -48,7 +48,7 @@ returns c =
     let versions = c.args.versions.now in
     let spans = spans_of versions in
     let select = select_view c.args.select.now in
-    let point = state_view c.args.state in
+    let point = point_view c.args.state in
     let view = λ (rows : Vec Row Global). rows.items in
     let kept = c.args.known.now in
     let reaches = c.requires.reaches in

@@ -1,6 +1,6 @@
 use Rattle.std.proofs.Common.{List, Option, subst}
 use Rattle.gp_base.specs.declared.refusal.Refusal.{Refusal}
-use Rattle.gp_kexec.specs.Valuing.{values_by}
+use Rattle.gp_kexec.specs.Valuing.{values_in}
 use Rattle.gp_log.specs.LogFacts.{tables_in}
 use Rattle.gp_log.specs.Logs.{log_view}
 use Rattle.gp_reenact.specs.Reenacting.{spans_of}
@@ -14,7 +14,7 @@ pub returns : goal.returns
 returns g c =
     let k = g.K.Semiring in
     let met = g.met.K.Semiring in
-    let domain = values_by k.one_of k.times_of k.number_of k.itself_of c.args.valuation.now in
+    let domain = values_in k c.args.valuation.now in
     let entries = log_view c.args.log.now.entries in
     let spans = spans_of c.args.versions.now in
     subst (λ (expected : Option Refusal). Annotates (Reaches domain entries spans c.args.v) (tables_in entries) c.annotate_on.result expected)

@@ -1,9 +1,9 @@
 use Rattle.std.proofs.Common.{ap, subst, sym, ℕ, ◌≤◌}
-use Rattle.gp_kexec.specs.Valuing.{values_by}
+use Rattle.gp_kexec.specs.Valuing.{values_in}
 use Rattle.gp_log.specs.Logs.{log_view}
 use Rattle.gp_machine.specs.Entries.{versions_in}
 use Rattle.gp_reenact.specs.Reenacting.{spans_of}
-use Rattle.gp_syntax.specs.Views.{state_view}
+use Rattle.gp_syntax.specs.Views.{point_view}
 use Rattle.gp_history.specs.Keeping.{Reaches}
 use Rattle.gp_history.proofs.ProvingLemmas.{needed_within}
 use Rattle.gp_history.proofs.valuing.kept_values.Goals as goal
@@ -11,9 +11,9 @@ use Rattle.gp_history.proofs.valuing.kept_values.Goals as goal
 pub annotated_to-requires-clause-within : goal.annotated_to-requires-clause-within
 annotated_to-requires-clause-within g c =
     let entries = log_view c.args.log.now.entries in
-    subst (λ (v : ℕ). v ≤ versions_in entries) (sym c.needed_version.ensures) (needed_within entries (state_view c.args.state) c.requires.known)
+    subst (λ (v : ℕ). v ≤ versions_in entries) (sym c.needed_version.ensures) (needed_within entries (point_view c.args.state) c.requires.known)
 
 pub known_values-answer-requires-clause-reaches : goal.known_values-answer-requires-clause-reaches
 known_values-answer-requires-clause-reaches g c =
     let k = g.K.Semiring in
-    subst (λ (v : ℕ). Reaches (values_by k.one_of k.times_of k.number_of k.itself_of c.args.valuation.now) (log_view c.args.log.now.entries) (spans_of c.args.versions.now) v c.in-Ok.known) c.needed_version.ensures c.in-Ok.ensures.1
+    subst (λ (v : ℕ). Reaches (values_in k c.args.valuation.now) (log_view c.args.log.now.entries) (spans_of c.args.versions.now) v c.in-Ok.known) c.needed_version.ensures c.in-Ok.ensures.1

@@ -5,7 +5,7 @@ use Rattle.gp_base.specs.Annotated.{monomials}
 use Rattle.gp_kexec.specs.declared.env.KRow.{KRow}
 use Rattle.gp_kexec.specs.Rows.{pair_view}
 use Rattle.gp_kexec.specs.Running.{IsSomeProgram}
-use Rattle.gp_kexec.specs.Valuing.{values_by}
+use Rattle.gp_kexec.specs.Valuing.{values_in}
 use Rattle.gp_log.specs.Parameters.{parameters}
 use Rattle.gp_log.specs.LogFacts.{tables_in}
 use Rattle.gp_log.specs.Logs.{log_view}
@@ -13,7 +13,7 @@ use Rattle.gp_machine.specs.Entries.{log_of, versions_in}
 use Rattle.gp_machine.specs.Questions.{annotation_stop}
 use Rattle.gp_reenact.specs.declared.error.ReenactStop.{ReenactStop}
 use Rattle.gp_reenact.specs.Reenacting.{spans_of, stopped, transaction_at}
-use Rattle.gp_syntax.specs.Views.{state_view}
+use Rattle.gp_syntax.specs.Views.{point_view}
 use Rattle.gp_semiring.specs.Values.{token_value}
 use Rattle.gp_history.specs.ValueForms.{value_answer}
 use Rattle.gp_history.specs.Agreement.{agree}
@@ -35,24 +35,24 @@ sums_over-requires g c =
     let met = g.met.K.Semiring in
     let rules = c.args.valuation.now in
     subst (λ (program : Program). IsSomeProgram program) (sym c.in_ok-program.ensures)
-    (program_is_built (values_by k.one_of k.times_of k.number_of k.itself_of rules) (values_are_images met.laws k.number_of k.itself_of met.number_in met.itself_in rules) k.plus_of (log_view c.args.log.now.entries)
-    c.args.versions.now c.requires.sound (select_view c.args.select.now) c.requires.fits (state_view c.args.state) c.requires.known)
+    (program_is_built (values_in k rules) (values_are_images met.laws k.number_of k.itself_of met.number_in met.itself_in rules) k.plus_of (log_view c.args.log.now.entries)
+    c.args.versions.now c.requires.sound (select_view c.args.select.now) c.requires.fits (point_view c.args.state) c.requires.known)
 
 pub returns-in-Ok : goal.returns-in-Ok
 returns-in-Ok g c =
     let k = g.K.Semiring in
     let met = g.met.K.Semiring in
     let rules = c.args.valuation.now in
-    let domain = values_by k.one_of k.times_of k.number_of k.itself_of rules in
+    let domain = values_in k rules in
     let image = values_are_images met.laws k.number_of k.itself_of met.number_in met.itself_in rules in
     let value = token_value k.one_of k.number_of k.itself_of rules in
     let entries = log_view c.args.log.now.entries in
     let versions = c.args.versions.now in
     let spans = spans_of versions in
     let select = select_view c.args.select.now in
-    let point = state_view c.args.state in
+    let point = point_view c.args.state in
     let view = λ (rows : Vec (KRow g.row.K.Denot) Global). map pair_view rows.items in
-    let few : versions_in entries ≤ 0xffff_ffff = omega (arith, c.commits-commits.ensures, c.commits-commits.type_inv) in
+    let few : versions_in entries ≤ 0xffff_ffff = omega (arith, c.bounds.ensures.commits) in
     let same =
     c.values_are_sums_over_the_history.ensures.answers value (value_in met.laws k.number_of k.itself_of met.number_in met.itself_in rules) parameters agree agree agree_ignores (tables_in entries) entries spans point select
     (room entries versions c.requires.sound few select c.requires.few) in
@@ -66,16 +66,16 @@ returns g c =
     let k = g.K.Semiring in
     let met = g.met.K.Semiring in
     let rules = c.args.valuation.now in
-    let domain = values_by k.one_of k.times_of k.number_of k.itself_of rules in
+    let domain = values_in k rules in
     let image = values_are_images met.laws k.number_of k.itself_of met.number_in met.itself_in rules in
     let value = token_value k.one_of k.number_of k.itself_of rules in
     let entries = log_view c.args.log.now.entries in
     let versions = c.args.versions.now in
     let spans = spans_of versions in
     let select = select_view c.args.select.now in
-    let point = state_view c.args.state in
+    let point = point_view c.args.state in
     let view = λ (rows : Vec (KRow g.row.K.Denot) Global). map pair_view rows.items in
-    let few : versions_in entries ≤ 0xffff_ffff = omega (arith, c.commits-commits.ensures, c.commits-commits.type_inv) in
+    let few : versions_in entries ≤ 0xffff_ffff = omega (arith, c.bounds.ensures.commits) in
     let same =
     c.values_are_sums_over_the_history.ensures.answers value (value_in met.laws k.number_of k.itself_of met.number_in met.itself_in rules) parameters agree agree agree_ignores (tables_in entries) entries spans point select
     (room entries versions c.requires.sound few select c.requires.few) in

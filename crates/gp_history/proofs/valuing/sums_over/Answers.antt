@@ -4,7 +4,7 @@ use Rattle.gp_algebra.specs.Scans.{annotated_program_scans}
 use Rattle.gp_algebra.specs.declared.plain.ScanAt.{ScanAt}
 use Rattle.gp_kexec.specs.declared.env.KRow.{KRow}
 use Rattle.gp_kexec.specs.Rows.{environment_view}
-use Rattle.gp_kexec.specs.Valuing.{values_by}
+use Rattle.gp_kexec.specs.Valuing.{values_in}
 use Rattle.gp_reenact.specs.Reenacting.{spans_of}
 use Rattle.gp_history.specs.Scanning.{AgreesOn}
 use Rattle.gp_history.specs.SpanAnnotations.{versions_with}
@@ -14,7 +14,7 @@ use Rattle.gp_history.proofs.valuing.sums_over.Goals as goal
 pub returns : goal.returns
 returns g c =
     let k = g.K.Semiring in
-    let domain = values_by k.one_of k.times_of k.number_of k.itself_of c.args.valuation.now in
+    let domain = values_in k c.args.valuation.now in
     let program = annotated_program_view c.args.program.now in
     let env = versions_with (spans_of c.args.versions.now) c.args.known.now in
     let agree : AgreesOn (annotated_program_scans program) (environment_view c.in_ok-env.env) env =

@@ -1,8 +1,8 @@
 use Rattle.std.proofs.Common.{ap, refl, ◌∙◌, Err}
 use Rattle.gp_dump.specs.Verdicts.{fault_in}
 use Rattle.gp_dump.specs.Views.{dump_view}
-use Rattle.gp_dump.proofs.FaultLemmas.{fault-found}
-use Rattle.gp_dump.proofs.LawLemmas.{only}
+use Rattle.gp_dump.proofs.FaultLemmas.{fault-found, kept-found}
+use Rattle.gp_dump.proofs.LawLemmas.{whole-text}
 use Rattle.gprom_cli.specs.Steps.{is_damaged, no_answer}
 use Rattle.gprom_cli.proofs.OutcomeLemmas.{answered-read}
 use Rattle.gprom_cli.proofs.ask.answer.Goals as goal
@@ -10,11 +10,12 @@ use Rattle.gprom_cli.proofs.ask.answer.Goals as goal
 pub returns-in-Ok : goal.returns-in-Ok
 returns-in-Ok g c =
     let dump = dump_view c.in-Ok.dump in
-    let formed = only c.args.bytes.now dump c.in-Ok.ensures.exact in
+    let formed = kept-found c.args.bytes.now dump c.in-Ok.ensures.exact in
+    let rules = (whole-text c.args.bytes.now dump formed).rules in
     answered-read c.args.format c.args.bytes.now c.args.questions.now dump (g.K.Sink.state c.args.out.now) (g.K.Sink.state c.write_answers.new.out) c.write_answers.result
     formed
-    (λ format. c.dumps_answer_for_changed_histories.ensures.answers format dump c.args.questions.now formed.rules)
-    (λ format. c.dumps_answer_for_changed_histories.ensures.refusals format dump c.args.questions.now formed.rules)
+    (λ format. c.dumps_answer_for_changed_histories.ensures.answers format dump c.args.questions.now rules)
+    (λ format. c.dumps_answer_for_changed_histories.ensures.refusals format dump c.args.questions.now rules)
     c.write_answers.ensures.written c.write_answers.ensures.explained
 
 pub returns-in-Err-Fault : goal.returns-in-Err-Fault

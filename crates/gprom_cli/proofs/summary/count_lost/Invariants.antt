@@ -1,7 +1,7 @@
 use Rattle.std.proofs.Common.{◌≡◌, ◌≤◌, ◌-◌}
 use Rattle.gp_log.specs.Logs.{log_view}
 use Rattle.gp_machine.specs.Entries.{transactions_in}
-use Rattle.gprom_cli.specs.Summary as spec
+use Rattle.gprom_cli.specs.Summaries as spec
 use Rattle.gprom_cli.proofs.summary.count_lost.Given as goal
 
 -- the transactions so far

@@ -1,5 +1,5 @@
 use Rattle.std.proofs.Common.{◌≡◌, ◌≤◌, ℕ, List, length, sym, ap, ap₂, ◌∙◌, subst}
-use Rattle.gp_base.specs.Annotated.{plain}
+use Rattle.gp_base.specs.Annotated.{unannotated}
 use Rattle.gp_syntax.specs.Lines.{script_lines}
 use Rattle.gp_machine.specs.Entries.{versions_in}
 use Rattle.gp_script.specs.declared.script.TheConstants.{MAX_SCRIPT_LENGTH}
@@ -40,7 +40,7 @@ returns c =
     let dump = dump_view c.in_ok-dump.dump in
     let committed = c.in_ok-committed.committed.items in
     let questions = c.in_ok-questions.questions.items in
-    let is_dump : dump ≡ dump_of (final_state plain script) = c.in_ok-dump.ensures.dump ∙ ap (λ (text : List ℕ). dump_of (final_state plain text)) c.deref.ensures.value in
+    let is_dump : dump ≡ dump_of (final_state unannotated script) = c.in_ok-dump.ensures.dump ∙ ap (λ (text : List ℕ). dump_of (final_state unannotated text)) c.deref.ensures.value in
     let is_questions : questions ≡ generated_questions committed (versions_in dump.entries) = c.in_ok-questions.ensures ∙ ap₂ generated_questions c.deref-2.ensures.value c.commits.ensures in
     same-summary c.args.rounds script dump questions c.count_lines.result c.len.result c.count_lost.result c.count_spans.result c.count_lines-2.result c.in_ok-count_rows.field-0
     (c.count_lines.ensures ∙ ap (λ (text : List ℕ). length (script_lines text)) c.deref-3.ensures.value)

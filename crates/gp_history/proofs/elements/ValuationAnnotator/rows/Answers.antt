@@ -5,7 +5,7 @@ use Rattle.gp_algebra.specs.declared.plain.ScanAt.{ScanAt}
 use Rattle.gp_kexec.specs.declared.held.Held.{Held}
 use Rattle.gp_kexec.specs.Rows.{environment_view}
 use Rattle.gp_kexec.specs.Running.{IsSomeTableProgram, RunsTable}
-use Rattle.gp_kexec.specs.Valuing.{values_by}
+use Rattle.gp_kexec.specs.Valuing.{values_in}
 use Rattle.gp_log.specs.Logs.{log_view}
 use Rattle.gp_history.specs.Changes.{maker_program}
 use Rattle.gp_history.specs.Images.{values_are_images}
@@ -18,7 +18,7 @@ pub run_k_table-requires : goal.run_k_table-requires
 run_k_table-requires g c =
     let k = g.K.Semiring in
     let met = g.met.K.Semiring in
-    let domain = values_by k.one_of k.times_of k.number_of k.itself_of c.args.self.now in
+    let domain = values_in k c.args.self.now in
     let image = values_are_images met.laws k.number_of k.itself_of met.number_in met.itself_in c.args.self.now in
     let entries = log_view c.args._log.now.entries in
     subst (λ (program : Program). IsSomeTableProgram program) (sym c.requires.program)
@@ -28,7 +28,7 @@ pub returns : goal.returns
 returns g c =
     let k = g.K.Semiring in
     let met = g.met.K.Semiring in
-    let domain = values_by k.one_of k.times_of k.number_of k.itself_of c.args.self.now in
+    let domain = values_in k c.args.self.now in
     let image = values_are_images met.laws k.number_of k.itself_of met.number_in met.itself_in c.args.self.now in
     let entries = log_view c.args._log.now.entries in
     let versions = c.args._versions.now in
