@@ -1,3 +1,4 @@
 pub mod FileListLemmas
 pub mod ContentsLemmas
 pub mod TraceWalks
+pub mod StreamLemmas

@@ -1,6 +1,7 @@
 pub mod Events
 pub mod EventCodes
 pub mod Noted
+pub mod Streams
 pub mod ShelfSteps
 pub mod Sink
 pub mod SinkSteps

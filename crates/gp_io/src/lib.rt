@@ -1,11 +1,12 @@
 //! Files and an output as traits, so that a contract can state what a call reads and writes.
 //!
 //! In reading order:
+//! - `edge` is where the operating system is called: 60 lines, which are read by eye, and all else is proved over them.
 //! - [`Shelf`] and [`Sink`] are the traits. Their contracts say what each answer means.
 //! - [`ShelfStop`] and [`SinkStop`] are the reasons why a call stopped.
 //! - [`CalmShelf`] and [`CalmSink`] keep everything in memory and never fail but for memory.
 //! - [`MemShelf`] and [`MemSink`] add injected failures, for tests. [`events_lead_to_files`] is the law of both shelves.
-//! - [`DiskShelf`] and [`OutSink`] are the operating system's files and its standard output.
+//! - [`DiskShelf`] and [`OutSink`] are the operating system's files and its standard output, by `edge`.
 //!
 //! A caller is generic over both, and so runs on a disk, in memory and under injected failures:
 //!
@@ -21,6 +22,7 @@
 
 mod calm;
 mod disk;
+mod edge;
 mod error;
 mod fault_plan;
 mod file_list;

@@ -1,9 +1,10 @@
 //! What the calls of a shelf or a sink have done, for contracts and proofs alone.
-ghost use Rattle.std.specs.Prelude.{◌≡◌, ℕ, List, []};
+ghost use Rattle.std.specs.Prelude.{◌≡◌, ◌≢◌, ℕ, List, []};
 ghost use Rattle.std.specs.Borrow.{ftrue};
 ghost use Rattle.gp_io.specs.Events.{Event};
 ghost use Rattle.gp_io.specs.EventCodes.{events_code};
 
+use crate::error::{ShelfStop, SinkStop};
 use crate::named_file::NamedFile;
 use std::marker::Model;
 
@@ -57,5 +58,49 @@ impl Trace {
             × (result.failed ≡ failed_after self.now.failed _note.now) }
     {
         Trace {}
+    }
+}
+
+impl Trace {
+    ghost use Rattle.gp_io.specs.Noted.{ReadIsNoted, ReplacementIsNoted, WriteIsNoted};
+
+    /// Notes the answer to a read.
+    pub(crate) fn note_read(&mut self, name: &str, most: usize, answer: &Result<Vec<u8>, ShelfStop>)
+        ensures { ReadIsNoted name.now most self.old self.new answer.now }
+    {
+        match answer {
+            Ok(bytes) => *self = self.and(&Note::Read(name, most, bytes)),
+            Err(ShelfStop::Absent) => *self = self.and(&Note::Missing(name)),
+            Err(ShelfStop::Failed) => *self = self.and(&Note::Unreadable(name)),
+            Err(ShelfStop::NoMemory) => (),
+        }
+    }
+
+    /// Notes the answer to a replacement.
+    pub(crate) fn note_replacement(
+        &mut self,
+        name: &str,
+        bytes: &[u8],
+        answer: &Result<(), ShelfStop>,
+    )
+        requires { answer.now ≢ Err ShelfStop.Absent }
+        ensures { ReplacementIsNoted name.now bytes.now self.old self.new answer.now }
+    {
+        match answer {
+            Ok(()) => *self = self.and(&Note::Replaced(name, bytes)),
+            Err(ShelfStop::NoMemory) => (),
+            Err(_) => *self = self.and(&Note::NotReplaced(name, bytes)),
+        }
+    }
+
+    /// Notes the answer to a write.
+    pub(crate) fn note_write(&mut self, bytes: &[u8], answer: &Result<(), SinkStop>)
+        ensures { WriteIsNoted bytes.now self.old self.new answer.now }
+    {
+        match answer {
+            Ok(()) => *self = self.and(&Note::Written(bytes)),
+            Err(SinkStop::Failed) => *self = self.and(&Note::NotWritten(bytes)),
+            Err(SinkStop::NoMemory) => (),
+        }
     }
 }
