@@ -8,3 +8,8 @@ pub mod MergedShapes
 pub mod RangeLemmas
 pub mod RangeLoops
 pub mod MeaningLemmas
+pub mod SubstitutionRanges
+pub mod PlainRanges
+pub mod MergedRanges
+pub mod RewrittenRanges
+pub mod ComposedRanges

@@ -72,6 +72,5 @@ module _ (entries : List Entry) (select : Select) (fit : statements_fit (tables_
   spelled_explains text spelled = record {
     program = merged_at prov entries point select;
     spelled = spelled;
-    normal = merged_is_normal;
     means = merged_means;
   }

@@ -1,4 +1,4 @@
--- Part of the statement: the lines of a text.
+-- Machinery: the lines of a text, as the code makes them.
 use Rattle.std.specs.Prelude.{ℕ, ◌==◌, List, [], ◌∷◌, ◌++◌, if◌then◌else◌}
 
 -- the lines of a text behind the beginning of a line; what no line feed ends is none

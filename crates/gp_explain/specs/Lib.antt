@@ -3,4 +3,5 @@ pub mod ExplainedLines
 pub mod Explaining
 pub mod Numbers
 pub mod Shapes
+pub mod SmallLogs
 pub mod LineTexts

@@ -17,6 +17,9 @@ mod names;
 mod numbers;
 mod text;
 
-pub use laws::{explained_texts_are_lines, merged_programs_are_spellable, texts_explain_states};
+pub use laws::{
+    explained_texts_are_lines, merged_programs_are_spellable, small_logs_are_explained,
+    texts_explain_states,
+};
 pub use lines::explained_lines;
 pub use text::explain;
