@@ -43,7 +43,7 @@ turned-by id other false true is too =
     absurd (false≢true (sym is ∙ ap (λ (own : Identity). same_identity own other) (sym (same_equal other id too)) ∙ ap (same_identity other) (same_equal other id too) ∙ too))
 
 module _ {M : Type 0} where
-  turned-rows : (row other : Annotated M) → same_row row other ≡ same_row other row
+  pub turned-rows : (row other : Annotated M) → same_row row other ≡ same_row other row
   turned-rows row other = turned-by row.identity other.identity (same_row row other) (same_row other row) refl refl
 
   abbrev any-like : Annotated M → List (Annotated M) → Bool

@@ -16,7 +16,7 @@ use Rattle.gp_history.specs.Values.{HasFewItems}
 use Rattle.gp_ask.specs.Answerable.{has_few_items}
 use Rattle.gp_ask.specs.Asking.{asked}
 
-meant-few : (tables : List Table) (query : y.Query) → has_few_items query ≡ true → HasFewItems (select_of tables query)
+pub meant-few : (tables : List Table) (query : y.Query) → has_few_items query ≡ true → HasFewItems (select_of tables query)
 unfolding branch_of
 meant-few tables [] few = tt
 meant-few tables (block ∷ blocks) few =

@@ -9,6 +9,7 @@ use Rattle.gp_base.specs.declared.refusal.Refusal.{Refusal}
 use Rattle.gp_base.specs.declared.refusal.Refusal.TheVariants.{E27}
 use Rattle.gp_base.specs.declared.table.Table.{Table}
 use Rattle.gp_base.specs.Annotated.{Database, monomials, unannotated}
+use Rattle.gp_base.specs.Catalogs.{place_of}
 use Rattle.gp_base.specs.Order.{row_cmp, sorted_by}
 use Rattle.gp_base.specs.Tokens.{Monomial}
 use Rattle.gp_grammar.specs.declared.semiring_name.SemiringName.{SemiringName}
@@ -39,11 +40,11 @@ use Rattle.gp_history.specs.Agreement.{occurrence}
 use Rattle.gp_ask.specs.declared.answered.Answered.{Answered}
 use Rattle.gp_ask.specs.declared.answered.Answered.TheVariants.{Checked, Listed, Refused, Rows}
 use Rattle.gp_replay.specs.Differences.{difference}
-use Rattle.gp_ask.specs.Answers.{answer_to, held_to}
-use Rattle.gp_ask.specs.Asking.{ask_to, held_ask, of_elements, query_answer, spans_at, with_monomials}
+use Rattle.gp_ask.specs.Answers.{versions_answer}
+use Rattle.gp_ask.specs.Printed.{answer_to, held_to, ask_to, held_ask, what_if_held}
+use Rattle.gp_ask.specs.Asking.{of_elements, query_answer, spans_at, with_monomials}
 use Rattle.gp_ask.specs.AskingForms.{dump_program, dump_provenance, dump_query, dump_remaining, dump_rows, held_provenance, held_remaining, held_rows, rules_of}
 use Rattle.gp_ask.specs.ValueForms.{dump_minimal, dump_valued, dump_values, held_minimal, held_valued, held_values}
-use Rattle.gp_ask.specs.Hypothetical.{what_if_held}
 use Rattle.gp_ask.specs.Remaining.{has_left_out, is_left_out, remaining_answer}
 use Rattle.gp_ask.specs.Values.{evaluated, rule_of, semiring_of, with_values}
 use Rattle.gp_ask.specs.Witnesses.{minimal_of}
@@ -211,22 +212,24 @@ module _ (state : State Monomial) (spans-kept : (table : ℕ) → state_spans (f
   dump-same = ap (dump_with state.entries) (spans-same (length state.catalogue))
 
   -- LOG and VERSIONS print the dump, and what would be with a change is told by the log
-  -- SAW and CHANGES of a statement tell what the machine held, of transactions whatever became of them
-  pub held : ((t k : ℕ) (query : y.Query) → answer_to (dump_of (forgetting state)) (y.saw t k query) ≡ held_to state (y.saw t k query))
+  -- SAW and CHANGES tell what the machine held, of transactions whatever became of them
+  pub held : tables_in state.entries ≡ state.catalogue → ((t k : ℕ) (query : y.Query) → answer_to (dump_of (forgetting state)) (y.saw t k query) ≡ held_to state (y.saw t k query))
       → ((t k : ℕ) → answer_to (dump_of (forgetting state)) (y.changes t k) ≡ held_to state (y.changes t k))
+      → ((t : ℕ) → answer_to (dump_of state) (y.commit_changes t) ≡ held_to state (y.commit_changes t))
       → ((how : y.How) (point : y.Point) (query : y.Query) → answer_to (dump_of (forgetting state)) (y.ask how point query) ≡ held_to state (y.ask how point query))
       → difference (dump_of (forgetting state)) ≡ None
       → (question : y.Question) → answer_to (dump_of (forgetting state)) question ≡ held_to state question
-  held sees alters asks same y.transactions = refl
-  held sees alters asks same (y.log t) = refl
-  held sees alters asks same (y.versions name) = ap (λ (dump : Dump). answer_to dump (y.versions name)) dump-same
-  held sees alters asks same (y.saw t k query) = sees t k query
-  held sees alters asks same (y.changes t k) = alters t k
-  held sees alters asks same (y.commit_changes t) = ap (λ (dump : Dump). answer_to dump (y.commit_changes t)) dump-same
-  held sees alters asks same y.check = ap Checked same
-  held sees alters asks same (y.diff first second query) =
+  held whole sees alters commits asks same y.transactions = refl
+  held whole sees alters commits asks same (y.log t) = refl
+  held whole sees alters commits asks same (y.versions name) =
+      ap (λ (dump : Dump). answer_to dump (y.versions name)) dump-same ∙ ap (λ (catalogue : List Table). versions_answer name (dump_of state).tables (place_of name catalogue)) whole
+  held whole sees alters commits asks same (y.saw t k query) = sees t k query
+  held whole sees alters commits asks same (y.changes t k) = alters t k
+  held whole sees alters commits asks same (y.commit_changes t) = ap (λ (dump : Dump). answer_to dump (y.commit_changes t)) dump-same ∙ commits t
+  held whole sees alters commits asks same y.check = ap Checked same
+  held whole sees alters commits asks same (y.diff first second query) =
       diff-same (ask_to (dump_of (forgetting state))) (held_ask state) (what_if_held state.entries) (what_if_held state.entries) asks (λ change how point query. refl) first second query
-  held sees alters asks same (y.causes kept query) =
+  held whole sees alters commits asks same (y.causes kept query) =
       causes-same (ask_to (dump_of (forgetting state))) (held_ask state) (what_if_held state.entries) (what_if_held state.entries) asks (λ change how point query. refl) state.entries kept query
-  held sees alters asks same (y.ask how point query) = asks how point query
-  held sees alters asks same (y.what_if change how point query) = refl
+  held whole sees alters commits asks same (y.ask how point query) = asks how point query
+  held whole sees alters commits asks same (y.what_if change how point query) = refl

@@ -14,10 +14,10 @@ use Rattle.gp_machine.specs.ReplayForms.{replayed_spans}
 use Rattle.gp_whatif.specs.Replays.{stop_upto}
 use Rattle.gp_dump.specs.Dumps.{Dump}
 use Rattle.gp_ask.specs.declared.answered.Answered.{Answered}
-use Rattle.gp_ask.specs.Answers.{answer_to}
+use Rattle.gp_ask.specs.Printed.{answer_to, ask_to, held_ask, changed_answer, remade_answer, what_if_held}
 use Rattle.gp_ask.specs.Computed.{computed_answer, what_if_answer}
-use Rattle.gp_ask.specs.Asking.{ask_to, held_ask, spans_at}
-use Rattle.gp_ask.specs.Hypothetical.{asking_refusal, changed_answer, remade_answer, remaking_refusal, replay_refusal, replayed_dump, what_if_held}
+use Rattle.gp_ask.specs.Asking.{spans_at}
+use Rattle.gp_ask.specs.Hypothetical.{asking_refusal, remaking_refusal, replay_refusal, replayed_dump}
 use Rattle.gp_ask.specs.Values.{unless_refused}
 use Rattle.gp_ask.specs.Replays.{dump_in}
 use Rattle.gp_ask.proofs.DifferenceLemmas.{causes-same, diff-same}

@@ -3,17 +3,21 @@ mod CausesLemmas
 mod ChangedLines
 mod ChangesLemmas
 mod CommitLines
+mod CommittedLines
 mod CountedLemmas
 mod DeletionLemmas
 mod DeltaLemmas
 mod DifferenceLemmas
 mod EntryLines
+mod ExplainedLemmas
 mod FewLemmas
 mod FittingReplays
 mod FormatLemmas
 mod HeldLemmas
 mod HypotheticalLemmas
+mod IsolatedLemmas
 mod LogLemmas
+mod LostLemmas
 mod MovedLemmas
 mod ProvenanceLemmas
 mod QueryLemmas
@@ -30,3 +34,5 @@ mod TransactionRuns
 mod ValueLemmas
 mod WhatIfLemmas
 mod WitnessLemmas
+mod WrittenCommits
+mod WrittenLines

@@ -1,17 +1,15 @@
 -- The answers to the questions that a file is read as are those to its bytes, and it is read as no others.
 use Rattle.std.proofs.Common.{◌≡◌, ℕ, ◌||◌, Bool, List, [], ◌∷◌, refl, ap}
-use Rattle.std.specs.List.{AllByRecursion, list_any}
+use Rattle.std.specs.List.{list_any}
 use Rattle.std.proofs.lemmas.List.Folds.{flat_map-map}
 use Rattle.gp_grammar.specs.Reading.{question_of, read_lines}
 use Rattle.gp_grammar.specs.Syntax as y
 use Rattle.gp_grammar.proofs.ReadOnce.{questions-one, questions-read}
 use Rattle.gp_syntax.specs.Lines.{script_lines}
-use Rattle.gp_machine.specs.Entries.{Entry}
 use Rattle.gp_ask.specs.declared.answered.Answered.{Answered}
 use Rattle.gp_ask.specs.declared.format.Format.{Format}
-use Rattle.gp_ask.specs.Explained.{ExplainsLines}
 use Rattle.gp_ask.specs.Questions.{AreQuestions, ReadQuestion, answer_texts, is_refused, read_answer, read_answer_text, refuses_some}
-use Rattle.gp_ask.specs.QuestionFiles.{ExplainsQuestions, ExplainsRead, answers_text, has_refused, line_answer_in, questions_as_read}
+use Rattle.gp_ask.specs.QuestionFiles.{answers_text, has_refused, line_answer_in, questions_as_read}
 
 pub are-questions : (file : List ℕ) → AreQuestions file (questions_as_read file)
 are-questions file = questions-read (script_lines file)
@@ -30,11 +28,3 @@ module _ (format : Format) (answers : y.Question → Answered) where
 
   pub refusals-read : (file : List ℕ) → refuses_some format answers (questions_as_read file) ≡ has_refused format answers file
   refusals-read file = some-read (script_lines file)
-
-module _ (entries : List Entry) where
-  lines-explained : (lines : List (ℕ × List ℕ)) → AllByRecursion (λ (line : ℕ × List ℕ). ExplainsRead entries (question_of line.1)) lines → ExplainsLines entries (read_lines question_of lines)
-  lines-explained [] are = tt
-  lines-explained (line ∷ lines) are = (are.0, lines-explained lines are.1)
-
-  pub explains-read : (file : List ℕ) → ExplainsQuestions entries file → ExplainsLines entries (questions_as_read file)
-  explains-read file are = lines-explained (script_lines file) are

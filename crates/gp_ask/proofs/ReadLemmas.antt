@@ -34,7 +34,7 @@ from-within true f b v n d is = absurd cc
 from-within false true b v n d is = absurd cc
 from-within false false b v n d is = refl
 
-within-from : (shape : Shape) → passed_limit shape ≡ None → some_above MAX_FROM shape.from ≡ false
+pub within-from : (shape : Shape) → passed_limit shape ≡ None → some_above MAX_FROM shape.from ≡ false
 within-from shape none = from-within _ _ _ _ _ _ (sym (of_shape shape) ∙ none)
 
 few-within : (question : y.Question) → passed_limit (question_shape question) ≡ None → keeps_from question ≡ true

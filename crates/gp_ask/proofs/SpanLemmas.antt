@@ -7,7 +7,7 @@ use Rattle.std.proofs.Math.ListN.{get_or-map}
 use Rattle.std.proofs.Math.Nat.{eq-or-lt_of_le}
 use Rattle.std.proofs.Math.Seq.{get_or-append_seam}
 use Rattle.std.proofs.lemmas.Bool.{ltb-false, ltb-true}
-use Rattle.std.proofs.lemmas.List.{get_or_append_left, get_or_past, length_push}
+use Rattle.std.proofs.lemmas.List.{get_or_append_left, get_or_past, length-map, length_push}
 use Rattle.std.proofs.lemmas.List.Sorted.{IsPermutation-cons, IsPermutation-middle, IsPermutation-refl, IsPermutation-sym, IsPermutation-trans}
 use Rattle.gp_base.specs.Order.{insert_sorted, sorted_by}
 use Rattle.gp_versions.specs.Spans.{span_cmp}
@@ -42,6 +42,9 @@ module _ {M : Type 0} (state : State M) where
   as-many zero = refl
   as-many (suc count) = omega (arith, as-many count, length_push (spans_in_order state count) (state_spans state count))
 
+  pub listed : length (dump_of state).tables ≡ length state.catalogue
+  listed = length-map (spans_in_order state (length state.catalogue)) (sorted_by span_cmp) ∙ as-many (length state.catalogue)
+
   last-of : (count table : ℕ) → table ≡ count → get_or (spans_in_order state (suc count)) table [] ≡ state_spans state table
   last-of count table is =
       subst (λ n. get_or (spans_in_order state (suc count)) n [] ≡ state_spans state n) (sym is)
@@ -67,9 +70,10 @@ module _ {M : Type 0} (state : State M) where
             get_or_past (spans_in_order state (length state.catalogue)) table [] (omega (arith, as-many (length state.catalogue))) ∙ sym (beyond table past)
 
     -- those of a table, whether it is there or not
+    pub in-order : (table : ℕ) → spans_at (dump_of state).tables table ≡ sorted_by span_cmp (state_spans state table)
+    in-order table = get_or-map (sorted_by span_cmp) (spans_in_order state (length state.catalogue)) table [] ∙ ap (sorted_by span_cmp) (at table)
+
     pub dumped : (table : ℕ) → IsPermutation (spans_at (dump_of state).tables table) (state_spans state table)
     dumped table =
-        let sorted : spans_at (dump_of state).tables table ≡ sorted_by span_cmp (state_spans state table) =
-        get_or-map (sorted_by span_cmp) (spans_in_order state (length state.catalogue)) table [] ∙ ap (sorted_by span_cmp) (at table) in
-        subst (λ spans. IsPermutation spans (state_spans state table)) (sym sorted)
+        subst (λ spans. IsPermutation spans (state_spans state table)) (sym (in-order table))
         (IsPermutation-sym (state_spans state table) (sorted_by span_cmp (state_spans state table)) (permuted span_cmp (state_spans state table)))

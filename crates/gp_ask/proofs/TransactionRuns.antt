@@ -1,25 +1,33 @@
 -- The run of any transaction of a history, whatever became of it, over the row versions of the history in any order. It gives what the transaction read before
 -- and after each of its statements, and passes no limit; and no table that the transaction reads has an identity twice.
-use Rattle.std.proofs.Common.{◌≡◌, ◌≢◌, ℕ, zero, suc, ◌<◌, ◌≤◌, Bool, true, false, true≢false, cond, List, ◌++◌, Option, Some, None, refl, sym, ap, ◌∙◌, subst, arith}
-use Rattle.std.specs.Prelude.{◌==◌, ◌&&◌, not}
-use Rattle.std.specs.List.{filter, list_any}
+use Rattle.std.proofs.Common.{◌≡◌, ◌≢◌, ℕ, zero, suc, ◌<◌, ◌≤◌, Bool, true, false, true≢false, cond, List, [], ◌∷◌, ◌++◌, map, Option, Some, None, refl, sym, ap, ◌∙◌, subst, arith}
+use Rattle.std.specs.Prelude.{◌==◌, ◌&&◌, ◌||◌, not}
+use Rattle.std.proofs.lemmas.Bool.{and_from, and_parts, eqb-true}
+use Rattle.std.proofs.lemmas.List.{map-append}
+use Rattle.std.specs.List.{AllByRecursion, filter, list_any}
 use Rattle.std.proofs.lemmas.List.Elements.{filter_agree}
 use Rattle.std.proofs.lemmas.Option.{none-some, same_Some}
 use Rattle.gp_base.proofs.Bags.{SameBag, any_same, filtered, joined, same_from, through}
+use Rattle.gp_base.proofs.SmallLemmas.{eq_itself}
 use Rattle.gp_base.specs.Annotated.{Annotated, Annotations, Database, Environment, unannotated}
+use Rattle.gp_expr.specs.Values.{passes}
+use Rattle.gp_versions.proofs.SameLemmas.{same-itself}
 use Rattle.gp_base.specs.Identities.{Identity, same_identity}
+use Rattle.gp_base.specs.IdentityParts.{statement_of, transaction_of}
 use Rattle.gp_algebra.proofs.StepBags.{SameTables}
-use Rattle.gp_algebra.specs.Effects.{Written}
-use Rattle.gp_machine.proofs.ActiveLemmas.{IsOver, active_clean, active_kept}
+use Rattle.gp_algebra.specs.Answers.{answer}
+use Rattle.gp_algebra.specs.Effects.{Written, given_from, made, written_in}
+use Rattle.gp_algebra.specs.Statements.{Statement, delete, insert, insert_select, read, update}
+use Rattle.gp_machine.proofs.ActiveLemmas.{IsOver, active_clean, active_kept, refreshed_view, step_view}
 use Rattle.gp_machine.proofs.AnyLemmas.{saw_held, saw_stops}
-use Rattle.gp_machine.proofs.Distinct.{differ_append, differ_filter, each_all, each_filter, none_any}
+use Rattle.gp_machine.proofs.Distinct.{differ_append, differ_filter, differ_map, each_all, each_filter, each_weaker, none_any}
 use Rattle.gp_machine.proofs.HeldPoints.{after_held, committed_stops, version_is}
 use Rattle.gp_machine.proofs.LogLemmas.{versions_le}
-use Rattle.gp_machine.proofs.Made.{same_equal}
+use Rattle.gp_machine.proofs.Made.{given_unique, made_unique, same_equal}
 use Rattle.gp_machine.proofs.RunLemmas.{before_is, run_is}
 use Rattle.gp_machine.proofs.Simulation.{versions_held}
 use Rattle.gp_machine.proofs.UnstoppedLemmas.{reached_unstopped}
-use Rattle.gp_machine.specs.Bases.{pairs}
+use Rattle.gp_machine.specs.Bases.{Based, is_new, pairs, with_base, with_bases}
 use Rattle.gp_machine.specs.Committed.{is_written, merged}
 use Rattle.gp_machine.specs.Entries.{Entry, Log, committer_of, log_of, statement_count, statement_version, transactions_in, version_of, versions_in}
 use Rattle.gp_machine.specs.Histories.{IsHistory}
@@ -29,9 +37,10 @@ use Rattle.gp_machine.specs.Points.{run_stop}
 use Rattle.gp_machine.specs.Publishing.{holds, publish, was_written}
 use Rattle.gp_machine.specs.Reached.{IsReached}
 use Rattle.gp_machine.specs.ReadBy.{seen_by, start_by}
+use Rattle.gp_machine.specs.Reading.{wrote_by}
 use Rattle.gp_machine.specs.ReplayForms.{upto_version}
-use Rattle.gp_machine.specs.Runs.{refreshed, run, run_before}
-use Rattle.gp_machine.specs.SeenRows.{HaveDifferentIdentities, same_row}
+use Rattle.gp_machine.specs.Runs.{refreshed, run, run_before, stepped}
+use Rattle.gp_machine.specs.SeenRows.{AreDistinct, HaveDifferentIdentities, IsViewOf, same_row}
 use Rattle.gp_machine.specs.State.{Active, State}
 use Rattle.gp_versions.specs.declared.span.Span.{Span}
 
@@ -74,6 +83,57 @@ module _ {M : Type 0} (was : Identity → Bool) where
       (each_filter _ (λ other. Unit {0}) (λ other. was other.identity) (λ other written some. unlike-by row other unwritten written (same_row other row) refl) others (each_all _ (λ other. tt) others)))
       rows (each_all _ (λ row. tt) rows))
 
+-- ---- rows that were written, each once
+
+abbrev pub same_written : Written → Written → Bool
+same_written pair other = (pair.table == other.table) && same_identity pair.identity other.identity
+
+module _ {M : Type 0} (domain : Annotations M) (t k : ℕ) where
+  written-once : (table : ℕ) (rows : List (Annotated M)) → HaveDifferentIdentities rows → AreDistinct same_written (written_in table rows)
+  written-once table rows different =
+      differ_map same_row same_written (λ (row : Annotated M). record { table = table; identity = row.identity }) (λ row other. ap (λ b. b && same_identity row.identity other.identity) (eq_itself table)) rows different
+
+  wrote-once : (statement : Option Statement) (db : Database M) → ((table : ℕ) → HaveDifferentIdentities (db table)) → AreDistinct same_written (wrote_by domain t k statement db)
+  wrote-once None db different = tt
+  wrote-once (Some (insert table rows)) db different = written-once table (given_from domain t k 1 rows) (given_unique domain t k 1 rows)
+  wrote-once (Some (insert_select table select)) db different = written-once table (map (made domain t k) (answer domain select db)) (made_unique domain t k select db different)
+  wrote-once (Some (update table sets c)) db different = written-once table (filter (λ row. passes c row.cells) (db table)) (differ_filter same_row (λ row. passes c row.cells) (db table) (different table))
+  wrote-once (Some (delete table c)) db different = written-once table (filter (λ row. passes c row.cells) (db table)) (differ_filter same_row (λ row. passes c row.cells) (db table) (different table))
+  wrote-once (Some (read select)) db different = tt
+
+-- each is among them
+itself-written : (xs : List Written) → AllByRecursion (λ (x : Written). is_written x.table x.identity xs ≡ true) xs
+itself-written [] = tt
+itself-written (x ∷ xs) = (
+  ap (λ b. b || is_written x.table x.identity xs) (and_from (x.table == x.table) (same_identity x.identity x.identity) (eq_itself x.table) (same-itself x.identity)),
+  each_weaker (λ (y : Written). is_written y.table y.identity (x ∷ xs) ≡ true) (λ (y : Written). is_written y.table y.identity xs ≡ true)
+      (λ y is. elim ((x.table == y.table) && same_identity x.identity y.identity) as (λ b. (b || is_written y.table y.identity xs) ≡ true) [ true ↦ refl | false ↦ is ]) xs (itself-written xs),
+)
+
+more-pairs : (version : ℕ) (based : List Based) (more : List Written) → pairs (with_bases version based more) ≡ pairs based ++ filter (is_new based) more
+more-pairs version based more = map-append (λ (own : Based). own.pair) based (map (with_base version) (filter (is_new based) more)) ∙ ap (λ (own : List Written). pairs based ++ own) (alone (filter (is_new based) more))
+  where
+    alone : (xs : List Written) → pairs (map (with_base version) xs) ≡ xs
+    alone [] = refl
+    alone (x ∷ xs) = ap (λ (own : List Written). x ∷ own) (alone xs)
+
+bases-once : (version : ℕ) (based : List Based) (more : List Written) → AreDistinct same_written (pairs based) → AreDistinct same_written more → AreDistinct same_written (pairs (with_bases version based more))
+bases-once version based more once own =
+    subst (AreDistinct same_written) (sym (more-pairs version based more))
+    (differ_append same_written (pairs based) (filter (is_new based) more) once (differ_filter same_written (is_new based) more own)
+    (each_weaker (λ (x : Written). list_any (λ y. same_written y x) (filter (is_new based) more) ≡ false) (λ (x : Written). is_written x.table x.identity (pairs based) ≡ true)
+    (λ x is. none_any (λ y. same_written y x) (filter (is_new based) more)
+    (each_filter (λ y. same_written y x ≡ false) (λ y. Unit {0}) (is_new based) (λ y new any. unlike x y is new (same_written y x) refl) more (each_all (λ y. Unit {0}) (λ y. tt) more)))
+    (pairs based) (itself-written (pairs based))))
+  where
+    unlike : (x y : Written) → is_written x.table x.identity (pairs based) ≡ true → is_new based y ≡ true → (b : Bool) → same_written y x ≡ b → b ≡ false
+    unlike x y is new false same = refl
+    unlike x y is new true same =
+        let parts = and_parts (y.table == x.table) (same_identity y.identity x.identity) same in
+        let tables : y.table ≡ x.table = eqb-true y.table x.table parts.0 in
+        let ids : y.identity ≡ x.identity = same_equal y.identity x.identity parts.1 in
+        absurd (true≢false (sym new ∙ (λ i. not (is_written (tables i) (ids i) (pairs based))) ∙ ap not is))
+
 -- ---- a transaction over a history whose versions it did not make
 
 module _ {M : Type 0} (domain : Annotations M) (log : Log) (committed : Environment M) (written : ℕ → List Written) (history : IsHistory domain log committed written) (t count : ℕ)
@@ -111,6 +171,52 @@ module _ {M : Type 0} (domain : Annotations M) (log : Log) (committed : Environm
         | false ↦ apart (λ id. is_written table id (pairs seen.written)) (new table) (seen.view table)
             ((active_clean domain log committed written history (reading count) (over count (omega arith))).different (suc k) (omega arith) table) (after-different k (omega arith) table)
       ]
+
+  -- a row of what it reads that it made itself was made by one of these statements
+  abbrev pub IsOwnBy : ℕ → Database M → Type 0
+  IsOwnBy k view = (table : ℕ) → AllByRecursion (λ row. transaction_of row.identity ≡ t → statement_of row.identity ≤ k) (view table)
+
+  before-view : (k : ℕ) → k < count → IsOwnBy k (seen_by domain log t k committed).view → (base : Database M) × ((others : List Written) × IsViewOf t k base (start_by domain log t k committed) others)
+  before-view k within own =
+      let seen = seen_by domain log t k committed in
+      let new = committed (log.version t (suc k)) in
+      let clean = active_clean domain log committed written history (reading count) (over count (omega arith)) in
+      let is : IsViewOf t k (committed (log.version t k)) seen.view (pairs seen.written) = record { tables = active_kept domain log committed written history (reading k) (over k (omega arith)); own = own } in
+      elim (log.version t (suc k) == log.version t k) as (λ b. (base : Database M) × ((others : List Written) × IsViewOf t k base (cond b seen.view (merged new seen.view (pairs seen.written))) others)) [
+        | true ↦ (committed (log.version t k), (pairs seen.written, is))
+        | false ↦ (
+          new,
+          (
+            pairs seen.written,
+            refreshed_view t k (committed (log.version t k)) seen.view new (pairs seen.written) is (clean.different (suc k) (omega arith)) (clean.unmarked (suc k) (omega arith))
+                (clean.others (suc k) (omega arith)),
+          ),
+        )
+      ]
+
+  stepped-own : (k : ℕ) (statement : Option Statement) → (base : Database M) × ((others : List Written) × IsViewOf t k base (start_by domain log t k committed) others)
+      → IsOwnBy (suc k) (stepped domain t (suc k) statement (start_by domain log t k committed))
+  stepped-own k None view =
+      λ table. each_weaker (λ row. transaction_of row.identity ≡ t → statement_of row.identity ≤ suc k) (λ row. transaction_of row.identity ≡ t → statement_of row.identity ≤ k)
+      (λ row earlier own. let most = earlier own in omega (arith, most)) (start_by domain log t k committed table) (view.1.1.own table)
+  stepped-own k (Some statement) view = (step_view domain t k statement view.0 (start_by domain log t k committed) view.1.0 view.1.1).own
+
+  after-own : (k : ℕ) → k ≤ count → IsOwnBy k (seen_by domain log t k committed).view
+  after-own zero within =
+      λ table. each_weaker (λ row. transaction_of row.identity ≡ t → statement_of row.identity ≤ 0) (λ row. transaction_of row.identity ≢ t) (λ row others own. absurd (others own)) (committed (log.version t zero) table)
+      ((active_clean domain log committed written history (reading count) (over count (omega arith))).others 0 (omega arith) table)
+  after-own (suc k) within = stepped-own k (log.statement t (suc k)) (before-view k within (after-own k (omega arith)))
+
+  -- before a statement, by one before it
+  pub before-own : (k : ℕ) → k < count → IsOwnBy k (start_by domain log t k committed)
+  before-own k within = (before-view k within (after-own k (omega arith))).1.1.own
+
+  -- it wrote no row twice
+  pub written-each-once : (k : ℕ) → k ≤ count → AreDistinct same_written (pairs (seen_by domain log t k committed).written)
+  written-each-once zero within = tt
+  written-each-once (suc k) within =
+      bases-once (log.version t (suc k)) (seen_by domain log t k committed).written (wrote_by domain t (suc k) (log.statement t (suc k)) (start_by domain log t k committed)) (written-each-once k (omega arith))
+      (wrote-once domain t (suc k) (log.statement t (suc k)) (start_by domain log t k committed) (before-different k (omega arith)))
 
 -- ---- the transactions of a history
 
@@ -166,12 +272,12 @@ abbrev pub IsRising : List Entry → ℕ → Type 0
 IsRising entries t = (k : ℕ) → k < statement_count t entries → statement_version t k entries ≤ statement_version t (suc k) entries
 
 -- over the versions of a history with any annotations
-module _ {M : Type 0} (domain : Annotations M) (parameters : Parameters) (state : State M) (reached : IsReached domain parameters state) (t versions : ℕ) (rises : IsRising state.entries t)
+module _ {M : Type 0} (domain : Annotations M) (state : State M) (history : IsHistory domain (log_of state.entries) state.committed state.written) (t versions : ℕ) (rises : IsRising state.entries t)
     (is : ReadsWithin state.entries t versions) where
   abbrev early : IsHistory domain (upto_version versions (log_of state.entries)) state.committed state.written
-  early = first-versions domain state reached.history versions is.within
+  early = first-versions domain state history versions is.within
 
-  own-runs : (k : ℕ) → k ≤ statement_count t state.entries → run domain (log_of state.entries) t k state.committed ≡ (seen_by domain (log_of state.entries) t k state.committed).view
+  pub own-runs : (k : ℕ) → k ≤ statement_count t state.entries → run domain (log_of state.entries) t k state.committed ≡ (seen_by domain (log_of state.entries) t k state.committed).view
   own-runs =
       runs domain (upto_version versions (log_of state.entries)) state.committed state.written early t (statement_count t state.entries) is.reads rises is.unfinished
 
@@ -182,6 +288,17 @@ module _ {M : Type 0} (domain : Annotations M) (parameters : Parameters) (state 
   pub different-before : (k : ℕ) → k < statement_count t state.entries → (table : ℕ) → HaveDifferentIdentities (start_by domain (log_of state.entries) t k state.committed table)
   different-before =
       before-different domain (upto_version versions (log_of state.entries)) state.committed state.written early t (statement_count t state.entries) is.reads rises
+      is.unfinished
+
+  pub own-before : (k : ℕ) → k < statement_count t state.entries → (table : ℕ)
+      → AllByRecursion (λ row. transaction_of row.identity ≡ t → statement_of row.identity ≤ k) (start_by domain (log_of state.entries) t k state.committed table)
+  own-before =
+      before-own domain (upto_version versions (log_of state.entries)) state.committed state.written early t (statement_count t state.entries) is.reads rises
+      is.unfinished
+
+  pub own-once : (k : ℕ) → k ≤ statement_count t state.entries → AreDistinct same_written (pairs (seen_by domain (log_of state.entries) t k state.committed).written)
+  own-once =
+      written-each-once domain (upto_version versions (log_of state.entries)) state.committed state.written early t (statement_count t state.entries) is.reads rises
       is.unfinished
 
   pub different-after : (k : ℕ) → k ≤ statement_count t state.entries → (table : ℕ) → HaveDifferentIdentities ((seen_by domain (log_of state.entries) t k state.committed).view table)
@@ -215,7 +332,7 @@ module _ (parameters : Parameters) (state : State (Unit {0})) (reached : IsReach
   started once k within =
       let bound = reads-within unannotated state reached.history once t (version_of t state.entries) refl in
       let after : run unannotated (log_of state.entries) t k state.committed ≡ state.views t k =
-      own-runs unannotated parameters state reached t bound.0 rises bound.1 k (omega arith) ∙ sym (reached.views t k some known (omega arith)) in
+      own-runs unannotated state reached.history t bound.0 rises bound.1 k (omega arith) ∙ sym (reached.views t k some known (omega arith)) in
       refreshed-same (statement_version t k state.entries) (statement_version t (suc k) state.entries) (as_of unannotated spans) state.committed
       (run unannotated (log_of state.entries) t k (as_of unannotated spans)) (run unannotated (log_of state.entries) t k state.committed)
       (version-same (statement_version t k state.entries) (versions_le t k state.entries)) (version-same (statement_version t (suc k) state.entries) (versions_le t (suc k) state.entries))

@@ -28,9 +28,10 @@ use Rattle.gp_whatif.specs.Replays.{IsMade, IsReplayable, stop_upto}
 use Rattle.gp_dump.specs.Views.{tables_view}
 use Rattle.gp_ask.specs.declared.answered.Answered.{Answered}
 use Rattle.gp_ask.specs.Computed.{computed_answer, what_if_answer}
-use Rattle.gp_ask.specs.Asking.{ask_to, asked, spans_at}
-use Rattle.gp_ask.specs.Explained.{ExplainsAsk, ExplainsQuestion}
-use Rattle.gp_ask.specs.Hypothetical.{asking_refusal, changed_answer, remade_answer, remaking_refusal, replay_refusal, replayed_dump}
+use Rattle.gp_ask.specs.Asking.{asked, spans_at}
+use Rattle.gp_ask.specs.Printed.{ask_to, changed_answer, remade_answer}
+use Rattle.gp_ask.specs.ExplainedTexts.{ExplainsAsk, ExplainsQuestion}
+use Rattle.gp_ask.specs.Hypothetical.{asking_refusal, remaking_refusal, replay_refusal, replayed_dump}
 use Rattle.gp_ask.specs.Values.{unless_refused}
 use Rattle.gp_ask.specs.Replays.{dump_in}
 use Rattle.gp_ask.proofs.FittingReplays.{replay_spans}

@@ -16,6 +16,7 @@ use Rattle.gp_algebra.specs.Answers.{Element, answer, cells_of}
 use Rattle.gp_algebra.specs.Statements.{Select}
 use Rattle.gp_check.specs.Checking.{checked_query}
 use Rattle.gp_machine.specs.Annotating.{annotated_versions}
+use Rattle.gp_machine.specs.Entries.{Entry}
 use Rattle.gp_machine.specs.Points.{at_point, held_at}
 use Rattle.gp_machine.specs.Questions.{annotated_answer, given, held_answer, log_refusal, rows_answer}
 use Rattle.gp_machine.specs.State.{State}
@@ -29,7 +30,6 @@ use Rattle.gp_history.specs.Agreement.{agree, occurrence}
 use Rattle.gp_semiring.specs.Listing.{listed}
 use Rattle.gp_ask.specs.declared.answered.Answered.{Answered}
 use Rattle.gp_ask.specs.declared.answered.Answered.TheVariants.{Rows, Listed, Program}
-use Rattle.gp_ask.specs.Programs.{program_lines}
 use Rattle.gp_ask.specs.Remaining.{has_left_out, remaining_answer}
 use Rattle.gp_ask.specs.Values.{Semiring, evaluated, or_refused, rule_of, semiring_of, value_of, with_values}
 use Rattle.gp_ask.specs.Witnesses.{minimal_of}
@@ -70,38 +70,45 @@ abbrev pub valued_answer : SemiringName → List y.Rule → Option ℕ → Resul
 valued_answer named.Witness [] None elements = minimal_answer elements
 valued_answer name rules other elements = values_answer (semiring_of name) name (map rule_of rules, other) elements
 
--- ---- the answer from a dump
+-- ---- programs
 
--- A query that was checked. Rows are those of the dump's own versions. Their provenance, the elements by which they have values, and the rows that remain
--- without those that patterns leave out are over the versions as the log's transactions annotate them. An explained query is its program, whatever the rows are.
-abbrev pub dump_answer : Dump → y.How → y.Point → Select → Answered
-dump_answer dump y.rows point select = of_elements (rows_answer parameters dump.entries (spans_at dump.tables) point select)
-dump_answer dump y.provenance point select =
-    with_monomials (annotated_answer monomials parameters agree (tables_in dump.entries) dump.entries (spans_at dump.tables) point select)
-dump_answer dump (y.explain prov) point select = Program (program_lines dump.entries prov point select)
-dump_answer dump (y.value name rules other) point select =
-    valued_answer name rules other (all_elements monomials parameters agree (tables_in dump.entries) dump.entries (spans_at dump.tables) point select)
-dump_answer dump (y.without patterns) point select =
-    of_elements
-    (remaining_answer (has_left_out (map rule_of patterns)) select
-    (at_point monomials dump.entries point (annotated_versions monomials dump.entries (spans_at dump.tables)))
-    (history_refusal monomials parameters agree (tables_in dump.entries) dump.entries (spans_at dump.tables) point))
+-- what gives the lines of the program of a query over a state of a log, with provenance or without it; what they say is in `Explained`
+abbrev pub Programs : Type 0
+Programs = List Entry → Bool → y.Point → Select → List (List ℕ)
 
-abbrev pub ask_to : Dump → y.How → y.Point → y.Query → Answered
-ask_to dump how point query = query_answer (dump_answer dump how point) (log_refusal dump.entries point) (checked_query (tables_in dump.entries) query)
+module _ (programs : Programs) where
+  -- ---- the answer from a dump
 
--- ---- the answer that a history held
+  -- A query that was checked. Rows are those of the dump's own versions. Their provenance, the elements by which they have values, and the rows that remain
+  -- without those that patterns leave out are over the versions as the log's transactions annotate them. An explained query is its program, whatever the rows are.
+  abbrev pub dump_answer : Dump → y.How → y.Point → Select → Answered
+  dump_answer dump y.rows point select = of_elements (rows_answer parameters dump.entries (spans_at dump.tables) point select)
+  dump_answer dump y.provenance point select =
+      with_monomials (annotated_answer monomials parameters agree (tables_in dump.entries) dump.entries (spans_at dump.tables) point select)
+  dump_answer dump (y.explain prov) point select = Program (programs dump.entries prov point select)
+  dump_answer dump (y.value name rules other) point select =
+      valued_answer name rules other (all_elements monomials parameters agree (tables_in dump.entries) dump.entries (spans_at dump.tables) point select)
+  dump_answer dump (y.without patterns) point select =
+      of_elements
+      (remaining_answer (has_left_out (map rule_of patterns)) select
+      (at_point monomials dump.entries point (annotated_versions monomials dump.entries (spans_at dump.tables)))
+      (history_refusal monomials parameters agree (tables_in dump.entries) dump.entries (spans_at dump.tables) point))
 
--- The rows that a commit published, or that a transaction saw after one of its statements, their provenance, the elements by which they have values, and
--- the rows that the query gives over the same database without some of its rows. Programs are made of the log alone.
-abbrev pub history_answer : State Monomial → y.How → y.Point → Select → Answered
-history_answer state y.rows point select = of_elements (held_answer monomials parameters state point select)
-history_answer state y.provenance point select = with_monomials (held_answer monomials parameters state point select)
-history_answer state (y.explain prov) point select = Program (program_lines state.entries prov point select)
-history_answer state (y.value name rules other) point select =
-    valued_answer name rules other (given (log_refusal state.entries point) (answer monomials select (held_at state point)))
-history_answer state (y.without patterns) point select =
-    of_elements (remaining_answer (has_left_out (map rule_of patterns)) select (held_at state point) (log_refusal state.entries point))
+  abbrev pub ask_to : Dump → y.How → y.Point → y.Query → Answered
+  ask_to dump how point query = query_answer (dump_answer dump how point) (log_refusal dump.entries point) (checked_query (tables_in dump.entries) query)
 
-abbrev pub held_ask : State Monomial → y.How → y.Point → y.Query → Answered
-held_ask state how point query = query_answer (history_answer state how point) (log_refusal state.entries point) (checked_query state.catalogue query)
+  -- ---- the answer that a history held
+
+  -- The rows that a commit published, or that a transaction saw after one of its statements, their provenance, the elements by which they have values, and
+  -- the rows that the query gives over the same database without some of its rows. Programs are made of the log alone.
+  abbrev pub history_answer : State Monomial → y.How → y.Point → Select → Answered
+  history_answer state y.rows point select = of_elements (held_answer monomials parameters state point select)
+  history_answer state y.provenance point select = with_monomials (held_answer monomials parameters state point select)
+  history_answer state (y.explain prov) point select = Program (programs state.entries prov point select)
+  history_answer state (y.value name rules other) point select =
+      valued_answer name rules other (given (log_refusal state.entries point) (answer monomials select (held_at state point)))
+  history_answer state (y.without patterns) point select =
+      of_elements (remaining_answer (has_left_out (map rule_of patterns)) select (held_at state point) (log_refusal state.entries point))
+
+  abbrev pub held_ask : State Monomial → y.How → y.Point → y.Query → Answered
+  held_ask state how point query = query_answer (history_answer state how point) (log_refusal state.entries point) (checked_query state.catalogue query)

@@ -18,7 +18,8 @@ use Rattle.gp_semiring.specs.declared.rules.Rule.{Rule}
 use Rattle.gp_history.specs.ValueAnswers.{all_elements, history_refusal}
 use Rattle.gp_history.specs.Agreement.{agree}
 use Rattle.gp_ask.specs.declared.answered.Answered.{Answered}
-use Rattle.gp_ask.specs.Asking.{dump_answer, history_answer, of_elements, query_answer, spans_at}
+use Rattle.gp_ask.specs.Asking.{of_elements, query_answer, spans_at}
+use Rattle.gp_ask.specs.Printed.{dump_answer, history_answer}
 use Rattle.gp_ask.specs.Remaining.{has_left_out, remaining_answer}
 use Rattle.gp_ask.specs.Values.{kind_of, rule_of}
 

@@ -1,27 +1,30 @@
--- Part of the statement: what a statement changed, over what its transaction read, whatever became of the transaction; and what a commit changed. Each row that
--- was inserted, updated or deleted is a line with its table, its identity, and its cells before and after.
-use Rattle.std.specs.Prelude.{ℕ, suc, ◌-◌, ◌==◌, ◌&&◌, not, Bool, false, List, [], ◌∷◌, ◌++◌, map, codes, Option, Some, None, Result, Ok, slice_get, if◌then◌else◌}
+-- Part of the statement: what a statement changed, over what its transaction read, whatever became of the transaction; and what a commit changed: from a dump
+-- alone, and as the history held it. Each row that was inserted, updated or deleted is a line with its table, its identity, and its cells before and after.
+use Rattle.std.specs.Prelude.{ℕ, suc, ◌-◌, ◌==◌, ◌&&◌, not, Bool, false, List, [], ◌∷◌, ◌++◌, map, codes, Option, Some, None, Result, slice_get, if◌then◌else◌}
 use Rattle.std.specs.List.{concat, flat_map, zip}
 use Rattle.std.specs.declared.cmp.Ordering.{Ordering}
 use Rattle.std.specs.Option.{option_and_then, option_map_or}
 use Rattle.gp_base.specs.declared.cell.Cell.{Cell}
 use Rattle.gp_base.specs.declared.refusal.Refusal.{Refusal}
 use Rattle.gp_base.specs.declared.table.Table.{Table}
-use Rattle.gp_base.specs.Annotated.{Annotated, monomials, unannotated}
+use Rattle.gp_base.specs.Annotated.{Annotated, Database, monomials, unannotated}
 use Rattle.gp_base.specs.Identities.{Identity, identity_cmp, identity_text, same_identity}
 use Rattle.gp_base.specs.Order.{sorted_by}
 use Rattle.gp_base.specs.Texts.{row_text}
 use Rattle.gp_base.specs.Tokens.{Monomial}
-use Rattle.gp_algebra.specs.Effects.{assigned}
+use Rattle.gp_algebra.specs.Effects.{Written, assigned}
 use Rattle.gp_algebra.specs.Statements.{Statement, update, delete, target}
 use Rattle.gp_compose.specs.Seen.{changed_rows, changes_refusal}
 use Rattle.gp_dump.specs.Dumps.{Dump}
 use Rattle.gp_log.specs.LogFacts.{tables_in}
 use Rattle.gp_log.specs.Parameters.{parameters}
+use Rattle.gp_machine.specs.Conflicts.{written_cmp}
 use Rattle.gp_machine.specs.Entries.{log_of, statement_at, version_of}
 use Rattle.gp_machine.specs.Event.{name_at}
 use Rattle.gp_machine.specs.HistorySpans.{as_of}
 use Rattle.gp_machine.specs.Questions.{given, transaction_refusal}
+use Rattle.gp_machine.specs.ReadBy.{start_by}
+use Rattle.gp_machine.specs.Reading.{wrote_by}
 use Rattle.gp_machine.specs.Runs.{run_before}
 use Rattle.gp_machine.specs.State.{State}
 use Rattle.gp_reenact.specs.Looking.{looked_refusal}
@@ -85,16 +88,6 @@ dump_changes dump t k statement =
 abbrev pub changes_to : Dump → ℕ → ℕ → Answered
 changes_to dump t k = unless_refused (changes_refusal t k dump.entries) (if_any (dump_changes dump t (k - 1)) (statement_at t k dump.entries))
 
--- As the history held it: what the statement did to what its transaction read then, over the versions that the history held. No statement of a history
--- stops.
-abbrev pub held_changes : State Monomial → ℕ → ℕ → Statement → Answered
-held_changes state t k statement =
-    changes_of state.catalogue (target statement) statement
-    (Ok (changed_rows monomials t (suc k) statement (run_before monomials (log_of state.entries) t k state.committed)))
-
-abbrev pub changes_held : State Monomial → ℕ → ℕ → Answered
-changes_held state t k = unless_refused (changes_refusal t k state.entries) (if_any (held_changes state t (k - 1)) (statement_at t k state.entries))
-
 -- ---- a commit
 
 abbrev pub ends_at : ℕ → Span → Bool
@@ -128,3 +121,39 @@ version_changes dump version = option_map_or (λ (own : ℕ). Changes (tables_te
 -- by table, in the order of creation, and then by identity; the versions are those of the dump, and so are those of a history
 abbrev pub commit_changes_to : Dump → ℕ → Answered
 commit_changes_to dump t = unless_refused (transaction_refusal t dump.entries) (version_changes dump (version_of t dump.entries))
+
+-- ---- as a history held it
+
+-- the cells of the row of an identity, if there is one
+abbrev pub cells_in : {M : Type 0} → Identity → List (Annotated M) → Option (List Cell)
+cells_in id [] = None
+cells_in id (row ∷ rows) = if same_identity row.identity id then Some row.cells else cells_in id rows
+
+-- a row that neither database has, as one that was inserted and deleted, has no line
+abbrev pub side_texts : List ℕ → Identity → Option (List Cell) → Option (List Cell) → List (List ℕ)
+side_texts name id None None = []
+side_texts name id before after = change_text name id before after ∷ []
+
+abbrev pub written_text : {M : Type 0} → List Table → Database M → Database M → Written → List (List ℕ)
+written_text tables before after pair =
+    side_texts (name_at pair.table tables) pair.identity (cells_in pair.identity (before pair.table)) (cells_in pair.identity (after pair.table))
+
+-- A line for each row that was written, by table and then by identity: its cells in the database before, and in the one after.
+abbrev pub written_texts : {M : Type 0} → List Table → List Written → Database M → Database M → List (List ℕ)
+written_texts tables written before after = flat_map (written_text tables before after) (sorted_by written_cmp written)
+
+-- The rows that statement k + 1 wrote: from what its transaction read before it, by the rule of the history machine, to what the transaction read after it.
+abbrev pub held_changes : State Monomial → ℕ → ℕ → Answered
+held_changes state t k =
+    let before = start_by monomials (log_of state.entries) t k state.committed in
+    Changes (written_texts state.catalogue (wrote_by monomials t (suc k) (statement_at t (suc k) state.entries) before) before (state.views t (suc k)))
+
+abbrev pub changes_held : State Monomial → ℕ → ℕ → Answered
+changes_held state t k = unless_refused (changes_refusal t k state.entries) (held_changes state t (k - 1))
+
+-- the rows that the commit of a version wrote: from the version before to its own
+abbrev pub held_writes : State Monomial → ℕ → Answered
+held_writes state version = Changes (written_texts state.catalogue (state.written version) (state.committed (version - 1)) (state.committed version))
+
+abbrev pub commit_changes_held : State Monomial → ℕ → Answered
+commit_changes_held state t = unless_refused (transaction_refusal t state.entries) (option_map_or (held_writes state) (version_of t state.entries) (Changes []))

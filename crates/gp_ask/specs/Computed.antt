@@ -7,10 +7,9 @@ use Rattle.gp_machine.specs.Entries.{Entry}
 use Rattle.gp_whatif.specs.Changed.{changed}
 use Rattle.gp_dump.specs.Dumps.{Dump}
 use Rattle.gp_ask.specs.declared.answered.Answered.{Answered}
-use Rattle.gp_ask.specs.Answers.{answer_to}
-use Rattle.gp_ask.specs.Asking.{ask_to}
+use Rattle.gp_ask.specs.Printed.{answer_to, ask_to, changed_answer}
 use Rattle.gp_ask.specs.Differences.{causes_answer, diff_answer}
-use Rattle.gp_ask.specs.Hypothetical.{changed_answer, replayed_dump}
+use Rattle.gp_ask.specs.Hypothetical.{replayed_dump}
 
 abbrev pub what_if_answer : List Entry → y.LogChange → y.How → y.Point → y.Query → Answered
 what_if_answer entries change how point query = changed_answer (λ own. ask_to (replayed_dump own)) (changed parameters entries change) how point query

@@ -1,32 +1,37 @@
--- Part of the statement: what an explained question says, unless it is refused: its lines are the text of one program, in normal form, which on every
+-- Part of the statement: what the programs say that answer explained questions: the lines of such an answer are those of the text of one program, which on every
 -- database of past versions gives the answer of the query over the state. With a change of the log, it is that of the changed log.
-use Rattle.std.specs.Prelude.{Bool, List, IfOk}
+use Rattle.std.specs.Prelude.{ℕ, Bool, List, IfOk}
 use Rattle.std.specs.List.{AllByRecursion}
 use Rattle.gp_grammar.specs.Syntax as y
 use Rattle.gp_algebra.specs.Statements.{Select}
 use Rattle.gp_check.specs.Checking.{checked_query}
 use Rattle.gp_explain.specs.Explained.{Explains}
+use Rattle.gp_explain.specs.LineTexts.{AreLines}
 use Rattle.gp_log.specs.Parameters.{parameters}
 use Rattle.gp_log.specs.LogFacts.{tables_in}
 use Rattle.gp_machine.specs.Entries.{Entry}
 use Rattle.gp_machine.specs.Questions.{log_refusal}
 use Rattle.gp_whatif.specs.Changed.{changed}
-use Rattle.gp_ask.specs.Asking.{asked}
-use Rattle.gp_ask.specs.Programs.{explained_text}
+use Rattle.gp_ask.specs.Asking.{Programs, asked}
 use Rattle.gp_ask.specs.Questions.{ReadQuestion}
 
-abbrev pub ExplainsAsk : List Entry → Bool → y.Point → y.Query → Type 0
-ExplainsAsk entries prov point query =
-    IfOk (asked (log_refusal entries point) (checked_query (tables_in entries) query))
-    (λ (select : Select). Explains entries point select prov (explained_text entries prov point select))
+-- these are the lines of a text that explains a query over a state
+abbrev pub LinesExplain : List Entry → y.Point → Select → Bool → List (List ℕ) → Type 0
+LinesExplain entries point select prov lines = (text : List ℕ) × AreLines lines text × Explains entries point select prov text
 
--- by the changed log, unless the change is refused
-module _ (entries : List Entry) where
-  abbrev pub ExplainsQuestion : y.Question → Type 0
-  ExplainsQuestion (y.ask (y.explain prov) point query) = ExplainsAsk entries prov point query
-  ExplainsQuestion (y.what_if change (y.explain prov) point query) = IfOk (changed parameters entries change) (λ (own : List Entry). ExplainsAsk own prov point query)
-  ExplainsQuestion question = Unit {0}
+module _ (programs : Programs) where
+  -- unless the question is refused
+  abbrev pub ExplainsAsk : List Entry → Bool → y.Point → y.Query → Type 0
+  ExplainsAsk entries prov point query =
+      IfOk (asked (log_refusal entries point) (checked_query (tables_in entries) query))
+      (λ (select : Select). LinesExplain entries point select prov (programs entries prov point select))
+
+  -- by the changed log, unless the change is refused
+  abbrev pub ExplainsQuestion : List Entry → y.Question → Type 0
+  ExplainsQuestion entries (y.ask (y.explain prov) point query) = ExplainsAsk entries prov point query
+  ExplainsQuestion entries (y.what_if change (y.explain prov) point query) = IfOk (changed parameters entries change) (λ (own : List Entry). ExplainsAsk own prov point query)
+  ExplainsQuestion entries question = Unit {0}
 
   -- each line of a file of questions that is read as one
-  abbrev pub ExplainsLines : List ReadQuestion → Type 0
-  ExplainsLines questions = AllByRecursion (λ (line : ReadQuestion). IfOk line.1 ExplainsQuestion) questions
+  abbrev pub ExplainsLines : List Entry → List ReadQuestion → Type 0
+  ExplainsLines entries questions = AllByRecursion (λ (line : ReadQuestion). IfOk line.1 (ExplainsQuestion entries)) questions

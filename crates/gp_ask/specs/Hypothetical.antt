@@ -22,7 +22,7 @@ use Rattle.gp_semiring.specs.Rules.{first_outside}
 use Rattle.gp_whatif.specs.Changed.{changed}
 use Rattle.gp_dump.specs.Dumps.{Dump, dump_of}
 use Rattle.gp_ask.specs.declared.answered.Answered.{Answered}
-use Rattle.gp_ask.specs.Asking.{ask_to, held_ask}
+use Rattle.gp_ask.specs.Asking.{Programs, ask_to, held_ask}
 use Rattle.gp_ask.specs.Values.{or_refused, outside_refusal, rule_of, semiring_of, unless_refused}
 
 -- the dump of the history that the commits of a log, made again, lead to
@@ -53,16 +53,17 @@ remaking_refusal entries = option_map (replay_refusal entries) (made.replay_stop
 
 -- ---- answers
 
--- A question about the states of a log whose commits are made again, given the answer over these. An explained query needs the log alone.
-abbrev pub remade_answer : (y.How → y.Point → y.Query → Answered) → List Entry → y.How → y.Point → y.Query → Answered
-remade_answer answer entries (y.explain prov) point query = ask_to (record { entries = entries; tables = [] }) (y.explain prov) point query
-remade_answer answer entries how point query =
-    unless_refused (asking_refusal entries how point query) (unless_refused (remaking_refusal entries) (answer how point query))
+module _ (programs : Programs) where
+  -- A question about the states of a log whose commits are made again, given the answer over these. An explained query needs the log alone.
+  abbrev pub remade_answer : (y.How → y.Point → y.Query → Answered) → List Entry → y.How → y.Point → y.Query → Answered
+  remade_answer answer entries (y.explain prov) point query = ask_to programs (record { entries = entries; tables = [] }) (y.explain prov) point query
+  remade_answer answer entries how point query =
+      unless_refused (asking_refusal entries how point query) (unless_refused (remaking_refusal entries) (answer how point query))
 
--- by the changed log, or the refusal of the change
-abbrev pub changed_answer : (List Entry → y.How → y.Point → y.Query → Answered) → Result (List Entry) Refusal → y.How → y.Point → y.Query → Answered
-changed_answer answers log how point query = or_refused (λ entries. remade_answer (answers entries) entries how point query) log
+  -- by the changed log, or the refusal of the change
+  abbrev pub changed_answer : (List Entry → y.How → y.Point → y.Query → Answered) → Result (List Entry) Refusal → y.How → y.Point → y.Query → Answered
+  changed_answer answers log how point query = or_refused (λ entries. remade_answer (answers entries) entries how point query) log
 
--- from the log of a dump: what the history held that would have been, its rows and their provenance
-abbrev pub what_if_held : List Entry → y.LogChange → y.How → y.Point → y.Query → Answered
-what_if_held entries change how point query = changed_answer (λ own. held_ask (replayed_state monomials (tables_in own) own)) (changed parameters entries change) how point query
+  -- from the log of a dump: what the history held that would have been, its rows and their provenance
+  abbrev pub what_if_held : List Entry → y.LogChange → y.How → y.Point → y.Query → Answered
+  what_if_held entries change how point query = changed_answer (λ own. held_ask programs (replayed_state monomials (tables_in own) own)) (changed parameters entries change) how point query

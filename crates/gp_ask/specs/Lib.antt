@@ -10,13 +10,16 @@ pub mod Counted
 pub mod Deltas
 pub mod Differences
 pub mod Explained
+pub mod ExplainedTexts
 pub mod Formats
 pub mod Hypothetical
+pub mod Isolated
 pub mod Keeping
 pub mod Keyed
 pub mod Lines
 pub mod Operations
 pub mod Programs
+pub mod Printed
 pub mod QuestionFiles
 pub mod Questions
 pub mod Remaining

@@ -1,4 +1,4 @@
--- Part of the statement: explained queries: the text of the program that gives a query over a past state, and its lines.
+-- Machinery: explained queries as they are printed: the text of the program that gives a query over a past state, and its lines.
 use Rattle.std.specs.Prelude.{ℕ, Bool, List}
 use Rattle.gp_grammar.specs.Syntax as y
 use Rattle.gp_algebra.specs.Statements.{Select}

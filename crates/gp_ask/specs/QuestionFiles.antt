@@ -1,6 +1,6 @@
 -- Machinery: the answers to a file of questions as functions of its bytes, by the parser. They are those to the questions that the file is read as.
 use Rattle.std.specs.Prelude.{ℕ, Bool, IfOk, List, Result}
-use Rattle.std.specs.List.{AllByRecursion, flat_map, list_any}
+use Rattle.std.specs.List.{flat_map, list_any}
 use Rattle.gp_grammar.specs.LineReading.{Fault}
 use Rattle.gp_grammar.specs.Reading.{question_of, read_lines}
 use Rattle.gp_grammar.specs.Syntax as y
@@ -9,7 +9,7 @@ use Rattle.gp_syntax.specs.Lines.{script_lines}
 use Rattle.gp_ask.specs.declared.answered.Answered.{Answered}
 use Rattle.gp_ask.specs.declared.format.Format.{Format}
 use Rattle.gp_ask.specs.declared.format.Format.TheVariants.{Text, Csv}
-use Rattle.gp_ask.specs.Explained.{ExplainsQuestion}
+use Rattle.gp_ask.specs.ExplainedTexts.{ExplainsQuestion}
 use Rattle.gp_ask.specs.Formats.{answers_in, text_in}
 use Rattle.gp_ask.specs.Questions.{ReadQuestion, answered, is_refused}
 
@@ -41,11 +41,6 @@ module _ (format : Format) (answers : y.Question → Answered) where
 -- a line that is read as this
 abbrev pub ExplainsRead : List Entry → Result y.Question Fault → Type 0
 ExplainsRead entries reading = IfOk reading (ExplainsQuestion entries)
-
-module _ (entries : List Entry) where
-  -- each line of a file of questions
-  abbrev pub ExplainsQuestions : List ℕ → Type 0
-  ExplainsQuestions questions = AllByRecursion (λ (line : ℕ × List ℕ). ExplainsRead entries (question_of line.1)) (script_lines questions)
 
 -- what is said of explained questions is said of text: none is exported
 abbrev pub ExplainsIn : Format → Type 0 → Type 0

@@ -10,7 +10,7 @@ ghost use Rattle.gp_dump.specs.Views.{dump_view};
 ghost use Rattle.gp_ask.specs.Answerable.{IsAnswerable, has_few_items, question_is_valid};
 ghost use Rattle.gp_ask.specs.Computed.{computed_answer};
 ghost use Rattle.gp_ask.specs.Backends.{AnswersBy};
-ghost use Rattle.gp_ask.specs.Explained.{ExplainsQuestion};
+ghost use Rattle.gp_ask.specs.ExplainedTexts.{ExplainsQuestion};
 ghost use Rattle.gp_ask.specs.Formats.{asks_rows};
 ghost use Rattle.gp_ask.specs.Keeping.{AreKept};
 

@@ -15,7 +15,7 @@ ghost use Rattle.gp_machine.specs.Entries.{version_of, versions_in};
 ghost use Rattle.gp_syntax.specs.Views.{change_view, kept_view, query_view};
 ghost use Rattle.gp_whatif.specs.Replays.{IsMade};
 ghost use Rattle.gp_ask.specs.Answerable.{has_few_items};
-ghost use Rattle.gp_ask.specs.Asking.{ask_to};
+ghost use Rattle.gp_ask.specs.Printed.{ask_to};
 ghost use Rattle.gp_ask.specs.Differences as d;
 ghost use Rattle.gp_ask.specs.Computed.{what_if_answer};
 ghost use Rattle.gp_ask.specs.Keeping.{AreKept};

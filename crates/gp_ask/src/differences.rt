@@ -9,7 +9,7 @@ ghost use Rattle.gp_grammar.specs.Laws.{side_has_statement};
 ghost use Rattle.gp_log.specs.LogFacts.{tables_in};
 ghost use Rattle.gp_syntax.specs.Views.{query_view, side_view};
 ghost use Rattle.gp_ask.specs.Answerable.{has_few_items};
-ghost use Rattle.gp_ask.specs.Asking.{ask_to};
+ghost use Rattle.gp_ask.specs.Printed.{ask_to};
 ghost use Rattle.gp_ask.specs.Deltas.{delta};
 ghost use Rattle.gp_ask.specs.Differences as d;
 ghost use Rattle.gp_ask.specs.Computed.{what_if_answer};

@@ -11,7 +11,7 @@ ghost use Rattle.gp_dump.specs.Views.{dump_view};
 ghost use Rattle.gp_log.specs.LogFacts.{tables_in};
 ghost use Rattle.gp_ask.specs.Answerable.{question_is_valid};
 ghost use Rattle.gp_ask.specs.Computed.{computed_answer};
-ghost use Rattle.gp_ask.specs.Explained.{ExplainsQuestion};
+ghost use Rattle.gp_ask.specs.ExplainedTexts.{ExplainsQuestion};
 ghost use Rattle.gp_ask.specs.Formats.{answers_in, asks_rows, exported, exported_records, text_in};
 ghost use Rattle.gp_ask.specs.QuestionFiles.{ExplainsIn, ExplainsRead};
 ghost use Rattle.gp_ask.specs.Keeping.{AreKept};

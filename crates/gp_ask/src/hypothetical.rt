@@ -17,8 +17,9 @@ ghost use Rattle.gp_whatif.specs.Changed.{changed};
 ghost use Rattle.gp_whatif.specs.Replays.{IsMade, IsReplayable};
 ghost use Rattle.gp_ask.specs.Answerable.{has_few_items};
 ghost use Rattle.gp_ask.specs.Computed.{computed_answer};
-ghost use Rattle.gp_ask.specs.Asking.{ask_to};
-ghost use Rattle.gp_ask.specs.Explained.{ExplainsQuestion};
+ghost use Rattle.gp_ask.specs.Printed.{ask_to};
+ghost use Rattle.gp_ask.specs.Programs.{program_lines};
+ghost use Rattle.gp_ask.specs.ExplainedTexts.{ExplainsQuestion};
 ghost use Rattle.gp_ask.specs.Hypothetical as h;
 ghost use Rattle.gp_ask.specs.Hypothetical.{replayed_dump};
 ghost use Rattle.gp_ask.specs.Values.{unless_refused};
@@ -178,7 +179,7 @@ fn remade_answer(
     requires query { query_is_valid (query_view query.now) ≡ true }
     requires few { has_few_items (query_view query.now) ≡ true }
     ensures answered { IfOk result (λ answered. answered
-        ≡ h.remade_answer (ask_to (replayed_dump (entries log))) (entries log)
+        ≡ h.remade_answer program_lines (ask_to (replayed_dump (entries log))) (entries log)
         (how_view how.now) (point_view state) (query_view query.now)) }
     ensures explained { IfOk result (λ answered. ExplainsQuestion (entries log)
         (y.ask (how_view how.now) (point_view state) (query_view query.now))) }

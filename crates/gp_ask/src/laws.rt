@@ -1,12 +1,15 @@
 //! Laws of answers. Each function does nothing: its postcondition is the law, and some cite laws of the crates below.
 
-ghost use Rattle.std.specs.Prelude.{◌≡◌, ◌↔◌, ◌++◌, ◌<◌, [], ℕ, suc, true, Contains, List, length, map, None, Ok, Option};
+ghost use Rattle.std.specs.Prelude.{◌≡◌, ◌↔◌, ◌++◌, ◌<◌, [], ℕ, suc, false, true, Contains, List, length, map, None, Ok, Option};
+ghost use Rattle.std.specs.List.{AllByRecursion};
 ghost use Rattle.std.specs.List.Sorted.{IsPermutation, IsSorted};
 ghost use Rattle.gp_base.specs.declared.cell.Cell.{Cell};
-ghost use Rattle.gp_base.specs.Annotated.{monomials, unannotated};
+ghost use Rattle.gp_base.specs.Annotated.{Annotations, Database, monomials, unannotated};
 ghost use Rattle.gp_base.specs.Order.{row_cmp, sorted_by};
 ghost use Rattle.gp_base.specs.Tokens.{Monomial};
-ghost use Rattle.gp_algebra.specs.Statements.{Select};
+ghost use Rattle.gp_algebra.specs.Effects.{written_in, wrote};
+ghost use Rattle.gp_algebra.specs.Statements.{Select, Statement};
+ghost use Rattle.gp_compose.specs.Seen.{changed_rows, is_made_by};
 ghost use Rattle.gp_grammar.specs.Reading.{question_of};
 ghost use Rattle.gp_grammar.specs.Syntax as y;
 ghost use Rattle.gp_history.specs.Agreement.{agree};
@@ -14,7 +17,7 @@ ghost use Rattle.gp_log.specs.Parameters.{parameters};
 ghost use Rattle.gp_log.specs.LogFacts.{tables_in};
 ghost use Rattle.gp_machine.specs.Committed.{is_written};
 ghost use Rattle.gp_machine.specs.Entries.{Entry, log_of, versions_in};
-ghost use Rattle.gp_machine.specs.Event.{Line, after};
+ghost use Rattle.gp_machine.specs.Event.{Line, after, target_of};
 ghost use Rattle.gp_machine.specs.HistorySpans.{state_spans};
 ghost use Rattle.gp_machine.specs.Replayed.{replayed_state};
 ghost use Rattle.gp_machine.specs.Replaying.{replay_stop};
@@ -22,21 +25,27 @@ ghost use Rattle.gp_machine.specs.ReplayForms.{CommitsInOrder, replayed_spans};
 ghost use Rattle.gp_machine.specs.State.{State, start};
 ghost use Rattle.gp_machine.specs.Unstopped.{IsUnstopped};
 ghost use Rattle.gp_dump.specs.Dumps.{Dump, dump_of};
+ghost use Rattle.gp_dump.specs.Rules.{WellFormed};
 ghost use Rattle.gp_dump.specs.WholeDumps.{IsDump};
 ghost use Rattle.gp_semiring.specs.declared.rules.Rule.{Rule};
 ghost use Rattle.gp_semiring.specs.Values.{token_value};
 ghost use Rattle.gp_history.specs.ValueForms.{held_value_answer, value_answer};
 ghost use Rattle.gp_versions.specs.declared.span.Span.{Span};
 ghost use Rattle.gp_versions.specs.Spans.{span_cmp};
+ghost use Rattle.gp_whatif.specs.Changed.{changed};
 ghost use Rattle.gp_whatif.specs.Replays.{IsCoherent, IsReplayable, stop_upto};
 ghost use Rattle.gp_ask.specs.Answerable.{question_is_valid};
-ghost use Rattle.gp_ask.specs.Answers.{answer_to, held_to};
+ghost use Rattle.gp_ask.specs.Printed.{answer_to, held_to, what_if_held};
 ghost use Rattle.gp_ask.specs.Computed.{computed_answer, what_if_answer};
 ghost use Rattle.gp_ask.specs.Asking.{spans_at};
 ghost use Rattle.gp_ask.specs.Changes.{spans_texts};
 ghost use Rattle.gp_ask.specs.Deltas.{delta};
 ghost use Rattle.gp_ask.specs.DeltaForms.{added_rows, removed_rows, row_of};
-ghost use Rattle.gp_ask.specs.Hypothetical.{replayed_dump, what_if_held};
+ghost use Rattle.gp_ask.specs.Explained.{ExplainsLines};
+ghost use Rattle.gp_ask.specs.Hypothetical.{remaking_refusal, replayed_dump};
+ghost use Rattle.gp_ask.specs.Isolated.{IsIsolated, LosesToFirst};
+ghost use Rattle.gp_ask.specs.Programs.{program_lines};
+ghost use Rattle.gp_ask.specs.Questions.{AreQuestions, ReadQuestion};
 ghost use Rattle.gp_ask.specs.Replays.{dump_in};
 ghost use Rattle.gp_ask.specs.ShownWrites.{ShowsWrites};
 
@@ -45,12 +54,15 @@ use gp_base::Monomial as BaseMonomial;
 use gp_history::{agreement_is_having_the_same_rows, values_are_those_of_the_history};
 use gp_machine::{
     annotations_change_no_replay, annotations_change_no_reply, commits_publish_the_spans,
-    histories_do_not_stop, identities_begin_with_their_committers, spans_hold_the_versions,
+    conflicts_are_least, histories_do_not_stop, identities_begin_with_their_committers,
+    reached_states_are_histories, spans_hold_the_versions,
     unstopped_histories_answer_their_questions,
 };
 use gp_semiring::{Bool, Cost, Count, Level, Poly, PosBool, Semiring};
+use gp_versions::a_version_has_one_row_of_an_identity;
 use gp_whatif::{
-    changed_logs_are_coherent, logs_keep_their_sessions, replays_have_the_tables_of_their_logs,
+    changed_logs_are_coherent, changed_logs_are_replayable, logs_keep_their_sessions,
+    replays_have_the_tables_of_their_logs,
 };
 
 /// Every question that was read is valid: its query is one that the check can answer, none of its FROM passes the limit of items, and
@@ -114,12 +126,44 @@ pub fn histories_answer_as_their_dumps()
 {
     unstopped_histories_answer_as_their_dumps();
     changed_histories_answer_their_questions();
+    commits_show_what_they_wrote();
     changed_logs_are_coherent();
     histories_do_not_stop::<BaseMonomial>();
+    spans_hold_the_versions::<BaseMonomial>();
+    a_version_has_one_row_of_an_identity();
     commits_publish_the_spans::<BaseMonomial>();
     identities_begin_with_their_committers::<BaseMonomial>();
     annotations_change_no_reply::<BaseMonomial, ()>()
 }
+
+/// Each transaction is isolated as its BEGIN says, whatever became of it, and the first committer of a row wins: in every history
+/// (`reached`), where none is lost but to such a one (`lost`), and in the one that the commits of the changed log of a dump, made again,
+/// lead to, if none of them stops (`remade`).
+pub fn histories_are_isolated()
+    ensures reached { (lines : List Line) → IsIsolated (after monomials parameters start lines) }
+    ensures lost { (lines : List Line) → LosesToFirst (after monomials parameters start lines) }
+    ensures remade { (dump : Dump) → IsDump dump → (change : y.LogChange) (entries : List Entry)
+        → changed parameters dump.entries change ≡ Ok entries → remaking_refusal entries ≡ None
+        → IsIsolated (replayed_state monomials (tables_in entries) entries) }
+{
+    reached_states_are_histories::<BaseMonomial>();
+    conflicts_are_least();
+    histories_do_not_stop::<BaseMonomial>();
+    annotations_change_no_replay::<BaseMonomial, ()>();
+    annotations_commute::<BaseMonomial, ()>();
+    changed_logs_are_coherent();
+    logs_keep_their_sessions()
+}
+
+/// The rows that a statement changed, by which a dump answers `CHANGES`, are those that it wrote, in their order, where none of the rows
+/// of its table was made by it before it ran. So they are in every state that lines lead to, whatever became of the transaction
+/// ([`histories_answer_as_their_dumps`]).
+pub fn changed_rows_are_those_written<M>()
+    ensures { (domain : Annotations M) (t k : ℕ) (statement : Statement) (db : Database M)
+        → AllByRecursion (λ row. is_made_by t k row.identity ≡ false) (db (target_of statement))
+        → written_in (target_of statement) (changed_rows domain t k statement db)
+        ≡ wrote domain t k statement db }
+{}
 
 /// On the dump of a history, `CHANGES` of the commit that made a version has a line for each row that the commit wrote and that the
 /// version before it or its own has, in the order of their identities in each table, and no other line. It shows the cells of the row
@@ -190,6 +234,18 @@ pub fn changed_histories_answer_their_questions()
     logs_keep_their_sessions();
     changed_logs_are_coherent();
     replays_have_the_tables_of_their_logs()
+}
+
+/// Every program that a file of questions asks of a well-formed dump has a text, which explains its query: the numbers of the program
+/// are in the ranges of their texts, since the dump and the questions keep their limits. So it is of the program of a changed log.
+/// Nothing is said of a call, which may run out of memory before it writes the program.
+pub fn programs_explain_their_questions()
+    ensures { (bytes file : List ℕ) (dump : Dump) (questions : List ReadQuestion)
+        → WellFormed bytes dump → AreQuestions file questions
+        → ExplainsLines program_lines dump.entries questions }
+{
+    changed_logs_are_replayable();
+    logs_keep_their_sessions()
 }
 
 /// Every well-formed dump, whether a history made it or not, answers a question about what would be with a change as the history

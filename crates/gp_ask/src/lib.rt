@@ -12,7 +12,8 @@
 //! a line, [`answer_by`] a plain AS OF or REENACT by what a [`Backend`] gives, of which [`Plain`] is the executor, and
 //! [`write_answer`] writes the answer. [`answer_line_in`] and [`write_answer_in`] do the same in a [`Format`]: as text, or as CSV. The
 //! lines of a file share their [`KeptAnnotations`], so that the row versions of a dump are annotated once for all its questions. In
-//! `specs/`, `Asking` and `Answers` say what the answer is (`Computed` how it is computed), `Hypothetical` what the history answers that would have been, `Formats`
+//! `specs/`, `Asking` and `Answers` say what the answer is, whichever programs answer explained queries (`Printed` with those that are printed, `Computed` as it is
+//! computed), `Explained` what these programs say, `Hypothetical` what the history answers that would have been, `Formats`
 //! which answers are exported as CSV, `Questions` which answers the lines of a file get (`QuestionFiles` by its bytes), and `Texts` how they are written. `Values` has
 //! the semirings and the rules of VALUE IN, `Witnesses` the minimal witnesses of rows, and `Remaining` what remains for WITHOUT. Inside,
 //! `logs` answers LOG, `row_versions` VERSIONS, `asking` any question about a state, by `queries` AS OF and REENACT, by `provenance`
@@ -59,7 +60,9 @@ pub use format::Format;
 pub use gp_exec::{Backend, Plain};
 pub use keeping::KeptAnnotations;
 pub use laws::{
-    changed_histories_answer_their_questions, commits_show_what_they_wrote, deltas_are_differences,
-    dumps_answer_as_changed_histories, histories_answer_as_their_dumps, read_questions_are_valid,
-    replays_answer_as_their_histories, unstopped_histories_answer_as_their_dumps,
+    changed_histories_answer_their_questions, changed_rows_are_those_written,
+    commits_show_what_they_wrote, deltas_are_differences, dumps_answer_as_changed_histories,
+    histories_answer_as_their_dumps, histories_are_isolated, programs_explain_their_questions,
+    read_questions_are_valid, replays_answer_as_their_histories,
+    unstopped_histories_answer_as_their_dumps,
 };

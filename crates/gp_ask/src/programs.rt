@@ -8,9 +8,9 @@ ghost use Rattle.gp_explain.specs.Explained.{Explains};
 ghost use Rattle.gp_grammar.specs.Syntax as y;
 ghost use Rattle.gp_log.specs.Contents.{HasPoint, StatementsFit, entries, tables};
 ghost use Rattle.gp_syntax.specs.Views.{query_view, point_view};
-ghost use Rattle.gp_ask.specs.Asking.{ask_to};
+ghost use Rattle.gp_ask.specs.Printed.{ask_to};
 ghost use Rattle.gp_ask.specs.AskingForms.{dump_program};
-ghost use Rattle.gp_ask.specs.Explained.{ExplainsQuestion};
+ghost use Rattle.gp_ask.specs.ExplainedTexts.{ExplainsQuestion};
 ghost use Rattle.gp_ask.specs.Programs.{explained_text};
 ghost use Rattle.gp_ask.specs.Replays.{dump_in};
 

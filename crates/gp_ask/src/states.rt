@@ -8,7 +8,7 @@ ghost use Rattle.gp_log.specs.LogFacts.{tables_in};
 ghost use Rattle.gp_dump.specs.Views.{dump_view};
 ghost use Rattle.gp_ask.specs.Answerable.{IsAnswerable, has_few_items};
 ghost use Rattle.gp_ask.specs.Computed.{computed_answer};
-ghost use Rattle.gp_ask.specs.Explained.{ExplainsQuestion};
+ghost use Rattle.gp_ask.specs.ExplainedTexts.{ExplainsQuestion};
 ghost use Rattle.gp_ask.specs.Keeping.{AreKept};
 
 use crate::answered::Answered;

@@ -1,6 +1,6 @@
 use Rattle.gp_syntax.specs.Views.{question_view}
 use Rattle.gp_dump.specs.Views.{dump_view}
-use Rattle.gp_ask.specs.Explained.{ExplainsQuestion}
+use Rattle.gp_ask.specs.ExplainedTexts.{ExplainsQuestion}
 use Rattle.gp_ask.proofs.FormatLemmas.{unexplained}
 use Rattle.gp_ask.proofs.exporting.answer_in.Goals as goal
 

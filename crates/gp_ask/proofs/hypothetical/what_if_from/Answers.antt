@@ -9,9 +9,9 @@ use Rattle.gp_syntax.specs.Views.{change_view, how_view, query_view, point_view}
 use Rattle.gp_dump.specs.Views.{dump_view}
 use Rattle.gp_ask.specs.declared.answered.Answered.{Answered}
 use Rattle.gp_ask.specs.Computed.{computed_answer}
-use Rattle.gp_ask.specs.Asking.{ask_to}
-use Rattle.gp_ask.specs.Explained.{ExplainsQuestion}
-use Rattle.gp_ask.specs.Hypothetical.{remade_answer, replayed_dump}
+use Rattle.gp_ask.specs.Printed.{ask_to, remade_answer}
+use Rattle.gp_ask.specs.ExplainedTexts.{ExplainsQuestion}
+use Rattle.gp_ask.specs.Hypothetical.{replayed_dump}
 use Rattle.gp_ask.proofs.ProvenanceLemmas.{replayable}
 use Rattle.gp_ask.proofs.WhatIfLemmas.{changed_is, explains_changed, explains_refused}
 use Rattle.gp_ask.proofs.hypothetical.what_if_from.Goals as goal

@@ -16,8 +16,9 @@ use Rattle.gp_machine.specs.State.{State, start}
 use Rattle.gp_versions.specs.declared.span.Span.{Span}
 use Rattle.gp_whatif.specs.Replays.{IsCoherent}
 use Rattle.gp_dump.specs.Dumps.{dump_of}
-use Rattle.gp_ask.specs.Answers.{answer_to, held_to}
+use Rattle.gp_ask.specs.Printed.{answer_to, held_to}
 use Rattle.gp_ask.specs.Asking.{spans_at}
+use Rattle.gp_ask.proofs.CommittedLines.{commits}
 use Rattle.gp_ask.proofs.HeldLemmas.{forgetting, held}
 use Rattle.gp_ask.proofs.SeenLemmas.{alters, sees}
 use Rattle.gp_ask.proofs.SpanLemmas.{dumped}
@@ -47,9 +48,13 @@ returns c = λ lines question.
     let bags : (table : ℕ) → SameBag (spans table) (state_spans (forgetting state) table) = λ table. unpermuted _ _ (dumped (forgetting state) beyond table) in
     let whole : tables_in state.entries ≡ state.catalogue = tables-kept monomials parameters start lines refl in
     subst (λ (s : State (Unit {0})). answer_to (dump_of s) question ≡ held_to state question) (sym same)
-    (held state kept
+    (held state kept whole
     (sees state reached plainly sessions once whole tables bags)
     (alters state reached plainly sessions once whole tables bags)
+    (commits state reached.history sessions once whole (λ table past. c.commits_publish_the_spans.ensures.beyond monomials parameters targets-checked lines table past)
+    (λ version table within. c.spans_hold_the_versions.ensures.rows monomials parameters state reached version table within)
+    (λ version table. c.a_version_has_one_row_of_an_identity.ensures.different version (state_spans state table) (c.spans_hold_the_versions.ensures.apart monomials parameters state reached table))
+    (λ name version table within. c.commits_show_what_they_wrote.ensures lines name version table within))
     (λ how point query. c.unstopped_histories_answer_as_their_dumps.ensures state (c.histories_do_not_stop.ensures.reached monomials parameters lines) (tables-kept monomials parameters start lines refl)
     (dump_of (forgetting state)).tables moved how point query)
     (subst (λ (s : State (Unit {0})). difference (dump_of s) ≡ None) same (complete lines)) question)

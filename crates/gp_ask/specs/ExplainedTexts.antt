@@ -1,0 +1,25 @@
+-- Machinery: what an explained question says, by the text that is printed, as contracts of the code speak of it. `Explained` says it of the lines of any programs.
+use Rattle.std.specs.Prelude.{Bool, List, IfOk}
+use Rattle.gp_grammar.specs.Syntax as y
+use Rattle.gp_algebra.specs.Statements.{Select}
+use Rattle.gp_check.specs.Checking.{checked_query}
+use Rattle.gp_explain.specs.Explained.{Explains}
+use Rattle.gp_log.specs.Parameters.{parameters}
+use Rattle.gp_log.specs.LogFacts.{tables_in}
+use Rattle.gp_machine.specs.Entries.{Entry}
+use Rattle.gp_machine.specs.Questions.{log_refusal}
+use Rattle.gp_whatif.specs.Changed.{changed}
+use Rattle.gp_ask.specs.Asking.{asked}
+use Rattle.gp_ask.specs.Programs.{explained_text}
+
+abbrev pub ExplainsAsk : List Entry → Bool → y.Point → y.Query → Type 0
+ExplainsAsk entries prov point query =
+    IfOk (asked (log_refusal entries point) (checked_query (tables_in entries) query))
+    (λ (select : Select). Explains entries point select prov (explained_text entries prov point select))
+
+-- by the changed log, unless the change is refused
+module _ (entries : List Entry) where
+  abbrev pub ExplainsQuestion : y.Question → Type 0
+  ExplainsQuestion (y.ask (y.explain prov) point query) = ExplainsAsk entries prov point query
+  ExplainsQuestion (y.what_if change (y.explain prov) point query) = IfOk (changed parameters entries change) (λ (own : List Entry). ExplainsAsk own prov point query)
+  ExplainsQuestion question = Unit {0}

@@ -1,0 +1,41 @@
+-- Machinery: the answers with the programs that are printed: the merged ones.
+use Rattle.std.specs.Prelude.{List, Result}
+use Rattle.gp_base.specs.declared.refusal.Refusal.{Refusal}
+use Rattle.gp_base.specs.Tokens.{Monomial}
+use Rattle.gp_grammar.specs.Syntax as y
+use Rattle.gp_algebra.specs.Statements.{Select}
+use Rattle.gp_machine.specs.Entries.{Entry}
+use Rattle.gp_machine.specs.State.{State}
+use Rattle.gp_dump.specs.Dumps.{Dump}
+use Rattle.gp_ask.specs.declared.answered.Answered.{Answered}
+use Rattle.gp_ask.specs.Answers as answers
+use Rattle.gp_ask.specs.Asking as asking
+use Rattle.gp_ask.specs.Hypothetical as hypothetical
+use Rattle.gp_ask.specs.Programs.{program_lines}
+
+abbrev pub dump_answer : Dump → y.How → y.Point → Select → Answered
+dump_answer = asking.dump_answer program_lines
+
+abbrev pub ask_to : Dump → y.How → y.Point → y.Query → Answered
+ask_to = asking.ask_to program_lines
+
+abbrev pub history_answer : State Monomial → y.How → y.Point → Select → Answered
+history_answer = asking.history_answer program_lines
+
+abbrev pub held_ask : State Monomial → y.How → y.Point → y.Query → Answered
+held_ask = asking.held_ask program_lines
+
+abbrev pub remade_answer : (y.How → y.Point → y.Query → Answered) → List Entry → y.How → y.Point → y.Query → Answered
+remade_answer = hypothetical.remade_answer program_lines
+
+abbrev pub changed_answer : (List Entry → y.How → y.Point → y.Query → Answered) → Result (List Entry) Refusal → y.How → y.Point → y.Query → Answered
+changed_answer = hypothetical.changed_answer program_lines
+
+abbrev pub what_if_held : List Entry → y.LogChange → y.How → y.Point → y.Query → Answered
+what_if_held = hypothetical.what_if_held program_lines
+
+abbrev pub answer_to : Dump → y.Question → Answered
+answer_to = answers.answer_to program_lines
+
+abbrev pub held_to : State Monomial → y.Question → Answered
+held_to = answers.held_to program_lines
