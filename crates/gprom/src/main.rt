@@ -1,6 +1,6 @@
 //! The program gprom: it runs a script of transactions, each under snapshot isolation or read committed, writes the dump of their
 //! history, and answers questions from such a dump. All that it does is [`gprom_cli::gprom`], called here on the files and the standard output of the
-//! system.
+//! system. No proof shows that these are the real ones, nor that the arguments are passed on: this file is read by eye, like the module `edge` of `gp_io`.
 #![tactic(auto)]
 
 use gp_base::NoMemory;

@@ -1,6 +1,6 @@
 -- Answers that are written one after another.
 use Rattle.std.proofs.Common.{◌≡◌, ℕ, inl, Bool, true, false, ◌||◌, cond, List, [], ◌∷◌, ◌++◌, Result, Ok, Err, refl, sym, ap, ◌∙◌, subst, append_assoc}
-use Rattle.std.specs.List.{AllByRecursion, flat_map, list_any}
+use Rattle.std.specs.List.{flat_map, list_any}
 use Rattle.std.specs.Result.{IsErrAnd}
 use Rattle.std.proofs.lemmas.List.{append-nil}
 use Rattle.gp_io.specs.declared.error.SinkStop.{SinkStop}
@@ -14,42 +14,26 @@ use Rattle.gp_ask.specs.declared.answered.Answered.{Answered}
 use Rattle.gp_ask.specs.declared.answered.Answered.TheVariants.{Refused}
 use Rattle.gp_ask.specs.declared.format.Format.{Format}
 use Rattle.gp_ask.specs.declared.format.Format.TheVariants.{Text, Csv}
-use Rattle.gp_ask.specs.QuestionFiles.{ExplainsIn, ExplainsQuestions, ExplainsRead, answers_text, has_refused, line_answer_in, line_answer_text}
+use Rattle.gp_ask.specs.QuestionFiles.{answers_text, has_refused, line_answer_in, line_answer_text}
 use Rattle.gp_ask.specs.Formats.{answers_in, asks_rows, text_in}
-use Rattle.gp_machine.specs.Entries.{Entry}
 use Rattle.gp_ask.specs.Questions.{answered, is_refused}
 use Rattle.gprom_cli.specs.declared.status.Status.TheVariants as exit
-use Rattle.gprom_cli.specs.Call.{AreLines, IsAnswered, WritesOutput, all_written, some_written, write_failed}
+use Rattle.gprom_cli.specs.Call.{AreLines, WritesOutput, all_written, some_written, write_failed}
 use Rattle.gprom_cli.specs.Steps.{WritesAnswers, stop_status}
 use Rattle.gprom_cli.proofs.LinesLemmas.{after-lines, answer-lines}
-use Rattle.gprom_cli.proofs.WritesLemmas.{after-nothing, unanswered}
+use Rattle.gprom_cli.proofs.WritesLemmas.{IsAnswered, after-nothing, unanswered}
 use Rattle.gp_base.proofs.SmallLemmas.{or_nothing}
 
 abbrev pub is_line_refused : Format → (y.Question → Answered) → ℕ × List ℕ → Bool
 is_line_refused format answers line = is_refused (line_answer_in format answers line)
 
--- each line is explained
-abbrev AreExplained : List Entry → List (ℕ × List ℕ) → Type 0
-AreExplained entries lines = AllByRecursion (λ (line : ℕ × List ℕ). ExplainsRead entries (question_of line.1)) lines
-
 -- the answers to the lines before were written, and the remaining ones decide the rest
-pub record IsProgress (format : Format) (answers : y.Question → Answered) (entries : List Entry) (questions : List ℕ) (lines : List (ℕ × List ℕ)) (refused : Bool) (old new : SinkState) : Type 0 where
+pub record IsProgress (format : Format) (answers : y.Question → Answered) (questions : List ℕ) (lines : List (ℕ × List ℕ)) (refused : Bool) (old new : SinkState) : Type 0 where
   pub text : List ℕ
   pub are : AreLines text
   pub grown : new ≡ after_write text old
   pub all : text ++ flat_map (line_answer_text format answers) lines ≡ answers_text format answers questions
   pub refusals : (refused || list_any (is_line_refused format answers) lines) ≡ has_refused format answers questions
-  pub explained : ExplainsIn format (AreExplained entries lines) → ExplainsIn format (ExplainsQuestions entries questions)
-
--- what is explained of a line, and of the lines after it
-both-explained : (format : Format) (entries : List Entry) (line : ℕ × List ℕ) (lines : List (ℕ × List ℕ)) → ExplainsIn format (ExplainsRead entries (question_of line.1))
-    → ExplainsIn format (AreExplained entries lines) → ExplainsIn format (AreExplained entries (line ∷ lines))
-both-explained Text entries line lines one others = (one, others)
-both-explained Csv entries line lines one others = tt
-
-none-explained : (format : Format) (entries : List Entry) → ExplainsIn format (AreExplained entries [])
-none-explained Text entries = tt
-none-explained Csv entries = tt
 
 or-again : (a b c : Bool) → ((a || b) || c) ≡ (a || (b || c))
 or-again true b c = refl
@@ -59,30 +43,26 @@ or-again false b c = refl
 joined-behind : (first some rest later : List ℕ) → first ++ ((some ++ rest) ++ later) ≡ (first ++ some) ++ (rest ++ later)
 joined-behind first some rest later = ap (λ (t : List ℕ). first ++ t) (append_assoc some rest later) ∙ sym (append_assoc first some (rest ++ later))
 
-module _ (format : Format) (answers : y.Question → Answered) (entries : List Entry) (questions : List ℕ) (old new : SinkState) where
+module _ (format : Format) (answers : y.Question → Answered) (questions : List ℕ) (old new : SinkState) where
   -- one write and another one
   write-twice : (first second : List ℕ) → after_write second (after_write first old) ≡ after_write (first ++ second) old
   write-twice first second = λ i. record { taken = append_assoc old.taken first second i; failed = old.failed }
 
   -- before the first line
-  pub starts : (lines : List (ℕ × List ℕ)) → lines ≡ script_lines questions → IsProgress format answers entries questions lines false old old
+  pub starts : (lines : List (ℕ × List ℕ)) → lines ≡ script_lines questions → IsProgress format answers questions lines false old old
   starts lines whole = record {
     text = [];
     are = inl refl;
     grown = after-nothing old;
     all = ap (flat_map (line_answer_text format answers)) whole;
     refusals = ap (list_any (is_line_refused format answers)) whole;
-    explained = λ are. subst (λ (all : List (ℕ × List ℕ)). ExplainsIn format (AreExplained entries all)) whole are;
   }
 
   -- after the last line
-  pub ends : (refused : Bool) → IsProgress format answers entries questions [] refused old new → WritesAnswers (answers_text format answers questions) (has_refused format answers questions) old new (Ok refused)
+  pub ends : (refused : Bool) → IsProgress format answers questions [] refused old new → WritesAnswers (answers_text format answers questions) (has_refused format answers questions) old new (Ok refused)
   ends refused way =
       let whole : way.text ≡ answers_text format answers questions = sym (append-nil way.text) ∙ way.all in
       record { refused = sym (or_nothing refused) ∙ way.refusals; written = way.grown ∙ ap (λ (text : List ℕ). after_write text old) whole }
-
-  pub ends-explained : (refused : Bool) → IsProgress format answers entries questions [] refused old new → ExplainsIn format (ExplainsQuestions entries questions)
-  ends-explained refused way = way.explained (none-explained format entries)
 
   module _ (line : ℕ × List ℕ) (lines : List (ℕ × List ℕ)) (refused : Bool) (newest : SinkState) where
     abbrev line_text : List ℕ
@@ -92,13 +72,13 @@ module _ (format : Format) (answers : y.Question → Answered) (entries : List E
     later_text = flat_map (line_answer_text format answers) lines
 
     -- all answers, by the parts of this one
-    whole-of : (way : IsProgress format answers entries questions (line ∷ lines) refused old new) (parts : List ℕ) → line_text ≡ parts → answers_text format answers questions ≡ way.text ++ (parts ++ later_text)
+    whole-of : (way : IsProgress format answers questions (line ∷ lines) refused old new) (parts : List ℕ) → line_text ≡ parts → answers_text format answers questions ≡ way.text ++ (parts ++ later_text)
     whole-of way parts split = sym way.all ∙ ap (λ (t : List ℕ). way.text ++ (t ++ later_text)) split
 
     -- one more line was answered
-    pub goes_on : (one : Bool) → IsProgress format answers entries questions (line ∷ lines) refused old new → WritesAnswers line_text (is_line_refused format answers line) new newest (Ok one)
-        → ExplainsIn format (ExplainsRead entries (question_of line.1)) → IsProgress format answers entries questions lines (refused || one) old newest
-    goes_on one way wrote explains = record {
+    pub goes_on : (one : Bool) → IsProgress format answers questions (line ∷ lines) refused old new → WritesAnswers line_text (is_line_refused format answers line) new newest (Ok one)
+        → IsProgress format answers questions lines (refused || one) old newest
+    goes_on one way wrote = record {
       text = way.text ++ line_text;
       are = after-lines way.text line_text way.are (answer-lines format answers line);
       grown = wrote.written ∙ ap (after_write line_text) way.grown ∙ write-twice way.text line_text;
@@ -106,11 +86,10 @@ module _ (format : Format) (answers : y.Question → Answered) (entries : List E
       refusals =
           or-again refused one (list_any (is_line_refused format answers) lines)
           ∙ ap (λ (b : Bool). refused || (b || list_any (is_line_refused format answers) lines)) wrote.refused ∙ way.refusals;
-      explained = λ later. way.explained (both-explained format entries line lines explains later);
     }
 
     -- the answer to a line was not written, or a part of its lines
-    stops-in : (stop : SinkStop) → IsProgress format answers entries questions (line ∷ lines) refused old new → WritesOutput line_text exit.Done new newest (stop_status stop)
+    stops-in : (stop : SinkStop) → IsProgress format answers questions (line ∷ lines) refused old new → WritesOutput line_text exit.Done new newest (stop_status stop)
         → WritesOutput (answers_text format answers questions) exit.Done old newest (stop_status stop)
     stops-in stop way (all_written all is) = absurd (unanswered stop (subst IsAnswered (sym is) tt))
     stops-in stop way (some_written some rest split are grown memory) =
@@ -121,12 +100,12 @@ module _ (format : Format) (answers : y.Question → Answered) (entries : List E
         (whole-of way (some ++ (next ++ rest)) split ∙ joined-behind way.text some (next ++ rest) later_text ∙ ap (λ (t : List ℕ). (way.text ++ some) ++ t) (append_assoc next rest later_text))
         (after-lines way.text some way.are are) (grown ∙ ap (λ (k : SinkState). after_failure next (after_write some k)) way.grown ∙ ap (after_failure next) (write-twice way.text some)) unwritten
 
-    pub stops : (stop : SinkStop) → IsProgress format answers entries questions (line ∷ lines) refused old new → WritesAnswers line_text (is_line_refused format answers line) new newest (Err stop)
+    pub stops : (stop : SinkStop) → IsProgress format answers questions (line ∷ lines) refused old new → WritesAnswers line_text (is_line_refused format answers line) new newest (Err stop)
         → WritesAnswers (answers_text format answers questions) (has_refused format answers questions) old newest (Err stop)
     stops stop way wrote = record { refused = tt; written = stops-in stop way wrote.written }
 
     -- the same, where the error is handed on
-    pub stops_with : (result : Result Bool SinkStop) (stop : SinkStop) → IsErrAnd result (λ other. other ≡ stop) → IsProgress format answers entries questions (line ∷ lines) refused old new
+    pub stops_with : (result : Result Bool SinkStop) (stop : SinkStop) → IsErrAnd result (λ other. other ≡ stop) → IsProgress format answers questions (line ∷ lines) refused old new
         → WritesAnswers line_text (is_line_refused format answers line) new newest (Err stop) → WritesAnswers (answers_text format answers questions) (has_refused format answers questions) old newest result
     stops_with (Ok value) stop same way wrote = absurd same
     stops_with (Err other) stop same way wrote =

@@ -5,29 +5,20 @@ use Rattle.gp_script.specs.declared.script.TheConstants.{MAX_SCRIPT_LENGTH}
 use Rattle.gp_script.specs.History.{IsScript, ReadLine, has_refusal, replies_to}
 use Rattle.gp_script.proofs.ReadHistory.{one-script}
 use Rattle.gp_dump.specs.declared.dump.TheConstants.{MAX_DUMP_LENGTH}
-use Rattle.gp_dump.specs.Dumps.{Dump}
-use Rattle.gp_dump.specs.Rules.{FirstFault, WellFormed}
-use Rattle.gp_dump.specs.Verdicts.{Verdict, Holds, verdict_on, fault_in}
-use Rattle.gp_dump.proofs.FaultLemmas.{fault-is}
 use Rattle.gp_csv.specs.Faults.{Fault}
 use Rattle.gp_load.specs.Loading.{LoadsText, loaded_of}
-use Rattle.gp_ask.specs.declared.format.Format.{Format}
-use Rattle.gp_ask.specs.declared.format.Format.TheVariants.{Text, Csv}
 use Rattle.gp_ask.specs.Answers.{answer_to}
-use Rattle.gp_ask.specs.Explained.{ExplainsLines}
-use Rattle.gp_ask.specs.QuestionFiles.{ExplainsIn, questions_as_read}
-use Rattle.gp_ask.specs.Questions.{AreQuestions, ReadQuestion, refuses_some}
-use Rattle.gp_ask.proofs.ReadAnswers.{one-file}
+use Rattle.gp_ask.specs.Asking.{Programs}
+use Rattle.gp_ask.specs.Questions.{refuses_some}
 use Rattle.gprom_cli.specs.declared.load.TheConstants.{MAX_SHEET_LENGTH}
 use Rattle.gprom_cli.specs.declared.status.Status.{Status}
 use Rattle.gprom_cli.specs.declared.status.Status.TheVariants as exit
 use Rattle.gprom_cli.specs.Args.{Command, Run, Ask, Generate, Load}
 use Rattle.gprom_cli.specs.Call as c
-use Rattle.gprom_cli.specs.Call.{ComesTo, HasRead, IsAnswered, IsReadBy, answered_status, history_dump, read_of}
+use Rattle.gprom_cli.specs.Call.{AreLines, ComesTo, HasRead, IsReadBy, answered_status, history_dump, read_of, rounds_line}
 use Rattle.gprom_cli.specs.Consequences.{AllDone, FollowsSteps, IsLast, reads, replaces}
 use Rattle.gprom_cli.specs.Steps.{script_dump}
 use Rattle.gprom_cli.proofs.OutcomeLemmas.{dump-read}
-use Rattle.gprom_cli.proofs.ToldLemmas.{ReadsWellFormed}
 
 -- ---- parts of lists of events
 
@@ -81,20 +72,20 @@ pub read-follows : (command : Option Command) (events : List Event) → HasRead 
 read-follows _ _ (c.nothing command) = no-steps command
 read-follows _ _ (c.files command before name most bytes is short) = read-steps command before name most bytes is
 
-pub end-follows : (ended : Status) (command : Option Command) (events : List Event) (text : List ℕ) (status : Status) → ComesTo ended command events text status → FollowsSteps command events
-end-follows ended _ _ _ _ c.usage = ([], refl)
-end-follows ended _ _ _ _ (c.absent command before name most is) = missing-steps command before name most is
-end-follows ended _ _ _ _ (c.unreadable command before name most is) = unreadable-steps command before name most is
-end-follows ended _ _ _ _ (c.too_long command before name most bytes is long) = read-steps command before name most bytes is
-end-follows ended _ _ _ _ (c.long_dump script dump bytes lines run long) = (replaces dump ∷ [], refl)
-end-follows ended _ _ _ _ (c.lost_dump script dump bytes lines run small) = ([], refl)
-end-follows ended _ _ _ _ (c.replied script dump bytes lines run small) = ([], refl)
-end-follows ended _ _ _ _ (c.damaged format dump questions bytes asked f line few short fault) = ([], refl)
-end-follows ended _ _ _ _ (c.answered format dump questions bytes asked contents lines few short formed are explains) = ([], refl)
-end-follows ended _ _ _ _ (c.summarized rounds summary made) = ([], refl)
-end-follows ended _ _ _ _ (c.faulty_sheet csv table script bytes number record_number short fault) = (replaces script ∷ [], refl)
-end-follows ended _ _ _ _ (c.lost_script csv table script bytes text rows short is) = ([], refl)
-end-follows ended _ _ _ _ (c.loaded csv table script bytes text rows short is loads) = ([], refl)
+pub end-follows : (programs : Programs) (command : Option Command) (events : List Event) (text : List ℕ) (status : Status) → ComesTo programs command events text status → FollowsSteps command events
+end-follows programs _ _ _ _ c.usage = ([], refl)
+end-follows programs _ _ _ _ (c.absent command before name most is) = missing-steps command before name most is
+end-follows programs _ _ _ _ (c.unreadable command before name most is) = unreadable-steps command before name most is
+end-follows programs _ _ _ _ (c.too_long command before name most bytes is long) = read-steps command before name most bytes is
+end-follows programs _ _ _ _ (c.long_dump script dump bytes lines run long) = (replaces dump ∷ [], refl)
+end-follows programs _ _ _ _ (c.lost_dump script dump bytes lines run small) = ([], refl)
+end-follows programs _ _ _ _ (c.replied script dump bytes lines run small) = ([], refl)
+end-follows programs _ _ _ _ (c.damaged format dump questions bytes asked f line few short fault) = ([], refl)
+end-follows programs _ _ _ _ (c.answered format dump questions bytes asked contents lines few short formed are) = ([], refl)
+end-follows programs _ _ _ _ (c.summarized rounds others are) = ([], refl)
+end-follows programs _ _ _ _ (c.faulty_sheet csv table script bytes number record_number short fault) = (replaces script ∷ [], refl)
+end-follows programs _ _ _ _ (c.lost_script csv table script bytes text rows short is) = ([], refl)
+end-follows programs _ _ _ _ (c.loaded csv table script bytes text rows short is loads) = ([], refl)
 
 -- ---- the cause of each status
 
@@ -120,22 +111,22 @@ answered-cause : (refused : Bool) (command : Option Command) (events : List Even
 answered-cause true command events done = done
 answered-cause false command events done = done
 
-pub cause : (ended : Status) (command : Option Command) (events : List Event) (text : List ℕ) (status : Status) → ComesTo ended command events text status → Cause status command events
-cause ended _ _ _ _ c.usage = (refl, tt)
-cause ended _ _ _ _ (c.absent command before name most is) = (name, (before, refl))
-cause ended _ _ _ _ (c.unreadable command before name most is) = (name, (before, refl))
-cause ended _ _ _ _ (c.too_long command before name most bytes is long) = read-done command before name most bytes is
-cause ended _ _ _ _ (c.long_dump script dump bytes lines run long) = tt
-cause ended _ _ _ _ (c.lost_dump script dump bytes lines run small) = (dump, history_dump lines, (read_of script MAX_SCRIPT_LENGTH bytes ∷ [], refl))
-cause ended _ _ _ _ (c.replied script dump bytes lines run small) =
+pub cause : (programs : Programs) (command : Option Command) (events : List Event) (text : List ℕ) (status : Status) → ComesTo programs command events text status → Cause status command events
+cause programs _ _ _ _ c.usage = (refl, tt)
+cause programs _ _ _ _ (c.absent command before name most is) = (name, (before, refl))
+cause programs _ _ _ _ (c.unreadable command before name most is) = (name, (before, refl))
+cause programs _ _ _ _ (c.too_long command before name most bytes is long) = read-done command before name most bytes is
+cause programs _ _ _ _ (c.long_dump script dump bytes lines run long) = tt
+cause programs _ _ _ _ (c.lost_dump script dump bytes lines run small) = (dump, history_dump lines, (read_of script MAX_SCRIPT_LENGTH bytes ∷ [], refl))
+cause programs _ _ _ _ (c.replied script dump bytes lines run small) =
     answered-cause (has_refusal (replies_to lines)) (Some (Run script dump)) (read_of script MAX_SCRIPT_LENGTH bytes ∷ Replaced dump (history_dump lines) ∷ []) tt
-cause ended _ _ _ _ (c.damaged format dump questions bytes asked f line few short fault) = tt
-cause ended _ _ _ _ (c.answered format dump questions bytes asked contents lines few short formed are explains) =
-    answered-cause (refuses_some format (answer_to contents) lines) (Some (Ask format dump questions)) (read_of dump MAX_DUMP_LENGTH bytes ∷ read_of questions MAX_SCRIPT_LENGTH asked ∷ []) tt
-cause ended _ _ _ _ (c.summarized rounds summary made) = tt
-cause ended _ _ _ _ (c.faulty_sheet csv table script bytes number record_number short fault) = tt
-cause ended _ _ _ _ (c.lost_script csv table script bytes text rows short is) = (script, text, (read_of csv MAX_SHEET_LENGTH bytes ∷ [], refl))
-cause ended _ _ _ _ (c.loaded csv table script bytes text rows short is loads) = tt
+cause programs _ _ _ _ (c.damaged format dump questions bytes asked f line few short fault) = tt
+cause programs _ _ _ _ (c.answered format dump questions bytes asked contents lines few short formed are) =
+    answered-cause (refuses_some format (answer_to programs contents) lines) (Some (Ask format dump questions)) (read_of dump MAX_DUMP_LENGTH bytes ∷ read_of questions MAX_SCRIPT_LENGTH asked ∷ []) tt
+cause programs _ _ _ _ (c.summarized rounds others are) = tt
+cause programs _ _ _ _ (c.faulty_sheet csv table script bytes number record_number short fault) = tt
+cause programs _ _ _ _ (c.lost_script csv table script bytes text rows short is) = (script, text, (read_of csv MAX_SHEET_LENGTH bytes ∷ [], refl))
+cause programs _ _ _ _ (c.loaded csv table script bytes text rows short is loads) = tt
 
 -- ---- what follows a read
 
@@ -154,37 +145,68 @@ long-clash bytes other most same long short = omega (arith, long, short, ap leng
 pub dump-of : (bytes other : List ℕ) (lines : List ReadLine) → IsScript bytes lines → bytes ≡ other → history_dump lines ≡ script_dump other
 dump-of bytes other lines are same = ap history_dump (one-script bytes lines are) ∙ dump-read bytes ∙ ap script_dump same
 
-module _ (ended : Status) where
-  missing-run : (command : Command) (before : List Event) (name : List ℕ) (most : ℕ) (event : Event) → (BeginsRead (event ∷ []) → ⊥) → IsReadBy command before name most → RunFollows (Some command) (before ++ event ∷ [])
-  missing-run _ _ _ _ event none (c.reads_script script dump) = λ name bytes made is short few. absurd (no-read (event ∷ []) name bytes MAX_SCRIPT_LENGTH made is none)
-  missing-run _ _ _ _ event none (c.reads_dump format dump questions) = tt
-  missing-run _ _ _ _ event none (c.reads_questions format dump questions first short) = tt
-  missing-run _ _ _ _ event none (c.reads_sheet csv table script) = tt
+missing-run : (command : Command) (before : List Event) (name : List ℕ) (most : ℕ) (event : Event) → (BeginsRead (event ∷ []) → ⊥) → IsReadBy command before name most → RunFollows (Some command) (before ++ event ∷ [])
+missing-run _ _ _ _ event none (c.reads_script script dump) = λ name bytes made is short few. absurd (no-read (event ∷ []) name bytes MAX_SCRIPT_LENGTH made is none)
+missing-run _ _ _ _ event none (c.reads_dump format dump questions) = tt
+missing-run _ _ _ _ event none (c.reads_questions format dump questions first short) = tt
+missing-run _ _ _ _ event none (c.reads_sheet csv table script) = tt
 
-  long-run : (command : Command) (before : List Event) (name : List ℕ) (most : ℕ) (bytes : List ℕ) → IsReadBy command before name most → most < length bytes → RunFollows (Some command) (before ++ read_of name most bytes ∷ [])
-  long-run _ _ _ _ read (c.reads_script script dump) long = λ name bytes made is short few. absurd (long-clash read bytes MAX_SCRIPT_LENGTH (ap bytes_in is) long short)
-  long-run _ _ _ _ read (c.reads_dump format dump questions) long = tt
-  long-run _ _ _ _ read (c.reads_questions format dump questions first short) long = tt
-  long-run _ _ _ _ read (c.reads_sheet csv table script) long = tt
+long-run : (command : Command) (before : List Event) (name : List ℕ) (most : ℕ) (bytes : List ℕ) → IsReadBy command before name most → most < length bytes → RunFollows (Some command) (before ++ read_of name most bytes ∷ [])
+long-run _ _ _ _ read (c.reads_script script dump) long = λ name bytes made is short few. absurd (long-clash read bytes MAX_SCRIPT_LENGTH (ap bytes_in is) long short)
+long-run _ _ _ _ read (c.reads_dump format dump questions) long = tt
+long-run _ _ _ _ read (c.reads_questions format dump questions first short) long = tt
+long-run _ _ _ _ read (c.reads_sheet csv table script) long = tt
 
-  pub run-follows : (command : Option Command) (events : List Event) (text : List ℕ) (status : Status) → ComesTo ended command events text status → RunFollows command events
-  run-follows _ _ _ _ c.usage = tt
-  run-follows _ _ _ _ (c.absent command before name most is) = missing-run command before name most (Missing name) (λ no. no) is
-  run-follows _ _ _ _ (c.unreadable command before name most is) = missing-run command before name most (Unreadable name) (λ no. no) is
-  run-follows _ _ _ _ (c.too_long command before name most bytes is long) = long-run command before name most bytes is long
-  run-follows _ _ _ _ (c.long_dump script dump read lines run long) = λ name bytes made is short few.
-      let same : history_dump lines ≡ script_dump bytes = dump-of read bytes lines run.are (ap bytes_in is) in
-      absurd (long-clash (history_dump lines) (script_dump bytes) MAX_DUMP_LENGTH same long few)
-  run-follows _ _ _ _ (c.lost_dump script dump read lines run small) = λ name bytes made is short few.
-      inr (sym (ap rest_of is) ∙ ap (λ (text : List ℕ). NotReplaced dump text ∷ []) (dump-of read bytes lines run.are (ap bytes_in is)))
-  run-follows _ _ _ _ (c.replied script dump read lines run small) = λ name bytes made is short few.
-      inl (sym (ap rest_of is) ∙ ap (λ (text : List ℕ). Replaced dump text ∷ []) (dump-of read bytes lines run.are (ap bytes_in is)))
-  run-follows _ _ _ _ (c.damaged format dump questions bytes asked f line few short fault) = tt
-  run-follows _ _ _ _ (c.answered format dump questions bytes asked contents lines few short formed are explains) = tt
-  run-follows _ _ _ _ (c.summarized rounds summary made) = tt
-  run-follows _ _ _ _ (c.faulty_sheet csv table script bytes number record_number short fault) = tt
-  run-follows _ _ _ _ (c.lost_script csv table script bytes text rows short is) = tt
-  run-follows _ _ _ _ (c.loaded csv table script bytes text rows short is loads) = tt
+pub run-follows : (programs : Programs) (command : Option Command) (events : List Event) (text : List ℕ) (status : Status) → ComesTo programs command events text status → RunFollows command events
+run-follows programs _ _ _ _ c.usage = tt
+run-follows programs _ _ _ _ (c.absent command before name most is) = missing-run command before name most (Missing name) (λ no. no) is
+run-follows programs _ _ _ _ (c.unreadable command before name most is) = missing-run command before name most (Unreadable name) (λ no. no) is
+run-follows programs _ _ _ _ (c.too_long command before name most bytes is long) = long-run command before name most bytes is long
+run-follows programs _ _ _ _ (c.long_dump script dump read lines run long) = λ name bytes made is short few.
+    let same : history_dump lines ≡ script_dump bytes = dump-of read bytes lines run.are (ap bytes_in is) in
+    absurd (long-clash (history_dump lines) (script_dump bytes) MAX_DUMP_LENGTH same long few)
+run-follows programs _ _ _ _ (c.lost_dump script dump read lines run small) = λ name bytes made is short few.
+    inr (sym (ap rest_of is) ∙ ap (λ (text : List ℕ). NotReplaced dump text ∷ []) (dump-of read bytes lines run.are (ap bytes_in is)))
+run-follows programs _ _ _ _ (c.replied script dump read lines run small) = λ name bytes made is short few.
+    inl (sym (ap rest_of is) ∙ ap (λ (text : List ℕ). Replaced dump text ∷ []) (dump-of read bytes lines run.are (ap bytes_in is)))
+run-follows programs _ _ _ _ (c.damaged format dump questions bytes asked f line few short fault) = tt
+run-follows programs _ _ _ _ (c.answered format dump questions bytes asked contents lines few short formed are) = tt
+run-follows programs _ _ _ _ (c.summarized rounds others are) = tt
+run-follows programs _ _ _ _ (c.faulty_sheet csv table script bytes number record_number short fault) = tt
+run-follows programs _ _ _ _ (c.lost_script csv table script bytes text rows short is) = tt
+run-follows programs _ _ _ _ (c.loaded csv table script bytes text rows short is loads) = tt
+
+-- ---- the summary of `gen`
+
+abbrev pub GenerateFollows : Option Command → List ℕ → Status → Type 0
+GenerateFollows None text status = Unit {0}
+GenerateFollows (Some (Run script dump)) text status = Unit {0}
+GenerateFollows (Some (Ask format dump questions)) text status = Unit {0}
+GenerateFollows (Some (Generate rounds)) text status = (others : List ℕ) × AreLines others × (text ≡ rounds_line rounds ++ others) × (status ≡ exit.Done)
+GenerateFollows (Some (Load csv table script)) text status = Unit {0}
+
+read-generates : (command : Command) (before : List Event) (name : List ℕ) (most : ℕ) → IsReadBy command before name most → (text : List ℕ) (status : Status) → GenerateFollows (Some command) text status
+read-generates _ _ _ _ (c.reads_script script dump) text status = tt
+read-generates _ _ _ _ (c.reads_dump format dump questions) text status = tt
+read-generates _ _ _ _ (c.reads_questions format dump questions first short) text status = tt
+read-generates _ _ _ _ (c.reads_sheet csv table script) text status = tt
+
+pub generate-follows : (programs : Programs) (command : Option Command) (events : List Event) (text : List ℕ) (status : Status) → ComesTo programs command events text status → GenerateFollows command text status
+generate-follows programs _ _ _ _ c.usage = tt
+generate-follows programs _ _ _ _ (c.absent command before name most is) = read-generates command before name most is _ _
+generate-follows programs _ _ _ _ (c.unreadable command before name most is) = read-generates command before name most is _ _
+generate-follows programs _ _ _ _ (c.too_long command before name most bytes is long) = read-generates command before name most is _ _
+generate-follows programs _ _ _ _ (c.long_dump script dump bytes lines run long) = tt
+generate-follows programs _ _ _ _ (c.lost_dump script dump bytes lines run small) = tt
+generate-follows programs _ _ _ _ (c.replied script dump bytes lines run small) = tt
+generate-follows programs _ _ _ _ (c.damaged format dump questions bytes asked f line few short fault) = tt
+generate-follows programs _ _ _ _ (c.answered format dump questions bytes asked contents lines few short formed are) = tt
+generate-follows programs _ _ _ _ (c.summarized rounds others are) = (others, are, refl, refl)
+generate-follows programs _ _ _ _ (c.faulty_sheet csv table script bytes number record_number short fault) = tt
+generate-follows programs _ _ _ _ (c.lost_script csv table script bytes text rows short is) = tt
+generate-follows programs _ _ _ _ (c.loaded csv table script bytes text rows short is loads) = tt
+
+-- ---- a sheet
 
 -- of a sheet that is not too long
 abbrev pub SheetFollows : List ℕ → List ℕ → List ℕ → List Event → Result (List ℕ × ℕ) Fault → Type 0
@@ -201,99 +223,36 @@ sheet-follows : (table script read bytes : List ℕ) (made : List Event) (result
 sheet-follows table script read bytes made result same is follows =
     subst (SheetFollows table script bytes made) (sym is ∙ ap (loaded_of table) same) follows
 
-module _ (ended : Status) where
-  missing-load : (command : Command) (before : List Event) (name : List ℕ) (most : ℕ) (event : Event) → (BeginsRead (event ∷ []) → ⊥) → IsReadBy command before name most → LoadFollows (Some command) (before ++ event ∷ [])
-  missing-load _ _ _ _ event none (c.reads_script script dump) = tt
-  missing-load _ _ _ _ event none (c.reads_dump format dump questions) = tt
-  missing-load _ _ _ _ event none (c.reads_questions format dump questions first short) = tt
-  missing-load _ _ _ _ event none (c.reads_sheet csv table script) = λ name bytes made is short. absurd (no-read (event ∷ []) name bytes MAX_SHEET_LENGTH made is none)
+missing-load : (command : Command) (before : List Event) (name : List ℕ) (most : ℕ) (event : Event) → (BeginsRead (event ∷ []) → ⊥) → IsReadBy command before name most → LoadFollows (Some command) (before ++ event ∷ [])
+missing-load _ _ _ _ event none (c.reads_script script dump) = tt
+missing-load _ _ _ _ event none (c.reads_dump format dump questions) = tt
+missing-load _ _ _ _ event none (c.reads_questions format dump questions first short) = tt
+missing-load _ _ _ _ event none (c.reads_sheet csv table script) = λ name bytes made is short. absurd (no-read (event ∷ []) name bytes MAX_SHEET_LENGTH made is none)
 
-  long-load : (command : Command) (before : List Event) (name : List ℕ) (most : ℕ) (bytes : List ℕ) → IsReadBy command before name most → most < length bytes → LoadFollows (Some command) (before ++ read_of name most bytes ∷ [])
-  long-load _ _ _ _ read (c.reads_script script dump) long = tt
-  long-load _ _ _ _ read (c.reads_dump format dump questions) long = tt
-  long-load _ _ _ _ read (c.reads_questions format dump questions first short) long = tt
-  long-load _ _ _ _ read (c.reads_sheet csv table script) long = λ name bytes made is short. absurd (long-clash read bytes MAX_SHEET_LENGTH (ap bytes_in is) long short)
+long-load : (command : Command) (before : List Event) (name : List ℕ) (most : ℕ) (bytes : List ℕ) → IsReadBy command before name most → most < length bytes → LoadFollows (Some command) (before ++ read_of name most bytes ∷ [])
+long-load _ _ _ _ read (c.reads_script script dump) long = tt
+long-load _ _ _ _ read (c.reads_dump format dump questions) long = tt
+long-load _ _ _ _ read (c.reads_questions format dump questions first short) long = tt
+long-load _ _ _ _ read (c.reads_sheet csv table script) long = λ name bytes made is short. absurd (long-clash read bytes MAX_SHEET_LENGTH (ap bytes_in is) long short)
 
-  pub load-follows : (command : Option Command) (events : List Event) (text : List ℕ) (status : Status) → ComesTo ended command events text status → LoadFollows command events
-  load-follows _ _ _ _ c.usage = tt
-  load-follows _ _ _ _ (c.absent command before name most is) = missing-load command before name most (Missing name) (λ no. no) is
-  load-follows _ _ _ _ (c.unreadable command before name most is) = missing-load command before name most (Unreadable name) (λ no. no) is
-  load-follows _ _ _ _ (c.too_long command before name most bytes is long) = long-load command before name most bytes is long
-  load-follows _ _ _ _ (c.long_dump script dump read lines run long) = tt
-  load-follows _ _ _ _ (c.lost_dump script dump read lines run small) = tt
-  load-follows _ _ _ _ (c.replied script dump read lines run small) = tt
-  load-follows _ _ _ _ (c.damaged format dump questions bytes asked f line few short fault) = tt
-  load-follows _ _ _ _ (c.answered format dump questions bytes asked contents lines few short formed are explains) = tt
-  load-follows _ _ _ _ (c.summarized rounds summary made) = tt
-  load-follows _ _ _ _ (c.faulty_sheet csv table script read number record_number fits fault) = λ name bytes made is short.
-      sheet-follows table script read bytes made _ (ap bytes_in is) fault (sym (ap rest_of is))
-  load-follows _ _ _ _ (c.lost_script csv table script read text rows fits loads) = λ name bytes made is short.
-      sheet-follows table script read bytes made (Ok (text, rows)) (ap bytes_in is) loads (inr (sym (ap rest_of is)))
-  load-follows _ _ _ _ (c.loaded csv table script read text rows fits loads has) = λ name bytes made is short.
-      sheet-follows table script read bytes made (Ok (text, rows)) (ap bytes_in is) loads
-      (inl (sym (ap rest_of is), subst (λ (b : List ℕ). LoadsText table b text) (ap bytes_in is) has))
-
--- of a dump that is well formed, and of questions that are not too long
-abbrev pub AskFollows : Status → Option Command → List Event → Type 0
-AskFollows ended (Some (Ask format dump questions)) events = (first second bytes asked : List ℕ) (contents : Dump) (lines : List ReadQuestion)
-    → events ≡ read_of first MAX_DUMP_LENGTH bytes ∷ read_of second MAX_SCRIPT_LENGTH asked ∷ [] → length asked ≤ MAX_SCRIPT_LENGTH → WellFormed bytes contents → AreQuestions asked lines
-    → IsAnswered ended → ExplainsIn format (ExplainsLines contents.entries lines)
-AskFollows ended command events = Unit {0}
-
-in-format : (format : Format) (says : Type 0) → (format ≡ Text → says) → ExplainsIn format says
-in-format Text says explains = explains refl
-in-format Csv says explains = tt
-
-holds-one : (v : Verdict) (one other : Dump) → v ≡ Holds one → v ≡ Holds other → one ≡ other
-holds-one v one other is also =
-    let same : Holds one ≡ Holds other = sym is ∙ also in
-    cc
-
-fault-clash : (v : Verdict) (contents : Dump) (f line : ℕ) → v ≡ Holds contents → fault_in v ≡ Some (f, line) → ⊥
-fault-clash v contents f line holds fault =
-    let impossible : fault_in (Holds contents) ≡ Some (f, line) = subst (λ (w : Verdict). fault_in w ≡ Some (f, line)) holds fault in
-    absurd cc
-
-module _ (law : ReadsWellFormed) (ended : Status) where
-  missing-ask : (command : Command) (before : List Event) (name : List ℕ) (most : ℕ) (event : Event) → (BeginsRead (event ∷ []) → ⊥) → IsReadBy command before name most → AskFollows ended (Some command) (before ++ event ∷ [])
-  missing-ask _ _ _ _ event none (c.reads_script script dump) = tt
-  missing-ask _ _ _ _ event none (c.reads_dump format dump questions) = λ first second bytes asked contents lines is short formed are done.
-      absurd (no-read (event ∷ []) first bytes MAX_DUMP_LENGTH (read_of second MAX_SCRIPT_LENGTH asked ∷ []) is none)
-  missing-ask _ _ _ _ event none (c.reads_questions format dump questions read few) = λ first second bytes asked contents lines is short formed are done.
-      absurd (no-read (event ∷ []) second asked MAX_SCRIPT_LENGTH [] (ap rest_of is) none)
-  missing-ask _ _ _ _ event none (c.reads_sheet csv table script) = tt
-
-  long-ask : (command : Command) (before : List Event) (name : List ℕ) (most : ℕ) (bytes : List ℕ) → IsReadBy command before name most → most < length bytes
-      → AskFollows ended (Some command) (before ++ read_of name most bytes ∷ [])
-  long-ask _ _ _ _ read (c.reads_script script dump) long = tt
-  long-ask _ _ _ _ read (c.reads_dump format dump questions) long = λ first second bytes asked contents lines is short formed are done.
-      absurd (subst IsSome (sym (ap rest_of is)) tt)
-  long-ask _ _ _ _ read (c.reads_questions format dump questions whole few) long = λ first second bytes asked contents lines is short formed are done.
-      absurd (long-clash read asked MAX_SCRIPT_LENGTH (ap (λ (events : List Event). bytes_in (rest_of events)) is) long short)
-  long-ask _ _ _ _ read (c.reads_sheet csv table script) long = tt
-
-  pub ask-follows : (command : Option Command) (events : List Event) (text : List ℕ) (status : Status) → ComesTo ended command events text status → AskFollows ended command events
-  ask-follows _ _ _ _ c.usage = tt
-  ask-follows _ _ _ _ (c.absent command before name most is) = missing-ask command before name most (Missing name) (λ no. no) is
-  ask-follows _ _ _ _ (c.unreadable command before name most is) = missing-ask command before name most (Unreadable name) (λ no. no) is
-  ask-follows _ _ _ _ (c.too_long command before name most bytes is long) = long-ask command before name most bytes is long
-  ask-follows _ _ _ _ (c.long_dump script dump read lines run long) = tt
-  ask-follows _ _ _ _ (c.lost_dump script dump read lines run small) = tt
-  ask-follows _ _ _ _ (c.replied script dump read lines run small) = tt
-  ask-follows _ _ _ _ (c.damaged format dump questions read file f line few fits fault) = λ first second bytes asked contents lines is short formed are done.
-      let same : read ≡ bytes = ap bytes_in is in
-      absurd (fault-clash (verdict_on bytes) contents f line (law bytes contents formed) (fault-is bytes f line (subst (λ (b : List ℕ). FirstFault b f line) same fault)))
-  ask-follows _ _ _ _ (c.answered format dump questions read file held told few fits formed are explains) = λ first second bytes asked contents lines is short well also done.
-      let same : read ≡ bytes = ap bytes_in is in
-      let again : file ≡ asked = ap (λ (events : List Event). bytes_in (rest_of events)) is in
-      let one : held ≡ contents = holds-one (verdict_on bytes) held contents (law bytes held (subst (λ (b : List ℕ). WellFormed b held) same formed)) (law bytes contents well) in
-      let all : told ≡ lines = one-file file told are ∙ ap questions_as_read again ∙ sym (one-file asked lines also) in
-      subst (λ (d : Dump). ExplainsIn format (ExplainsLines d.entries lines)) one
-      (subst (λ (ls : List ReadQuestion). ExplainsIn format (ExplainsLines held.entries ls)) all (in-format format (ExplainsLines held.entries told) (explains done)))
-  ask-follows _ _ _ _ (c.summarized rounds summary made) = tt
-  ask-follows _ _ _ _ (c.faulty_sheet csv table script read number record_number fits fault) = tt
-  ask-follows _ _ _ _ (c.lost_script csv table script read text rows fits loads) = tt
-  ask-follows _ _ _ _ (c.loaded csv table script read text rows fits loads has) = tt
+pub load-follows : (programs : Programs) (command : Option Command) (events : List Event) (text : List ℕ) (status : Status) → ComesTo programs command events text status → LoadFollows command events
+load-follows programs _ _ _ _ c.usage = tt
+load-follows programs _ _ _ _ (c.absent command before name most is) = missing-load command before name most (Missing name) (λ no. no) is
+load-follows programs _ _ _ _ (c.unreadable command before name most is) = missing-load command before name most (Unreadable name) (λ no. no) is
+load-follows programs _ _ _ _ (c.too_long command before name most bytes is long) = long-load command before name most bytes is long
+load-follows programs _ _ _ _ (c.long_dump script dump read lines run long) = tt
+load-follows programs _ _ _ _ (c.lost_dump script dump read lines run small) = tt
+load-follows programs _ _ _ _ (c.replied script dump read lines run small) = tt
+load-follows programs _ _ _ _ (c.damaged format dump questions bytes asked f line few short fault) = tt
+load-follows programs _ _ _ _ (c.answered format dump questions bytes asked contents lines few short formed are) = tt
+load-follows programs _ _ _ _ (c.summarized rounds others are) = tt
+load-follows programs _ _ _ _ (c.faulty_sheet csv table script read number record_number fits fault) = λ name bytes made is short.
+    sheet-follows table script read bytes made _ (ap bytes_in is) fault (sym (ap rest_of is))
+load-follows programs _ _ _ _ (c.lost_script csv table script read text rows fits loads) = λ name bytes made is short.
+    sheet-follows table script read bytes made (Ok (text, rows)) (ap bytes_in is) loads (inr (sym (ap rest_of is)))
+load-follows programs _ _ _ _ (c.loaded csv table script read text rows fits loads has) = λ name bytes made is short.
+    sheet-follows table script read bytes made (Ok (text, rows)) (ap bytes_in is) loads
+    (inl (sym (ap rest_of is), subst (λ (b : List ℕ). LoadsText table b text) (ap bytes_in is) has))
 
 -- ---- where memory ran out after a read, there is no other event
 

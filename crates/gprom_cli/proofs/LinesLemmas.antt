@@ -1,4 +1,4 @@
--- The texts of answers are whole lines.
+-- The texts of answers, and of summaries, are whole lines.
 use Rattle.std.proofs.Common.{◌≡◌, ℕ, inl, inr, Option, Some, None, List, [], ◌∷◌, ◌++◌, length, map, refl, sym, ap, ◌∙◌, subst, append_assoc, append-nil, codes}
 use Rattle.std.specs.Fmt.{decimal}
 use Rattle.std.specs.List.{flat_map}
@@ -17,7 +17,10 @@ use Rattle.gp_ask.specs.declared.format.Format.TheVariants.{Text, Csv}
 use Rattle.gp_ask.specs.Formats.{exported_records, text_in}
 use Rattle.gp_ask.specs.QuestionFiles.{line_answer_in, line_answer_text}
 use Rattle.gp_ask.specs.Texts.{answer_text, checked_text, listed_line, listed_text, provenance_text, value_text}
-use Rattle.gprom_cli.specs.Call.{AreLines}
+use Rattle.gprom_cli.specs.declared.summary.Summary.{Summary}
+use Rattle.gprom_cli.specs.Call.{AreLines, rounds_line}
+use Rattle.gprom_cli.specs.Generated.{Pieces, line_text, lines_text}
+use Rattle.gprom_cli.specs.Summary.{summary_lines, summary_text}
 
 -- the text ends with the end of a line
 abbrev EndsLine : List ℕ → Type 0
@@ -111,3 +114,19 @@ lines-in Csv number answer = csv-lines (exported_records number answer)
 
 pub answer-lines : (format : Format) (answers : y.Question → Answered) (line : ℕ × List ℕ) → AreLines (line_answer_text format answers line)
 answer-lines format answers line = lines-in format line.0 (line_answer_in format answers line)
+
+-- ---- the summary of `gen`
+
+pieces-end : (line : Pieces) → EndsLine (line_text line)
+pieces-end [] = then-nothing newline newline-ends
+pieces-end (piece ∷ line) = behind piece (line_text line) (pieces-end line)
+
+abbrev behind_first : List Pieces → List Pieces
+behind_first [] = []
+behind_first (line ∷ lines) = lines
+
+-- the first line has the rounds, and lines follow
+pub summary-lines : (summary : Summary) → (others : List ℕ) × AreLines others × (summary_text summary ≡ rounds_line summary.rounds ++ others)
+summary-lines summary =
+    let others = behind_first (summary_lines summary) in
+    (lines_text others, all-lines line_text pieces-end others, refl)

@@ -22,13 +22,11 @@ use Rattle.gp_csv.specs.Faults.{refuse}
 use Rattle.gp_load.specs.Loading.{LoadsText, loaded_of}
 use Rattle.gp_ask.specs.declared.answered.Answered.{Answered}
 use Rattle.gp_ask.specs.declared.format.Format.{Format}
-use Rattle.gp_ask.specs.declared.format.Format.TheVariants.{Text, Csv}
-use Rattle.gp_ask.specs.Answers.{answer_to, held_to}
+use Rattle.gp_ask.specs.Printed.{answer_to, held_to}
 use Rattle.gp_ask.specs.Computed.{computed_answer}
-use Rattle.gp_ask.specs.Explained.{ExplainsLines}
-use Rattle.gp_ask.specs.QuestionFiles.{ExplainsIn, ExplainsQuestions, answers_text, has_refused, questions_as_read}
+use Rattle.gp_ask.specs.QuestionFiles.{answers_text, has_refused, questions_as_read}
 use Rattle.gp_ask.specs.Questions.{ReadQuestion, answer_texts, answered, refuses_some}
-use Rattle.gp_ask.proofs.ReadAnswers.{are-questions, explains-read, one-file, refusals-read, texts-read}
+use Rattle.gp_ask.proofs.ReadAnswers.{are-questions, one-file, refusals-read, texts-read}
 use Rattle.gprom_cli.specs.declared.load.TheConstants.{MAX_SHEET_LENGTH}
 use Rattle.gprom_cli.specs.declared.status.Status.{Status}
 use Rattle.gprom_cli.specs.declared.status.Status.TheVariants as exit
@@ -38,7 +36,7 @@ use Rattle.gprom_cli.specs.Generated.{generated_script}
 use Rattle.gprom_cli.specs.Summary.{IsSummary, committed_in, lost_in, questions_about, row_count, summary_for}
 use Rattle.gprom_cli.specs.Summaries.{line_rows, summary_by, summary_of}
 use Rattle.gprom_cli.specs.Call as c
-use Rattle.gprom_cli.specs.Call.{IsAnswered, RunsScript, WritesOutput, answered_status, history_dump, loaded_message, message, read_of, sheet_message}
+use Rattle.gprom_cli.specs.Call.{RunsScript, WritesOutput, answered_status, history_dump, loaded_message, message, read_of, sheet_message}
 use Rattle.gprom_cli.specs.Steps.{Answers, Ends, is_answered, script_dump}
 
 -- ---- scripts
@@ -53,10 +51,6 @@ pub status-read : (script : List ℕ) → answered_status (has_refusal (replies_
 status-read script = ap (λ (replies : List NumberedReply). answered_status (has_refusal replies)) (replies-read script)
 
 -- ---- questions
-
-pub explains-in : (format : Format) (dump : Dump) (file : List ℕ) → ExplainsIn format (ExplainsQuestions dump.entries file) → ExplainsIn format (ExplainsLines dump.entries (questions_as_read file))
-explains-in Text dump file explains = explains-read dump.entries file explains
-explains-in Csv dump file explains = explains
 
 -- ---- summaries
 
@@ -229,11 +223,11 @@ pub answered-read : (format : Format) (bytes asked : List ℕ) (contents : Dump)
     → ((own : Format) → answers_text own (computed_answer contents) asked ≡ answers_text own (answer_to contents) asked)
     → ((own : Format) → has_refused own (computed_answer contents) asked ≡ has_refused own (answer_to contents) asked)
     → WritesOutput (answers_text format (computed_answer contents) asked) (answered_status (has_refused format (computed_answer contents) asked)) sink sink' s
-    → (IsAnswered s → ExplainsIn format (ExplainsQuestions contents.entries asked)) → Answers format bytes asked sink sink' s
-answered-read format bytes asked contents sink sink' s formed texts refusals writes explains =
+    → Answers format bytes asked sink sink' s
+answered-read format bytes asked contents sink sink' s formed texts refusals writes =
     let lines = questions_as_read asked in
     let due : WritesOutput (answer_texts format (answer_to contents) lines) (answered_status (refuses_some format (answer_to contents) lines)) sink sink' s =
     subst (λ (t : List ℕ). WritesOutput t (answered_status (refuses_some format (answer_to contents) lines)) sink sink' s) (texts format ∙ sym (texts-read format (answer_to contents) asked))
     (subst (λ (e : Status). WritesOutput (answers_text format (computed_answer contents) asked) e sink sink' s)
     (ap answered_status (refusals format ∙ sym (refusals-read format (answer_to contents) asked))) writes) in
-    is_answered contents lines formed (are-questions asked) (λ is. explains-in format contents asked (explains is)) due
+    is_answered contents lines formed (are-questions asked) due

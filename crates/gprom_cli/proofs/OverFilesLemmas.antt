@@ -15,18 +15,17 @@ use Rattle.gp_dump.specs.Rules.{WellFormed}
 use Rattle.gp_csv.specs.Faults.{Fault}
 use Rattle.gp_load.specs.Loading.{loaded_of}
 use Rattle.gp_ask.specs.declared.format.Format.{Format}
-use Rattle.gp_ask.specs.declared.format.Format.TheVariants.{Text}
 use Rattle.gp_ask.specs.Answers.{answer_to, held_to}
-use Rattle.gp_ask.specs.Explained.{ExplainsLines}
+use Rattle.gp_ask.specs.Asking.{Programs}
 use Rattle.gp_ask.specs.Questions.{AreQuestions, ReadQuestion, answer_texts, refuses_some}
 use Rattle.gprom_cli.specs.declared.load.TheConstants.{MAX_SHEET_LENGTH}
 use Rattle.gprom_cli.specs.declared.status.Status.{Status}
 use Rattle.gprom_cli.specs.declared.status.Status.TheVariants as exit
 use Rattle.gprom_cli.specs.Args.{Command, Run, Ask, Generate, Load}
 use Rattle.gprom_cli.specs.Call as c
-use Rattle.gprom_cli.specs.Call.{Call, ComesTo, HasOutcome, HasRead, IsAnswered, IsReadBy, RunsScript, WritesOutput, answered_status, history_dump, loaded_message, read_of, sheet_message}
+use Rattle.gprom_cli.specs.Call.{Call, ComesTo, HasOutcome, HasRead, IsReadBy, RunsScript, WritesOutput, answered_status, history_dump, loaded_message, read_of, sheet_message}
 use Rattle.gprom_cli.specs.OverFiles.{Becomes, LeavesOthers, LoadsFile, NoFault, OthersHaveSame, OverFiles}
-use Rattle.gprom_cli.specs.Consequences.{AllDone, Consequences, IsReplacedAfter, LoadsSheet}
+use Rattle.gprom_cli.specs.Consequences.{AllDone, Consequences, IsDetermined, IsReplacedAfter, LoadsSheet}
 use Rattle.gprom_cli.specs.Promises.{Promises}
 use Rattle.gprom_cli.specs.Steps.{script_dump}
 use Rattle.gprom_cli.proofs.EventLemmas.{dump-of, long-clash}
@@ -102,21 +101,20 @@ read-shape : (command : Option Command) (events : List Event) → HasRead comman
 read-shape _ _ (c.nothing command) = no-shape command
 read-shape _ _ (c.files command before name most bytes is short) = whole-shape command before name most bytes is
 
-module _ (ended : Status) where
-  end-shape : (command : Option Command) (events : List Event) (text : List ℕ) (status : Status) → ComesTo ended command events text status → HasShape command events
-  end-shape _ _ _ _ c.usage = refl
-  end-shape _ _ _ _ (c.absent command before name most is) = missing-shape command before name most is
-  end-shape _ _ _ _ (c.unreadable command before name most is) = unreadable-shape command before name most is
-  end-shape _ _ _ _ (c.too_long command before name most bytes is long) = whole-shape command before name most bytes is
-  end-shape _ _ _ _ (c.long_dump script dump bytes lines run long) = ((refl, refl), tt)
-  end-shape _ _ _ _ (c.lost_dump script dump bytes lines run small) = ((refl, refl), (refl, refl))
-  end-shape _ _ _ _ (c.replied script dump bytes lines run small) = ((refl, refl), (refl, refl))
-  end-shape _ _ _ _ (c.damaged format dump questions bytes asked f line few short fault) = ((refl, refl), ((refl, refl), refl))
-  end-shape _ _ _ _ (c.answered format dump questions bytes asked contents lines few short formed are explains) = ((refl, refl), ((refl, refl), refl))
-  end-shape _ _ _ _ (c.summarized rounds summary made) = refl
-  end-shape _ _ _ _ (c.faulty_sheet csv table script bytes number record_number short fault) = ((refl, refl), tt)
-  end-shape _ _ _ _ (c.lost_script csv table script bytes text rows short is) = ((refl, refl), (refl, refl))
-  end-shape _ _ _ _ (c.loaded csv table script bytes text rows short is loads) = ((refl, refl), (refl, refl))
+end-shape : (programs : Programs) (command : Option Command) (events : List Event) (text : List ℕ) (status : Status) → ComesTo programs command events text status → HasShape command events
+end-shape programs _ _ _ _ c.usage = refl
+end-shape programs _ _ _ _ (c.absent command before name most is) = missing-shape command before name most is
+end-shape programs _ _ _ _ (c.unreadable command before name most is) = unreadable-shape command before name most is
+end-shape programs _ _ _ _ (c.too_long command before name most bytes is long) = whole-shape command before name most bytes is
+end-shape programs _ _ _ _ (c.long_dump script dump bytes lines run long) = ((refl, refl), tt)
+end-shape programs _ _ _ _ (c.lost_dump script dump bytes lines run small) = ((refl, refl), (refl, refl))
+end-shape programs _ _ _ _ (c.replied script dump bytes lines run small) = ((refl, refl), (refl, refl))
+end-shape programs _ _ _ _ (c.damaged format dump questions bytes asked f line few short fault) = ((refl, refl), ((refl, refl), refl))
+end-shape programs _ _ _ _ (c.answered format dump questions bytes asked contents lines few short formed are) = ((refl, refl), ((refl, refl), refl))
+end-shape programs _ _ _ _ (c.summarized rounds others are) = refl
+end-shape programs _ _ _ _ (c.faulty_sheet csv table script bytes number record_number short fault) = ((refl, refl), tt)
+end-shape programs _ _ _ _ (c.lost_script csv table script bytes text rows short is) = ((refl, refl), (refl, refl))
+end-shape programs _ _ _ _ (c.loaded csv table script bytes text rows short is loads) = ((refl, refl), (refl, refl))
 
 -- ---- what was done decides what was done next, where nothing failed
 
@@ -194,23 +192,22 @@ after-sheet : (table script bytes : List ℕ) (result : Result (List ℕ × ℕ)
     → cond (nat_lt MAX_SHEET_LENGTH (length bytes)) [] (sheet_made script (loaded_of table bytes)) ≡ sheet_made script result
 after-sheet table script bytes result short is = test-false MAX_SHEET_LENGTH (length bytes) [] (sheet_made script (loaded_of table bytes)) short ∙ ap (sheet_made script) is
 
-module _ (ended : Status) where
-  end-full : (command : Option Command) (events : List Event) (text : List ℕ) (status : Status) → ComesTo ended command events text status → IsFull command events
-  end-full _ _ _ _ c.usage = tt
-  end-full _ _ _ _ (c.absent command before name most is) = missing-full command before name most is
-  end-full _ _ _ _ (c.unreadable command before name most is) = unreadable-full command before name most is
-  end-full _ _ _ _ (c.too_long command before name most bytes is long) = long-full command before name most bytes is long
-  end-full _ _ _ _ (c.long_dump script dump bytes lines run long) = λ none.
-      sym (after-script dump bytes lines run ∙ test-true MAX_DUMP_LENGTH (length (history_dump lines)) [] (Replaced dump (history_dump lines) ∷ []) long)
-  end-full _ _ _ _ (c.lost_dump script dump bytes lines run small) = λ none. absurd none
-  end-full _ _ _ _ (c.replied script dump bytes lines run small) = λ none.
-      sym (after-script dump bytes lines run ∙ test-false MAX_DUMP_LENGTH (length (history_dump lines)) [] (Replaced dump (history_dump lines) ∷ []) small)
-  end-full _ _ _ _ (c.damaged format dump questions bytes asked f line few short fault) = few
-  end-full _ _ _ _ (c.answered format dump questions bytes asked contents lines few short formed are explains) = few
-  end-full _ _ _ _ (c.summarized rounds summary made) = tt
-  end-full _ _ _ _ (c.faulty_sheet csv table script bytes number record_number short fault) = λ none. sym (after-sheet table script bytes _ short fault)
-  end-full _ _ _ _ (c.lost_script csv table script bytes text rows short is) = λ none. absurd none
-  end-full _ _ _ _ (c.loaded csv table script bytes text rows short is loads) = λ none. sym (after-sheet table script bytes (Ok (text, rows)) short is)
+end-full : (programs : Programs) (command : Option Command) (events : List Event) (text : List ℕ) (status : Status) → ComesTo programs command events text status → IsFull command events
+end-full programs _ _ _ _ c.usage = tt
+end-full programs _ _ _ _ (c.absent command before name most is) = missing-full command before name most is
+end-full programs _ _ _ _ (c.unreadable command before name most is) = unreadable-full command before name most is
+end-full programs _ _ _ _ (c.too_long command before name most bytes is long) = long-full command before name most bytes is long
+end-full programs _ _ _ _ (c.long_dump script dump bytes lines run long) = λ none.
+    sym (after-script dump bytes lines run ∙ test-true MAX_DUMP_LENGTH (length (history_dump lines)) [] (Replaced dump (history_dump lines) ∷ []) long)
+end-full programs _ _ _ _ (c.lost_dump script dump bytes lines run small) = λ none. absurd none
+end-full programs _ _ _ _ (c.replied script dump bytes lines run small) = λ none.
+    sym (after-script dump bytes lines run ∙ test-false MAX_DUMP_LENGTH (length (history_dump lines)) [] (Replaced dump (history_dump lines) ∷ []) small)
+end-full programs _ _ _ _ (c.damaged format dump questions bytes asked f line few short fault) = few
+end-full programs _ _ _ _ (c.answered format dump questions bytes asked contents lines few short formed are) = few
+end-full programs _ _ _ _ (c.summarized rounds others are) = tt
+end-full programs _ _ _ _ (c.faulty_sheet csv table script bytes number record_number short fault) = λ none. sym (after-sheet table script bytes _ short fault)
+end-full programs _ _ _ _ (c.lost_script csv table script bytes text rows short is) = λ none. absurd none
+end-full programs _ _ _ _ (c.loaded csv table script bytes text rows short is loads) = λ none. sym (after-sheet table script bytes (Ok (text, rows)) short is)
 
 -- ---- over files
 
@@ -381,9 +378,12 @@ module _ (old : Contents) where
 
 -- ---- every promise
 
-module _ (call : Call) (old new : Contents) (promises : Promises call) (follows : Consequences call) (leads : Leads old call.events new) where
-  shape-of : HasOutcome call → HasShape call.command call.events
-  shape-of (c.comes_to text status comes writes) = end-shape call.status call.command call.events text status comes
+module _ (call : Call) (old new : Contents) (promises : Promises call) (follows : Consequences promises.shown call) (leads : Leads old call.events new) where
+  abbrev programs : Programs
+  programs = promises.shown
+
+  shape-of : HasOutcome programs call → HasShape call.command call.events
+  shape-of (c.comes_to text status comes writes) = end-shape programs call.command call.events text status comes
   shape-of (c.out_of_memory reads quiet memory) = read-shape call.command call.events reads
 
   shape-as : (command : Option Command) → call.command ≡ command → HasShape command call.events
@@ -393,8 +393,8 @@ module _ (call : Call) (old new : Contents) (promises : Promises call) (follows 
   IsEarly = (call.sink_after ≡ call.sink) × (call.status ≡ exit.OutOfMemory)
 
   -- a call that is not full ran out of memory
-  early-by : HasOutcome call → (IsFull call.command call.events → ⊥) → IsEarly
-  early-by (c.comes_to text status comes writes) not = absurd (not (end-full call.status call.command call.events text status comes))
+  early-by : HasOutcome programs call → (IsFull call.command call.events → ⊥) → IsEarly
+  early-by (c.comes_to text status comes writes) not = absurd (not (end-full programs call.command call.events text status comes))
   early-by (c.out_of_memory reads quiet memory) not = (quiet, memory)
 
   early-as : (command : Option Command) → call.command ≡ command → (IsFull command call.events → ⊥) → IsEarly
@@ -451,43 +451,34 @@ module _ (call : Call) (old new : Contents) (promises : Promises call) (follows 
   held : (format : Format) (dump name script asked : List ℕ) (lines : List ReadLine) (questions : List ReadQuestion) → call.command ≡ Some (Ask format dump name) → NoFault call.events
       → RunsScript script lines → old dump ≡ Some (history_dump lines) → length (history_dump lines) ≤ MAX_DUMP_LENGTH → old name ≡ Some asked → length asked ≤ MAX_SCRIPT_LENGTH
       → AreQuestions asked questions
-      → WritesOutput (answer_texts format (held_to (last_state monomials lines)) questions) (answered_status (refuses_some format (held_to (last_state monomials lines)) questions))
+      → WritesOutput (answer_texts format (held_to programs (last_state monomials lines)) questions) (answered_status (refuses_some format (held_to programs (last_state monomials lines)) questions))
       call.sink call.sink_after call.status
   held format dump name script asked lines questions ask none runs has few also short are =
-      ⊎_elim (λ early. early-written (answer_texts format (held_to (last_state monomials lines)) questions) (answered_status (refuses_some format (held_to (last_state monomials lines)) questions)) early)
+      ⊎_elim (λ early. early-written (answer_texts format (held_to programs (last_state monomials lines)) questions) (answered_status (refuses_some format (held_to programs (last_state monomials lines)) questions)) early)
       (λ is. follows.held format dump name script asked lines questions ask is runs few short are)
       (asked-of format dump name (history_dump lines) asked ask none has few also short)
 
-  explained : (dump name bytes asked : List ℕ) (contents : Dump) (questions : List ReadQuestion) → call.command ≡ Some (Ask Text dump name) → NoFault call.events
-      → old dump ≡ Some bytes → length bytes ≤ MAX_DUMP_LENGTH → WellFormed bytes contents → old name ≡ Some asked → length asked ≤ MAX_SCRIPT_LENGTH → AreQuestions asked questions
-      → IsAnswered call.status → ExplainsLines contents.entries questions
-  explained dump name bytes asked contents questions ask none has few formed also short are done =
-      ⊎_elim (λ (early : IsEarly). absurd (let no : IsAnswered exit.OutOfMemory = subst IsAnswered early.1 done in no))
-      (λ is. follows.explained dump name bytes asked contents questions ask is short formed are done)
-      (asked-of Text dump name bytes asked ask none has few also short)
-
   hypothetical : (format : Format) (dump name bytes asked : List ℕ) (contents : Dump) (questions : List ReadQuestion) → call.command ≡ Some (Ask format dump name) → NoFault call.events
       → old dump ≡ Some bytes → length bytes ≤ MAX_DUMP_LENGTH → WellFormed bytes contents → old name ≡ Some asked → length asked ≤ MAX_SCRIPT_LENGTH → AreQuestions asked questions
-      → WritesOutput (answer_texts format (answer_to contents) questions) (answered_status (refuses_some format (answer_to contents) questions)) call.sink call.sink_after call.status
+      → WritesOutput (answer_texts format (answer_to programs contents) questions) (answered_status (refuses_some format (answer_to programs contents) questions)) call.sink call.sink_after call.status
   hypothetical format dump name bytes asked contents questions ask none has few formed also short are =
-      ⊎_elim (λ early. early-written (answer_texts format (answer_to contents) questions) (answered_status (refuses_some format (answer_to contents) questions)) early)
+      ⊎_elim (λ early. early-written (answer_texts format (answer_to programs contents) questions) (answered_status (refuses_some format (answer_to programs contents) questions)) early)
       (λ is. follows.answered format dump name bytes asked contents questions ask is few short formed are)
       (asked-of format dump name bytes asked ask none has few also short)
 
-  determined-by : HasOutcome call → NoFault call.events → (ended : Status) (events : List Event) (after : Contents) (text : List ℕ) (status : Status) → Leads old events after → NoFault events
-      → ComesTo ended call.command events text status → WritesOutput text status call.sink call.sink_after call.status
-  determined-by (c.out_of_memory reads quiet memory) none ended events after text status leads' none' comes = early-written text status (quiet, memory)
-  determined-by (c.comes_to mine own came writes) none ended events after text status leads' none' comes =
+  determined-by : HasOutcome programs call → IsDetermined call.command → NoFault call.events → (events : List Event) (after : Contents) (text : List ℕ) (status : Status) → Leads old events after → NoFault events
+      → ComesTo programs call.command events text status → WritesOutput text status call.sink call.sink_after call.status
+  determined-by (c.out_of_memory reads quiet memory) may none events after text status leads' none' comes = early-written text status (quiet, memory)
+  determined-by (c.comes_to mine own came writes) may none events after text status leads' none' comes =
       let same : events ≡ call.events =
-      sym (same-events old new after call.command call.events events (end-shape call.status call.command call.events mine own came) (end-shape ended call.command events text status comes)
-      (end-full call.status call.command call.events mine own came) (end-full ended call.command events text status comes) leads leads' none none') in
-      follows.determined ended text status (subst (λ (es : List Event). ComesTo ended call.command es text status) same comes)
+      sym (same-events old new after call.command call.events events (end-shape programs call.command call.events mine own came) (end-shape programs call.command events text status comes)
+      (end-full programs call.command call.events mine own came) (end-full programs call.command events text status comes) leads leads' none none') in
+      follows.determined may text status (subst (λ (es : List Event). ComesTo programs call.command es text status) same comes)
 
-  pub over_files : OverFiles call old new
+  pub over_files : OverFiles programs call old new
   over_files = record {
     replied = replied;
     held = held;
-    explained = explained;
     hypothetical = hypothetical;
     loaded = loaded;
     determined = determined-by promises.outcome;

@@ -55,13 +55,14 @@ use Rattle.gp_compose.specs.Seen.{changes_refusal, saw_refusal}
 use Rattle.gp_reenact.specs.Looking.{saw_answer}
 use Rattle.gp_ask.specs.Answers.{versions_answer}
 use Rattle.gp_ask.specs.Computed.{computed_answer, what_if_answer}
-use Rattle.gp_ask.specs.Asking.{ask_to, of_elements, query_answer, spans_at, with_monomials}
+use Rattle.gp_ask.specs.Asking.{of_elements, query_answer, spans_at, with_monomials}
+use Rattle.gp_ask.specs.Printed.{ask_to, changed_answer}
 use Rattle.gp_ask.specs.AskingForms.{dump_program, dump_provenance, dump_remaining, dump_rows, rules_of}
 use Rattle.gp_ask.specs.ValueForms.{dump_minimal, dump_valued, dump_values}
 use Rattle.gp_ask.specs.Deltas.{Signed, delta, signed_text}
 use Rattle.gp_ask.specs.Differences as answers
 use Rattle.gp_ask.specs.Differences.{causes_of, committed_writes, diff_of, side_answer, without_in}
-use Rattle.gp_ask.specs.Hypothetical.{asking_refusal, changed_answer, remaking_refusal, replayed_dump}
+use Rattle.gp_ask.specs.Hypothetical.{asking_refusal, remaking_refusal, replayed_dump}
 use Rattle.gp_ask.specs.Values.{outside_refusal, rule_of, semiring_of, unless_refused, value_of, valued, with_values}
 use Rattle.gp_ask.specs.Questions.{answered}
 use Rattle.gp_ask.specs.Remaining.{are_too_many, has_left_out, remaining, remaining_answer}

@@ -19,7 +19,7 @@ use Rattle.gp_dump.specs.Verdicts.{Holds, Fails, verdict_on}
 use Rattle.gp_dump.specs.Views.{tables_view}
 use Rattle.gp_dump.proofs.FaultLemmas.{kept-is}
 use Rattle.gp_dump.proofs.LawLemmas.{written-well-formed}
-use Rattle.gp_ask.specs.Answers.{held_to}
+use Rattle.gp_ask.specs.Printed.{held_to}
 use Rattle.gp_ask.specs.Computed.{computed_answer}
 use Rattle.gprom_cli.specs.declared.summary.Summary.{Summary}
 use Rattle.gprom_cli.specs.Steps.{script_dump}

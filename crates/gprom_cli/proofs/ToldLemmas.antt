@@ -1,4 +1,4 @@
--- What the shelf has done determines what a call comes to.
+-- What the shelf has done determines what a call comes to, but for the summary of `gen`.
 use Rattle.std.proofs.Common.{◌≡◌, ℕ, ◌<◌, ◌≤◌, cond, List, [], ◌∷◌, ◌++◌, length, nat_lt, Option, Some, None, Result, Ok, Err, refl, sym, ap, ◌∙◌, subst, arith, codes}
 use Rattle.std.proofs.lemmas.Bool.Decides.{nat_tests}
 use Rattle.gp_io.specs.Events.{Event, Read, Missing, Unreadable, Replaced, NotReplaced}
@@ -15,6 +15,7 @@ use Rattle.gp_csv.specs.Faults.{Fault}
 use Rattle.gp_load.specs.Loading.{loaded_of}
 use Rattle.gp_ask.specs.declared.format.Format.{Format}
 use Rattle.gp_ask.specs.Answers.{answer_to}
+use Rattle.gp_ask.specs.Asking.{Programs}
 use Rattle.gp_ask.specs.Questions.{ReadQuestion, answer_texts, refuses_some}
 use Rattle.gp_ask.specs.QuestionFiles.{answers_text, has_refused}
 use Rattle.gp_ask.proofs.ReadAnswers.{one-file, refusals-read, texts-read}
@@ -22,11 +23,10 @@ use Rattle.gprom_cli.specs.declared.load.TheConstants.{MAX_SHEET_LENGTH}
 use Rattle.gprom_cli.specs.declared.status.Status.{Status}
 use Rattle.gprom_cli.specs.declared.status.Status.TheVariants as exit
 use Rattle.gprom_cli.specs.Args.{Command, Run, Ask, Generate, Load}
-use Rattle.gprom_cli.specs.Summary.{summary_text}
-use Rattle.gprom_cli.specs.Summaries.{summary_of}
 use Rattle.gprom_cli.specs.Call as c
 use Rattle.gprom_cli.specs.Call.{Call, ComesTo, HasOutcome, IsReadBy, WritesOutput, answered_status, damage_message, history_dump, loaded_message, message, read_of, sheet_message, usage_text}
-use Rattle.gprom_cli.proofs.OutcomeLemmas.{one-summary, status-read, text-read}
+use Rattle.gprom_cli.specs.Consequences.{IsDetermined}
+use Rattle.gprom_cli.proofs.OutcomeLemmas.{status-read, text-read}
 use Rattle.gprom_cli.proofs.WritesLemmas.{nothing-written}
 
 -- ---- the text and the status, by what the shelf has done
@@ -62,30 +62,24 @@ abbrev sheet_told : List Event → Result (List ℕ × ℕ) Fault → Told
 sheet_told events (Ok made) = replace_told events nothing_told (loaded_message made.1, exit.Done)
 sheet_told events (Err fault) = (sheet_message fault.c fault.number, exit.SheetRefused)
 
-abbrev verdict_told : Format → List ℕ → Verdict → Told
-verdict_told format asked (Holds dump) = (answers_text format (answer_to dump) asked, answered_status (has_refused format (answer_to dump) asked))
-verdict_told format asked (Fails f line) = (damage_message f line, exit.Damaged)
+abbrev verdict_told : Programs → Format → List ℕ → Verdict → Told
+verdict_told programs format asked (Holds dump) = (answers_text format (answer_to programs dump) asked, answered_status (has_refused format (answer_to programs dump) asked))
+verdict_told programs format asked (Fails f line) = (damage_message f line, exit.Damaged)
 
-abbrev ask_told : Format → List Event → List ℕ → Told
-ask_told format [] bytes = nothing_told
-ask_told format (event ∷ events) bytes = read_told MAX_SCRIPT_LENGTH event (λ asked. verdict_told format asked (verdict_on bytes))
+abbrev ask_told : Programs → Format → List Event → List ℕ → Told
+ask_told programs format [] bytes = nothing_told
+ask_told programs format (event ∷ events) bytes = read_told MAX_SCRIPT_LENGTH event (λ asked. verdict_told programs format asked (verdict_on bytes))
 
-abbrev file_told : Command → Event → List Event → Told
-file_told (Run script dump) event events = read_told MAX_SCRIPT_LENGTH event (run_told dump events)
-file_told (Ask format dump questions) event events = read_told MAX_DUMP_LENGTH event (ask_told format events)
-file_told (Generate rounds) event events = (summary_text (summary_of rounds), exit.Done)
-file_told (Load csv table script) event events = read_told MAX_SHEET_LENGTH event (λ bytes. sheet_told events (loaded_of table bytes))
+abbrev file_told : Programs → Command → Event → List Event → Told
+file_told programs (Run script dump) event events = read_told MAX_SCRIPT_LENGTH event (run_told dump events)
+file_told programs (Ask format dump questions) event events = read_told MAX_DUMP_LENGTH event (ask_told programs format events)
+file_told programs (Generate rounds) event events = nothing_told
+file_told programs (Load csv table script) event events = read_told MAX_SHEET_LENGTH event (λ bytes. sheet_told events (loaded_of table bytes))
 
-abbrev unread_told : Command → Told
-unread_told (Generate rounds) = (summary_text (summary_of rounds), exit.Done)
-unread_told (Run script dump) = nothing_told
-unread_told (Ask format dump questions) = nothing_told
-unread_told (Load csv table script) = nothing_told
-
-abbrev pub told : Option Command → List Event → Told
-told None events = (usage_text, exit.Usage)
-told (Some command) [] = unread_told command
-told (Some command) (event ∷ events) = file_told command event events
+abbrev pub told : Programs → Option Command → List Event → Told
+told programs None events = (usage_text, exit.Usage)
+told programs (Some command) [] = nothing_told
+told programs (Some command) (event ∷ events) = file_told programs command event events
 
 -- ---- tests of lengths
 
@@ -113,28 +107,28 @@ fails (Fails g other) f line is =
     let same : (g, other) ≡ (f, line) = cc in
     ap (λ (x : ℕ × ℕ). Fails x.0 x.1) same
 
-absent-told : (command : Command) (before : List Event) (name : List ℕ) (most : ℕ) → IsReadBy command before name most
-    → told (Some command) (before ++ Missing name ∷ []) ≡ (message (codes "absent") name, exit.Absent)
-absent-told _ _ _ _ (c.reads_script script dump) = refl
-absent-told _ _ _ _ (c.reads_dump format dump questions) = refl
-absent-told _ _ _ _ (c.reads_questions format dump questions bytes short) = read-short dump MAX_DUMP_LENGTH bytes (ask_told format (Missing questions ∷ [])) short
-absent-told _ _ _ _ (c.reads_sheet csv table script) = refl
+absent-told : (programs : Programs) (command : Command) (before : List Event) (name : List ℕ) (most : ℕ) → IsReadBy command before name most
+    → told programs (Some command) (before ++ Missing name ∷ []) ≡ (message (codes "absent") name, exit.Absent)
+absent-told programs _ _ _ _ (c.reads_script script dump) = refl
+absent-told programs _ _ _ _ (c.reads_dump format dump questions) = refl
+absent-told programs _ _ _ _ (c.reads_questions format dump questions bytes short) = read-short dump MAX_DUMP_LENGTH bytes (ask_told programs format (Missing questions ∷ [])) short
+absent-told programs _ _ _ _ (c.reads_sheet csv table script) = refl
 
-unreadable-told : (command : Command) (before : List Event) (name : List ℕ) (most : ℕ) → IsReadBy command before name most
-    → told (Some command) (before ++ Unreadable name ∷ []) ≡ (message (codes "cannot read") name, exit.Unreadable)
-unreadable-told _ _ _ _ (c.reads_script script dump) = refl
-unreadable-told _ _ _ _ (c.reads_dump format dump questions) = refl
-unreadable-told _ _ _ _ (c.reads_questions format dump questions bytes short) = read-short dump MAX_DUMP_LENGTH bytes (ask_told format (Unreadable questions ∷ [])) short
-unreadable-told _ _ _ _ (c.reads_sheet csv table script) = refl
+unreadable-told : (programs : Programs) (command : Command) (before : List Event) (name : List ℕ) (most : ℕ) → IsReadBy command before name most
+    → told programs (Some command) (before ++ Unreadable name ∷ []) ≡ (message (codes "cannot read") name, exit.Unreadable)
+unreadable-told programs _ _ _ _ (c.reads_script script dump) = refl
+unreadable-told programs _ _ _ _ (c.reads_dump format dump questions) = refl
+unreadable-told programs _ _ _ _ (c.reads_questions format dump questions bytes short) = read-short dump MAX_DUMP_LENGTH bytes (ask_told programs format (Unreadable questions ∷ [])) short
+unreadable-told programs _ _ _ _ (c.reads_sheet csv table script) = refl
 
-long-told : (command : Command) (before : List Event) (name : List ℕ) (most : ℕ) (bytes : List ℕ) → IsReadBy command before name most → most < length bytes
-    → told (Some command) (before ++ read_of name most bytes ∷ []) ≡ (message (codes "too long") name, exit.TooLong)
-long-told _ _ _ _ bytes (c.reads_script script dump) long = read-long script MAX_SCRIPT_LENGTH bytes (run_told dump []) long
-long-told _ _ _ _ bytes (c.reads_dump format dump questions) long = read-long dump MAX_DUMP_LENGTH bytes (ask_told format []) long
-long-told _ _ _ _ bytes (c.reads_questions format dump questions first short) long =
-    read-short dump MAX_DUMP_LENGTH first (ask_told format (read_of questions MAX_SCRIPT_LENGTH bytes ∷ [])) short
-    ∙ read-long questions MAX_SCRIPT_LENGTH bytes (λ asked. verdict_told format asked (verdict_on first)) long
-long-told _ _ _ _ bytes (c.reads_sheet csv table script) long = read-long csv MAX_SHEET_LENGTH bytes (λ read. sheet_told [] (loaded_of table read)) long
+long-told : (programs : Programs) (command : Command) (before : List Event) (name : List ℕ) (most : ℕ) (bytes : List ℕ) → IsReadBy command before name most → most < length bytes
+    → told programs (Some command) (before ++ read_of name most bytes ∷ []) ≡ (message (codes "too long") name, exit.TooLong)
+long-told programs _ _ _ _ bytes (c.reads_script script dump) long = read-long script MAX_SCRIPT_LENGTH bytes (run_told dump []) long
+long-told programs _ _ _ _ bytes (c.reads_dump format dump questions) long = read-long dump MAX_DUMP_LENGTH bytes (ask_told programs format []) long
+long-told programs _ _ _ _ bytes (c.reads_questions format dump questions first short) long =
+    read-short dump MAX_DUMP_LENGTH first (ask_told programs format (read_of questions MAX_SCRIPT_LENGTH bytes ∷ [])) short
+    ∙ read-long questions MAX_SCRIPT_LENGTH bytes (λ asked. verdict_told programs format asked (verdict_on first)) long
+long-told programs _ _ _ _ bytes (c.reads_sheet csv table script) long = read-long csv MAX_SHEET_LENGTH bytes (λ read. sheet_told [] (loaded_of table read)) long
 
 abbrev due : List ℕ → Status → Told
 due text status = (text, status)
@@ -142,39 +136,39 @@ due text status = (text, status)
 both-same : (text other : List ℕ) (status also : Status) → text ≡ other → status ≡ also → due text status ≡ due other also
 both-same text other status also t s = λ i. (t i, s i)
 
-module _ (law : ReadsWellFormed) (ended : Status) where
-  pub told-is : (command : Option Command) (events : List Event) (text : List ℕ) (status : Status) → ComesTo ended command events text status → told command events ≡ (text, status)
-  told-is _ _ _ _ c.usage = refl
-  told-is _ _ _ _ (c.absent command before name most reads) = absent-told command before name most reads
-  told-is _ _ _ _ (c.unreadable command before name most reads) = unreadable-told command before name most reads
-  told-is _ _ _ _ (c.too_long command before name most bytes reads long) = long-told command before name most bytes reads long
-  told-is _ _ _ _ (c.long_dump script dump bytes lines run long) = read-short script MAX_SCRIPT_LENGTH bytes (run_told dump []) run.short
-  told-is _ _ _ _ (c.lost_dump script dump bytes lines run small) = read-short script MAX_SCRIPT_LENGTH bytes (run_told dump (NotReplaced dump (history_dump lines) ∷ [])) run.short
-  told-is _ _ _ _ (c.replied script dump bytes lines run small) =
+module _ (law : ReadsWellFormed) where
+  pub told-is : (programs : Programs) (command : Option Command) (events : List Event) (text : List ℕ) (status : Status) → ComesTo programs command events text status → IsDetermined command → told programs command events ≡ (text, status)
+  told-is programs _ _ _ _ c.usage may = refl
+  told-is programs _ _ _ _ (c.absent command before name most reads) may = absent-told programs command before name most reads
+  told-is programs _ _ _ _ (c.unreadable command before name most reads) may = unreadable-told programs command before name most reads
+  told-is programs _ _ _ _ (c.too_long command before name most bytes reads long) may = long-told programs command before name most bytes reads long
+  told-is programs _ _ _ _ (c.long_dump script dump bytes lines run long) may = read-short script MAX_SCRIPT_LENGTH bytes (run_told dump []) run.short
+  told-is programs _ _ _ _ (c.lost_dump script dump bytes lines run small) may = read-short script MAX_SCRIPT_LENGTH bytes (run_told dump (NotReplaced dump (history_dump lines) ∷ [])) run.short
+  told-is programs _ _ _ _ (c.replied script dump bytes lines run small) may =
       let same = one-script bytes lines run.are in
       read-short script MAX_SCRIPT_LENGTH bytes (run_told dump (Replaced dump (history_dump lines) ∷ [])) run.short
       ∙ both-same (replies_text (replies_of bytes)) (replies_text (replies_to lines)) (answered_status (has_refusal (replies_of bytes))) (answered_status (has_refusal (replies_to lines)))
       (sym (ap (λ (ls : List ReadLine). replies_text (replies_to ls)) same ∙ text-read bytes))
       (sym (ap (λ (ls : List ReadLine). answered_status (has_refusal (replies_to ls))) same ∙ status-read bytes))
-  told-is _ _ _ _ (c.damaged format dump questions bytes asked f line few short fault) =
-      read-short dump MAX_DUMP_LENGTH bytes (ask_told format (read_of questions MAX_SCRIPT_LENGTH asked ∷ [])) few
-      ∙ read-short questions MAX_SCRIPT_LENGTH asked (λ read. verdict_told format read (verdict_on bytes)) short
-      ∙ ap (verdict_told format asked) (fails (verdict_on bytes) f line (fault-is bytes f line fault))
-  told-is _ _ _ _ (c.answered format dump questions bytes asked contents lines few short formed are explains) =
+  told-is programs _ _ _ _ (c.damaged format dump questions bytes asked f line few short fault) may =
+      read-short dump MAX_DUMP_LENGTH bytes (ask_told programs format (read_of questions MAX_SCRIPT_LENGTH asked ∷ [])) few
+      ∙ read-short questions MAX_SCRIPT_LENGTH asked (λ read. verdict_told programs format read (verdict_on bytes)) short
+      ∙ ap (verdict_told programs format asked) (fails (verdict_on bytes) f line (fault-is bytes f line fault))
+  told-is programs _ _ _ _ (c.answered format dump questions bytes asked contents lines few short formed are) may =
       let one = one-file asked lines are in
-      read-short dump MAX_DUMP_LENGTH bytes (ask_told format (read_of questions MAX_SCRIPT_LENGTH asked ∷ [])) few
-      ∙ read-short questions MAX_SCRIPT_LENGTH asked (λ read. verdict_told format read (verdict_on bytes)) short
-      ∙ ap (verdict_told format asked) (law bytes contents formed)
-      ∙ both-same (answers_text format (answer_to contents) asked) (answer_texts format (answer_to contents) lines) (answered_status (has_refused format (answer_to contents) asked))
-      (answered_status (refuses_some format (answer_to contents) lines))
-      (sym (ap (answer_texts format (answer_to contents)) one ∙ texts-read format (answer_to contents) asked))
-      (sym (ap (λ (ls : List ReadQuestion). answered_status (refuses_some format (answer_to contents) ls)) one ∙ ap answered_status (refusals-read format (answer_to contents) asked)))
-  told-is _ _ _ _ (c.summarized rounds summary made) = both-same (summary_text (summary_of rounds)) (summary_text summary) exit.Done exit.Done (sym (ap summary_text (one-summary rounds summary made))) refl
-  told-is _ _ _ _ (c.faulty_sheet csv table script bytes number record_number short fault) =
+      read-short dump MAX_DUMP_LENGTH bytes (ask_told programs format (read_of questions MAX_SCRIPT_LENGTH asked ∷ [])) few
+      ∙ read-short questions MAX_SCRIPT_LENGTH asked (λ read. verdict_told programs format read (verdict_on bytes)) short
+      ∙ ap (verdict_told programs format asked) (law bytes contents formed)
+      ∙ both-same (answers_text format (answer_to programs contents) asked) (answer_texts format (answer_to programs contents) lines) (answered_status (has_refused format (answer_to programs contents) asked))
+      (answered_status (refuses_some format (answer_to programs contents) lines))
+      (sym (ap (answer_texts format (answer_to programs contents)) one ∙ texts-read format (answer_to programs contents) asked))
+      (sym (ap (λ (ls : List ReadQuestion). answered_status (refuses_some format (answer_to programs contents) ls)) one ∙ ap answered_status (refusals-read format (answer_to programs contents) asked)))
+  told-is programs _ _ _ _ (c.summarized rounds others are) may = absurd may
+  told-is programs _ _ _ _ (c.faulty_sheet csv table script bytes number record_number short fault) may =
       read-short csv MAX_SHEET_LENGTH bytes (λ read. sheet_told [] (loaded_of table read)) short ∙ ap (sheet_told []) fault
-  told-is _ _ _ _ (c.lost_script csv table script bytes text rows short is) =
+  told-is programs _ _ _ _ (c.lost_script csv table script bytes text rows short is) may =
       read-short csv MAX_SHEET_LENGTH bytes (λ read. sheet_told (NotReplaced script text ∷ []) (loaded_of table read)) short ∙ ap (sheet_told (NotReplaced script text ∷ [])) is
-  told-is _ _ _ _ (c.loaded csv table script bytes text rows short is loads) =
+  told-is programs _ _ _ _ (c.loaded csv table script bytes text rows short is loads) may =
       read-short csv MAX_SHEET_LENGTH bytes (λ read. sheet_told (Replaced script text ∷ []) (loaded_of table read)) short ∙ ap (sheet_told (Replaced script text ∷ [])) is
 
 -- ---- what is written
@@ -182,8 +176,8 @@ module _ (law : ReadsWellFormed) (ended : Status) where
 abbrev pub WritesTold : Call → Told → Type 0
 WritesTold call all = WritesOutput all.0 all.1 call.sink call.sink_after call.status
 
-pub writes-told : ReadsWellFormed → (call : Call) → HasOutcome call → WritesTold call (told call.command call.events)
-writes-told law call (c.comes_to text status comes writes) = subst (WritesTold call) (sym (told-is law call.status call.command call.events text status comes)) writes
-writes-told law call (c.out_of_memory reads quiet memory) =
-    let all = told call.command call.events in
+pub writes-told : ReadsWellFormed → (programs : Programs) (call : Call) → IsDetermined call.command → HasOutcome programs call → WritesTold call (told programs call.command call.events)
+writes-told law programs call may (c.comes_to text status comes writes) = subst (WritesTold call) (sym (told-is law programs call.command call.events text status comes may)) writes
+writes-told law programs call may (c.out_of_memory reads quiet memory) =
+    let all = told programs call.command call.events in
     nothing-written all.0 all.1 call.sink call.sink_after call.status quiet memory

@@ -8,7 +8,7 @@ use Rattle.gp_io.specs.SinkSteps.{WriteStops}
 use Rattle.gprom_cli.specs.declared.status.Status.{Status}
 use Rattle.gprom_cli.specs.declared.status.Status.TheVariants as exit
 use Rattle.gprom_cli.specs.Consequences.{HasFailed, IsOrFails}
-use Rattle.gprom_cli.specs.Call.{WritesOutput, IsAnswered, all_written, some_written, write_failed}
+use Rattle.gprom_cli.specs.Call.{WritesOutput, all_written, some_written, write_failed}
 use Rattle.gprom_cli.specs.Steps.{WritesText, stop_status}
 
 -- the status of a write, by its result
@@ -27,6 +27,12 @@ written (Ok value) text expected old new all stopped = all_written all refl
 written (Err Failed) text expected old new all stopped =
     write_failed [] text [] (sym (append-nil text)) (inl refl) (stopped ∙ ap (after_failure text) (after-nothing old)) refl
 written (Err NoMemory) text expected old new all stopped = some_written [] text refl (inl refl) (stopped ∙ after-nothing old) refl
+
+-- every line was answered
+abbrev pub IsAnswered : Status → Type 0
+IsAnswered exit.Done = Unit {0}
+IsAnswered exit.Refused = Unit {0}
+IsAnswered status = ⊥
 
 -- a write that stops is no status of lines that were answered
 pub unanswered : (stop : SinkStop) → IsAnswered (stop_status stop) → ⊥

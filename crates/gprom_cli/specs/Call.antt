@@ -14,16 +14,13 @@ use Rattle.gp_dump.specs.Rules.{FirstFault, WellFormed}
 use Rattle.gp_csv.specs.Faults.{refuse}
 use Rattle.gp_load.specs.Loading.{LoadsText, loaded_of}
 use Rattle.gp_ask.specs.declared.format.Format.{Format}
-use Rattle.gp_ask.specs.declared.format.Format.TheVariants.{Text}
 use Rattle.gp_ask.specs.Answers.{answer_to}
-use Rattle.gp_ask.specs.Explained.{ExplainsLines}
+use Rattle.gp_ask.specs.Asking.{Programs}
 use Rattle.gp_ask.specs.Questions.{AreQuestions, ReadQuestion, answer_texts, refuses_some}
 use Rattle.gprom_cli.specs.declared.load.TheConstants.{MAX_SHEET_LENGTH}
 use Rattle.gprom_cli.specs.declared.status.Status.{Status}
 use Rattle.gprom_cli.specs.declared.status.Status.TheVariants as exit
-use Rattle.gprom_cli.specs.declared.summary.Summary.{Summary}
 use Rattle.gprom_cli.specs.Args.{Command, Run, Ask, Generate, Load}
-use Rattle.gprom_cli.specs.Summary.{IsSummary, summary_text}
 
 -- One call: what it was asked to do, and what it has done.
 pub record Call : Type 0 where
@@ -50,7 +47,7 @@ pub data WritesOutput (text : List ℕ) (expected : Status) (before after : Sink
   -- whole lines of it, and then memory ran out
   some_written : (lines rest : List ℕ) → text ≡ lines ++ rest → AreLines lines → after ≡ after_write lines before → actual ≡ exit.OutOfMemory
       → WritesOutput text expected before after actual
-  -- whole lines of it, and then the write of the next ones failed
+  -- whole lines of it, and then the write of some bytes that come next failed, of which the system may have taken a prefix
   write_failed : (lines next rest : List ℕ) → text ≡ lines ++ (next ++ rest) → AreLines lines → after ≡ after_failure next (after_write lines before) → actual ≡ exit.Unwritten
       → WritesOutput text expected before after actual
 
@@ -73,6 +70,10 @@ sheet_message c number = concat (codes "csv refused: C0" ∷ decimal c ∷ codes
 abbrev pub loaded_message : ℕ → List ℕ
 loaded_message rows = concat (codes "loaded " ∷ decimal rows ∷ newline ∷ [])
 
+-- the first line of the summary of a generated script
+abbrev pub rounds_line : ℕ → List ℕ
+rounds_line rounds = concat (codes "gen " ∷ decimal rounds ∷ newline ∷ [])
+
 -- the usage line
 abbrev pub usage_text : List ℕ
 usage_text = concat (codes "usage: gprom run SCRIPT DUMP, gprom ask DUMP QUESTIONS, gprom gen N, gprom load CSV TABLE SCRIPT, gprom export DUMP QUESTIONS" ∷ newline ∷ [])
@@ -84,12 +85,6 @@ answered_status refused = if refused then exit.Refused else exit.Done
 -- the text of the dump of a history
 abbrev pub history_dump : List ReadLine → List ℕ
 history_dump lines = written_text (dump_of (last_state unannotated lines))
-
--- every line was answered
-abbrev pub IsAnswered : Status → Type 0
-IsAnswered exit.Done = Unit {0}
-IsAnswered exit.Refused = Unit {0}
-IsAnswered status = ⊥
 
 -- ---- what a call comes to
 
@@ -110,7 +105,7 @@ pub record RunsScript (bytes : List ℕ) (lines : List ReadLine) : Type 0 where
   pub short : length bytes ≤ MAX_SCRIPT_LENGTH
   pub are : IsScript bytes lines
 
-module _ (ended : Status) where
+module _ (programs : Programs) where
   -- What a call comes to that has done this, unless memory runs out: the text that it writes, and its status. The first step that fails decides.
   pub data ComesTo : Option Command → List Event → List ℕ → Status → Type 0 where
     -- the arguments are invalid
@@ -130,15 +125,15 @@ module _ (ended : Status) where
     replied : (script dump bytes : List ℕ) (lines : List ReadLine) → RunsScript bytes lines → length (history_dump lines) ≤ MAX_DUMP_LENGTH
         → ComesTo (Some (Run script dump)) (read_of script MAX_SCRIPT_LENGTH bytes ∷ Replaced dump (history_dump lines) ∷ [])
         (replies_text (replies_to lines)) (answered_status (has_refusal (replies_to lines)))
-    -- `ask` and `export`: the dump has a fault, or the questions are answered. Where they all are, each program that is printed explains its query.
+    -- `ask` and `export`: the dump has a fault, or the questions are answered
     damaged : (format : Format) (dump questions bytes asked : List ℕ) (f line : ℕ) → length bytes ≤ MAX_DUMP_LENGTH → length asked ≤ MAX_SCRIPT_LENGTH → FirstFault bytes f line
         → ComesTo (Some (Ask format dump questions)) (read_of dump MAX_DUMP_LENGTH bytes ∷ read_of questions MAX_SCRIPT_LENGTH asked ∷ []) (damage_message f line) exit.Damaged
     answered : (format : Format) (dump questions bytes asked : List ℕ) (contents : Dump) (lines : List ReadQuestion) → length bytes ≤ MAX_DUMP_LENGTH → length asked ≤ MAX_SCRIPT_LENGTH
-        → WellFormed bytes contents → AreQuestions asked lines → (IsAnswered ended → format ≡ Text → ExplainsLines contents.entries lines)
+        → WellFormed bytes contents → AreQuestions asked lines
         → ComesTo (Some (Ask format dump questions)) (read_of dump MAX_DUMP_LENGTH bytes ∷ read_of questions MAX_SCRIPT_LENGTH asked ∷ [])
-        (answer_texts format (answer_to contents) lines) (answered_status (refuses_some format (answer_to contents) lines))
-    -- `gen`: the summary
-    summarized : (rounds : ℕ) (summary : Summary) → IsSummary rounds summary → ComesTo (Some (Generate rounds)) [] (summary_text summary) exit.Done
+        (answer_texts format (answer_to programs contents) lines) (answered_status (refuses_some format (answer_to programs contents) lines))
+    -- `gen`: a summary, in lines. What it says is the contract of `generate`.
+    summarized : (rounds : ℕ) (others : List ℕ) → AreLines others → ComesTo (Some (Generate rounds)) [] (rounds_line rounds ++ others) exit.Done
     -- `load`: the sheet has a fault; or its script is not replaced, or is, and loads its rows
     faulty_sheet : (csv table script bytes : List ℕ) (c number : ℕ) → length bytes ≤ MAX_SHEET_LENGTH → loaded_of table bytes ≡ refuse c number
         → ComesTo (Some (Load csv table script)) (read_of csv MAX_SHEET_LENGTH bytes ∷ []) (sheet_message c number) exit.SheetRefused
@@ -153,8 +148,9 @@ pub data HasRead : Option Command → List Event → Type 0 where
   files : (command : Command) (before : List Event) (name : List ℕ) (most : ℕ) (bytes : List ℕ) → IsReadBy command before name most → length bytes ≤ most
       → HasRead (Some command) (before ++ read_of name most bytes ∷ [])
 
--- The arguments and what the shelf has done determine what the call comes to, and that what is written. Where memory ran out before, nothing is written
--- and nothing replaced.
-pub data HasOutcome (call : Call) : Type 0 where
-  comes_to : (text : List ℕ) (status : Status) → ComesTo call.status call.command call.events text status → WritesOutput text status call.sink call.sink_after call.status → HasOutcome call
-  out_of_memory : HasRead call.command call.events → call.sink_after ≡ call.sink → call.status ≡ exit.OutOfMemory → HasOutcome call
+module _ (programs : Programs) where
+  -- The arguments, what the shelf has done and the programs determine what the call comes to, but for the summary of `gen`, and that what is written. Where memory
+  -- ran out before, nothing is written and nothing replaced.
+  pub data HasOutcome (call : Call) : Type 0 where
+    comes_to : (text : List ℕ) (status : Status) → ComesTo programs call.command call.events text status → WritesOutput text status call.sink call.sink_after call.status → HasOutcome call
+    out_of_memory : HasRead call.command call.events → call.sink_after ≡ call.sink → call.status ≡ exit.OutOfMemory → HasOutcome call

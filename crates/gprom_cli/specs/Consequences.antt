@@ -1,5 +1,4 @@
--- Part of the statement: what follows from the promises of a call, by what was asked and what the shelf has done. The law `promises_have_consequences`
--- says that it does.
+-- Part of the statement of the law `promises_have_consequences`: what follows from the promises of a call, by what was asked and what the shelf has done.
 use Rattle.std.specs.Prelude.{◌≡◌, ◌⊎◌, ℕ, ◌≤◌, List, [], ◌∷◌, ◌++◌, length, map, Option, Some, None, Result, Ok, Err}
 use Rattle.gp_base.specs.Annotated.{monomials, unannotated}
 use Rattle.gp_io.specs.Events.{Event, Read, Missing, Unreadable, Replaced, NotReplaced}
@@ -15,17 +14,14 @@ use Rattle.gp_machine.specs.State.{start}
 use Rattle.gp_csv.specs.Faults.{Fault}
 use Rattle.gp_load.specs.Loading.{LoadsText, loaded_of}
 use Rattle.gp_ask.specs.declared.format.Format.{Format}
-use Rattle.gp_ask.specs.declared.format.Format.TheVariants.{Text}
 use Rattle.gp_ask.specs.Answers.{answer_to, held_to}
-use Rattle.gp_ask.specs.Explained.{ExplainsLines}
+use Rattle.gp_ask.specs.Asking.{Programs}
 use Rattle.gp_ask.specs.Questions.{AreQuestions, ReadQuestion, answer_texts, refuses_some}
 use Rattle.gprom_cli.specs.declared.load.TheConstants.{MAX_SHEET_LENGTH}
 use Rattle.gprom_cli.specs.declared.status.Status.{Status}
 use Rattle.gprom_cli.specs.declared.status.Status.TheVariants as exit
-use Rattle.gprom_cli.specs.declared.summary.Summary.{Summary}
 use Rattle.gprom_cli.specs.Args.{Command, Run, Ask, Generate, Load}
-use Rattle.gprom_cli.specs.Call.{Call, ComesTo, IsAnswered, RunsScript, WritesOutput, answered_status, history_dump, loaded_message, read_of, sheet_message}
-use Rattle.gprom_cli.specs.Summary.{IsSummary, summary_text}
+use Rattle.gprom_cli.specs.Call.{AreLines, Call, ComesTo, RunsScript, WritesOutput, answered_status, history_dump, loaded_message, read_of, rounds_line, sheet_message}
 
 -- ---- what the shelf has done
 
@@ -64,6 +60,14 @@ IsLast event events = (before : List Event) × (events ≡ before ++ event ∷ [
 
 -- ---- statuses and files
 
+-- all but `gen`, of which `generate` says what it writes
+abbrev pub IsDetermined : Option Command → Type 0
+IsDetermined None = Unit {0}
+IsDetermined (Some (Run script dump)) = Unit {0}
+IsDetermined (Some (Ask format dump questions)) = Unit {0}
+IsDetermined (Some (Generate rounds)) = ⊥
+IsDetermined (Some (Load csv table script)) = Unit {0}
+
 -- the status is the expected one, or the write failed, or memory ran out
 abbrev pub IsOrFails : Status → Status → Type 0
 IsOrFails expected actual = (actual ≡ expected) ⊎ ((actual ≡ exit.Unwritten) ⊎ (actual ≡ exit.OutOfMemory))
@@ -91,11 +95,11 @@ LoadsSheet csv table script bytes call (Ok made) = WritesOutput (loaded_message 
 LoadsSheet csv table script bytes call (Err fault) = WritesOutput (sheet_message fault.c fault.number) exit.SheetRefused call.sink call.sink_after call.status
     × (call.events ≡ read_of csv MAX_SHEET_LENGTH bytes ∷ [])
 
-pub record Consequences (call : Call) : Type 0 where
+pub record Consequences (programs : Programs) (call : Call) : Type 0 where
   -- Each file is read once at most, in order, and then the dump of `run` or the script of `load` is replaced once at most, and no other file.
   pub steps : FollowsSteps call.command call.events
   -- Whatever a call comes to that has done this, the output and the status are of that.
-  pub determined : (ended : Status) (text : List ℕ) (status : Status) → ComesTo ended call.command call.events text status → WritesOutput text status call.sink call.sink_after call.status
+  pub determined : IsDetermined call.command → (text : List ℕ) (status : Status) → ComesTo programs call.command call.events text status → WritesOutput text status call.sink call.sink_after call.status
   -- `run` writes exactly the replies of the history of the script that it read, whatever its bytes, and replaces the dump by that of its last state; only
   -- where memory runs out it does not.
   pub replied : (name dump script : List ℕ) (made : List Event) (lines : List ReadLine) → call.command ≡ Some (Run name dump)
@@ -109,7 +113,7 @@ pub record Consequences (call : Call) : Type 0 where
   pub held : (format : Format) (dump name script asked : List ℕ) (lines : List ReadLine) (questions : List ReadQuestion) → call.command ≡ Some (Ask format dump name)
       → call.events ≡ read_of dump MAX_DUMP_LENGTH (history_dump lines) ∷ read_of name MAX_SCRIPT_LENGTH asked ∷ [] → RunsScript script lines
       → length (history_dump lines) ≤ MAX_DUMP_LENGTH → length asked ≤ MAX_SCRIPT_LENGTH → AreQuestions asked questions
-      → WritesOutput (answer_texts format (held_to (last_state monomials lines)) questions) (answered_status (refuses_some format (held_to (last_state monomials lines)) questions))
+      → WritesOutput (answer_texts format (held_to programs (last_state monomials lines)) questions) (answered_status (refuses_some format (held_to programs (last_state monomials lines)) questions))
       call.sink call.sink_after call.status
   -- From any well-formed dump `ask` and `export` answer by the log and the stored versions, as `answer_to` says. They answer a question about what would be with
   -- a change as the history held it that the commits of the changed log, made again, lead to: so every row, with its provenance and its values, is one of that
@@ -119,22 +123,16 @@ pub record Consequences (call : Call) : Type 0 where
   pub answered : (format : Format) (dump name bytes asked : List ℕ) (contents : Dump) (questions : List ReadQuestion) → call.command ≡ Some (Ask format dump name)
       → call.events ≡ read_of dump MAX_DUMP_LENGTH bytes ∷ read_of name MAX_SCRIPT_LENGTH asked ∷ [] → length bytes ≤ MAX_DUMP_LENGTH → length asked ≤ MAX_SCRIPT_LENGTH
       → WellFormed bytes contents → AreQuestions asked questions
-      → WritesOutput (answer_texts format (answer_to contents) questions) (answered_status (refuses_some format (answer_to contents) questions)) call.sink call.sink_after call.status
-  -- Where `ask` answers all questions, each program that it prints is one program in normal form that, on every database of past versions, gives the
-  -- answer of the query over the state that the logged statements lead to. The dump is any that is well formed.
-  pub explained : (dump name bytes asked : List ℕ) (contents : Dump) (questions : List ReadQuestion) → call.command ≡ Some (Ask Text dump name)
-      → call.events ≡ read_of dump MAX_DUMP_LENGTH bytes ∷ read_of name MAX_SCRIPT_LENGTH asked ∷ [] → length asked ≤ MAX_SCRIPT_LENGTH
-      → WellFormed bytes contents → AreQuestions asked questions → IsAnswered call.status → ExplainsLines contents.entries questions
+      → WritesOutput (answer_texts format (answer_to programs contents) questions) (answered_status (refuses_some format (answer_to programs contents) questions)) call.sink call.sink_after call.status
   -- Where the dump is that of a history, `ask` and `export` answer every question as that history held it, whichever lines it was of.
   pub recorded : (format : Format) (dump name bytes asked : List ℕ) (contents : Dump) (lines : List Line) (questions : List ReadQuestion) → call.command ≡ Some (Ask format dump name)
       → call.events ≡ read_of dump MAX_DUMP_LENGTH bytes ∷ read_of name MAX_SCRIPT_LENGTH asked ∷ [] → length bytes ≤ MAX_DUMP_LENGTH → length asked ≤ MAX_SCRIPT_LENGTH
       → WellFormed bytes contents → contents ≡ dump_of (after unannotated parameters start lines) → AreQuestions asked questions
-      → WritesOutput (answer_texts format (held_to (after monomials parameters start lines)) questions)
-      (answered_status (refuses_some format (held_to (after monomials parameters start lines)) questions)) call.sink call.sink_after call.status
-  -- `gen` writes the summary of the history of the generated script: its dump, and the rows with which that history, annotated, answered the generated
-  -- questions.
-  pub generated : (rounds : ℕ) (summary : Summary) → call.command ≡ Some (Generate rounds) → IsSummary rounds summary
-      → WritesOutput (summary_text summary) exit.Done call.sink call.sink_after call.status
+      → WritesOutput (answer_texts format (held_to programs (after monomials parameters start lines)) questions)
+      (answered_status (refuses_some format (held_to programs (after monomials parameters start lines)) questions)) call.sink call.sink_after call.status
+  -- `gen` writes lines, of which the first has the rounds.
+  pub generated : (rounds : ℕ) → call.command ≡ Some (Generate rounds)
+      → (others : List ℕ) × AreLines others × WritesOutput (rounds_line rounds ++ others) exit.Done call.sink call.sink_after call.status
   -- `load` replaces the script by one that creates the table and fills it with the rows of the sheet that it read: no line of it is refused, and the last
   -- version of its history has exactly these rows. A sheet that has a fault is refused for the first, and no file is replaced.
   pub loaded : (name table script bytes : List ℕ) (made : List Event) → call.command ≡ Some (Load name table script)

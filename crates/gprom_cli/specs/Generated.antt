@@ -1,4 +1,4 @@
--- Part of the statement: what `gen` makes: a script of a bank, whose transactions overlap, and questions about it. Lines are given by their pieces.
+-- Part of the statement of `generate`: what `gen` makes: a script of a bank, whose transactions overlap, and questions about it. Lines are given by their pieces.
 use Rattle.std.specs.Prelude.{ℕ, zero, suc, ◌+◌, ◌*◌, ◌%◌, List, [], ◌∷◌, ◌++◌, map, codes}
 use Rattle.std.specs.Fmt.{decimal}
 use Rattle.std.specs.List.{concat, flat_map}

@@ -1,8 +1,11 @@
--- Part of the statement: what every call of the program promises. This is the contract of `gprom`, with what follows from it (`Consequences`), for every
--- shelf and every sink that keep their own contracts, the real ones included. It speaks of what the shelf has done in the call: which bytes each read gave,
--- and by which bytes a file was replaced. What it means for the files that a shelf has is in `OverFiles`, by a law.
-use Rattle.std.specs.Prelude.{◌≡◌, ℕ, ◌≤◌, List, length, None, Some}
+-- Part of the statement: what every call of the program promises. This is the contract of `gprom`, for every shelf and every sink that keep their own
+-- contracts, the real ones included. It speaks of what the shelf has done in the call: which bytes each read gave, and by which bytes a file was replaced.
+-- What follows for each command and each status is in `Consequences`, and for the files that a shelf has in `OverFiles`, both by laws.
+use Rattle.std.specs.Prelude.{◌≡◌, ◌≢◌, ℕ, ◌≤◌, AllPairs, List, length, None, Result, Ok, Err}
 use Rattle.gp_base.specs.Annotated.{monomials, unannotated}
+use Rattle.gp_base.specs.Catalogs.{table_names}
+use Rattle.gp_base.specs.declared.table.Table.{Table}
+use Rattle.gp_algebra.specs.Plain.{PlainProgram}
 use Rattle.gp_grammar.specs.CommandGrammar.{IsScriptLine}
 use Rattle.gp_grammar.specs.Limits.{line_shape, question_shape}
 use Rattle.gp_grammar.specs.LineReading.{AreReadOnce}
@@ -12,23 +15,40 @@ use Rattle.gp_script.specs.History.{IsScript, ReadLine, last_state}
 use Rattle.gp_script.specs.declared.script.TheConstants.{MAX_SCRIPT_LENGTH}
 use Rattle.gp_syntax.specs.Lines.{script_lines}
 use Rattle.gp_dump.specs.Dumps.{Dump, dump_of}
-use Rattle.gp_dump.specs.Rules.{WellFormed}
+use Rattle.gp_dump.specs.Rules.{FirstFault, WellFormed}
+use Rattle.gp_plantext.specs.Spelling.{Spells}
+use Rattle.gp_log.specs.LogFacts.{tables_in}
 use Rattle.gp_log.specs.Parameters.{parameters}
-use Rattle.gp_machine.specs.Event.{Line, after}
+use Rattle.gp_machine.specs.Entries.{Entry}
+use Rattle.gp_machine.specs.Event.{after}
+use Rattle.gp_machine.specs.Replayed.{replayed_state}
 use Rattle.gp_machine.specs.State.{start}
 use Rattle.gp_replay.specs.Differences.{IsOfHistory, difference}
-use Rattle.gp_replay.specs.FirstDifferences.{DiffersFirst}
 use Rattle.gp_ask.specs.Answers.{answer_to, held_to}
+use Rattle.gp_ask.specs.Asking.{Programs}
+use Rattle.gp_ask.specs.Explained.{ExplainsLines}
 use Rattle.gp_ask.specs.Hypothetical.{remaking_refusal, replayed_dump}
+use Rattle.gp_ask.specs.Isolated.{IsIsolated, LosesToFirst}
+use Rattle.gp_ask.specs.Questions.{AreQuestions, ReadQuestion}
+use Rattle.gp_whatif.specs.Changed.{changed}
 use Rattle.gprom_cli.specs.Call.{Call, HasOutcome, history_dump}
 
+-- what the bytes of a file are read as: a dump, or the number of the first rule that fails and that of its line
+abbrev pub IsReadAsDump : List ℕ → Result Dump (ℕ × ℕ) → Type 0
+IsReadAsDump bytes (Ok contents) = WellFormed bytes contents
+IsReadAsDump bytes (Err fault) = FirstFault bytes fault.0 fault.1
+
 pub record Promises (call : Call) : Type 0 where
-  -- The arguments and what the shelf has done determine the output and the exit status. The output is complete, but for whole lines before a write error or
-  -- before memory ran out. `ComesTo` has the events of each end: which bytes were read, and by which bytes a file was replaced.
-  pub outcome : HasOutcome call
-  -- Every script, and every file of questions, is read as exactly one list of lines.
+  -- the programs that answer explained queries
+  pub shown : Programs
+  -- The arguments and what the shelf has done determine the output and the exit status, but for the lines of a summary of `gen` and for these programs. The output
+  -- is complete, but for whole lines before a write error or before memory ran out. `ComesTo` has the events of each end: which bytes were read, and by which bytes
+  -- a file was replaced.
+  pub outcome : HasOutcome shown call
+  -- Every script, and every file of questions, is read as exactly one list of lines; and every file is exactly one dump, or has exactly one first fault.
   pub scripts : (script : List ℕ) → AreReadOnce IsScriptLine line_shape (script_lines script)
   pub questions : (file : List ℕ) → AreReadOnce IsQuestion question_shape (script_lines file)
+  pub dumps : (bytes : List ℕ) → (reading : Result Dump (ℕ × ℕ)) × IsReadAsDump bytes reading × ((other : Result Dump (ℕ × ℕ)) → IsReadAsDump bytes other → other ≡ reading)
   -- The dump of every script is well formed. With nothing changed, the commits of its log, made again, do not stop, and lead to this dump.
   pub formed : (script : List ℕ) (lines : List ReadLine) → length script ≤ MAX_SCRIPT_LENGTH → IsScript script lines → WellFormed (history_dump lines) (dump_of (last_state unannotated lines))
   pub unchanged : (script : List ℕ) (lines : List ReadLine) → length script ≤ MAX_SCRIPT_LENGTH → IsScript script lines
@@ -36,10 +56,24 @@ pub record Promises (call : Call) : Type 0 where
   -- From the dump of a history, of whatever lines, every question is answered as the history held it, with the provenance of each row there, though the dump
   -- has none: so with its value in every semiring, without rules in witnesses exactly with its minimal token sets, and without the rows of some tokens with
   -- exactly the rows that the query gives over the annotated history without these rows. What a transaction saw is the query over what the history machine
-  -- held for it, and what a statement changed are the rows that it wrote there, whatever became of the transaction. What would be with a change is what the
-  -- history held that the commits of the changed log, made again, lead to, and so it is answered from any dump.
-  pub held : (lines : List Line) (question : y.Question) → answer_to (dump_of (after unannotated parameters start lines)) question ≡ held_to (after monomials parameters start lines) question
-  -- CHECK answers whether a well-formed dump is that of a history, as the history machine takes lines: where it names no line, the dump is that of some lines
-  -- of a script; and the line that it names is the first that is not as the log makes it.
-  pub checked : (bytes : List ℕ) (contents : Dump) → WellFormed bytes contents
-      → (difference contents ≡ None → IsOfHistory contents) × ((line : ℕ) → difference contents ≡ Some line → DiffersFirst contents line)
+  -- held for it, and what a statement or a commit changed are the rows that it wrote, as the machine held them before and after, whatever became of the
+  -- transaction. What would be with a change is what the history held that the commits of the changed log, made again, lead to, and so it is answered from
+  -- any dump.
+  pub held : (lines : List ReadLine) (question : y.Question) → answer_to shown (dump_of (last_state unannotated lines)) question ≡ held_to shown (last_state monomials lines) question
+  -- Every query that the questions of a file ask to explain, of whatever well-formed dump, has as answer the lines of the text of one program that on every
+  -- database of past versions gives the answer of the query over the state that the logged statements lead to.
+  pub explained : (bytes file : List ℕ) (contents : Dump) (lines : List ReadQuestion) → WellFormed bytes contents → AreQuestions file lines → ExplainsLines shown contents.entries lines
+  -- A text spells one program, where no two tables have the same name, as in every log.
+  pub programs : (tables : List Table) (text : List ℕ) (program other : PlainProgram) → AllPairs (λ (name also : List ℕ). name ≢ also) (table_names tables)
+      → Spells tables program text → Spells tables other text → program ≡ other
+  -- CHECK names a line of every well-formed dump (`difference`), unless it is that of a history, as the history machine takes lines: of some lines of a script.
+  -- Then every question is answered as this history held it.
+  pub checked : (bytes : List ℕ) (contents : Dump) → WellFormed bytes contents → difference contents ≡ None
+      → (history : IsOfHistory contents) × ((question : y.Question) → answer_to shown contents question ≡ held_to shown (after monomials parameters start history.lines) question)
+  -- Each transaction of a history is isolated as its BEGIN says, whatever became of it, and the first committer of a row wins: the rows that a commit wrote were
+  -- written by no commit after their bases, and no transaction is lost where this holds of its rows. So it is in the history that the commits of the changed
+  -- log of any dump, made again, lead to, where none of them stops.
+  pub isolated : (lines : List ReadLine) → IsIsolated (last_state monomials lines)
+  pub lost : (lines : List ReadLine) → LosesToFirst (last_state monomials lines)
+  pub remade : (bytes : List ℕ) (contents : Dump) (change : y.LogChange) (entries : List Entry) → WellFormed bytes contents → changed parameters contents.entries change ≡ Ok entries
+      → remaking_refusal entries ≡ None → IsIsolated (replayed_state monomials (tables_in entries) entries)

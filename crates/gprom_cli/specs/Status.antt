@@ -5,14 +5,14 @@ use Rattle.gprom_cli.specs.declared.status.Status.{Status}
 use Rattle.gprom_cli.specs.declared.status.Status.TheVariants.{Done, Refused, Usage, Absent, Unreadable, Unwritten, TooLong, Damaged, OutOfMemory, SheetRefused}
 
 -- the number of a status
-abbrev pub number_of : Status → ℕ
-number_of Done = 0
-number_of Refused = 1
-number_of Usage = 2
-number_of Absent = 3
-number_of Unreadable = 4
-number_of Unwritten = 5
-number_of TooLong = 6
-number_of Damaged = 7
-number_of OutOfMemory = 8
-number_of SheetRefused = 9
+abbrev pub exit_number : Status → ℕ
+exit_number Done = 0
+exit_number Refused = 1
+exit_number Usage = 2
+exit_number Absent = 3
+exit_number Unreadable = 4
+exit_number Unwritten = 5
+exit_number TooLong = 6
+exit_number Damaged = 7
+exit_number OutOfMemory = 8
+exit_number SheetRefused = 9

@@ -9,14 +9,13 @@ use Rattle.gp_script.specs.Scripts.{final_state}
 use Rattle.gp_dump.specs.Dumps.{Dump, dump_of, written_text}
 use Rattle.gp_dump.specs.Rules.{FirstFault, WellFormed}
 use Rattle.gp_ask.specs.declared.format.Format.{Format}
-use Rattle.gp_ask.specs.Answers.{answer_to}
-use Rattle.gp_ask.specs.Explained.{ExplainsLines}
-use Rattle.gp_ask.specs.QuestionFiles.{ExplainsIn}
+use Rattle.gp_ask.specs.Printed.{answer_to}
+use Rattle.gp_ask.specs.Programs.{program_lines}
 use Rattle.gp_ask.specs.Questions.{AreQuestions, ReadQuestion, answer_texts, refuses_some}
 use Rattle.gprom_cli.specs.declared.status.Status.{Status}
 use Rattle.gprom_cli.specs.declared.status.Status.TheVariants as exit
 use Rattle.gprom_cli.specs.Args.{Command}
-use Rattle.gprom_cli.specs.Call.{HasOutcome, IsAnswered, WritesOutput, answered_status, damage_message, message, read_of}
+use Rattle.gprom_cli.specs.Call.{HasOutcome, WritesOutput, answered_status, damage_message, message, read_of}
 
 -- the text of the dump of a script
 abbrev pub script_dump : List ℕ → List ℕ
@@ -26,7 +25,7 @@ script_dump script = written_text (dump_of (final_state unannotated script))
 pub record Ends (command : Option Command) (before after : List Event) (sink sink_after : SinkState) (status : Status) : Type 0 where
   pub events : List Event
   pub grown : after ≡ before ++ events
-  pub outcome : HasOutcome (record { command = command; events = events; sink = sink; sink_after = sink_after; status = status })
+  pub outcome : HasOutcome program_lines (record { command = command; events = events; sink = sink; sink_after = sink_after; status = status })
 
 -- ---- writing
 
@@ -68,7 +67,6 @@ pub record WritesAnswers (text : List ℕ) (refuses : Bool) (before after : Sink
 pub data Answers (format : Format) (bytes asked : List ℕ) (sink sink_after : SinkState) (status : Status) : Type 0 where
   is_damaged : (f line : ℕ) → FirstFault bytes f line → WritesOutput (damage_message f line) exit.Damaged sink sink_after status → Answers format bytes asked sink sink_after status
   is_answered : (contents : Dump) (lines : List ReadQuestion) → WellFormed bytes contents → AreQuestions asked lines
-      → (IsAnswered status → ExplainsIn format (ExplainsLines contents.entries lines))
       → WritesOutput (answer_texts format (answer_to contents) lines) (answered_status (refuses_some format (answer_to contents) lines)) sink sink_after status
       → Answers format bytes asked sink sink_after status
   no_answer : sink_after ≡ sink → status ≡ exit.OutOfMemory → Answers format bytes asked sink sink_after status

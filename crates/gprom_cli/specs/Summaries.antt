@@ -8,7 +8,7 @@ use Rattle.gp_syntax.specs.Lines.{script_lines}
 use Rattle.gp_script.specs.Scripts.{final_state}
 use Rattle.gp_dump.specs.Dumps.{Dump, dump_of, spans_in}
 use Rattle.gp_ask.specs.declared.answered.Answered.{Answered}
-use Rattle.gp_ask.specs.Answers.{held_to}
+use Rattle.gp_ask.specs.Printed.{held_to}
 use Rattle.gp_ask.specs.QuestionFiles.{line_answer}
 use Rattle.gprom_cli.specs.declared.summary.Summary.{Summary}
 use Rattle.gprom_cli.specs.Generated.{generated_script}

@@ -1,4 +1,4 @@
--- Part of the statement: the summary of `gen`: what the history of a generated script comes to, and what it answers to the generated questions.
+-- Part of the statement of `generate`: the summary of `gen`: what the history of a generated script comes to, and what it answers to the generated questions.
 use Rattle.std.specs.Prelude.{◌≡◌, ℕ, zero, suc, Bool, true, false, List, [], ◌∷◌, ◌++◌, length, if◌then◌else◌, codes}
 use Rattle.std.specs.Fmt.{decimal}
 use Rattle.std.specs.List.{sum_by}
@@ -10,7 +10,7 @@ use Rattle.gp_script.specs.History.{IsScript, ReadLine, last_state}
 use Rattle.gp_dump.specs.Dumps.{dump_of, spans_in}
 use Rattle.gp_ask.specs.declared.answered.Answered.{Answered}
 use Rattle.gp_ask.specs.declared.answered.Answered.TheVariants.{Rows, Listed, Values}
-use Rattle.gp_ask.specs.Answers.{held_to}
+use Rattle.gp_ask.specs.Printed.{held_to}
 use Rattle.gp_ask.specs.Questions.{AreQuestions, ReadQuestion, answered}
 use Rattle.gprom_cli.specs.declared.summary.Summary.{Summary}
 use Rattle.gprom_cli.specs.Generated.{Pieces, generated_questions, generated_script, lines_text}

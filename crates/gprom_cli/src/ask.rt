@@ -4,15 +4,14 @@ ghost use Rattle.std.specs.Prelude.{◌≡◌, ◌≤◌, ℕ, List, [], ◌∷�
 ghost use Rattle.gp_io.specs.Events.{Event};
 ghost use Rattle.gp_check.specs.Valid.{tables_are_valid};
 ghost use Rattle.gp_log.specs.LogFacts.{tables_in};
-ghost use Rattle.gp_grammar.specs.Reading.{question_of};
 ghost use Rattle.gp_ask.specs.Computed.{computed_answer};
-ghost use Rattle.gp_ask.specs.QuestionFiles.{ExplainsIn, ExplainsQuestions, ExplainsRead, answers_text, has_refused, line_answer_in, line_answer_text};
+ghost use Rattle.gp_ask.specs.QuestionFiles.{answers_text, has_refused, line_answer_in, line_answer_text};
 ghost use Rattle.gp_ask.specs.Keeping.{AreKept};
 ghost use Rattle.gp_ask.specs.Questions.{is_refused};
 ghost use Rattle.gp_dump.specs.WholeDumps.{IsDump};
 ghost use Rattle.gp_dump.specs.Views.{dump_view};
 ghost use Rattle.gprom_cli.specs.Args.{Ask};
-ghost use Rattle.gprom_cli.specs.Call.{IsAnswered, WritesOutput, answered_status, read_of};
+ghost use Rattle.gprom_cli.specs.Call.{WritesOutput, answered_status, read_of};
 ghost use Rattle.gprom_cli.specs.Steps.{Answers, Ends, WritesAnswers};
 
 use crate::laws::dumps_answer_for_changed_histories;
@@ -51,8 +50,6 @@ fn answered(
         ≡ line_answer_text format (computed_answer (dump_view dump.now)) (number, bytes.now)) }
     ensures refused { IfOk result (λ answer. answer.refused
         ≡ is_refused (line_answer_in format (computed_answer (dump_view dump.now)) (number, bytes.now))) }
-    ensures explained { IfOk result (λ answer.
-        ExplainsIn format (ExplainsRead (dump_view dump.now).entries (question_of bytes.now))) }
 {
     let answer = answer_line_in(alloc, format, dump, bytes, kept)?;
     let refused = answer.is_refused();
@@ -89,8 +86,6 @@ fn write_line<K: Sink>(
         (line_answer_text format (computed_answer (dump_view dump.now)) (number, bytes.now))
         (is_refused (line_answer_in format (computed_answer (dump_view dump.now)) (number, bytes.now)))
         (K.state out.old) (K.state out.new) result }
-    ensures explained { IfOk result (λ refused.
-        ExplainsIn format (ExplainsRead (dump_view dump.now).entries (question_of bytes.now))) }
 {
     match answered(alloc, format, dump, number, bytes, kept) {
         Ok(answer) => write_answered(&answer, out),
@@ -109,12 +104,10 @@ fn write_lines<K: Sink>(
     requires rules { IsDump (dump_view dump.now) }
     requires valid { tables_are_valid (tables_in (dump_view dump.now).entries) ≡ true }
     requires short { length questions.now ≤ MAX_SCRIPT_LENGTH }
-    ensures written { WritesAnswers
+    ensures { WritesAnswers
         (answers_text format (computed_answer (dump_view dump.now)) questions.now)
         (has_refused format (computed_answer (dump_view dump.now)) questions.now)
         (K.state out.old) (K.state out.new) result }
-    ensures explained { IfOk result (λ refused.
-        ExplainsIn format (ExplainsQuestions (dump_view dump.now).entries questions.now)) }
 {
     let mut refused = false;
     let mut kept = KeptAnnotations::new();
@@ -137,12 +130,10 @@ fn write_answers<K: Sink>(
     requires rules { IsDump (dump_view dump.now) }
     requires valid { tables_are_valid (tables_in (dump_view dump.now).entries) ≡ true }
     requires short { length questions.now ≤ MAX_SCRIPT_LENGTH }
-    ensures written { WritesOutput
+    ensures { WritesOutput
         (answers_text format (computed_answer (dump_view dump.now)) questions.now)
         (answered_status (has_refused format (computed_answer (dump_view dump.now)) questions.now))
         (K.state out.old) (K.state out.new) result }
-    ensures explained { IsAnswered result
-        → ExplainsIn format (ExplainsQuestions (dump_view dump.now).entries questions.now) }
 {
     match write_lines(alloc, format, dump, questions, out) {
         Ok(refused) => Status::answered(refused),

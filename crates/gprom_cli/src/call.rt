@@ -3,15 +3,14 @@
 ghost use Rattle.std.specs.Prelude.{◌≡◌, ◌++◌, map, string_bytes};
 ghost use Rattle.gprom_cli.specs.Args.{command_of};
 ghost use Rattle.gprom_cli.specs.Call.{Call};
-ghost use Rattle.gprom_cli.specs.Consequences.{Consequences};
 ghost use Rattle.gprom_cli.specs.Promises.{Promises};
-ghost use Rattle.gprom_cli.specs.Status.{number_of};
+ghost use Rattle.gprom_cli.specs.Status.{exit_number};
 
 use crate::execute::execute;
-use crate::laws::{
-    dumps_of_histories_are_known, promises_have_consequences, scripts_have_well_formed_dumps,
-};
+use crate::laws::{dumps_of_histories_are_known, scripts_have_well_formed_dumps};
+use gp_ask::{histories_are_isolated, programs_explain_their_questions};
 use gp_io::{Shelf, Sink};
+use gp_plantext::texts_are_read_again;
 use std::alloc::Global;
 
 /// Does all that the program does: parses the arguments (those after the program's name), reads files from `shelf`, replaces the dump of
@@ -34,11 +33,13 @@ pub fn gprom<H: Shelf, K: Sink>(alloc: Global, args: &[String], shelf: &mut H, o
     ensures { (call : Call) × (call.command ≡ command_of (map string_bytes args.now))
         × (H.events shelf.new ≡ H.events shelf.old ++ call.events)
         × (call.sink ≡ K.state out.old) × (call.sink_after ≡ K.state out.new)
-        × (result ≡ number_of call.status) × Promises call × Consequences call }
+        × (result ≡ exit_number call.status) × Promises call }
 {
-    // What is promised of dumps, and of the dumps of scripts, rests on these laws. The calls do nothing.
+    // What is promised of dumps, of the dumps of scripts, and of programs rests on these laws. The calls do nothing.
+    texts_are_read_again();
     scripts_have_well_formed_dumps();
     dumps_of_histories_are_known();
-    promises_have_consequences();
+    programs_explain_their_questions();
+    histories_are_isolated();
     execute(alloc, args, shelf, out).number()
 }

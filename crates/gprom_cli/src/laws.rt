@@ -16,7 +16,7 @@ ghost use Rattle.gp_script.specs.Scripts.{final_state};
 ghost use Rattle.gp_dump.specs.Dumps.{Dump, dump_of};
 ghost use Rattle.gp_dump.specs.WholeDumps.{IsDump};
 ghost use Rattle.gp_ask.specs.declared.format.Format.{Format};
-ghost use Rattle.gp_ask.specs.Answers.{answer_to, held_to};
+ghost use Rattle.gp_ask.specs.Printed.{answer_to, held_to};
 ghost use Rattle.gp_ask.specs.Computed.{computed_answer};
 ghost use Rattle.gp_ask.specs.Hypothetical.{remaking_refusal, replayed_dump};
 ghost use Rattle.gp_ask.specs.QuestionFiles.{answers_text, has_refused};
@@ -86,23 +86,20 @@ pub fn dumps_answer_for_changed_histories()
 }
 
 /// What a call promises determines what it writes and what becomes of the files, by its arguments and by what the shelf has done, and each
-/// status has its cause.
+/// status has its cause. Of `gen` it determines the first line; the others are told by [`generate`](crate::generate).
 pub fn promises_have_consequences()
-    ensures { (call : Call) → Promises call → Consequences call }
-{
-    scripts_lead_to_histories::<()>();
-    scripts_lead_to_histories::<Monomial>()
-}
+    ensures { (call : Call) (promises : Promises call) → Consequences promises.shown call }
+{}
 
 /// What a call promises of what the shelf has done, it promises of the files, where the shelf knows them: which files were read, and what they are
 /// after the call.
 pub fn calls_keep_promises_over_files()
-    ensures calm { (call : Call) (before after : CalmShelf) → Promises call
+    ensures calm { (call : Call) (before after : CalmShelf) (promises : Promises call)
         → ⟦<CalmShelf as Shelf>⟧.events after ≡ ⟦<CalmShelf as Shelf>⟧.events before ++ call.events
-        → OverFiles call (contents_of (calm_files before)) (contents_of (calm_files after)) }
-    ensures mem { (call : Call) (before after : MemShelf) → Promises call
+        → OverFiles promises.shown call (contents_of (calm_files before)) (contents_of (calm_files after)) }
+    ensures mem { (call : Call) (before after : MemShelf) (promises : Promises call)
         → ⟦<MemShelf as Shelf>⟧.events after ≡ ⟦<MemShelf as Shelf>⟧.events before ++ call.events
-        → OverFiles call (contents_of (mem_files before)) (contents_of (mem_files after)) }
+        → OverFiles promises.shown call (contents_of (mem_files before)) (contents_of (mem_files after)) }
 {
     promises_have_consequences();
     events_lead_to_files()

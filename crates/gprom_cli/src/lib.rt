@@ -3,8 +3,8 @@
 //! In reading order: `status.rt` (how a call ends), `words.rt` and `args.rt` (what the arguments ask for), `output.rt` and `read.rt` (what is
 //! written and read), `run.rt`, `ask.rt` and `load.rt` (the commands over files), `generated.rt` and `summary.rt` (scripts and
 //! questions that are generated, and what they come to), `laws.rt` (what dumps answer, and those of scripts; calls over files in memory),
-//! `execute.rt` (what the arguments ask for is done), `call.rt` (the call). The contract of [`gprom`] is `Promises` in `specs/Promises.antt`, and [`promises_have_consequences`]
-//! says what follows from it by command and status. In `specs/`,
+//! `execute.rt` (what the arguments ask for is done), `call.rt` (the call). The contract of [`gprom`] is `Promises` in `specs/Promises.antt`, and
+//! [`promises_have_consequences`] says what follows from it by command and status. What the summary of `gen` says is the contract of [`generate`]. In `specs/`,
 //! `Call` says what a call comes to, by what the shelf has done and the lines that its files are read as, and `Steps` how the parts of the code say the same.
 //!
 //! ```
@@ -36,4 +36,4 @@ pub use laws::{
 };
 pub use load::MAX_SHEET_LENGTH;
 pub use status::Status;
-pub use summary::Summary;
+pub use summary::{Summary, generate};

@@ -2,7 +2,7 @@
 
 ghost use Rattle.std.specs.Prelude.{◌≡◌};
 ghost use Rattle.gprom_cli.specs.Call.{answered_status};
-ghost use Rattle.gprom_cli.specs.Status.{number_of};
+ghost use Rattle.gprom_cli.specs.Status.{exit_number};
 
 /// How a call of the program ends.
 #[derive(Clone, Copy)]
@@ -45,7 +45,7 @@ impl Status {
 
     /// The number with which the process exits.
     pub fn number(self) -> u8
-        ensures { result ≡ number_of self }
+        ensures { result ≡ exit_number self }
     {
         match self {
             Status::Done => 0,

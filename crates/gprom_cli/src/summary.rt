@@ -14,9 +14,10 @@ ghost use Rattle.gp_machine.specs.Entries.{fate_of, transactions_in};
 ghost use Rattle.gp_ask.specs.Computed.{computed_answer};
 ghost use Rattle.gp_script.specs.Scripts.{final_state};
 ghost use Rattle.gp_syntax.specs.Lines.{script_lines};
+ghost use Rattle.gprom_cli.specs.declared.summary.Summary.{Summary};
 ghost use Rattle.gprom_cli.specs.Call.{WritesOutput};
 ghost use Rattle.gprom_cli.specs.Generated.{line_text};
-ghost use Rattle.gprom_cli.specs.Summary.{committed_in, has_committed, is_lost, row_count, summary_text};
+ghost use Rattle.gprom_cli.specs.Summary.{IsSummary, committed_in, has_committed, is_lost, row_count, summary_text};
 ghost use Rattle.gprom_cli.specs.Summaries.{line_rows, lost_up_to, rows_in, summary_of};
 
 use crate::generated::{MAX_ROUNDS, generate_questions, generate_script};
@@ -242,11 +243,13 @@ fn generated_text(alloc: Global, rounds: u32) -> Result<Vec<u8>, NoMemory>
     summary_text(alloc, &summary)
 }
 
-/// Makes the script of this many rounds, runs it, reads its dump back, answers the generated questions, and writes the summary.
-pub(crate) fn generate<K: Sink>(alloc: Global, rounds: u32, out: &mut K) -> Status
+/// Does all that `gen` does: makes the script of this many rounds, from 1 to [`MAX_ROUNDS`], runs it, reads its dump back, answers the generated
+/// questions, and writes the summary: the one that the history of the script has, and the answers that it held.
+pub fn generate<K: Sink>(alloc: Global, rounds: u32, out: &mut K) -> Status
     requires { rounds ≤ MAX_ROUNDS }
-    ensures { WritesOutput (summary_text (summary_of rounds)) Status.Done
-        (K.state out.old) (K.state out.new) result }
+    ensures { (summary : Summary) × IsSummary rounds summary
+        × ((other : Summary) → IsSummary rounds other → other ≡ summary)
+        × WritesOutput (summary_text summary) Status.Done (K.state out.old) (K.state out.new) result }
 {
     match generated_text(alloc, rounds) {
         Ok(text) => write_output(out, &text, Status::Done),

@@ -16,7 +16,7 @@ returns-in-Ok g c =
     formed
     (λ format. c.dumps_answer_for_changed_histories.ensures.answers format dump c.args.questions.now rules)
     (λ format. c.dumps_answer_for_changed_histories.ensures.refusals format dump c.args.questions.now rules)
-    c.write_answers.ensures.written c.write_answers.ensures.explained
+    c.write_answers.ensures
 
 pub returns-in-Err-Fault : goal.returns-in-Err-Fault
 returns-in-Err-Fault g c =

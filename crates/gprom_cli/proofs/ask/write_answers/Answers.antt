@@ -3,31 +3,28 @@ use Rattle.gp_ask.specs.Computed.{computed_answer}
 use Rattle.gp_ask.specs.QuestionFiles.{answers_text, has_refused}
 use Rattle.gp_dump.specs.Views.{dump_view}
 use Rattle.gprom_cli.specs.declared.status.Status.{Status}
-use Rattle.gprom_cli.specs.Call.{IsAnswered, WritesOutput, answered_status}
-use Rattle.gprom_cli.proofs.WritesLemmas.{unanswered, written-parts}
+use Rattle.gprom_cli.specs.Call.{WritesOutput, answered_status}
+use Rattle.gprom_cli.proofs.WritesLemmas.{written-parts}
 use Rattle.gprom_cli.proofs.ask.write_answers.Goals as goal
 
-pub returns-in-Ok-clause-written : goal.returns-in-Ok-clause-written
-returns-in-Ok-clause-written g c =
+pub returns-in-Ok : goal.returns-in-Ok
+returns-in-Ok g c =
     let answers = computed_answer (dump_view c.args.dump.now) in
     let text = answers_text c.args.format answers c.args.questions.now in
     let status = answered_status (has_refused c.args.format answers c.args.questions.now) in
     let old = g.K.Sink.state c.args.out.now in
     let new = g.K.Sink.state c.write_lines.new.out in
-    let wrote = c.in-Ok.ensures.written in
+    let wrote = c.in-Ok.ensures in
     subst (λ (s : Status). WritesOutput text status old new s) (sym (c.answered.ensures ∙ ap answered_status wrote.refused))
     (written-parts (Ok c.in-Ok.refused) text status old new wrote.written)
 
-pub returns-in-Err-clause-written : goal.returns-in-Err-clause-written
-returns-in-Err-clause-written g c =
+pub returns-in-Err : goal.returns-in-Err
+returns-in-Err g c =
     let answers = computed_answer (dump_view c.args.dump.now) in
     let text = answers_text c.args.format answers c.args.questions.now in
     let status = answered_status (has_refused c.args.format answers c.args.questions.now) in
     let old = g.K.Sink.state c.args.out.now in
     let new = g.K.Sink.state c.write_lines.new.out in
-    let wrote = c.in-Err.ensures.written in
+    let wrote = c.in-Err.ensures in
     subst (λ (s : Status). WritesOutput text status old new s) (sym c.stop_status.ensures)
     (written-parts {T = Bool} (Err c.in-Err.stop) text status old new wrote.written)
-
-pub returns-in-Err-clause-explained : goal.returns-in-Err-clause-explained
-returns-in-Err-clause-explained g c = λ answered. absurd (unanswered c.in-Err.stop (subst IsAnswered c.stop_status.ensures answered))

@@ -8,7 +8,7 @@ use Rattle.gprom_cli.proofs.ask.write_lines.Given as goal
 abbrev pub invariant-loop-line : goal.invariant-loop-line
 invariant-loop-line g l =
     record {
-      progress : IsProgress l.format (computed_answer (dump_view l.dump)) (dump_view l.dump).entries l.questions l.rest l.refused (g.K.Sink.state l.initial.out) (g.K.Sink.state l.out);
+      progress : IsProgress l.format (computed_answer (dump_view l.dump)) l.questions l.rest l.refused (g.K.Sink.state l.initial.out) (g.K.Sink.state l.out);
       kept : AreKept l.dump l.kept;
     }
 

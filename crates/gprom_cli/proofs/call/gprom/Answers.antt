@@ -11,6 +11,7 @@ returns g c =
     let ends = c.execute.ensures in
     let scripts = c.scripts_have_well_formed_dumps.ensures in
     let histories = c.dumps_of_histories_are_known.ensures in
+    let isolated = c.histories_are_isolated.ensures in
     let call : Call = record {
       command = command_of (map string_bytes c.args.args.now);
       events = ends.events;
@@ -19,5 +20,17 @@ returns g c =
       status = c.execute.result;
     } in
     let promises : Promises call =
-    promised (record { formed = scripts.formed; unchanged = scripts.unchanged; held = histories.held; checked = histories.checked; first = histories.first }) call ends.outcome in
-    (call, refl, ends.grown, refl, refl, c.number.ensures, promises, c.promises_have_consequences.ensures call promises)
+    promised
+    (record {
+      formed = scripts.formed;
+      unchanged = scripts.unchanged;
+      held = histories.held;
+      checked = histories.checked;
+      explained = c.programs_explain_their_questions.ensures;
+      programs = c.texts_are_read_again.ensures.unique;
+      isolated = isolated.reached;
+      lost = isolated.lost;
+      remade = isolated.remade;
+    })
+    call ends.outcome in
+    (call, refl, ends.grown, refl, refl, c.number.ensures, promises)

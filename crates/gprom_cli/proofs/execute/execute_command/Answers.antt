@@ -1,14 +1,14 @@
-use Rattle.std.proofs.Common.{Option, None, Some, subst, ap, sym, ◌∙◌}
+use Rattle.std.proofs.Common.{◌≡◌, ℕ, List, Option, None, Some, ◌++◌, subst, ap, sym, ◌∙◌}
 use Rattle.std.specs.Option.{option_map}
 use Rattle.gprom_cli.specs.declared.status.Status.TheVariants as exit
+use Rattle.gprom_cli.specs.declared.summary.Summary.{Summary}
 use Rattle.gprom_cli.specs.Args as spec
 use Rattle.gprom_cli.specs.Call as call
-use Rattle.gprom_cli.specs.Call.{usage_text}
+use Rattle.gprom_cli.specs.Call.{WritesOutput, rounds_line, usage_text}
 use Rattle.gprom_cli.specs.Steps.{Ends}
 use Rattle.gprom_cli.specs.Summary.{summary_text}
-use Rattle.gprom_cli.specs.Summaries.{summary_of}
 use Rattle.gprom_cli.specs.Views.{command_view}
-use Rattle.gprom_cli.proofs.OutcomeLemmas.{is-summary}
+use Rattle.gprom_cli.proofs.LinesLemmas.{summary-lines}
 use Rattle.gprom_cli.proofs.StepsLemmas.{quiet-end}
 use Rattle.gprom_cli.proofs.execute.execute_command.Goals as goal
 
@@ -45,5 +45,9 @@ returns-in-Some-Generate g c =
     let sink_after = g.K.Sink.state c.generate.new.out in
     let rounds = c.in-Some-Generate.rounds in
     let is = ap (option_map command_view) (sym (c.in-Some-Generate.is ∙ ap Some c.in-Some-Generate.field-0-is)) in
+    let made = c.generate.ensures in
+    let lines = summary-lines made.0 in
+    let text : summary_text made.0 ≡ rounds_line rounds ++ lines.0 = lines.2 ∙ ap (λ (own : Summary). rounds_line own.rounds ++ lines.0) made.1.is in
     subst (λ (command : Option spec.Command). Ends command events events sink sink_after c.generate.result) is
-    (quiet-end (Some (spec.Generate rounds)) events sink sink_after c.generate.result (summary_text (summary_of rounds)) exit.Done (call.summarized rounds (summary_of rounds) (is-summary rounds)) c.generate.ensures)
+    (quiet-end (Some (spec.Generate rounds)) events sink sink_after c.generate.result (rounds_line rounds ++ lines.0) exit.Done (call.summarized rounds lines.0 lines.1)
+    (subst (λ (t : List ℕ). WritesOutput t exit.Done sink sink_after c.generate.result) text made.3))

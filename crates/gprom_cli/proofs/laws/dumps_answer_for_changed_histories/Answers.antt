@@ -1,4 +1,4 @@
-use Rattle.gp_ask.specs.Answers.{answer_to}
+use Rattle.gp_ask.specs.Printed.{answer_to}
 use Rattle.gp_ask.specs.Computed.{computed_answer}
 use Rattle.gprom_cli.proofs.AnswersLemmas.{same-refusals, same-texts}
 use Rattle.gprom_cli.proofs.laws.dumps_answer_for_changed_histories.Goals as goal

@@ -10,7 +10,7 @@ use Rattle.gp_dump.specs.Dumps.{dump_of}
 use Rattle.gp_dump.specs.WholeDumps.{IsDump}
 use Rattle.gp_dump.proofs.HistoryDumps.{checks_targets}
 use Rattle.gp_dump.proofs.LoggedLines.{all_logged}
-use Rattle.gp_ask.specs.Answers.{answer_to, held_to}
+use Rattle.gp_ask.specs.Printed.{answer_to, held_to}
 use Rattle.gp_ask.specs.Computed.{computed_answer}
 use Rattle.gprom_cli.specs.Summary.{row_count}
 use Rattle.gprom_cli.proofs.RowCountLemmas.{same-rows}
