@@ -1,0 +1,192 @@
+"""Small cases by hand: what an application does to a server, and gprom cannot say or says in other words.
+
+Each case has its own tables and a few statements, of session a unless they begin with `b: `. Statements may fail. In the
+end every transaction has to be `same`, or `not covered` with its reason, and the rows of the last version those of the
+server. `expected` says which, so that nothing gets worse unseen: the kind of each transaction that `verify` lists.
+"""
+from dataclasses import dataclass
+
+from .protocol import ServerError
+
+ACCOUNTS = "CREATE TABLE acct (id INTEGER PRIMARY KEY, bal INTEGER); INSERT INTO acct VALUES (1, 100), (2, 50), (3, 7);"
+PAIRS = "CREATE TABLE pair (name TEXT, n INTEGER); INSERT INTO pair VALUES ('x', 1), ('x', 1), ('y', 2);"
+HISTORY = 'CREATE TABLE history (id INTEGER, bal INTEGER);'
+PARENTS = """CREATE TABLE parent (id INTEGER PRIMARY KEY); INSERT INTO parent VALUES (1), (2);
+             CREATE TABLE child (id INTEGER PRIMARY KEY, parent INTEGER REFERENCES parent {rule});
+             INSERT INTO child VALUES (10, 1), (11, 1), (12, 2);"""
+NEXT = 'UPDATE acct SET bal = bal + 1 WHERE id = 1'     # shows that later transactions find the rows that they found on the server
+
+
+@dataclass
+class Case:
+    """Tables, statements, and what `verify` is to say of the transactions."""
+    name: str
+    setup: str
+    statements: list[str]
+    expected: str = ''
+
+
+CASES = [
+    Case('a trigger writes another table', ACCOUNTS + HISTORY + """
+         CREATE FUNCTION keep() RETURNS trigger LANGUAGE plpgsql AS
+         $$ BEGIN INSERT INTO history VALUES (OLD.id, OLD.bal); RETURN NEW; END $$;
+         CREATE TRIGGER keep BEFORE UPDATE ON acct FOR EACH ROW EXECUTE FUNCTION keep();""",
+         ['UPDATE acct SET bal = bal - 30 WHERE id < 3', NEXT],
+         'patched, patched'),
+    Case('a trigger changes the row', ACCOUNTS + """
+         CREATE FUNCTION round() RETURNS trigger LANGUAGE plpgsql AS $$ BEGIN NEW.bal := NEW.bal / 10 * 10; RETURN NEW; END $$;
+         CREATE TRIGGER round BEFORE UPDATE ON acct FOR EACH ROW EXECUTE FUNCTION round();""",
+         ['UPDATE acct SET bal = bal + 5', NEXT],
+         'patched, patched'),
+    Case('a rule writes another table', ACCOUNTS + HISTORY + """
+         CREATE RULE keep AS ON UPDATE TO acct DO ALSO INSERT INTO history VALUES (OLD.id, OLD.bal);""",
+         ['UPDATE acct SET bal = bal - 30 WHERE id = 2', NEXT],
+         'patched, patched'),
+    Case('a DELETE cascades', PARENTS.format(rule='ON DELETE CASCADE'),
+         ['DELETE FROM parent WHERE id = 1', "INSERT INTO child VALUES (13, 2)"],
+         'patched, same'),
+    Case('a DELETE sets references to NULL', PARENTS.format(rule='ON DELETE SET NULL'),
+         ['BEGIN', 'DELETE FROM parent WHERE id = 1', 'UPDATE child SET id = id + 10 WHERE parent IS NULL', 'COMMIT'],
+         'patched'),
+    Case('an UPDATE cascades', PARENTS.format(rule='ON UPDATE CASCADE'),
+         ['UPDATE parent SET id = 5 WHERE id = 1', 'DELETE FROM child WHERE parent = 5'],
+         'patched, same'),
+    Case('a constraint is deferred and fails', PARENTS.format(rule='DEFERRABLE INITIALLY DEFERRED'),
+         ['BEGIN', 'INSERT INTO child VALUES (20, 9)', 'COMMIT', 'INSERT INTO child VALUES (21, 2)'],
+         'rolled back, same'),
+    Case('a DO block writes', ACCOUNTS, ['DO $$ BEGIN UPDATE acct SET bal = 0 WHERE id = 3; END $$', NEXT],
+         'patched, same'),
+    Case('a function writes', ACCOUNTS + """
+         CREATE FUNCTION pay(integer) RETURNS integer LANGUAGE sql AS $$ UPDATE acct SET bal = bal - $1 RETURNING bal $$;""",
+         ['SELECT pay(5)', 'BEGIN', 'SELECT pay(5)', NEXT, 'COMMIT'],
+         'patched, patched'),
+    Case('tables are truncated', ACCOUNTS + HISTORY,
+         ['INSERT INTO history VALUES (1, 1)', 'TRUNCATE history, acct', 'INSERT INTO acct VALUES (1, 5)', NEXT],
+         'same, same, same, same'),
+    Case('texts are compared under a collation', """
+         CREATE TABLE word (id INTEGER PRIMARY KEY, w TEXT COLLATE "und-x-icu", n INTEGER);
+         INSERT INTO word VALUES (1, 'a', 0), (2, 'B', 0), (3, 'c', 0);""",
+         ["UPDATE word SET n = 1 WHERE w < 'b'", "UPDATE word SET n = n + 1 WHERE w = 'B'"],
+         'patched, same'),
+    Case('one of two equal rows is written', PAIRS,
+         ["UPDATE pair SET n = 5 WHERE ctid = (SELECT min(ctid) FROM pair)", "UPDATE pair SET n = n + 1 WHERE name = 'x'"],
+         'patched, same'),
+    Case('equal rows are written together', PAIRS,
+         ["UPDATE pair SET n = n + 1 WHERE name = 'x'", "DELETE FROM pair WHERE n = 2", "INSERT INTO pair VALUES ('x', 1), ('x', 1)"],
+         'same, same, same'),
+    Case('dates in other forms', """
+         CREATE TABLE visit (id INTEGER PRIMARY KEY, at DATE, since TIMESTAMP);
+         INSERT INTO visit VALUES (1, '2026-03-01', '2026-03-01 08:00'), (2, '2026-11-02', '2026-11-02 23:59:59.5');""",
+         ["DELETE FROM visit WHERE at = '1 Mar 2026'", "UPDATE visit SET since = '2026-3-1T9:00' WHERE at > '2026-3-9'",
+          "INSERT INTO visit VALUES (3, 'March 5, 2026', '20260305 12:30')",
+          "UPDATE visit SET at = date '2026-01-01' WHERE since < 'tomorrow'"],
+         'patched, patched, same, patched'),
+    Case('a list of sixty', ACCOUNTS + 'INSERT INTO acct SELECT n, n FROM generate_series(4, 90) n;',
+         [f"UPDATE acct SET bal = bal + 1 WHERE id IN ({', '.join(map(str, range(1, 61)))})", NEXT],
+         'patched, same'),
+    Case('several statements in a message', ACCOUNTS,
+         [f'{NEXT}; UPDATE acct SET bal = bal - 1 WHERE id = 2', f'BEGIN; {NEXT}; COMMIT',
+          'DELETE FROM acct WHERE id = 3; SELECT 1 / 0', NEXT],
+         'same, same, same'),
+    Case('values of the server', """
+         CREATE TABLE entry (id SERIAL PRIMARY KEY, made TIMESTAMPTZ DEFAULT now(), n INTEGER,
+                             double INTEGER GENERATED ALWAYS AS (n * 2) STORED);""",
+         ['INSERT INTO entry (n) VALUES (1), (2)', 'UPDATE entry SET n = n + 1', 'UPDATE entry SET made = now() WHERE n = 2'],
+         'same, patched, patched'),
+    Case('rows that are there already', ACCOUNTS,
+         ['INSERT INTO acct VALUES (3, 0), (4, 0) ON CONFLICT DO NOTHING', 'INSERT INTO acct VALUES (1, 0)', NEXT],
+         'patched, same'),
+    Case('writes of joined tables', ACCOUNTS + PAIRS,
+         ['UPDATE acct SET bal = pair.n FROM pair WHERE acct.id = pair.n',
+          "DELETE FROM pair USING acct WHERE acct.bal = pair.n AND name = 'y'", NEXT],
+         'patched, patched, same'),
+    Case('writes in WITH, and MERGE', ACCOUNTS + HISTORY,
+         ['WITH gone AS (DELETE FROM acct WHERE id = 2 RETURNING *) INSERT INTO history SELECT * FROM gone',
+          'MERGE INTO acct USING history ON acct.id = history.id WHEN NOT MATCHED THEN INSERT VALUES (history.id, history.bal)', NEXT],
+         'patched, patched, same'),
+    Case('a view is written', ACCOUNTS + 'CREATE VIEW rich AS SELECT * FROM acct WHERE bal > 40;',
+         ['UPDATE rich SET bal = bal - 20', 'INSERT INTO rich VALUES (9, 90)', NEXT],
+         'patched, patched, same'),
+    Case('names in quotes', """
+         CREATE TABLE "Order" ("from" INTEGER PRIMARY KEY, "to Do" TEXT, café INTEGER);
+         INSERT INTO "Order" VALUES (1, 'x', 1), (2, 'y', 2);""",
+         ['UPDATE "Order" SET café = café + 1 WHERE "from" = 1', 'DELETE FROM public."Order" WHERE "to Do" = \'y\''],
+         'same, same'),
+    Case('texts beyond the limits', """
+         CREATE TABLE paper (id INTEGER PRIMARY KEY, body TEXT, n INTEGER); INSERT INTO paper VALUES (1, 'short', 0);""",
+         ["INSERT INTO paper VALUES (2, repeat('long ', 100), 0), (3, E'two\\nlines', 0)", 'UPDATE paper SET n = n + 1',
+          "INSERT INTO paper VALUES (4, $$it's ü \\n$$, 0), (5, '', NULL)", "DELETE FROM paper WHERE body = ''"],
+         'patched, patched, same, same'),
+    Case('numbers beyond the limits', """
+         CREATE TABLE amount (id INTEGER PRIMARY KEY, n NUMERIC, r DOUBLE PRECISION, p NUMERIC(6,2), i BIGINT);
+         INSERT INTO amount VALUES (1, 1.5, 0.1, 10.05, 9223372036854775807);""",
+         ['UPDATE amount SET p = p * 1.5', 'UPDATE amount SET n = n * 2, r = r + 0.2', 'UPDATE amount SET i = i + 1',
+          'UPDATE amount SET p = p + 0.01'],
+         'patched, patched, same'),
+    Case('unknown values', ACCOUNTS + 'INSERT INTO acct VALUES (4, NULL);',
+         ['DELETE FROM acct WHERE bal NOT IN (100, NULL)', 'UPDATE acct SET bal = 0 WHERE bal = NULL',
+          'UPDATE acct SET bal = COALESCE(bal, 0) + 1', 'DELETE FROM acct WHERE bal IS NOT DISTINCT FROM 8'],
+         'same, same, same, same'),
+    Case('rows of NULL alone', 'CREATE TABLE blank (a INTEGER, b TEXT); INSERT INTO blank VALUES (NULL, NULL), (1, NULL);',
+         ['UPDATE blank SET a = 1 WHERE a IS NULL', 'UPDATE blank SET a = NULL', 'INSERT INTO blank VALUES (NULL)',
+          'DELETE FROM blank WHERE b IS NULL'],
+         'same, same, same, same'),
+    Case('savepoints', ACCOUNTS,
+         ['BEGIN', NEXT, 'SAVEPOINT one', 'UPDATE acct SET bal = 0', 'SAVEPOINT two', 'DELETE FROM acct', 'ROLLBACK TO two',
+          'ROLLBACK TO one', NEXT, 'SAVEPOINT three', 'SELECT 1 / 0', 'ROLLBACK TO three', 'RELEASE one', NEXT, 'COMMIT', NEXT],
+         'same, same'),
+    Case('ends of transactions', ACCOUNTS,
+         ['START TRANSACTION', NEXT, 'END', 'BEGIN', NEXT, 'ABORT', 'BEGIN', NEXT, 'COMMIT AND CHAIN', NEXT, 'COMMIT',
+          'BEGIN', NEXT, 'SELECT 1 / 0', 'COMMIT', 'COMMIT', NEXT],
+         'same, rolled back, same, same, rolled back, same'),
+    Case('levels by SET', ACCOUNTS,
+         ['BEGIN', 'SET TRANSACTION ISOLATION LEVEL REPEATABLE READ', 'SELECT * FROM acct', f'b: {NEXT}',
+          'UPDATE acct SET bal = bal * 2 WHERE bal = 50', 'COMMIT',
+          'SET SESSION CHARACTERISTICS AS TRANSACTION ISOLATION LEVEL SERIALIZABLE', 'BEGIN', 'SELECT * FROM acct', f'b: {NEXT}',
+          NEXT, 'COMMIT', NEXT],
+         'same, same, rolled back, same, same'),
+    Case('chained behind an error', ACCOUNTS,           # an error outside of savepoints ends the level of the block too
+         ['BEGIN ISOLATION LEVEL REPEATABLE READ', 'SELECT 1 / 0', 'COMMIT AND CHAIN', 'SELECT * FROM acct', f'b: {NEXT}', NEXT, 'COMMIT',
+          'BEGIN ISOLATION LEVEL REPEATABLE READ', 'SAVEPOINT one', 'SELECT 1 / 0', 'ROLLBACK AND CHAIN', 'SELECT * FROM acct',
+          f'b: {NEXT}', NEXT, 'COMMIT'],
+         'same, same, rolled back, same'),
+    Case('a session is cut off', ACCOUNTS,
+         ['b: BEGIN', f'b: {NEXT}', "SELECT pg_terminate_backend(pid) FROM pg_stat_activity WHERE state = 'idle in transaction'", NEXT],
+         'rolled back, same'),
+    Case('an EXPLAIN that runs, and cursors', ACCOUNTS,
+         ['EXPLAIN (ANALYZE, COSTS OFF) DELETE FROM acct WHERE id = 3', 'BEGIN',
+          'DECLARE c CURSOR FOR SELECT * FROM acct ORDER BY id FOR UPDATE', 'FETCH 1 FROM c', 'UPDATE acct SET bal = 1 WHERE CURRENT OF c',
+          'COMMIT', NEXT],
+         'patched, patched, same'),
+    Case('rows are copied in, and two phases', ACCOUNTS,
+         ["COPY acct FROM PROGRAM 'echo 8,80' WITH (FORMAT csv)", 'BEGIN', NEXT, "PREPARE TRANSACTION 'one'", "COMMIT PREPARED 'one'", NEXT,
+          'BEGIN', NEXT, "PREPARE TRANSACTION 'two'", "ROLLBACK PREPARED 'two'", NEXT],
+         'patched, patched, same, not covered, same'),
+    Case('tables come and go', ACCOUNTS,
+         ['CREATE TABLE other AS SELECT * FROM acct', 'BEGIN', 'INSERT INTO other VALUES (1, 1)', NEXT, 'COMMIT',
+          'CREATE TEMP TABLE mine (id INTEGER)', 'INSERT INTO mine VALUES (1)', 'DROP TABLE other', NEXT],
+         'patched, patched, not covered, not covered, not covered, same'),
+    Case('a column comes', ACCOUNTS, [NEXT, 'ALTER TABLE acct ADD COLUMN note TEXT', "UPDATE acct SET note = 'new' WHERE id = 2", NEXT],
+         'same, not covered, patched, patched'),
+]
+
+
+def check(_, found, case):
+    """What is wrong: other verdicts than the case expects."""
+    kinds = ', '.join(verdict.kind() for verdict in found.verdicts)
+    return [] if kinds == case.expected else [f'expected {case.expected}; found {kinds}']
+
+
+def run(cluster, case):
+    """Runs the statements of a case. What the server refuses is a part of it."""
+    sessions = {}
+    for statement in case.statements:
+        name, text = ('b', statement[3:]) if statement.startswith('b: ') else ('a', statement)
+        if name not in sessions:
+            sessions[name] = cluster.connect()
+        try:
+            sessions[name].execute(text)
+        except (ServerError, ConnectionError):
+            pass
+    for session in sessions.values():
+        session.close()

@@ -1,0 +1,125 @@
+"""A private PostgreSQL server in a temporary folder, on a unix socket alone, which is gone at the end."""
+import glob
+import os
+import pwd
+import shutil
+import signal
+import subprocess
+import tempfile
+import time
+
+from .protocol import Connection
+
+SETTINGS = """
+listen_addresses = ''
+unix_socket_directories = '{folder}'
+max_connections = 40
+max_prepared_transactions = 2
+fsync = off
+wal_level = logical
+logging_collector = on
+log_destination = 'csvlog'
+log_directory = '{folder}/log'
+log_rotation_age = 0
+log_rotation_size = 0
+log_statement = none
+log_min_duration_statement = 0
+log_timezone = 'UTC'
+timezone = 'UTC'
+deadlock_timeout = 50ms
+"""
+SLOT = 'bridge'
+CHANGES = f"SELECT data FROM pg_logical_slot_get_changes('{SLOT}', NULL, NULL, 'include-timestamp', 'on')"
+UNPRIVILEGED = ('postgres', 'nobody')           # whom root starts the server as
+
+
+def programs_folder():
+    """The folder of the server's programs, or None where no server is installed."""
+    folders = sorted(glob.glob('/usr/lib/postgresql/*/bin'), key=version_of, reverse=True)
+    if found := shutil.which('pg_config'):
+        folders.insert(0, subprocess.run([found, '--bindir'], capture_output=True, text=True, check=True).stdout.strip())
+    return next((folder for folder in folders if os.access(f'{folder}/initdb', os.X_OK)), None)
+
+
+def version_of(folder):
+    """The number in a folder such as /usr/lib/postgresql/15/bin."""
+    part = folder.split('/')[-2]
+    return int(part) if part.isdigit() else 0
+
+
+def as_unprivileged_user():
+    """The user whom root starts the server as, and the words before a command that run it so. PostgreSQL refuses root."""
+    if os.geteuid() != 0:
+        return None, []
+    known = {entry.pw_name: entry for entry in pwd.getpwall()}
+    user = next(known[name] for name in UNPRIVILEGED if name in known)
+    return user, ['setpriv', f'--reuid={user.pw_uid}', f'--regid={user.pw_gid}', '--clear-groups', '--']
+
+
+class Cluster:
+    """The server, as a context: it runs inside of the `with`, and is stopped and removed whatever ends that."""
+
+    def __init__(self):
+        self.programs = programs_folder()
+        self.folder = tempfile.mkdtemp(prefix='gprom-', dir='/tmp')     # the path of a socket may have 107 bytes
+        self.data = f'{self.folder}/data'
+        user, self.prefix = as_unprivileged_user()
+        if user:
+            os.chown(self.folder, user.pw_uid, user.pw_gid)
+        self.read = 0                                   # how many bytes of the log have been taken
+
+    def command(self, program, *arguments, environment=None):
+        """Runs one of the server's programs as the user that the server belongs to, and gives its output."""
+        done = subprocess.run([*self.prefix, f'{self.programs}/{program}', *arguments], cwd='/', env={**os.environ, **(environment or {})},
+                              stdin=subprocess.DEVNULL, stdout=subprocess.PIPE, stderr=subprocess.STDOUT, text=True, check=False)
+        if done.returncode:
+            raise RuntimeError(f'{program}: {done.stdout.strip()}')
+        return done.stdout
+
+    def __enter__(self):
+        try:
+            self.command('initdb', '-D', self.data, '-A', 'trust', '-U', 'postgres', '--locale=C', '-E', 'UTF8', '--no-sync')
+            with open(f'{self.data}/postgresql.conf', 'a', encoding='utf-8') as file:
+                file.write(SETTINGS.format(folder=self.folder))
+            self.command('pg_ctl', '-D', self.data, '-w', '-t', '120', '-l', f'{self.folder}/start.log', 'start')
+            self.control = self.connect()
+            self.control.execute(f"SELECT pg_create_logical_replication_slot('{SLOT}', 'test_decoding')")
+        except BaseException:
+            self.remove()
+            raise
+        return self
+
+    def __exit__(self, *_):
+        self.remove()
+
+    def remove(self):
+        """Stops the server without regard for its data, which go too. Another Ctrl-C does not stop this."""
+        before = signal.signal(signal.SIGINT, signal.SIG_IGN)
+        try:
+            self.command('pg_ctl', '-D', self.data, '-m', 'immediate', '-w', 'stop')
+        except RuntimeError:
+            pass                                        # there is none: it did not start
+        shutil.rmtree(self.folder, ignore_errors=True)
+        signal.signal(signal.SIGINT, before)
+
+    def connect(self):
+        """A new session."""
+        return Connection(self.folder)
+
+    def take_log(self, mark):
+        """The CSV log since this was asked the last time. The collector writes it a little later than the statements end."""
+        self.control.execute(f"SELECT '{mark}'")
+        [file] = glob.glob(f'{self.folder}/log/*.csv')
+        for _ in range(3000):
+            with open(file, 'rb') as opened:
+                opened.seek(self.read)
+                text = opened.read()
+            if f"SELECT '{mark}'".encode() in text and text.endswith(b'\n'):
+                self.read += len(text)
+                return text
+            time.sleep(0.02)
+        raise TimeoutError('the log of the server does not go on')
+
+    def take_changes(self):
+        """The lines of the slot since this was asked the last time."""
+        return ''.join(data + '\n' for data, in self.control.execute(CHANGES).rows)

@@ -1,0 +1,113 @@
+"""Scripts with one fault each, to see that `verify` is not blind.
+
+In a script that `verify` found right, one statement of a covered transaction is dropped or one number of it is changed.
+A fault matters if it changes the rows of some version, which the dumps show; then `verify` has to find it.
+"""
+import collections
+import random
+import re
+import shutil
+from dataclasses import dataclass
+
+from .judge import verify
+from .workload import check as check_workload
+
+NUMBER = re.compile(r"'(?:[^']|'')*'|(?<![\w.])(\d+)(?!\w)")     # a text, or a number that stands outside of texts
+WRITES = ('INSERT', 'UPDATE', 'DELETE')
+ATTEMPTS = 100                                          # for each mutation
+DROPPED = '-- dropped'
+
+
+@dataclass
+class Mutation:
+    """A fault: the line of the script, what it says instead, whether that matters, and whether `verify` found it."""
+    line: int
+    text: str
+    matters: bool
+    is_found: bool
+
+
+def check(window, found, gprom, count, seed, made):
+    """The faults that matter and that `verify` does not find, among this many in the script of a window. All go to `made`."""
+    failures = check_workload(window, found)
+    if found.failures or failures:
+        return failures
+    mutations = mutate(window, found.verdicts, gprom, count, random.Random(seed))
+    made += mutations
+    return [f'line {mutation.line} as {mutation.text!r} is not found' for mutation in mutations if mutation.matters and not mutation.is_found]
+
+
+def summary(made):
+    """How many statements were dropped and numbers changed, how many of them matter, and how many were found."""
+    dropped = [mutation for mutation in made if mutation.text == DROPPED]
+    changed = [mutation for mutation in made if mutation.text != DROPPED]
+    return ', '.join(f'{len(some)} {what}, {sum(mutation.matters for mutation in some)} of them matter, '
+                     f'{sum(mutation.is_found for mutation in some)} are found'
+                     for what, some in (('statements dropped', dropped), ('numbers changed', changed)))
+
+
+def mutate(window, verdicts, gprom, count, chosen):
+    """This many mutations, half of them dropped statements. A dropped statement is one that matters."""
+    with open(window.path('out.script'), encoding='utf-8') as file:
+        lines = file.read().split('\n')[:-1]
+    shutil.copy(window.path('out.tsv'), window.path('mutant.tsv'))
+    right, found = contents(window.path('out.dump')), []
+    places = covered_writes(lines, {verdict.transaction for verdict in verdicts if verdict.kind() == 'same'})
+    for _ in range(ATTEMPTS * count if places else 0):
+        at = chosen.choice(places)
+        text = DROPPED if len(found) % 2 == 0 else with_other_number(lines[at], chosen)
+        if text:
+            mutation = try_mutation(window, gprom, lines, at, text, right)
+            found += [mutation] * (mutation.matters or text != DROPPED)
+        if len(found) == count:
+            break
+    return found
+
+
+def try_mutation(window, gprom, lines, at, text, right):
+    """Verifies the script with this text in place of a line."""
+    with open(window.path('mutant.script'), 'w', encoding='utf-8') as file:
+        file.write('\n'.join(lines[:at] + [text] + lines[at + 1:]) + '\n')
+    is_found = any(verdict.verdict == 'differs' for verdict in verify(window, gprom, 'mutant'))
+    return Mutation(at + 1, text, contents(window.path('mutant.dump')) != right, is_found)
+
+
+def covered_writes(lines, covered):
+    """The places of the lines of these transactions that write. Transactions are numbered by their BEGINs."""
+    places, active, last = [], {}, 0
+    for at, line in enumerate(lines):
+        session, _, command = line.partition(': ')
+        word = command.split(' ', 1)[0]
+        if word == 'BEGIN':
+            last += 1
+            active[session] = last
+        elif word in WRITES and str(active[session]) in covered:
+            places.append(at)
+    return places
+
+
+def with_other_number(line, chosen):
+    """The line with one of its numbers changed by a little, or None if it has none."""
+    command = line.index(': ') + 2
+    numbers = [found for found in NUMBER.finditer(line, command) if found[1]]
+    if not numbers:
+        return None
+    number = chosen.choice(numbers)
+    return line[:number.start(1)] + str(int(number[1]) + chosen.randint(1, 3)) + line[number.end(1):]
+
+
+def contents(dump):
+    """What the versions of a dump have, without identities: how often each row comes to be and goes, by table and version."""
+    changes, table, rows = collections.Counter(), '', 0
+    with open(dump, encoding='utf-8') as file:
+        for line in file:
+            if rows:
+                _, begin, end, cells = line.rstrip('\n').split(' ', 3)
+                changes[table, int(begin), cells] += 1
+                if end != '-':
+                    changes[table, int(end), cells] -= 1
+                rows -= 1
+            elif line.startswith('table '):
+                _, table, rows = line.split()
+                rows = int(rows)
+    return {change: times for change, times in changes.items() if times}

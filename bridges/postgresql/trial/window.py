@@ -1,0 +1,97 @@
+"""A window of a server's life: what a user keeps of it for `convert`, and what the tables have at its end."""
+import os
+from dataclasses import dataclass, field
+
+EVERYTHING = 'DROP SCHEMA public CASCADE; CREATE SCHEMA public'
+TABLES = "SELECT relname, oid::regclass FROM pg_class WHERE relkind = 'r' AND relnamespace = 'public'::regnamespace ORDER BY relname"
+COLUMNS = """SELECT quote_ident(attname), format_type(atttypid, NULL), CASE WHEN atttypmod > 0 THEN (atttypmod - 4) & 65535 END
+             FROM pg_attribute WHERE attrelid = '{table}'::regclass AND attnum > 0 AND NOT attisdropped ORDER BY attnum"""
+INTEGERS = ('smallint', 'integer', 'bigint')
+
+
+@dataclass
+class Column:
+    """A column: its name as SQL has it, its type, and the decimals of a numeric that has a number of them."""
+    name: str
+    type: str
+    decimals: int | None
+
+
+@dataclass
+class Table:
+    """A table: its name, the name as SQL has it, and its columns when the window begins."""
+    name: str
+    quoted: str
+    columns: list[Column]
+
+
+@dataclass
+class Window:
+    """The files of a window, in a folder of its own."""
+    folder: str
+    level: str = 'read committed'                       # default_transaction_isolation of the server
+    started: list[str] = field(default_factory=list)    # the tables that have rows when the window begins
+    ended: dict[str, list[str]] = field(default_factory=dict)    # the rows of each table at the end, unless it has other columns then
+
+    def path(self, name):
+        """A file of the window."""
+        return os.path.join(self.folder, name)
+
+    def save(self, name, content):
+        """Writes a file of the window."""
+        with open(self.path(name), 'wb') as file:
+            file.write(content if isinstance(content, bytes) else content.encode())
+
+
+def record(cluster, window, setup, work):
+    """Makes new tables by the statements of `setup`, and keeps what `work` does with them."""
+    control = cluster.control
+    control.execute(EVERYTHING)
+    control.execute(setup)
+    tables = [Table(name, quoted, columns_of(control, quoted)) for name, quoted in control.execute(TABLES).rows]
+    for table in tables:
+        control.execute(f'ALTER TABLE {table.quoted} REPLICA IDENTITY FULL')
+        rows = control.execute(f"COPY {table.quoted} TO STDOUT WITH (FORMAT csv, HEADER, NULL '\\N')").copied
+        if rows.count(b'\n') > 1:
+            window.started.append(table.name)
+            window.save(f'{table.name}.csv', rows)
+    window.save('tables.sql', cluster.command('pg_dump', '-h', cluster.folder, '-U', 'postgres', '--schema-only', 'postgres'))
+    cluster.take_changes()
+    cluster.take_log('the window begins')
+    work(cluster)
+    window.save('log.csv', cluster.take_log('the window ends'))
+    window.save('slot.txt', cluster.take_changes())
+    window.ended = {table.name: rows_of(control, table) for table in tables if columns_of(control, table.quoted) == table.columns}
+
+
+def columns_of(control, table):
+    """The columns of a table."""
+    rows = control.execute(COLUMNS.format(table=table)).rows
+    return [Column(name, kind, None if scale is None else int(scale)) for name, kind, scale in rows]
+
+
+def rows_of(control, table):
+    """The rows of a table as gprom prints them, in order, without those that no table of gprom can hold.
+
+    How a value is written in gprom is said once more here, as a check of what `convert` says.
+    """
+    rows = control.execute(f"SELECT {', '.join(column.name for column in table.columns)} FROM {table.quoted}").rows
+    return sorted(', '.join(map(cell_of, row, table.columns)) for row in rows if all(map(fits, row)))
+
+
+def fits(cell):
+    """Whether a text of gprom can hold this."""
+    return cell is None or len(cell.encode()) <= 255 and all(' ' <= character != '\x7f' for character in cell)
+
+
+def cell_of(cell, column):
+    """A cell of the server in gprom's form: numbers without a point, truth as 0 or 1, all else as a text."""
+    if cell is None:
+        return 'NULL'
+    if column.type in INTEGERS:
+        return cell
+    if column.type == 'numeric' and column.decimals is not None:
+        return str(int(cell.replace('.', '')))
+    if column.type == 'boolean':
+        return '1' if cell == 't' else '0'
+    return "'" + cell.replace("'", "''") + "'"
