@@ -1,0 +1,84 @@
+"""The verdicts at the top: CHECK, SERIAL, and the questions that were not answered."""
+
+from __future__ import annotations
+
+from .arrows import letter
+from .history import History
+from .markup import Links, count, escape, fold
+
+# The transactions of a serial order that are shown.
+MOST_ORDER = 300
+
+
+def verdicts(history: History, links: Links) -> str:
+    items = (_check(history), _serial(history, links), _unknown(history), _refused(history))
+    return f'<ul class="verdicts">{"".join(items)}</ul>'
+
+
+def _item(kind: str, mark: str, title: str, body: str) -> str:
+    return (
+        f'<li class="{kind}"><span class="sign" aria-hidden="true">{mark}</span>'
+        f"<div><h3>{escape(title)}</h3>{body}</div></li>"
+    )
+
+
+def _check(history: History) -> str:
+    check = history.check
+    if check.unknown:
+        return ""
+    folded = fold("CHECK", [check])
+    if check.head == "history":
+        return _item("good", "✓", "The rows are what the lines make", f"<p>Running the log once more makes this very dump.</p>{folded}")
+    words = "<p>What is below is about the dump as it stands. Its own lines do not make it.</p>"
+    return _item("bad", "✕", f"Not the record of a history: {check.head}", words + folded)
+
+
+def _serial(history: History, links: Links) -> str:
+    serial = history.serial
+    if serial.unknown:
+        return ""
+    folded = fold("SERIAL", [serial])
+    word = serial.head.partition(" ")[0]
+    if word == "serial":
+        return _item("good", "✓", "As if one after another", _order(serial.lines, links) + folded)
+    if word == "cycle":
+        steps = "".join(
+            f'<li><span class="letter" aria-hidden="true">{letter(at)}</span> {links.to(edge.first)} before {links.to(edge.second)}: '
+            f'<span class="witness">{escape(edge.witness)}</span></li>'
+            for at, edge in enumerate(history.edges, 1)
+        )
+        body = f'<p>Each of these transactions has to come before the next one:</p><ul class="cycle">{steps}</ul>'
+        return _item("bad", "↻", f"No order explains it: a cycle of {len(history.edges)}", body + folded)
+    if word == "undecided":
+        words = "<p>No cycle was found, but one after another the transactions do not give the same.</p>"
+        return _item("open", "?", "Undecided whether as if one after another", words + folded)
+    return _item("open", "?", "Not answered whether as if one after another", f"<p>{escape(serial.head)}</p>{folded}")
+
+
+def _order(lines: list[str], links: Links) -> str:
+    steps = "".join(f"<li>{links.to(int(line))}</li>" for line in lines[:MOST_ORDER])
+    left = len(lines) - MOST_ORDER
+    more = f"<p>Cut: {count(left, 'more transaction')}. <code>SERIAL</code> gives all.</p>" if left > 0 else ""
+    return f'<p>The committed transactions give the same in this order:</p><ol class="order">{steps}</ol>{more}'
+
+
+def _unknown(history: History) -> str:
+    """The kinds of questions that this program has not, with the first question of each."""
+    kinds = {}
+    for answer in history.answers:
+        if answer.unknown:
+            kinds.setdefault(answer.question.split(" ")[0], answer)
+    if not kinds:
+        return ""
+    names = ", ".join(f"<code>{escape(kind)}</code>" for kind in sorted(kinds))
+    words = f"<p>This program has no such question: {names}. The page shows the rest.</p>"
+    return _item("open", "–", "Not in this program", words + fold("the first of each", kinds.values()))
+
+
+def _refused(history: History) -> str:
+    refused = [it for it in history.answers if it.refused and not it.unknown and it is not history.serial]
+    if not refused:
+        return ""
+    first = refused[:40]
+    more = f"<p>The first {len(first)} are in the fold.</p>" if len(first) < len(refused) else ""
+    return _item("bad", "!", f"Refused: {count(len(refused), 'question')}", more + fold("the questions and the refusals", first))
