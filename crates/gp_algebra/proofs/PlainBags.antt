@@ -9,7 +9,7 @@ use Rattle.gp_expr.specs.LargeValues.{is_large}
 use Rattle.gp_algebra.specs.declared.plain.ScanAt.{ScanAt}
 use Rattle.gp_algebra.specs.Answers.{values}
 use Rattle.gp_algebra.specs.Plain as p
-use Rattle.gp_algebra.specs.Plain.{Plain, PlainStep, PlainProgram, PlainEnvironment, StepRows, no_steps, with_step, is_same_id, is_marked, has_id, is_written, published, meaning, steps_meaning, program_meaning}
+use Rattle.gp_algebra.specs.Plain.{Plain, PlainStep, PlainProgram, PlainEnvironment, StepRows, no_steps, with_step, is_same_id, is_marked, has_id, is_written, published_onto, meaning, steps_meaning, program_meaning}
 use Rattle.gp_algebra.specs.Stops.{Stop, first_stop, stop_at, steps_stop, program_stop}
 use Rattle.gp_algebra.specs.Plain.{is_insert}
 use Rattle.gp_algebra.specs.Stops as stops
@@ -22,7 +22,7 @@ is_written_same at b c m n s u id =
     λ i. any_same (λ row. is_marked (column (suc at) row) && is_same_id (column at row) id) u i
     || (any_same (λ row. is_same_id (column at row) id) s i && not (any_same (λ row. is_same_id (column at row) id) u i))
 
-pub published_same : (at : ℕ) (b c m n k l : List (List Cell)) → SameBag b c → SameBag m n → SameBag k l → SameBag (published at b m k) (published at c n l)
+pub published_same : (at : ℕ) (b c m n k l : List (List Cell)) → SameBag b c → SameBag m n → SameBag k l → SameBag (published_onto at b m k) (published_onto at c n l)
 published_same at b c m n k l s u v =
     joined
     (through (filtered (λ row. not (is_written at b m (column at row))) v)

@@ -12,7 +12,7 @@ use Rattle.gp_algebra.specs.AnnotatedQueries as q
 use Rattle.gp_algebra.specs.AnnotatedQueries.{Query}
 use Rattle.gp_algebra.specs.Answers.{values}
 use Rattle.gp_algebra.specs.Plain as p
-use Rattle.gp_algebra.specs.Plain.{Plain, PlainEnvironment, StepRows, meaning, published}
+use Rattle.gp_algebra.specs.Plain.{Plain, PlainEnvironment, StepRows, meaning, published_onto}
 use Rattle.gp_algebra.specs.Reads.{annotated_reads, reads}
 
 pub meaning_agrees : (env : PlainEnvironment) (query : Plain) (known others : StepRows) → ((j : ℕ) → reads j query ≡ true → known j ≡ others j) → meaning known env query ≡ meaning others env query
@@ -35,9 +35,9 @@ meaning_agrees env (p.publish at base mine later) known others agree =
     let first = meaning_agrees env base known others (λ j read. agree j (or_left (reads j base) (inner j) read)) in
     let second = meaning_agrees env mine known others (λ j read. agree j (or_right (reads j base) (inner j) (or_left (reads j mine) (reads j later) read))) in
     let third = meaning_agrees env later known others (λ j read. agree j (or_right (reads j base) (inner j) (or_right (reads j mine) (reads j later) read))) in
-    ap (λ (rows : List (List Cell)). published at rows (meaning known env mine) (meaning known env later)) first
-    ∙ (ap (λ (rows : List (List Cell)). published at (meaning others env base) rows (meaning known env later)) second
-    ∙ ap (λ (rows : List (List Cell)). published at (meaning others env base) (meaning others env mine) rows) third)
+    ap (λ (rows : List (List Cell)). published_onto at rows (meaning known env mine) (meaning known env later)) first
+    ∙ (ap (λ (rows : List (List Cell)). published_onto at (meaning others env base) rows (meaning known env later)) second
+    ∙ ap (λ (rows : List (List Cell)). published_onto at (meaning others env base) (meaning others env mine) rows) third)
 
 module _ {M : Type 0} (domain : Annotations M) (env : Environment M) where
   abbrev Rows : Type 0
@@ -64,6 +64,6 @@ module _ {M : Type 0} (domain : Annotations M) (env : Environment M) where
       let first = annotated_meaning_agrees base known others (λ j read. agree j (or_left (annotated_reads j base) (inner j) read)) in
       let second = annotated_meaning_agrees mine known others (λ j read. agree j (or_right (annotated_reads j base) (inner j) (or_left (annotated_reads j mine) (annotated_reads j later) read))) in
       let third = annotated_meaning_agrees later known others (λ j read. agree j (or_right (annotated_reads j base) (inner j) (or_right (annotated_reads j mine) (annotated_reads j later) read))) in
-      ap (λ (rows : Rows). qm.published domain rows (qm.meaning domain known env mine) (qm.meaning domain known env later)) first
-      ∙ (ap (λ (rows : Rows). qm.published domain (qm.meaning domain others env base) rows (qm.meaning domain known env later)) second
-      ∙ ap (λ (rows : Rows). qm.published domain (qm.meaning domain others env base) (qm.meaning domain others env mine) rows) third)
+      ap (λ (rows : Rows). qm.published_onto domain rows (qm.meaning domain known env mine) (qm.meaning domain known env later)) first
+      ∙ (ap (λ (rows : Rows). qm.published_onto domain (qm.meaning domain others env base) rows (qm.meaning domain known env later)) second
+      ∙ ap (λ (rows : Rows). qm.published_onto domain (qm.meaning domain others env base) (qm.meaning domain others env mine) rows) third)

@@ -7,7 +7,7 @@ use Rattle.gp_expr.specs.Values.{passes}
 use Rattle.gp_algebra.specs.declared.plain.ScanAt.{ScanAt}
 use Rattle.gp_algebra.specs.Answers.{values}
 use Rattle.gp_algebra.specs.Plain as p
-use Rattle.gp_algebra.specs.Plain.{Plain, PlainStep, PlainProgram, PlainEnvironment, StepRows, no_steps, with_step, published, meaning, steps_meaning, program_meaning}
+use Rattle.gp_algebra.specs.Plain.{Plain, PlainStep, PlainProgram, PlainEnvironment, StepRows, no_steps, with_step, published_onto, meaning, steps_meaning, program_meaning}
 use Rattle.gp_algebra.specs.Stops.{first_stop, stop_at, steps_stop, program_stop}
 use Rattle.gp_algebra.specs.Scans.{query_scans, steps_scans, program_scans, AgreeOn}
 
@@ -35,7 +35,7 @@ module _ (a b : PlainEnvironment) where
   meaning_agrees steps (p.given rows) e = refl
   meaning_agrees steps (p.publish at x y z) e =
       let others : AgreeOn (query_scans y ++ query_scans z) a b = agree_right (query_scans x) (query_scans y ++ query_scans z) e in
-      λ i. published at (meaning_agrees steps x (agree_left (query_scans x) (query_scans y ++ query_scans z) e) i)
+      λ i. published_onto at (meaning_agrees steps x (agree_left (query_scans x) (query_scans y ++ query_scans z) e) i)
       (meaning_agrees steps y (agree_left (query_scans y) (query_scans z) others) i) (meaning_agrees steps z (agree_right (query_scans y) (query_scans z) others) i)
 
   first_agrees : (first : PlainStep) (others : List PlainStep) (steps : StepRows) → AgreeOn (steps_scans (first ∷ others)) a b → meaning steps a first.query ≡ meaning steps b first.query

@@ -1,4 +1,4 @@
--- Part of the statement: the meaning of the annotated algebra over annotated rows.
+-- Of the laws `composed_programs_mean_the_states` (gp_compose) and `values_are_sums` (gp_kexec): the meaning of the annotated algebra over annotated rows.
 use Rattle.std.specs.Prelude.{ℕ, ◌&&◌, ◌||◌, not, Bool, true, false, List, [], ◌∷◌, ◌++◌, map, filter, Option, Some, None, if◌then◌else◌}
 use Rattle.std.specs.List.{list_any, flat_map}
 use Rattle.gp_base.specs.declared.cell.Cell.{Cell}
@@ -62,8 +62,8 @@ module _ {M : Type 0} (domain : Annotations M) where
   was_replaced base mine ids = list_any (λ (row : Derived M). row.mark && same_sources row.sources ids) mine || (stands ids base && not (stands ids mine))
 
   -- later without the rows that are written, then the marked rows of mine
-  abbrev pub published : List (Derived M) → List (Derived M) → List (Derived M) → List (Derived M)
-  published base mine later =
+  abbrev pub published_onto : List (Derived M) → List (Derived M) → List (Derived M) → List (Derived M)
+  published_onto base mine later =
       filter (λ (row : Derived M). not (was_replaced base mine row.sources)) later ++ filter (λ (row : Derived M). row.mark) mine
 
   -- the rows of a query, in the order of nested loops, given those of each step
@@ -76,7 +76,7 @@ module _ {M : Type 0} (domain : Annotations M) where
   meaning steps env (union left right) = meaning steps env left ++ meaning steps env right
   meaning steps env (given t k rows) = map scanned (given_from domain t k 1 rows)
   meaning steps env (new_rows t k b query) = map (renewed t k b) (meaning steps env query)
-  meaning steps env (publish base mine later) = published (meaning steps env base) (meaning steps env mine) (meaning steps env later)
+  meaning steps env (publish base mine later) = published_onto (meaning steps env base) (meaning steps env mine) (meaning steps env later)
 
   -- the rows of each step after all of these were taken in turn
   abbrev pub steps_meaning : Environment M → List QueryStep → (ℕ → List (Derived M)) → ℕ → List (Derived M)

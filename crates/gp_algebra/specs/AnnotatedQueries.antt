@@ -1,6 +1,6 @@
--- Part of the statement: the annotated algebra, as data. A rewritten statement is such a query, so its rows carry
--- the identities, marks and annotations that the statement gives them (Arab and others, Reenactment for Read-Committed Snapshot Isolation, 2016, in whose
--- multi-version semirings an update is a projection and an insert a union).
+-- Of the contract of `program` (gp_compose) and of the laws on annotated programs: the annotated algebra, as data. A rewritten statement is such a query, so
+-- its rows carry the identities, marks and annotations that the statement gives them (Arab and others, Reenactment for Read-Committed Snapshot Isolation, 2016,
+-- in whose multi-version semirings an update is a projection and an insert a union).
 use Rattle.std.specs.Prelude.{ℕ, List, [], ◌∷◌, Option, if◌then◌else◌, ◌==◌}
 use Rattle.gp_base.specs.declared.cell.Cell.{Cell}
 use Rattle.gp_base.specs.declared.token.Token.{Token}

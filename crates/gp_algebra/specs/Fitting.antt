@@ -1,4 +1,4 @@
--- Part of the statement: when a statement or a query fits the tables of a catalogue.
+-- Of the contracts of `check` and `check_query` (gp_check): when a statement or a query fits the tables of a catalogue.
 use Rattle.std.specs.Prelude.{ℕ, ◌+◌, ◌^◌, nat_le, nat_lt, ◌==◌, Bool, true, ◌&&◌, List, [], ◌∷◌, length, Option, Some, None}
 use Rattle.std.specs.List.{list_all}
 use Rattle.gp_base.specs.declared.cell.Cell.{Cell}

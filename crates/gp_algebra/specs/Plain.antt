@@ -66,8 +66,8 @@ is_written at base mine id =
     list_any (λ row. is_marked (column (suc at) row) && is_same_id (column at row) id) mine || (has_id at id base && not (has_id at id mine))
 
 -- later without the identities that are written, then the marked rows of mine; the mark's column follows that of the identity
-abbrev pub published : ℕ → List (List Cell) → List (List Cell) → List (List Cell) → List (List Cell)
-published at base mine later =
+abbrev pub published_onto : ℕ → List (List Cell) → List (List Cell) → List (List Cell) → List (List Cell)
+published_onto at base mine later =
     filter (λ row. not (is_written at base mine (column at row))) later ++ filter (λ row. is_marked (column (suc at) row)) mine
 
 -- ---- the meaning
@@ -81,7 +81,7 @@ meaning steps env (project query exprs) = map (values exprs) (meaning steps env 
 meaning steps env (product left right) = flat_map (λ row. map (λ other. row ++ other) (meaning steps env right)) (meaning steps env left)
 meaning steps env (union left right) = meaning steps env left ++ meaning steps env right
 meaning steps env (given rows) = rows
-meaning steps env (publish at base mine later) = published at (meaning steps env base) (meaning steps env mine) (meaning steps env later)
+meaning steps env (publish at base mine later) = published_onto at (meaning steps env base) (meaning steps env mine) (meaning steps env later)
 
 -- the rows of each step after all of these were taken in turn
 abbrev pub steps_meaning : PlainEnvironment → List PlainStep → StepRows → StepRows

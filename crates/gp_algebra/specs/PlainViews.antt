@@ -1,4 +1,5 @@
--- Part of the statement: the plain programs of the code without the pointers in their queries and expressions.
+-- Of the contracts of `to_plain` (gp_prov), `merge` (gp_merge) and `run` (gp_exec): the plain programs of the code without the pointers in their queries and
+-- expressions.
 use Rattle.std.specs.Prelude.{map}
 use Rattle.gp_expr.specs.Views.{expr_view, cond_view}
 use Rattle.gp_algebra.specs.Plain as p

@@ -1,5 +1,6 @@
--- Part of the statement: the forms of well-built programs of the annotated algebra. They are those of rewritten statements: the contents of a table, joins
--- of tables, and the rows that an INSERT appends. A program's steps rise, and each reads earlier ones only.
+-- Of the laws `composed_programs_are_well_built` (gp_compose) and `plain_programs_are_well_built` (gp_prov): the forms of well-built programs of the annotated
+-- algebra. They are those of rewritten statements: the contents of a table, joins of tables, and the rows that an INSERT appends. A program's steps rise, and
+-- each reads earlier ones only.
 use Rattle.std.specs.Prelude.{◌≡◌, ℕ, ◌<◌, ◌^◌, nat_lt, Bool, true, ◌&&◌, List, [], ◌∷◌, length, Option, Some, None}
 use Rattle.std.specs.List.{list_all}
 use Rattle.gp_base.specs.declared.cell.Cell.{Cell}
@@ -31,7 +32,7 @@ module _ (columns : ℕ → ℕ) (of_step : ℕ → ℕ) where
   IsJoin (product left right) = IsJoin left × IsSomeTable right
   IsJoin query = IsSomeTable query
 
-  -- the same, by a WHERE
+  -- tables side by side, with a WHERE or without one
   abbrev pub IsSource : Query → Type 0
   IsSource (select query c) = IsJoin query
   IsSource query = IsJoin query

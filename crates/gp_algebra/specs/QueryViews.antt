@@ -1,4 +1,5 @@
--- Part of the statement: the annotated programs of the code without the pointers in their queries and expressions.
+-- Of the contracts of `program` (gp_compose), `to_plain` (gp_prov) and `run_k` (gp_kexec): the annotated programs of the code without the pointers in their
+-- queries and expressions.
 use Rattle.std.specs.Prelude.{map}
 use Rattle.std.specs.Option.{option_map}
 use Rattle.gp_expr.specs.Views.{expr_view, cond_view}

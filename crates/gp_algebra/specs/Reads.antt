@@ -19,7 +19,8 @@ abbrev pub step_of : p.Plain → Option ℕ
 step_of (p.step j) = Some j
 step_of _ = None
 
--- the same of the annotated algebra
+-- ---- the annotated algebra
+
 abbrev pub annotated_reads : ℕ → q.Query → Bool
 annotated_reads j (q.scan table version) = false
 annotated_reads j (q.step other) = other == j

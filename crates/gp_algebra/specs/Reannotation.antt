@@ -1,5 +1,5 @@
--- Part of the statement: rows with other annotations, by a map that keeps one, products and tokens: a homomorphism, as of semirings in
--- Green, Karvounarakis and Tannen (2007).
+-- Of the laws `annotations_commute` and `annotations_change_no_reply` (gp_machine): rows with other annotations, by a map that keeps one, products and tokens:
+-- a homomorphism, as of semirings in Green, Karvounarakis and Tannen (2007).
 use Rattle.std.specs.Prelude.{◌≡◌, map}
 use Rattle.gp_base.specs.declared.token.Token.{Token}
 use Rattle.gp_base.specs.Annotated.{Annotations, Annotated, Database}

@@ -1,4 +1,4 @@
--- Part of the statement: databases with the same rows, in any order.
+-- Of the laws `answers_respect_bags` and `statements_respect_bags`: databases with the same rows, in any order.
 use Rattle.std.specs.Prelude.{ℕ}
 use Rattle.std.specs.List.Sorted.{IsPermutation}
 use Rattle.gp_base.specs.Annotated.{Database}

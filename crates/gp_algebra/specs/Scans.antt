@@ -1,4 +1,5 @@
--- Part of the statement: the tables and versions that a query or a program reads, a plain or an annotated one.
+-- Of the contracts of `scans` and `scans_of`, and of the law `programs_read_their_scans`: the tables and versions that a query or a program reads, a plain or
+-- an annotated one.
 use Rattle.std.specs.Prelude.{◌≡◌, List, [], ◌∷◌, ◌++◌, Contains}
 use Rattle.std.specs.Ordering.{nat_cmp, on, then_cmp}
 use Rattle.std.specs.declared.cmp.Ordering.{Ordering}
@@ -26,7 +27,8 @@ steps_scans steps = flat_map (λ step. query_scans step.query) steps
 abbrev pub program_scans : PlainProgram → List ScanAt
 program_scans program = steps_scans program.steps ++ query_scans program.last
 
--- the same of the annotated algebra
+-- ---- the annotated algebra
+
 abbrev pub annotated_query_scans : q.Query → List ScanAt
 annotated_query_scans (q.scan table version) = record { table = table; version = version } ∷ []
 annotated_query_scans (q.step j) = []

@@ -1,4 +1,5 @@
--- Part of the statement: queries that compute neither identities nor provenance, as every query of a user.
+-- Of the contract of `choose` (gp_exec) and of the law `fitting_queries_are_simple`: queries that compute neither identities nor provenance, as every query of
+-- a user.
 use Rattle.std.specs.Prelude.{◌^◌, nat_lt, Bool, true, ◌&&◌, length, Option, Some, None}
 use Rattle.std.specs.List.{list_all}
 use Rattle.gp_expr.specs.Expressions.{Cond}

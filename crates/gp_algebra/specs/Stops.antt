@@ -1,5 +1,5 @@
--- Part of the statement: where a plain program stops. Only the rows of its INSERT steps decide, so neither the order of evaluation nor a rewriting
--- with the same rows changes it.
+-- Of the contract of `run` (gp_exec) and of the law `programs_respect_bags`: where a plain program stops. Only the rows of its INSERT steps decide, so neither
+-- the order of evaluation nor a rewriting with the same rows changes it.
 use Rattle.std.specs.Prelude.{ℕ, nat_lt, List, [], ◌∷◌, length, Option, Some, None, if◌then◌else◌}
 use Rattle.std.specs.List.{list_any}
 use Rattle.gp_base.specs.declared.cell.Cell.{Cell}

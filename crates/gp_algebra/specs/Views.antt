@@ -1,4 +1,4 @@
--- Part of the statement: the statements and queries of the code without the pointers in their expressions.
+-- Of the contracts of `check` (gp_check) and `choose` (gp_exec): the statements and queries of the code without the pointers in their expressions.
 use Rattle.std.specs.Prelude.{map}
 use Rattle.std.specs.Option.{option_map}
 use Rattle.gp_expr.specs.Views.{expr_view, cond_view}

@@ -1,5 +1,5 @@
--- Part of the statement: when a plain program is well built: its steps rise and read earlier steps only, its conditions are simple, and new identities are
--- made in the projections of INSERT steps alone.
+-- Of the contracts of `run` (gp_exec) and `merge` (gp_merge), and of the law `plain_programs_are_well_built` (gp_prov): when a plain program is well built: its
+-- steps rise and read earlier steps only, its conditions are simple, and new identities are made in the projections of INSERT steps alone.
 use Rattle.std.specs.Prelude.{ℕ, nat_lt, ◌==◌, Bool, true, false, ◌&&◌, List, [], ◌∷◌}
 use Rattle.std.specs.List.{list_all, list_any}
 use Rattle.gp_expr.specs.Expressions as e

@@ -22,7 +22,6 @@ pub fn copy_exprs(alloc: Global, exprs: &[Expr]) -> Result<Sequence<Expr>, NoMem
     Ok(copies)
 }
 
-/// A copy of a change, if there is one.
 fn copy_change(alloc: Global, change: &Option<Change>) -> Result<Option<Change>, NoMemory>
     ensures { IfOk result (λ copy. option_map change_view copy
         ≡ option_map change_view change.now) }
@@ -78,7 +77,6 @@ fn copy_filter(alloc: Global, input: &AQuery, cond: &Cond) -> Result<AQuery, NoM
     Ok(AQuery::Filter { input, cond })
 }
 
-/// A copy of a projection.
 #[cycle(copying)]
 fn copy_projection(
     alloc: Global,
@@ -99,7 +97,6 @@ fn copy_projection(
     })
 }
 
-/// A copy of a publication.
 #[cycle(copying)]
 fn copy_publication(
     alloc: Global,

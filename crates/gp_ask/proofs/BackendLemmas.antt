@@ -32,12 +32,12 @@ use Rattle.gp_reenact.proofs.ReplayLemmas.{Replays, found_is, planned_replays, s
 use Rattle.gp_dump.specs.Views.{tables_view}
 use Rattle.gp_ask.specs.declared.answered.Answered.{Answered}
 use Rattle.gp_ask.specs.declared.answered.Answered.TheVariants.{Refused, Rows}
-use Rattle.gp_ask.specs.Asking.{of_elements, query_answer, spans_at}
+use Rattle.gp_ask.specs.Asking.{of_elements, query_answer, table_spans}
 use Rattle.gp_ask.specs.Backends.{AnswersQuery, IsAnswered, Shows}
 use Rattle.gp_ask.proofs.ReenactedLemmas.{dump-spans, in-order, refused}
 
 -- the rows of past versions, of the code and of its dump
-pub past_is : (versions : List Versions) → encoded (travels.as_of unannotated versions) ≡ encoded (machine.as_of unannotated (spans_at (tables_view versions)))
+pub past_is : (versions : List Versions) → encoded (travels.past_environment unannotated versions) ≡ encoded (machine.as_of unannotated (table_spans (tables_view versions)))
 past_is versions = ap (λ (spans : ℕ → List Span). encoded (machine.as_of unannotated spans)) (dump-spans versions)
 
 -- ---- over any backend
@@ -64,7 +64,7 @@ module _ (entries : List Entry) (versions : List Versions) (point : y.Point) (se
   program = merged_at false entries point select
 
   abbrev past : PlainEnvironment
-  past = encoded (travels.as_of unannotated versions)
+  past = encoded (travels.past_environment unannotated versions)
 
   abbrev expected : Result (List (Element (Unit {0}))) Refusal
   expected = rows_answer parameters entries (spans_of versions) point select
@@ -91,7 +91,7 @@ module _ (entries : List Entry) (versions : List Versions) (point : y.Point) (se
 module _ (entries : List Entry) (versions : List Versions) (point : y.Point) (fit : statements_fit (tables_in entries) entries ≡ true)
     (spans_fit : SpansFit (tables_in entries) (spans_of versions)) where
   pub executed_answers : (expected : Option Refusal) (checked : Result Select Refusal) (answered : Answered) → log_refusal entries point ≡ expected
-      → AnswersQuery Executes (tables_in entries) (transaction_at point) (merged_at false entries point) (encoded (travels.as_of unannotated versions)) expected checked answered
+      → AnswersQuery Executes (tables_in entries) (transaction_at point) (merged_at false entries point) (encoded (travels.past_environment unannotated versions)) expected checked answered
       → answered ≡ query_answer (λ select. of_elements (rows_answer parameters entries (spans_of versions) point select)) expected checked
   executed_answers (Some refusal) checked answered known by = by
   executed_answers None (Err refusal) answered known by = by

@@ -41,9 +41,9 @@ use Rattle.gp_versions.specs.declared.span.Span.{Span}
 use Rattle.gp_versions.specs.Spans.{Versions}
 use Rattle.gp_dump.specs.Views.{tables_view}
 use Rattle.gp_ask.specs.declared.answered.Answered.TheVariants.{Changes, Refused}
-use Rattle.gp_ask.specs.Changes.{by_identity, changed_text, changed_texts, changes_of, changes_to, commit_changes_to, dump_changes, if_any, of_changes, span_texts, spans_texts, tables_texts, version_changes}
+use Rattle.gp_ask.specs.Changes.{by_identity, changed_text, changed_texts, changes_of, changes_to, commit_changes_to, dump_changes, if_any, table_changes, span_texts, spans_texts, tables_texts, version_changes}
 use Rattle.gp_ask.specs.Values.{unless_refused}
-use Rattle.gp_ask.specs.Asking.{spans_at}
+use Rattle.gp_ask.specs.Asking.{table_spans}
 use Rattle.gp_ask.specs.Keyed.{as_identity, cells_of, identity_of, keyed_from, keyed_if, keyed_lines, sets_are_simple, shown_texts}
 
 -- ---- rows with their identities and their marks behind their cells
@@ -163,12 +163,12 @@ module _ (t k : ℕ) (statement : Statement) where
   -- what the code finds, or what it is refused for
   module _ (name : List ℕ) (rows : List (Annotated (Unit {0}))) {X : Type 0} (view : X → List (List Cell)) where
     pub found-changes : (refusal : Option Refusal) (found : X) → Looks view (Ok found) (given refusal (map system_row rows))
-        → Changes (shown_texts name t k statement (view found)) ≡ of_changes name statement (given refusal (filter changed rows))
+        → Changes (shown_texts name t k statement (view found)) ≡ table_changes name statement (given refusal (filter changed rows))
     found-changes None found is = ap Changes (ap (shown_texts name t k statement) is ∙ shown_is name rows)
     found-changes (Some refusal) found is = absurd is
 
     pub refused-changes : (refusal : Option Refusal) (own : Refusal) → Looks view (Err (stop.Refused own)) (given refusal (map system_row rows))
-        → Refused own ≡ of_changes name statement (given refusal (filter changed rows))
+        → Refused own ≡ table_changes name statement (given refusal (filter changed rows))
     refused-changes None own is = absurd is
     refused-changes (Some refusal) own is = ap Refused is
 
@@ -233,10 +233,10 @@ tables-more version tables versions place table own there within is =
 
 module _ (entries : List Entry) (tables : List (List Span)) (t k : ℕ) (some : 0 < k) (statement : Statement) (place : ℕ) (is : target statement ≡ Some place) where
   abbrev own-refusal : Option Refusal
-  own-refusal = looked_refusal parameters entries (spans_at tables) t (k - 1) statement
+  own-refusal = looked_refusal parameters entries (table_spans tables) t (k - 1) statement
 
   abbrev own-rows : List (Annotated (Unit {0}))
-  own-rows = looked_rows parameters entries (spans_at tables) t (k - 1) statement
+  own-rows = looked_rows parameters entries (table_spans tables) t (k - 1) statement
 
   abbrev changed-by : ℕ → Result (List (Annotated (Unit {0}))) Refusal
   changed-by n = given own-refusal (filter (λ row. is_changed_by t n statement row.identity) own-rows)
@@ -244,18 +244,18 @@ module _ (entries : List Entry) (tables : List (List Span)) (t k : ℕ) (some : 
   abbrev own-dump : Dump
   own-dump = record { entries = entries; tables = tables }
 
-  as-changes : (name : List ℕ) → name ≡ name_at place (tables_in entries) → of_changes name statement (changed-by k) ≡ dump_changes own-dump t (k - 1) statement
+  as-changes : (name : List ℕ) → name ≡ name_at place (tables_in entries) → table_changes name statement (changed-by k) ≡ dump_changes own-dump t (k - 1) statement
   as-changes name named =
       let next : k ≡ suc (k - 1) = omega (arith, some) in
-      ap (λ (own : List ℕ). of_changes own statement (changed-by k)) named
-      ∙ ap (λ n. of_changes (name_at place (tables_in entries)) statement (changed-by n)) next
+      ap (λ (own : List ℕ). table_changes own statement (changed-by k)) named
+      ∙ ap (λ n. table_changes (name_at place (tables_in entries)) statement (changed-by n)) next
       ∙ ap (λ (found : Option ℕ). changes_of (tables_in entries) found statement (changed-by (suc (k - 1)))) (sym is)
 
   pub found-is : {X : Type 0} (view : X → List (List Cell)) (found : X) (name : List ℕ) → name ≡ name_at place (tables_in entries)
-      → Looks view (Ok found) (looked_answer parameters entries (spans_at tables) t (k - 1) statement) → Changes (shown_texts name t k statement (view found)) ≡ dump_changes own-dump t (k - 1) statement
+      → Looks view (Ok found) (looked_answer parameters entries (table_spans tables) t (k - 1) statement) → Changes (shown_texts name t k statement (view found)) ≡ dump_changes own-dump t (k - 1) statement
   found-is view found name named looks = found-changes t k statement name own-rows view own-refusal found looks ∙ as-changes name named
 
-  pub refused-is : {X : Type 0} (view : X → List (List Cell)) (own : Refusal) → Looks view (Err (stop.Refused own)) (looked_answer parameters entries (spans_at tables) t (k - 1) statement)
+  pub refused-is : {X : Type 0} (view : X → List (List Cell)) (own : Refusal) → Looks view (Err (stop.Refused own)) (looked_answer parameters entries (table_spans tables) t (k - 1) statement)
       → Refused own ≡ dump_changes own-dump t (k - 1) statement
   refused-is view own looks =
       refused-changes t k statement (name_at place (tables_in entries)) own-rows view own-refusal own looks ∙ as-changes (name_at place (tables_in entries)) refl
@@ -264,7 +264,7 @@ module _ (entries : List Entry) (tables : List (List Span)) (t k : ℕ) (some : 
 pub none-changed : (dump : Dump) (t k : ℕ) (statement : Statement) → None ≡ target statement → Changes [] ≡ dump_changes dump t k statement
 none-changed dump t k statement is =
     ap (λ (found : Option ℕ). changes_of (tables_in dump.entries) found statement
-    (given (looked_refusal parameters dump.entries (spans_at dump.tables) t k statement) (changed_rows unannotated t (suc k) statement (run_before unannotated (log_of dump.entries) t k (as_of unannotated (spans_at dump.tables)))))) is
+    (given (looked_refusal parameters dump.entries (table_spans dump.tables) t k statement) (changed_rows unannotated t (suc k) statement (run_before unannotated (log_of dump.entries) t k (as_of unannotated (table_spans dump.tables)))))) is
 
 -- the numbers of a statement that is not refused
 known-by : (t : ℕ) (entries : List Entry) (b : Bool) → is_known t entries ≡ b → cond b None (Some (E20 t)) ≡ None → is_known t entries ≡ true

@@ -30,7 +30,7 @@ use Rattle.gp_versions.specs.Spans.{row_of, span_cmp, spans_at}
 use Rattle.gp_versions.specs.TableSpans.{AreOfDifferentRows}
 use Rattle.gp_ask.specs.declared.answered.Answered.TheVariants.{Changes}
 use Rattle.gp_ask.specs.Printed.{answer_to, held_to}
-use Rattle.gp_ask.specs.Changes.{held_writes, spans_texts, tables_texts, version_changes, written_texts}
+use Rattle.gp_ask.specs.Changes.{history_writes, spans_texts, tables_texts, version_changes, written_texts}
 use Rattle.gp_ask.specs.ShownWrites.{ShowsWrites}
 use Rattle.gp_ask.specs.Values.{unless_refused}
 use Rattle.gp_ask.proofs.SpanLemmas.{in-order, listed}
@@ -102,7 +102,7 @@ module _ (state : State Monomial) (history : IsHistory monomials (log_of state.e
       (λ table. different (suc version) table (omega (arith, within)))
       (λ table past. (none-beyond version table (omega (arith, within)) past, none-beyond (suc version) table (omega (arith, within)) past)) (written-once version within) (dump_of state).tables (listed state) (λ table below. in-order state beyond table)
 
-  version-changes : (found : Option ℕ) (t : ℕ) → version_of t state.entries ≡ found → version_changes (dump_of state) found ≡ option_map_or (held_writes state) found (Changes [])
+  version-changes : (found : Option ℕ) (t : ℕ) → version_of t state.entries ≡ found → version_changes (dump_of state) found ≡ option_map_or (history_writes state) found (Changes [])
   version-changes None t is = refl
   version-changes (Some version) t is =
       let own = version_is t version state.entries is in

@@ -24,7 +24,7 @@ use Rattle.gp_history.specs.ValueForms.{value_answer}
 use Rattle.gp_versions.specs.declared.span.Span.{Span}
 use Rattle.gp_dump.specs.Dumps.{Dump}
 use Rattle.gp_ask.specs.declared.answered.Answered.TheVariants.{Refused}
-use Rattle.gp_ask.specs.Asking.{spans_at}
+use Rattle.gp_ask.specs.Asking.{table_spans}
 use Rattle.gp_ask.specs.AskingForms.{dump_remaining, pattern_of}
 use Rattle.gp_ask.specs.Counted.{counted_answer}
 use Rattle.gp_ask.specs.Remaining.{is_left_out}
@@ -38,7 +38,7 @@ module _ (dump : Dump) (patterns : List y.Rule) (own : List Rule × Option ℕ) 
   entries = dump.entries
 
   abbrev spans : ℕ → List Span
-  spans = spans_at dump.tables
+  spans = table_spans dump.tables
 
   abbrev matches : Token → Bool
   matches = is_left_out (map rule_of patterns)

@@ -18,7 +18,7 @@ use Rattle.gp_base.specs.contracts.cell.CellOrd.TheImpl as cell_order
 use Rattle.gp_base.specs.Order.{cell_cmp, row_cmp}
 use Rattle.gp_base.specs.RowOrder.{exact_rows, row_cmp_total}
 use Rattle.gp_ask.specs.Deltas.{Signed, added, added_in, delta, delta_from, removed, removed_in, signed_text}
-use Rattle.gp_ask.specs.DeltaForms.{added_rows, removed_rows, row_of}
+use Rattle.gp_ask.specs.DeltaForms.{added_rows, removed_rows, signed_row}
 
 -- ---- bags
 
@@ -207,7 +207,7 @@ one_more lines more text line rest before all pushed is first whole =
 
 -- ---- what holds of each row
 
-rows_of_added : (others : List (List Cell)) → map row_of (map added others) ≡ others
+rows_of_added : (others : List (List Cell)) → map signed_row (map added others) ≡ others
 rows_of_added [] = refl
 rows_of_added (other ∷ others) = ap (λ (rows : List (List Cell)). other ∷ rows) (rows_of_added others)
 
@@ -240,17 +240,17 @@ module _ (P : List Cell → Type 0) where
   each_added [] others each = subst (AllByRecursion P) (sym (all_added others)) each
   each_added (row ∷ rows) others each = added_from row (delta rows) (λ more. each_added rows more) others each
 
-  row_from : (row : List Cell) (rest : List (List Cell) → List Signed) → P row → ((others : List (List Cell)) → AllByRecursion P others → AllByRecursion P (map row_of (rest others)))
-      → (others : List (List Cell)) → AllByRecursion P others → AllByRecursion P (map row_of (delta_from row rest others))
+  row_from : (row : List Cell) (rest : List (List Cell) → List Signed) → P row → ((others : List (List Cell)) → AllByRecursion P others → AllByRecursion P (map signed_row (rest others)))
+      → (others : List (List Cell)) → AllByRecursion P others → AllByRecursion P (map signed_row (delta_from row rest others))
   row_from row rest is all [] each = (is, all [] tt)
   row_from row rest is all (other ∷ others) each =
-      elim (row_cmp row other) as (λ o. AllByRecursion P (map row_of (by_order o (removed row ∷ rest (other ∷ others)) (rest others) (added other ∷ delta_from row rest others)))) [
+      elim (row_cmp row other) as (λ o. AllByRecursion P (map signed_row (by_order o (removed row ∷ rest (other ∷ others)) (rest others) (added other ∷ delta_from row rest others)))) [
         | Less ↦ (is, all (other ∷ others) each)
         | Equal ↦ all others each.1
         | Greater ↦ (each.0, row_from row rest is all others each.1)
       ]
 
-  each_row : (rows others : List (List Cell)) → AllByRecursion P rows → AllByRecursion P others → AllByRecursion P (map row_of (delta rows others))
+  each_row : (rows others : List (List Cell)) → AllByRecursion P rows → AllByRecursion P others → AllByRecursion P (map signed_row (delta rows others))
   each_row [] others each all = subst (AllByRecursion P) (sym (rows_of_added others)) all
   each_row (row ∷ rows) others each all = row_from row (delta rows) each.0 (λ more. each_row rows more each.1) others all
 
@@ -312,11 +312,11 @@ sorted_at (row ∷ []) up k d within = absurd (omega arith)
 sorted_at (row ∷ other ∷ others) up zero d within = subst (λ o. is_lt o ≡ false) (sym (row_cmp_total.antisymm other row)) (not_before (row_cmp row other) up.0.0)
 sorted_at (row ∷ other ∷ others) up (suc k) d within = rw add-one (simp add-one at (sorted_at (other ∷ others) up.1 k d (omega arith)))
 
-rising_from : (row : List Cell) (rows : List (List Cell)) → IsLow row rows → ((others : List (List Cell)) → Ascends others → Ascends (map row_of (delta rows others)))
-    → (others : List (List Cell)) → Ascends others → Ascends (map row_of (delta_from row (delta rows) others))
+rising_from : (row : List Cell) (rows : List (List Cell)) → IsLow row rows → ((others : List (List Cell)) → Ascends others → Ascends (map signed_row (delta rows others)))
+    → (others : List (List Cell)) → Ascends others → Ascends (map signed_row (delta_from row (delta rows) others))
 rising_from row rows low all [] up = (each_row (λ next. is_gt (row_cmp row next) ≡ false) rows [] low tt, all [] tt)
 rising_from row rows low all (other ∷ others) up =
-    elim (row_cmp row other) as (λ o. row_cmp row other ≡ o → Ascends (map row_of (by_order o (removed row ∷ delta rows (other ∷ others)) (delta rows others) (added other ∷ delta_from row (delta rows) others)))) [
+    elim (row_cmp row other) as (λ o. row_cmp row other ≡ o → Ascends (map signed_row (by_order o (removed row ∷ delta rows (other ∷ others)) (delta rows others) (added other ∷ delta_from row (delta rows) others)))) [
       | Less ↦ λ e. (each_row (λ next. is_gt (row_cmp row next) ≡ false) rows (other ∷ others) low (ap is_gt e, low_through row other others (ap is_gt e) up.0), all (other ∷ others) up)
       | Equal ↦ λ e. all others up.1
       | Greater ↦ λ e.
@@ -324,12 +324,12 @@ rising_from row rows low all (other ∷ others) up =
           (each_row (λ next. is_gt (row_cmp other next) ≡ false) (row ∷ rows) others (first, low_through other row rows first low) up.0, rising_from row rows low all others up.1)
     ] refl
 
-rising : (rows others : List (List Cell)) → Ascends rows → Ascends others → Ascends (map row_of (delta rows others))
+rising : (rows others : List (List Cell)) → Ascends rows → Ascends others → Ascends (map signed_row (delta rows others))
 rising [] others up up' = subst Ascends (sym (rows_of_added others)) up'
 rising (row ∷ rows) others up up' = rising_from row rows up.0 (λ more. rising rows more up.1) others up'
 
-pub sorted_delta : (rows others : List (List Cell)) → IsSorted row_cmp rows → IsSorted row_cmp others → IsSorted row_cmp (map row_of (delta rows others))
-sorted_delta rows others sorted sorted' k d low high = sorted_at (map row_of (delta rows others)) (rising rows others (ascends rows sorted) (ascends others sorted')) k d high
+pub sorted_delta : (rows others : List (List Cell)) → IsSorted row_cmp rows → IsSorted row_cmp others → IsSorted row_cmp (map signed_row (delta rows others))
+sorted_delta rows others sorted sorted' k d low high = sorted_at (map signed_row (delta rows others)) (rising rows others (ascends rows sorted) (ascends others sorted')) k d high
 
 -- ---- no row with both signs
 

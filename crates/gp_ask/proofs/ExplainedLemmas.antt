@@ -27,7 +27,7 @@ use Rattle.gp_algebra.specs.Fitting.{select_fits}
 use Rattle.gp_algebra.specs.Statements.{Select, Statement, insert, insert_select, update, delete, read, width_of}
 use Rattle.gp_check.specs.Checking.{checked, checked_query}
 use Rattle.gp_check.specs.Faults.{first_refusal}
-use Rattle.gp_check.specs.Meaning.{select_of, statement_of}
+use Rattle.gp_check.specs.Meaning.{select_of, meant_statement}
 use Rattle.gp_check.specs.Valid.{change_is_valid, query_is_valid, table_is_valid, tables_are_valid}
 use Rattle.gp_check.proofs.FittingLemmas.{accepted, fits}
 use Rattle.gp_check.proofs.ValidLemmas.{command-derived}
@@ -40,7 +40,7 @@ use Rattle.gp_log.specs.LogFitting.{statements_fit}
 use Rattle.gp_log.specs.Parameters.{parameters}
 use Rattle.gp_log.specs.Sessions.{KeepsSessions}
 use Rattle.gp_log.proofs.CheckedEntries.{was_checked}
-use Rattle.gp_whatif.specs.Changed.{changed, doubled, dropped_command, dropped_statement, is_at, is_step_of, rewritten, steps_refusal, tables_at_end, tables_before, with_added, with_other}
+use Rattle.gp_whatif.specs.Changed.{changed_log, doubled, dropped_command, dropped_statement, is_at, is_step_of, rewritten, steps_refusal, tables_at_end, tables_before, with_added, with_other}
 use Rattle.gp_whatif.specs.ChangedForms.{ChecksFit}
 use Rattle.gp_whatif.specs.Replays.{IsReplayable}
 use Rattle.gp_plantext.specs.Spellable.{table_is_spellable}
@@ -66,7 +66,7 @@ use Rattle.gp_ask.proofs.ReadLemmas.{read-valid, valid-change, valid-parts, with
 
 -- ---- commands within the limits of lines
 
-command_small : (tables : List Table) (command : y.Command) → passed_limit (command_shape command) ≡ None → StatementIsSmall (statement_of tables command)
+command_small : (tables : List Table) (command : y.Command) → passed_limit (command_shape command) ≡ None → StatementIsSmall (meant_statement tables command)
 command_small tables (y.create table) within = tt
 command_small tables (y.begin level) within = tt
 command_small tables y.Command.commit within = tt
@@ -80,7 +80,7 @@ command_small tables (y.select query) within = tt
 checked_small : (tables : List Table) (command : y.Command) (statement : Statement) → passed_limit (command_shape command) ≡ None → checked tables command ≡ Ok statement
     → StatementIsSmall statement
 checked_small tables command statement within is =
-    let a = accepted (first_refusal tables command) (statement_of tables command) statement is in subst StatementIsSmall a.1 (command_small tables command within)
+    let a = accepted (first_refusal tables command) (meant_statement tables command) statement is in subst StatementIsSmall a.1 (command_small tables command within)
 
 -- ---- the tables of a log that can be read
 
@@ -231,7 +231,7 @@ module _ (entries new : List Entry) (small : AreSmall entries) where
       let twice = doubled_long entries in
       (omega (arith, long, twice), other_small t k command statement stays (map doubled entries) (doubled_small entries small))
 
-  changed_like : (change : y.LogChange) → passed_limit (change_shape change) ≡ None → changed parameters entries change ≡ Ok new → IsLike entries new
+  changed_like : (change : y.LogChange) → passed_limit (change_shape change) ≡ None → changed_log parameters entries change ≡ Ok new → IsLike entries new
   changed_like (y.drop t k) within e =
       put entries new (IsLike entries) (option_or (transaction_refusal t entries) (statement_refusal t k entries)) (Ok (tt {0}))
       (λ nothing. with_other t k dropped_command dropped_statement (map doubled entries)) e
@@ -282,10 +282,10 @@ module _ (entries : List Entry) (is : IsExplained entries) (prov : Bool) (point 
 -- ---- questions
 
 module _ (entries : List Entry) (is : IsExplained entries) (few : length entries ≤ MAX_ENTRIES)
-    (put_in : (new : List Entry) (change : y.LogChange) → has_statement change ≡ true → change_is_valid change ≡ true → changed parameters entries change ≡ Ok new
+    (put_in : (new : List Entry) (change : y.LogChange) → has_statement change ≡ true → change_is_valid change ≡ true → changed_log parameters entries change ≡ Ok new
     → (statements_fit (tables_in new) new ≡ true) × (tables_in new ≡ tables_in entries)) where
   changed_explained : (new : List Entry) (change : y.LogChange) → has_statement change ≡ true → change_is_valid change ≡ true → passed_limit (change_shape change) ≡ None
-      → changed parameters entries change ≡ Ok new → IsExplained new
+      → changed_log parameters entries change ≡ Ok new → IsExplained new
   changed_explained new change kind valid within e =
       let own = put_in new change kind valid e in
       let like = changed_like entries new is.small.statements change within e in
@@ -304,9 +304,9 @@ module _ (entries : List Entry) (is : IsExplained entries) (few : length entries
   question_explained : (asked : y.Question) → question_is_valid asked ≡ true → passed_limit (question_shape asked) ≡ None → ExplainsQuestion program_lines entries asked
   question_explained (y.ask (y.explain prov) point query) valid within =
       let parts = valid-parts (y.explain prov) point query valid in ask_explained entries is prov point query parts.0 parts.1
-  question_explained (y.what_if change (y.explain prov) point query) valid within = go (changed parameters entries change) refl
+  question_explained (y.what_if change (y.explain prov) point query) valid within = go (changed_log parameters entries change) refl
     where
-      go : (found : Result (List Entry) Refusal) → changed parameters entries change ≡ found → IfOk found (λ (own : List Entry). ExplainsAsk program_lines own prov point query)
+      go : (found : Result (List Entry) Refusal) → changed_log parameters entries change ≡ found → IfOk found (λ (own : List Entry). ExplainsAsk program_lines own prov point query)
       go (Err refusal) e = tt
       go (Ok own) e =
           let parts = valid-change change (y.explain prov) point query valid in
@@ -343,8 +343,8 @@ dump_explained dump is =
 pub questions_explained : (bytes file : List ℕ) (dump : Dump) (questions : List ReadQuestion) → WellFormed bytes dump → AreQuestions file questions
     → KeepsSessions dump.entries
     → ((change : y.LogChange) → tables_are_valid (tables_in dump.entries) ≡ true → has_statement change ≡ true → change_is_valid change ≡ true → ChecksFit parameters dump.entries change)
-    → ((new : List Entry) (change : y.LogChange) → IsReplayable dump.entries → ChecksFit parameters dump.entries change → changed parameters dump.entries change ≡ Ok new → IsReplayable new)
-    → ((new : List Entry) (change : y.LogChange) → changed parameters dump.entries change ≡ Ok new → tables_in new ≡ tables_in dump.entries)
+    → ((new : List Entry) (change : y.LogChange) → IsReplayable dump.entries → ChecksFit parameters dump.entries change → changed_log parameters dump.entries change ≡ Ok new → IsReplayable new)
+    → ((new : List Entry) (change : y.LogChange) → changed_log parameters dump.entries change ≡ Ok new → tables_in new ≡ tables_in dump.entries)
     → ExplainsLines program_lines dump.entries questions
 questions_explained bytes file dump questions formed are sessions fitting kept same =
     let is : IsDump dump = (whole-text bytes dump formed).rules in

@@ -38,7 +38,7 @@ use Rattle.gp_reenact.specs.Travel.{no_table}
 use Rattle.gp_whatif.specs.Replays.{IsMade, IsReplayable}
 use Rattle.gp_dump.specs.Views.{tables_view}
 use Rattle.gp_ask.specs.Answerable.{IsAnswerable}
-use Rattle.gp_ask.specs.Asking.{spans_at}
+use Rattle.gp_ask.specs.Asking.{table_spans}
 use Rattle.gp_ask.specs.Replays.{dump_in}
 use Rattle.gp_base.proofs.SmallLemmas.{each_append, each_map, none_parts}
 
@@ -147,5 +147,5 @@ replay_answerable entries is versions made = record {
 
 -- they are the ones of the replay
 pub replay_spans : (entries : List Entry) (versions : List Versions) → IsMade entries (versions_in entries) versions → (place : ℕ)
-    → spans_at (tables_view versions) place ≡ replayed_spans unannotated (log_of entries) (length (tables_in entries)) (versions_in entries) place
+    → table_spans (tables_view versions) place ≡ replayed_spans unannotated (log_of entries) (length (tables_in entries)) (versions_in entries) place
 replay_spans entries versions made place = get_or-map (λ (table : Versions). table.spans) versions place no_table ∙ made.spans place

@@ -24,7 +24,7 @@ use Rattle.gp_log.specs.LogFacts.{tables_in}
 use Rattle.gp_machine.specs.Annotating.{annotated_versions}
 use Rattle.gp_machine.specs.Entries.{version_of}
 use Rattle.gp_machine.specs.HistorySpans.{state_spans}
-use Rattle.gp_machine.specs.Points.{at_point, at_version, held_at}
+use Rattle.gp_machine.specs.Points.{at_point, version_or_empty, held_at}
 use Rattle.gp_machine.specs.Questions.{annotated_answer, given, held_answer, log_refusal, rows_answer}
 use Rattle.gp_machine.specs.QuestionForms.{AreAlike}
 use Rattle.gp_machine.specs.State.{State}
@@ -41,8 +41,8 @@ use Rattle.gp_ask.specs.declared.answered.Answered.{Answered}
 use Rattle.gp_ask.specs.declared.answered.Answered.TheVariants.{Checked, Listed, Refused, Rows}
 use Rattle.gp_replay.specs.Differences.{difference}
 use Rattle.gp_ask.specs.Answers.{versions_answer}
-use Rattle.gp_ask.specs.Printed.{answer_to, held_to, ask_to, held_ask, what_if_held}
-use Rattle.gp_ask.specs.Asking.{of_elements, query_answer, spans_at, with_monomials}
+use Rattle.gp_ask.specs.Printed.{answer_to, held_to, ask_to, ask_held, what_if_held}
+use Rattle.gp_ask.specs.Asking.{of_elements, query_answer, table_spans, with_monomials}
 use Rattle.gp_ask.specs.AskingForms.{dump_program, dump_provenance, dump_query, dump_remaining, dump_rows, held_provenance, held_remaining, held_rows, rules_of}
 use Rattle.gp_ask.specs.ValueForms.{dump_minimal, dump_valued, dump_values, held_minimal, held_valued, held_values}
 use Rattle.gp_ask.specs.Remaining.{has_left_out, is_left_out, remaining_answer}
@@ -82,7 +82,7 @@ held-forgotten state (y.as_of version) = refl
 held-forgotten state (y.after t k) = refl
 held-forgotten state (y.Point.commit t) = by (version_of t state.entries)
   where
-    by : (version : Option ℕ) → at_version version (forgetting state).committed ≡ database_reannotated forgotten (at_version version state.committed)
+    by : (version : Option ℕ) → version_or_empty version (forgetting state).committed ≡ database_reannotated forgotten (version_or_empty version state.committed)
     by None = refl
     by (Some version) = refl
 
@@ -121,7 +121,7 @@ module _ (forgets : Forgets) (state : State Monomial) where
     dump = record { entries = state.entries; tables = tables }
 
     abbrev spans : ℕ → List Span
-    spans = spans_at tables
+    spans = table_spans tables
 
     module _ (rows-alike : (point : y.Point) (select : Select) → AreAlike (rows_answer parameters state.entries spans point select) (held_answer unannotated parameters (forgetting state) point select))
         (provenance-alike : (point : y.Point) (select : Select)
@@ -228,8 +228,8 @@ module _ (state : State Monomial) (spans-kept : (table : ℕ) → state_spans (f
   held whole sees alters commits asks same (y.commit_changes t) = ap (λ (dump : Dump). answer_to dump (y.commit_changes t)) dump-same ∙ commits t
   held whole sees alters commits asks same y.check = ap Checked same
   held whole sees alters commits asks same (y.diff first second query) =
-      diff-same (ask_to (dump_of (forgetting state))) (held_ask state) (what_if_held state.entries) (what_if_held state.entries) asks (λ change how point query. refl) first second query
+      diff-same (ask_to (dump_of (forgetting state))) (ask_held state) (what_if_held state.entries) (what_if_held state.entries) asks (λ change how point query. refl) first second query
   held whole sees alters commits asks same (y.causes kept query) =
-      causes-same (ask_to (dump_of (forgetting state))) (held_ask state) (what_if_held state.entries) (what_if_held state.entries) asks (λ change how point query. refl) state.entries kept query
+      causes-same (ask_to (dump_of (forgetting state))) (ask_held state) (what_if_held state.entries) (what_if_held state.entries) asks (λ change how point query. refl) state.entries kept query
   held whole sees alters commits asks same (y.ask how point query) = asks how point query
   held whole sees alters commits asks same (y.what_if change how point query) = refl

@@ -14,9 +14,9 @@ use Rattle.gp_machine.specs.ReplayForms.{replayed_spans}
 use Rattle.gp_whatif.specs.Replays.{stop_upto}
 use Rattle.gp_dump.specs.Dumps.{Dump}
 use Rattle.gp_ask.specs.declared.answered.Answered.{Answered}
-use Rattle.gp_ask.specs.Printed.{answer_to, ask_to, held_ask, changed_answer, remade_answer, what_if_held}
+use Rattle.gp_ask.specs.Printed.{answer_to, ask_to, ask_held, changed_answer, remade_answer, what_if_held}
 use Rattle.gp_ask.specs.Computed.{computed_answer, what_if_answer}
-use Rattle.gp_ask.specs.Asking.{spans_at}
+use Rattle.gp_ask.specs.Asking.{table_spans}
 use Rattle.gp_ask.specs.Hypothetical.{asking_refusal, remaking_refusal, replay_refusal, replayed_dump}
 use Rattle.gp_ask.specs.Values.{unless_refused}
 use Rattle.gp_ask.specs.Replays.{dump_in}
@@ -26,19 +26,19 @@ use Rattle.gp_ask.proofs.SpanLemmas.{dumped}
 -- what the history answers, from any dump of the log and of its row versions
 abbrev pub AnswersAny : List Entry → Type 0
 AnswersAny entries = (tables : List (List Span))
-    → ((place : ℕ) → IsPermutation (spans_at tables place) (replayed_spans unannotated (log_of entries) (length (tables_in entries)) (versions_in entries) place))
+    → ((place : ℕ) → IsPermutation (table_spans tables place) (replayed_spans unannotated (log_of entries) (length (tables_in entries)) (versions_in entries) place))
     → (how : y.How) (point : y.Point) (query : y.Query)
-    → ask_to (dump_in entries tables) how point query ≡ held_ask (replayed_state monomials (tables_in entries) entries) how point query
+    → ask_to (dump_in entries tables) how point query ≡ ask_held (replayed_state monomials (tables_in entries) entries) how point query
 
 module _ (entries : List Entry) (beyond : (place : ℕ) → length (tables_in entries) ≤ place → replayed_spans unannotated (log_of entries) (length (tables_in entries)) (versions_in entries) place ≡ []) where
   -- so from the dump in order
   pub ordered : AnswersAny entries → (how : y.How) (point : y.Point) (query : y.Query)
-      → ask_to (replayed_dump entries) how point query ≡ held_ask (replayed_state monomials (tables_in entries) entries) how point query
+      → ask_to (replayed_dump entries) how point query ≡ ask_held (replayed_state monomials (tables_in entries) entries) how point query
   ordered any how point query = any (replayed_dump entries).tables (dumped (replayed_state unannotated (tables_in entries) entries) beyond) how point query
 
   -- and from each dump as from that one
   pub any-order : AnswersAny entries → (tables : List (List Span))
-      → ((place : ℕ) → IsPermutation (spans_at tables place) (replayed_spans unannotated (log_of entries) (length (tables_in entries)) (versions_in entries) place))
+      → ((place : ℕ) → IsPermutation (table_spans tables place) (replayed_spans unannotated (log_of entries) (length (tables_in entries)) (versions_in entries) place))
       → (how : y.How) (point : y.Point) (query : y.Query) → ask_to (dump_in entries tables) how point query ≡ ask_to (replayed_dump entries) how point query
   any-order any tables are how point query = any tables are how point query ∙ sym (ordered any how point query)
 
@@ -58,15 +58,15 @@ module _ (entries : List Entry) (beyond : (place : ℕ) → length (tables_in en
       → unless_refused (asking_refusal entries how point query)
       (unless_refused (remaking_refusal entries) (ask_to (replayed_dump entries) how point query))
       ≡ unless_refused (asking_refusal entries how point query)
-      (unless_refused (remaking_refusal entries) (held_ask (replayed_state monomials (tables_in entries) entries) how point query))
+      (unless_refused (remaking_refusal entries) (ask_held (replayed_state monomials (tables_in entries) entries) how point query))
   by-rows how point query =
       ap (unless_refused (asking_refusal entries how point query))
-      (unless-stopped (ask_to (replayed_dump entries) how point query) (held_ask (replayed_state monomials (tables_in entries) entries) how point query)
+      (unless-stopped (ask_to (replayed_dump entries) how point query) (ask_held (replayed_state monomials (tables_in entries) entries) how point query)
       (λ none. ordered entries beyond (any none) how point query))
 
   pub remade : (how : y.How) (point : y.Point) (query : y.Query)
       → remade_answer (ask_to (replayed_dump entries)) entries how point query
-      ≡ remade_answer (held_ask (replayed_state monomials (tables_in entries) entries)) entries how point query
+      ≡ remade_answer (ask_held (replayed_state monomials (tables_in entries) entries)) entries how point query
   remade (y.explain prov) point query = refl
   remade y.rows point query = by-rows y.rows point query
   remade y.provenance point query = by-rows y.provenance point query
@@ -75,9 +75,9 @@ module _ (entries : List Entry) (beyond : (place : ℕ) → length (tables_in en
 
 pub changed-same : (found : Result (List Entry) Refusal) (how : y.How) (point : y.Point) (query : y.Query)
     → ((entries : List Entry) → found ≡ Ok entries
-    → remade_answer (ask_to (replayed_dump entries)) entries how point query ≡ remade_answer (held_ask (replayed_state monomials (tables_in entries) entries)) entries how point query)
+    → remade_answer (ask_to (replayed_dump entries)) entries how point query ≡ remade_answer (ask_held (replayed_state monomials (tables_in entries) entries)) entries how point query)
     → changed_answer (λ own. ask_to (replayed_dump own)) found how point query
-    ≡ changed_answer (λ own. held_ask (replayed_state monomials (tables_in own) own)) found how point query
+    ≡ changed_answer (λ own. ask_held (replayed_state monomials (tables_in own) own)) found how point query
 changed-same (Err refusal) how point query same = refl
 changed-same (Ok entries) how point query same = same entries refl
 

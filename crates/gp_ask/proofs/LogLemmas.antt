@@ -10,7 +10,7 @@ use Rattle.gp_log.specs.Logs.{entry_view, log_view}
 use Rattle.gp_machine.specs.Entries as m
 use Rattle.gp_dumpline.specs.Texts.{entry_text}
 use Rattle.gp_ask.specs.Answers.{entries_of}
-use Rattle.gp_ask.specs.Lines.{lines_of}
+use Rattle.gp_ask.specs.Lines.{transaction_lines}
 
 map-reversed : {A B : Type 0} (f : A → B) (xs : List A) → map f (reverse xs) ≡ reverse (map f xs)
 map-reversed f [] = refl
@@ -23,10 +23,10 @@ pub oldest-first : (entries : List Entry) → reverse (log_view entries) ≡ map
 oldest-first entries = ap reverse (map-reversed entry_view entries) ∙ reverse-reverse (map entry_view entries)
 
 module _ (t : ℕ) where
-  pub all-lines : (entries : List Entry) → lines_of t entries ≡ map entry_text (entries_of t (log_view entries))
+  pub all-lines : (entries : List Entry) → transaction_lines t entries ≡ map entry_text (entries_of t (log_view entries))
   all-lines entries = ap (λ (es : List m.Entry). map entry_text (filter (is_of t) es)) (sym (oldest-first entries))
 
-  more : (entries others : List Entry) → lines_of t (entries ++ others) ≡ lines_of t entries ++ lines_of t others
+  more : (entries others : List Entry) → transaction_lines t (entries ++ others) ≡ transaction_lines t entries ++ transaction_lines t others
   more entries others =
       ap (λ (es : List m.Entry). map entry_text (filter (is_of t) es)) (map-append entry_view entries others)
       ∙ ap (map entry_text) (filter-append (is_of t) (map entry_view entries) (map entry_view others))
@@ -34,8 +34,8 @@ module _ (t : ℕ) where
       (filter (is_of t) (map entry_view others))
 
   pub one-more : (entries : List Entry) (place : ℕ) (entry : Entry) → slice_get entries place ≡ Some entry
-      → lines_of t (take (place + 1) entries) ≡ lines_of t (take place entries) ++ lines_of t (entry ∷ [])
+      → transaction_lines t (take (place + 1) entries) ≡ transaction_lines t (take place entries) ++ transaction_lines t (entry ∷ [])
   one-more entries place entry is =
-      ap (lines_of t) (take_more entries place entry (slice_get_within entries place entry is))
+      ap (transaction_lines t) (take_more entries place entry (slice_get_within entries place entry is))
       ∙ more (take place entries) _
-      ∙ ap (λ (e : Entry). lines_of t (take place entries) ++ lines_of t (e ∷ [])) (get_or_from_slice_get entries place entry entry is)
+      ∙ ap (λ (e : Entry). transaction_lines t (take place entries) ++ transaction_lines t (e ∷ [])) (get_or_from_slice_get entries place entry entry is)

@@ -37,7 +37,7 @@ use Rattle.gp_history.specs.Sound.{IsSound}
 use Rattle.gp_semiring.specs.Listing.{grouped, listed}
 use Rattle.gp_ask.specs.declared.answered.Answered.TheVariants.{Listed, Refused}
 use Rattle.gp_ask.specs.Answerable.{IsAnswerable}
-use Rattle.gp_ask.specs.Asking.{spans_at, with_monomials}
+use Rattle.gp_ask.specs.Asking.{table_spans, with_monomials}
 use Rattle.gp_ask.specs.AskingForms.{dump_provenance}
 use Rattle.gp_ask.specs.Keeping.{MayBeKeptOf}
 use Rattle.gp_ask.proofs.ReenactedLemmas.{dump-spans, same-order}
@@ -89,7 +89,7 @@ module _ (dump : code.Dump) (versions : List Versions) (same : versions ≡ dump
   abbrev entries : List Entry
   entries = log_view dump.log.entries
 
-  pub spans-are : spans_of versions ≡ spans_at (tables_view dump.versions)
+  pub spans-are : spans_of versions ≡ table_spans (tables_view dump.versions)
   spans-are = ap spans_of same ∙ dump-spans dump.versions
 
   pub sound-versions : IsAnswerable (dump_view dump) → IsSound entries versions
@@ -108,11 +108,11 @@ module _ (dump : Dump) (point : y.Point) (select : Select) where
   abbrev expected : (ℕ → List Span) → Result (List (Element Monomial)) Refusal
   expected spans = annotated_answer monomials parameters agree (tables_in dump.entries) dump.entries spans point select
 
-  pub proves-moved : {X : Type 0} (view : X → List (List Cell)) (found : Result X ReenactStop) (own : ℕ → List Span) → own ≡ spans_at dump.tables → Proves view found (expected own) → Proves view found (expected (spans_at dump.tables))
+  pub proves-moved : {X : Type 0} (view : X → List (List Cell)) (found : Result X ReenactStop) (own : ℕ → List Span) → own ≡ table_spans dump.tables → Proves view found (expected own) → Proves view found (expected (table_spans dump.tables))
   proves-moved view found own same proves = subst (λ (spans : ℕ → List Span). Proves view found (expected spans)) same proves
 
-  pub is-listed : {X : Type 0} (view : X → List (List Cell)) (found : X) → Proves view (Ok found) (expected (spans_at dump.tables)) → Listed (listed (view found)) ≡ dump_provenance dump point select
-  is-listed view found proves = in-list view found (expected (spans_at dump.tables)) proves
+  pub is-listed : {X : Type 0} (view : X → List (List Cell)) (found : X) → Proves view (Ok found) (expected (table_spans dump.tables)) → Listed (listed (view found)) ≡ dump_provenance dump point select
+  is-listed view found proves = in-list view found (expected (table_spans dump.tables)) proves
 
-  pub is-refused : {X : Type 0} (view : X → List (List Cell)) (refusal : Refusal) → Proves view (Err (stop.Refused refusal)) (expected (spans_at dump.tables)) → Refused refusal ≡ dump_provenance dump point select
-  is-refused view refusal proves = unproven view refusal (expected (spans_at dump.tables)) proves
+  pub is-refused : {X : Type 0} (view : X → List (List Cell)) (refusal : Refusal) → Proves view (Err (stop.Refused refusal)) (expected (table_spans dump.tables)) → Refused refusal ≡ dump_provenance dump point select
+  is-refused view refusal proves = unproven view refusal (expected (table_spans dump.tables)) proves

@@ -15,7 +15,7 @@ use Rattle.gp_grammar.proofs.ChangeLaws.{statements-read}
 use Rattle.gp_grammar.proofs.LineLaws.{lines-read}
 use Rattle.gp_grammar.proofs.ParserLaws.{lawful-question}
 use Rattle.gp_grammar.proofs.ShapeLemmas.{first_limit, of_shape, questions-fair}
-use Rattle.gp_syntax.specs.Refusals.{refusal_of}
+use Rattle.gp_syntax.specs.Refusals.{refusal_of_fault}
 use Rattle.gp_syntax.specs.ReadResults.{refusal_in}
 use Rattle.gp_check.specs.Valid as check
 use Rattle.gp_check.specs.Valid.{change_is_valid, query_is_valid, side_is_valid}
@@ -86,7 +86,7 @@ valid-diff first second query valid =
 pub refused-text : (answers : y.Question → Answered) (reading : Result y.Question Fault) (refusal : Refusal) → refusal_in reading ≡ Some refusal
     → Refused refusal ≡ answered answers reading
 refused-text answers (Ok question) refusal is = absurd cc
-refused-text answers (Err fault) refusal is = let same : refusal ≡ refusal_of fault = cc in ap Refused same
+refused-text answers (Err fault) refusal is = let same : refusal ≡ refusal_of_fault fault = cc in ap Refused same
 
 -- nothing is explained in a line that is no question
 pub unread-explains : (entries : List Entry) (reading : Result y.Question Fault) (refusal : Refusal) → refusal_in reading ≡ Some refusal → ExplainsRead entries reading

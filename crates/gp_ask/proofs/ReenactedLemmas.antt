@@ -14,10 +14,10 @@ use Rattle.gp_reenact.specs.declared.error.ReenactStop.TheVariants as stop
 use Rattle.gp_reenact.specs.Reenacting.{Reenacts, spans_of}
 use Rattle.gp_dump.specs.Views.{tables_view}
 use Rattle.gp_ask.specs.declared.answered.Answered.TheVariants.{Refused, Rows}
-use Rattle.gp_ask.specs.Asking.{of_elements, spans_at}
+use Rattle.gp_ask.specs.Asking.{of_elements, table_spans}
 
 -- the row versions of the tables of a dump
-pub dump-spans : (versions : List Versions) → spans_of versions ≡ spans_at (tables_view versions)
+pub dump-spans : (versions : List Versions) → spans_of versions ≡ table_spans (tables_view versions)
 dump-spans versions = λ i place. sym (get_or-map (λ (table : Versions). table.spans) versions place no_table) i
 
 pub same-order : (rows others : List (List Cell)) → IsPermutation rows others → sorted_by row_cmp rows ≡ sorted_by row_cmp others

@@ -26,7 +26,7 @@ use Rattle.gp_semiring.specs.declared.rules.Rule.{Rule}
 use Rattle.gp_semiring.specs.Rules.{fits_rule}
 use Rattle.gp_semiring.specs.Values.{monomial_value, token_value}
 use Rattle.gp_history.specs.DistinctRows.{distinct_rows}
-use Rattle.gp_history.specs.ValueAnswers.{limited, values_of}
+use Rattle.gp_history.specs.ValueAnswers.{limited, row_values}
 use Rattle.gp_history.proofs.ValueLemmas.{values_summed}
 use Rattle.gp_kexec.specs.Counting.{counted_by, counted_pairs}
 use Rattle.gp_kexec.specs.Deletion.{has_token}
@@ -86,7 +86,7 @@ module _ (matches : Token → Bool) (select : Select) (db : Database Monomial) (
   sums = summed row_cmp (plus_up_to greatest_count) (counted_pairs has (pairs_of all))
 
   abbrev values : List (Element Monomial) → List (List Cell × ℕ)
-  values elements = values_of (plus_up_to greatest_count) 0 1 (times_up_to greatest_count) (counted_by matches) elements
+  values elements = row_values (plus_up_to greatest_count) 0 1 (times_up_to greatest_count) (counted_by matches) elements
 
   pairs_counted : (elements : List (Element Monomial)) → EachCounts elements
       → map (λ (pair : List Cell × Monomial). (pair.0, monomial_value 1 (times_up_to greatest_count) (counted_by matches) pair.1)) (pairs_of elements) ≡ counted_pairs has (pairs_of elements)

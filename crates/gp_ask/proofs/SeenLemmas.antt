@@ -11,7 +11,7 @@ use Rattle.gp_base.specs.declared.refusal.Refusal.TheVariants.{E20, E22, E27}
 use Rattle.gp_base.specs.declared.table.Table.{Table}
 use Rattle.gp_base.specs.Annotated.{Annotated, Database, monomials, unannotated}
 use Rattle.gp_base.specs.Identities.{Identity}
-use Rattle.gp_base.specs.IdentityParts.{statement_of, transaction_of}
+use Rattle.gp_base.specs.IdentityParts.{identity_statement, identity_transaction}
 use Rattle.gp_base.specs.Tokens.{Monomial}
 use Rattle.gp_grammar.specs.Syntax as y
 use Rattle.gp_algebra.proofs.Erasure.{answer_reannotated}
@@ -21,7 +21,7 @@ use Rattle.gp_algebra.specs.Effects.{step}
 use Rattle.gp_algebra.specs.Reannotation.{element_reannotated, forgotten, reannotated}
 use Rattle.gp_algebra.specs.Statements.{Select, Statement, target}
 use Rattle.gp_check.specs.Checking.{checked_query}
-use Rattle.gp_compose.specs.Seen.{changed_rows, changes_refusal, count_refusal, is_made_by, saw_refusal, unknown_refusal}
+use Rattle.gp_compose.specs.Seen.{changed_rows, changes_refusal, missing_statement_refusal, is_made_by, saw_refusal, unknown_refusal}
 use Rattle.gp_dump.specs.Dumps.{Dump}
 use Rattle.gp_log.proofs.KeptSessions.{rising}
 use Rattle.gp_log.specs.LogFacts.{tables_in}
@@ -45,10 +45,10 @@ use Rattle.gp_versions.specs.declared.span.Span.{Span}
 use Rattle.gp_ask.specs.declared.answered.Answered.{Answered}
 use Rattle.gp_ask.specs.declared.answered.Answered.TheVariants.{Changes, Rows}
 use Rattle.gp_ask.specs.Printed.{answer_to, held_to}
-use Rattle.gp_ask.specs.Asking.{of_elements, query_answer, spans_at}
-use Rattle.gp_ask.specs.Changes.{changes_of, dump_changes, held_changes, if_any, written_texts}
+use Rattle.gp_ask.specs.Asking.{of_elements, query_answer, table_spans}
+use Rattle.gp_ask.specs.Changes.{changes_of, dump_changes, history_changes, if_any, written_texts}
 use Rattle.gp_ask.specs.Values.{unless_refused}
-use Rattle.gp_ask.specs.Seeing.{dump_saw, held_saw}
+use Rattle.gp_ask.specs.Seeing.{dump_saw, history_saw}
 use Rattle.gp_ask.proofs.ChangedLines.{changed-different, changed-reannotated, changed-same, texts-same}
 use Rattle.gp_ask.proofs.HeldLemmas.{forgetting, same-rows}
 use Rattle.gp_ask.proofs.QueryLemmas.{query-same}
@@ -106,21 +106,21 @@ module _ {M : Type 0} (elements others : List (Element M)) (moved : SameBag elem
 
 module _ (state : State Monomial) (reached : IsReached monomials parameters state) (plainly : IsReached unannotated parameters (forgetting state)) (sessions : KeepsSessions state.entries)
     (once : MakesOnce state.entries) (kept : tables_in state.entries ≡ state.catalogue) (tables : List (List Span))
-    (are : (table : ℕ) → SameBag (spans_at tables table) (state_spans (forgetting state) table)) where
+    (are : (table : ℕ) → SameBag (table_spans tables table) (state_spans (forgetting state) table)) where
   abbrev dump : Dump
   dump = record { entries = state.entries; tables = tables }
 
   abbrev spans : ℕ → List Span
-  spans = spans_at tables
+  spans = table_spans tables
 
   rises : (t : ℕ) → IsRising state.entries t
   rises t k within = rising state.entries sessions t k (suc k) (omega arith) (omega arith)
 
   -- ---- SAW
 
-  saw-is : (t k : ℕ) → saw_refusal t k state.entries ≡ None → (select : Select) → dump_saw dump t k select ≡ held_saw state t k select
+  saw-is : (t k : ℕ) → saw_refusal t k state.entries ≡ None → (select : Select) → dump_saw dump t k select ≡ history_saw state t k select
   saw-is t k none select =
-      let parts = none_parts (unknown_refusal t state.entries) (count_refusal t k state.entries) none in
+      let parts = none_parts (unknown_refusal t state.entries) (missing_statement_refusal t k state.entries) none in
       let is = not-unknown t state.entries (is_known t state.entries) refl parts.0 in
       let within = not-above t k state.entries (nat_le k (statement_count t state.entries)) refl parts.1 in
       let elements : List (Element Monomial) = answer monomials select (state.views t k) in
@@ -138,8 +138,8 @@ module _ (state : State Monomial) (reached : IsReached monomials parameters stat
       ∙ by (saw_refusal t k state.entries) refl
     where
       by : (refusal : Option Refusal) → saw_refusal t k state.entries ≡ refusal
-          → query_answer (dump_saw dump t k) refusal (checked_query state.catalogue query) ≡ query_answer (held_saw state t k) refusal (checked_query state.catalogue query)
-      by None none = query-same (dump_saw dump t k) (held_saw state t k) (saw-is t k none) None (checked_query state.catalogue query)
+          → query_answer (dump_saw dump t k) refusal (checked_query state.catalogue query) ≡ query_answer (history_saw state t k) refusal (checked_query state.catalogue query)
+      by None none = query-same (dump_saw dump t k) (history_saw state t k) (saw-is t k none) None (checked_query state.catalogue query)
       by (Some refusal) is = refl
 
   -- ---- CHANGES of a statement
@@ -187,12 +187,12 @@ module _ (state : State Monomial) (reached : IsReached monomials parameters stat
     -- the statement made no row before it ran
     fresh-read : (table : ℕ) → IsFresh monomials t (suc k) (read-rows table)
     fresh-read table =
-        each_weaker (λ row. is_made_by t (suc k) row.identity ≡ false) (λ row. transaction_of row.identity ≡ t → statement_of row.identity ≤ k) (λ row earlier. not-made row.identity earlier (transaction_of row.identity == t) refl) (read-rows table)
+        each_weaker (λ row. is_made_by t (suc k) row.identity ≡ false) (λ row. identity_transaction row.identity ≡ t → identity_statement row.identity ≤ k) (λ row earlier. not-made row.identity earlier (identity_transaction row.identity == t) refl) (read-rows table)
         (own-before monomials state reached.history t bound.0 (rises t) bound.1 k within table)
       where
-        not-made : (id : Identity) → (transaction_of id ≡ t → statement_of id ≤ k) → (b : Bool) → (transaction_of id == t) ≡ b → (b && (statement_of id == suc k)) ≡ false
+        not-made : (id : Identity) → (identity_transaction id ≡ t → identity_statement id ≤ k) → (b : Bool) → (identity_transaction id == t) ≡ b → (b && (identity_statement id == suc k)) ≡ false
         not-made id earlier false own = refl
-        not-made id earlier true own = let most = earlier (eqb-true (transaction_of id) t own) in eq_not (statement_of id) (suc k) (λ same. omega (arith, most, same))
+        not-made id earlier true own = let most = earlier (eqb-true (identity_transaction id) t own) in eq_not (identity_statement id) (suc k) (λ same. omega (arith, most, same))
 
     different-rows : HaveDifferentIdentities changed
     different-rows = changed-different monomials t (suc k) statement read-rows different-read different-left
@@ -201,7 +201,7 @@ module _ (state : State Monomial) (reached : IsReached monomials parameters stat
     changes-are catalogue None = refl
     changes-are catalogue (Some place) = ap Changes (texts-same (name_at place catalogue) statement found-rows changed moved-rows different-rows)
 
-    changes-same : dump_changes dump t k statement ≡ held_changes state t k
+    changes-same : dump_changes dump t k statement ≡ history_changes state t k
     changes-same =
         ap (λ (catalogue : List Table). changes_of catalogue (target statement) statement (given (looked_refusal parameters state.entries spans t k statement) found-rows)) kept
         ∙ ap (λ (stop : Option RunStop). changes_of state.catalogue (target statement) statement (given (option_map stop_refusal stop) found-rows))
@@ -214,7 +214,7 @@ module _ (state : State Monomial) (reached : IsReached monomials parameters stat
   alters t k = by (changes_refusal t k state.entries) refl
     where
       any : changes_refusal t k state.entries ≡ None → (found : Option Statement) → statement_at t k state.entries ≡ found
-          → if_any (dump_changes dump t (k - 1)) found ≡ held_changes state t (k - 1)
+          → if_any (dump_changes dump t (k - 1)) found ≡ history_changes state t (k - 1)
       any none found here = go found (subst (λ n. statement_at t n state.entries ≡ found) next here)
         where
           parts : (unknown_refusal t state.entries ≡ None) × (statement_refusal t k state.entries ≡ None)
@@ -226,7 +226,7 @@ module _ (state : State Monomial) (reached : IsReached monomials parameters stat
           next : k ≡ suc (k - 1)
           next = omega (arith, within.0)
 
-          go : (found : Option Statement) → statement_at t (suc (k - 1)) state.entries ≡ found → if_any (dump_changes dump t (k - 1)) found ≡ held_changes state t (k - 1)
+          go : (found : Option Statement) → statement_at t (suc (k - 1)) state.entries ≡ found → if_any (dump_changes dump t (k - 1)) found ≡ history_changes state t (k - 1)
           go None is =
               let own : Database Monomial = start_by monomials (log_of state.entries) t (k - 1) state.committed in
               λ i. Changes (written_texts state.catalogue (wrote_by monomials t (suc (k - 1)) (sym is i) own) own (state.views t (suc (k - 1))))
@@ -234,6 +234,6 @@ module _ (state : State Monomial) (reached : IsReached monomials parameters stat
               changes-same t (k - 1) (not-unknown t state.entries (is_known t state.entries) refl parts.0) (omega (arith, within.0, within.1)) statement is
 
       by : (refusal : Option Refusal) → changes_refusal t k state.entries ≡ refusal
-          → unless_refused refusal (if_any (dump_changes dump t (k - 1)) (statement_at t k state.entries)) ≡ unless_refused refusal (held_changes state t (k - 1))
+          → unless_refused refusal (if_any (dump_changes dump t (k - 1)) (statement_at t k state.entries)) ≡ unless_refused refusal (history_changes state t (k - 1))
       by None none = any none (statement_at t k state.entries) refl
       by (Some refusal) is = refl

@@ -14,7 +14,7 @@ use Rattle.gp_versions.specs.Spans.{span_cmp}
 use Rattle.gp_machine.specs.HistorySpans.{state_spans}
 use Rattle.gp_machine.specs.State.{State}
 use Rattle.gp_dump.specs.Dumps.{dump_of, spans_in_order}
-use Rattle.gp_ask.specs.Asking.{spans_at}
+use Rattle.gp_ask.specs.Asking.{table_spans}
 
 -- ---- sorting
 
@@ -70,10 +70,10 @@ module _ {M : Type 0} (state : State M) where
             get_or_past (spans_in_order state (length state.catalogue)) table [] (omega (arith, as-many (length state.catalogue))) ∙ sym (beyond table past)
 
     -- those of a table, whether it is there or not
-    pub in-order : (table : ℕ) → spans_at (dump_of state).tables table ≡ sorted_by span_cmp (state_spans state table)
+    pub in-order : (table : ℕ) → table_spans (dump_of state).tables table ≡ sorted_by span_cmp (state_spans state table)
     in-order table = get_or-map (sorted_by span_cmp) (spans_in_order state (length state.catalogue)) table [] ∙ ap (sorted_by span_cmp) (at table)
 
-    pub dumped : (table : ℕ) → IsPermutation (spans_at (dump_of state).tables table) (state_spans state table)
+    pub dumped : (table : ℕ) → IsPermutation (table_spans (dump_of state).tables table) (state_spans state table)
     dumped table =
         subst (λ spans. IsPermutation spans (state_spans state table)) (sym (in-order table))
         (IsPermutation-sym (state_spans state table) (sorted_by span_cmp (state_spans state table)) (permuted span_cmp (state_spans state table)))

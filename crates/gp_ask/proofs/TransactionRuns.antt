@@ -13,7 +13,7 @@ use Rattle.gp_base.specs.Annotated.{Annotated, Annotations, Database, Environmen
 use Rattle.gp_expr.specs.Values.{passes}
 use Rattle.gp_versions.proofs.SameLemmas.{same-itself}
 use Rattle.gp_base.specs.Identities.{Identity, same_identity}
-use Rattle.gp_base.specs.IdentityParts.{statement_of, transaction_of}
+use Rattle.gp_base.specs.IdentityParts.{identity_statement, identity_transaction}
 use Rattle.gp_algebra.proofs.StepBags.{SameTables}
 use Rattle.gp_algebra.specs.Answers.{answer}
 use Rattle.gp_algebra.specs.Effects.{Written, given_from, made, written_in}
@@ -34,7 +34,7 @@ use Rattle.gp_machine.specs.Histories.{IsHistory}
 use Rattle.gp_machine.specs.HistorySpans.{as_of, state_spans}
 use Rattle.gp_machine.specs.Parameters.{Parameters}
 use Rattle.gp_machine.specs.Points.{run_stop}
-use Rattle.gp_machine.specs.Publishing.{holds, publish, was_written}
+use Rattle.gp_machine.specs.Publishing.{holds_identity, publish, was_written}
 use Rattle.gp_machine.specs.Reached.{IsReached}
 use Rattle.gp_machine.specs.ReadBy.{seen_by, start_by}
 use Rattle.gp_machine.specs.Reading.{wrote_by}
@@ -50,8 +50,8 @@ module _ {M : Type 0} where
   was-same : (xs ys us vs : List (Annotated M)) (id : Identity) → SameBag xs ys → SameBag us vs → was_written xs us id ≡ was_written ys vs id
   was-same xs ys us vs id s t =
       let e : list_any (λ row. row.mark && same_identity row.identity id) us ≡ list_any (λ row. row.mark && same_identity row.identity id) vs = any_same (λ row. row.mark && same_identity row.identity id) t in
-      let f : holds id xs ≡ holds id ys = any_same (λ row. same_identity row.identity id) s in
-      let g : holds id us ≡ holds id vs = any_same (λ row. same_identity row.identity id) t in
+      let f : holds_identity id xs ≡ holds_identity id ys = any_same (λ row. same_identity row.identity id) s in
+      let g : holds_identity id us ≡ holds_identity id vs = any_same (λ row. same_identity row.identity id) t in
       rw (e, f, g)
 
   publish-same : (a b c d e f : Database M) → SameTables a b → SameTables c d → SameTables e f → SameTables (publish a c e) (publish b d f)
@@ -174,7 +174,7 @@ module _ {M : Type 0} (domain : Annotations M) (log : Log) (committed : Environm
 
   -- a row of what it reads that it made itself was made by one of these statements
   abbrev pub IsOwnBy : ℕ → Database M → Type 0
-  IsOwnBy k view = (table : ℕ) → AllByRecursion (λ row. transaction_of row.identity ≡ t → statement_of row.identity ≤ k) (view table)
+  IsOwnBy k view = (table : ℕ) → AllByRecursion (λ row. identity_transaction row.identity ≡ t → identity_statement row.identity ≤ k) (view table)
 
   before-view : (k : ℕ) → k < count → IsOwnBy k (seen_by domain log t k committed).view → (base : Database M) × ((others : List Written) × IsViewOf t k base (start_by domain log t k committed) others)
   before-view k within own =
@@ -197,13 +197,13 @@ module _ {M : Type 0} (domain : Annotations M) (log : Log) (committed : Environm
   stepped-own : (k : ℕ) (statement : Option Statement) → (base : Database M) × ((others : List Written) × IsViewOf t k base (start_by domain log t k committed) others)
       → IsOwnBy (suc k) (stepped domain t (suc k) statement (start_by domain log t k committed))
   stepped-own k None view =
-      λ table. each_weaker (λ row. transaction_of row.identity ≡ t → statement_of row.identity ≤ suc k) (λ row. transaction_of row.identity ≡ t → statement_of row.identity ≤ k)
+      λ table. each_weaker (λ row. identity_transaction row.identity ≡ t → identity_statement row.identity ≤ suc k) (λ row. identity_transaction row.identity ≡ t → identity_statement row.identity ≤ k)
       (λ row earlier own. let most = earlier own in omega (arith, most)) (start_by domain log t k committed table) (view.1.1.own table)
   stepped-own k (Some statement) view = (step_view domain t k statement view.0 (start_by domain log t k committed) view.1.0 view.1.1).own
 
   after-own : (k : ℕ) → k ≤ count → IsOwnBy k (seen_by domain log t k committed).view
   after-own zero within =
-      λ table. each_weaker (λ row. transaction_of row.identity ≡ t → statement_of row.identity ≤ 0) (λ row. transaction_of row.identity ≢ t) (λ row others own. absurd (others own)) (committed (log.version t zero) table)
+      λ table. each_weaker (λ row. identity_transaction row.identity ≡ t → identity_statement row.identity ≤ 0) (λ row. identity_transaction row.identity ≢ t) (λ row others own. absurd (others own)) (committed (log.version t zero) table)
       ((active_clean domain log committed written history (reading count) (over count (omega arith))).others 0 (omega arith) table)
   after-own (suc k) within = stepped-own k (log.statement t (suc k)) (before-view k within (after-own k (omega arith)))
 
@@ -291,7 +291,7 @@ module _ {M : Type 0} (domain : Annotations M) (state : State M) (history : IsHi
       is.unfinished
 
   pub own-before : (k : ℕ) → k < statement_count t state.entries → (table : ℕ)
-      → AllByRecursion (λ row. transaction_of row.identity ≡ t → statement_of row.identity ≤ k) (start_by domain (log_of state.entries) t k state.committed table)
+      → AllByRecursion (λ row. identity_transaction row.identity ≡ t → identity_statement row.identity ≤ k) (start_by domain (log_of state.entries) t k state.committed table)
   own-before =
       before-own domain (upto_version versions (log_of state.entries)) state.committed state.written early t (statement_count t state.entries) is.reads rises
       is.unfinished

@@ -29,7 +29,7 @@ use Rattle.gp_semiring.specs.Rules.{number_by}
 use Rattle.gp_semiring.specs.Values.{token_value, value_by}
 use Rattle.gp_history.specs.ValueForms.{held_value_answer, value_answer}
 use Rattle.gp_ask.specs.declared.answered.Answered.TheVariants.{Refused, Values}
-use Rattle.gp_ask.specs.Asking.{spans_at}
+use Rattle.gp_ask.specs.Asking.{table_spans}
 use Rattle.gp_ask.specs.Values.{Semiring, semiring_of, value_of, valued, with_values}
 use Rattle.gp_ask.proofs.ProvenanceLemmas.{spans-are}
 
@@ -63,9 +63,9 @@ module _ (dump : code.Dump) (versions : List Versions) (same : versions ≡ dump
   entries = log_view dump.log.entries
 
   pub moved : {X : Type 0} (view : X → List (List Cell × semiring.Element)) (found : Result X ReenactStop) → Gives view found (found_in semiring kept entries (tables_in entries) (spans_of versions) point select)
-      → Gives view found (found_in semiring rules entries (tables_in entries) (spans_at (tables_view dump.versions)) point select)
+      → Gives view found (found_in semiring rules entries (tables_in entries) (table_spans (tables_view dump.versions)) point select)
   moved view found gives =
-      subst (λ (own : List Rule × Option ℕ). Gives view found (found_in semiring own entries (tables_in entries) (spans_at (tables_view dump.versions)) point select)) by
+      subst (λ (own : List Rule × Option ℕ). Gives view found (found_in semiring own entries (tables_in entries) (table_spans (tables_view dump.versions)) point select)) by
       (subst (λ (spans : ℕ → List Span). Gives view found (found_in semiring kept entries (tables_in entries) spans point select)) (spans-are dump versions same) gives)
 
 module _ {K X : Type 0} (text_of : K → List ℕ) (view : X → List (List Cell × K)) where

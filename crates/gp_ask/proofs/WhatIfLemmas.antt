@@ -23,12 +23,12 @@ use Rattle.gp_log.specs.Parameters.{parameters}
 use Rattle.gp_log.specs.LogFacts.{tables_in}
 use Rattle.gp_versions.specs.declared.span.Span.{Span}
 use Rattle.gp_versions.specs.Spans.{Versions}
-use Rattle.gp_whatif.specs.Changed.{changed}
+use Rattle.gp_whatif.specs.Changed.{changed_log}
 use Rattle.gp_whatif.specs.Replays.{IsMade, IsReplayable, stop_upto}
 use Rattle.gp_dump.specs.Views.{tables_view}
 use Rattle.gp_ask.specs.declared.answered.Answered.{Answered}
 use Rattle.gp_ask.specs.Computed.{computed_answer, what_if_answer}
-use Rattle.gp_ask.specs.Asking.{asked, spans_at}
+use Rattle.gp_ask.specs.Asking.{asked, table_spans}
 use Rattle.gp_ask.specs.Printed.{ask_to, changed_answer, remade_answer}
 use Rattle.gp_ask.specs.ExplainedTexts.{ExplainsAsk, ExplainsQuestion}
 use Rattle.gp_ask.specs.Hypothetical.{asking_refusal, remaking_refusal, replay_refusal, replayed_dump}
@@ -62,13 +62,13 @@ one_refused refusal own answered is = ap (λ (r : Option Refusal). unless_refuse
 -- what is answered over the commits made again, where none stops
 module _ (entries : List Entry) (is : IsReplayable entries) (versions : List Versions) (made : IsMade entries (versions_in entries) versions)
     (any : (own : List Entry) → IsReplayable own → stop_upto own (versions_in own) ≡ None → (tables : List (List Span))
-    → ((place : ℕ) → IsPermutation (spans_at tables place) (replayed_spans unannotated (log_of own) (length (tables_in own)) (versions_in own) place))
+    → ((place : ℕ) → IsPermutation (table_spans tables place) (replayed_spans unannotated (log_of own) (length (tables_in own)) (versions_in own) place))
     → (how : y.How) (point : y.Point) (query : y.Query) → computed_answer (dump_in own tables) (y.ask how point query) ≡ computed_answer (replayed_dump own) (y.ask how point query)) where
   pub replayed_is : (how : y.How) (point : y.Point) (query : y.Query)
       → ask_to (dump_in entries (tables_view versions)) how point query ≡ unless_refused (remaking_refusal entries) (ask_to (replayed_dump entries) how point query)
   replayed_is how point query =
       any entries is made.unstopped (tables_view versions)
-      (λ place. subst (λ (spans : List Span). IsPermutation (spans_at (tables_view versions) place) spans) (replay_spans entries versions made place) (IsPermutation-refl (spans_at (tables_view versions) place)))
+      (λ place. subst (λ (spans : List Span). IsPermutation (table_spans (tables_view versions) place) spans) (replay_spans entries versions made place) (IsPermutation-refl (table_spans (tables_view versions) place)))
       how point query
       ∙ sym (none_refused (remaking_refusal entries) (ask_to (replayed_dump entries) how point query) (remaking_is entries None made.unstopped))
 
@@ -92,12 +92,12 @@ module _ (entries : List Entry) (point : y.Point) (query : y.Query) where
 
 -- ---- by the changed log
 
-pub changed_is : (entries : List Entry) (change : y.LogChange) (how : y.How) (point : y.Point) (query : y.Query) (found : Result (List Entry) Refusal) → changed parameters entries change ≡ found
+pub changed_is : (entries : List Entry) (change : y.LogChange) (how : y.How) (point : y.Point) (query : y.Query) (found : Result (List Entry) Refusal) → changed_log parameters entries change ≡ found
     → what_if_answer entries change how point query ≡ changed_answer (λ own. ask_to (replayed_dump own)) found how point query
 changed_is entries change how point query found is = ap (λ (log : Result (List Entry) Refusal). changed_answer (λ own. ask_to (replayed_dump own)) log how point query) is
 
 -- what is said of an explained query is said over the changed log
-pub explains_changed : (entries : List Entry) (change : y.LogChange) (how : y.How) (point : y.Point) (query : y.Query) (new : List Entry) → changed parameters entries change ≡ Ok new
+pub explains_changed : (entries : List Entry) (change : y.LogChange) (how : y.How) (point : y.Point) (query : y.Query) (new : List Entry) → changed_log parameters entries change ≡ Ok new
     → ExplainsQuestion new (y.ask how point query) → ExplainsQuestion entries (y.what_if change how point query)
 explains_changed entries change (y.explain prov) point query new is says =
     subst (λ (log : Result (List Entry) Refusal). IfOk log (λ (own : List Entry). ExplainsAsk own prov point query)) (sym is) says
@@ -106,7 +106,7 @@ explains_changed entries change y.provenance point query new is says = tt
 explains_changed entries change (y.value name rules other) point query new is says = tt
 explains_changed entries change (y.without patterns) point query new is says = tt
 
-pub explains_refused : (entries : List Entry) (change : y.LogChange) (how : y.How) (point : y.Point) (query : y.Query) (refusal : Refusal) → changed parameters entries change ≡ Err refusal
+pub explains_refused : (entries : List Entry) (change : y.LogChange) (how : y.How) (point : y.Point) (query : y.Query) (refusal : Refusal) → changed_log parameters entries change ≡ Err refusal
     → ExplainsQuestion entries (y.what_if change how point query)
 explains_refused entries change (y.explain prov) point query refusal is =
     subst (λ (log : Result (List Entry) Refusal). IfOk log (λ (own : List Entry). ExplainsAsk own prov point query)) (sym is) tt

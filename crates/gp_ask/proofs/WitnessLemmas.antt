@@ -23,13 +23,13 @@ use Rattle.gp_semiring.specs.Witnesses.{Sets, sets_text, witness_plus, witness_t
 use Rattle.gp_semiring.specs.WitnessLaws.{token_witness_laws, witness_token_in}
 use Rattle.gp_base.proofs.Permutations.{unpermuted}
 use Rattle.gp_history.specs.DistinctRows.{distinct_rows}
-use Rattle.gp_history.specs.ValueAnswers.{history_refusal, limited, values_of}
+use Rattle.gp_history.specs.ValueAnswers.{history_refusal, limited, row_values}
 use Rattle.gp_history.proofs.ValueLemmas.{values_moved}
 use Rattle.gp_kexec.specs.CountForms.{HasCounts, itself}
 use Rattle.gp_kexec.proofs.WitnessValueLemmas.{witness_value}
 use Rattle.gp_dump.specs.Dumps.{Dump}
 use Rattle.gp_ask.specs.Computed.{computed_answer}
-use Rattle.gp_ask.specs.Asking.{spans_at}
+use Rattle.gp_ask.specs.Asking.{table_spans}
 use Rattle.gp_ask.specs.AskingForms.{dump_query, rules_of}
 use Rattle.gp_ask.specs.ValueForms.{dump_minimal, dump_valued, dump_values}
 use Rattle.gp_ask.specs.Values.{semiring_of, witness, with_values}
@@ -40,7 +40,7 @@ use Rattle.gp_ask.proofs.QueryLemmas.{query-same}
 
 -- each token is its own set
 abbrev own_values : List (Element Monomial) → List (List Cell × Sets)
-own_values elements = values_of (witness_plus token_cmp) [] ([] ∷ []) (witness_times token_cmp) itself elements
+own_values elements = row_values (witness_plus token_cmp) [] ([] ∷ []) (witness_times token_cmp) itself elements
 
 each_pair : (elements : List (Element Monomial)) → EachCounts elements → Each (λ (pair : List Cell × Monomial). HasCounts pair.1) (pairs_of elements)
 each_pair [] are = tt
@@ -66,9 +66,9 @@ minimal_moved None elements others are moved =
 values_are_minimal : (dump : Dump) (point : y.Point) (select : Select) → dump_values witness named.Witness ([], None) dump point select ≡ dump_minimal dump point select
 values_are_minimal dump point select =
     ap (with_values sets_text)
-    (limited_minimal (history_refusal monomials parameters agree (tables_in dump.entries) dump.entries (spans_at dump.tables) point)
-    (answer monomials select (at_point monomials dump.entries point (annotated_versions monomials dump.entries (spans_at dump.tables))))
-    (answers_count (tables_in dump.entries) dump.entries (spans_at dump.tables) point select))
+    (limited_minimal (history_refusal monomials parameters agree (tables_in dump.entries) dump.entries (table_spans dump.tables) point)
+    (answer monomials select (at_point monomials dump.entries point (annotated_versions monomials dump.entries (table_spans dump.tables))))
+    (answers_count (tables_in dump.entries) dump.entries (table_spans dump.tables) point select))
 
 -- the values by rules are the answer, also where no rule is given
 valued_is : (name : SemiringName) (rules : List y.Rule) (other : Option ℕ) (dump : Dump) (point : y.Point) (select : Select)

@@ -28,7 +28,7 @@ use Rattle.gp_machine.specs.SeenRows.{AreDistinct, HaveDifferentIdentities}
 use Rattle.gp_versions.proofs.SameLemmas.{same-exact, same-itself}
 use Rattle.gp_versions.specs.declared.span.Span.{Span}
 use Rattle.gp_versions.specs.Spans.{span_cmp}
-use Rattle.gp_ask.specs.Changes.{cells_in, change_text, side_texts, spans_texts, tables_texts, written_text, written_texts}
+use Rattle.gp_ask.specs.Changes.{cells_in, change_text, side_texts, spans_texts, tables_texts, written_row_texts, written_texts}
 use Rattle.gp_ask.specs.ShownWrites.{AreCells, HasCells, HasChange, HasRow, Rise, RowChange, ShowsWrites, row_change_text}
 use Rattle.gp_ask.proofs.TransactionRuns.{same_written}
 use Rattle.gp_ask.proofs.WrittenLines.{own-cells}
@@ -252,7 +252,7 @@ module _ {M : Type 0} (catalogue : List Table) (committed : Environment M) (writ
     (olds : (table : ℕ) → HaveDifferentIdentities (committed p table)) (news : (table : ℕ) → HaveDifferentIdentities (committed (suc p) table))
     (beyond : (table : ℕ) → length catalogue ≤ table → (committed p table ≡ []) × (committed (suc p) table ≡ [])) (apart : AreDistinct same_written (written (suc p))) where
   abbrev line-of : Written → List (List ℕ)
-  line-of = written_text catalogue (committed p) (committed (suc p))
+  line-of = written_row_texts catalogue (committed p) (committed (suc p))
 
   abbrev older : Written → Option (List Cell)
   older pair = cells_in pair.identity (committed p pair.table)

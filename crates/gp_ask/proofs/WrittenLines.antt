@@ -25,20 +25,20 @@ use Rattle.gp_dump.proofs.RowPlaces.{sorted_each}
 use Rattle.gp_machine.proofs.Distinct.{any_filter, each_both, each_filter, each_weaker, filter_every, filter_none, none_any, none_each}
 use Rattle.gp_machine.specs.Conflicts.{written_cmp}
 use Rattle.gp_machine.specs.Event.{name_at, target_of}
-use Rattle.gp_machine.specs.Publishing.{holds}
+use Rattle.gp_machine.specs.Publishing.{holds_identity}
 use Rattle.gp_machine.specs.SeenRows.{HaveDifferentIdentities, same_row}
 use Rattle.gp_versions.proofs.SameLemmas.{same-exact, same-itself}
 use Rattle.gp_ask.specs.declared.answered.Answered.TheVariants.{Changes}
-use Rattle.gp_ask.specs.Changes.{after_of, before_of, by_identity, cells_in, change_text, changed_text, changed_texts, changes_of, side_texts, written_text, written_texts}
+use Rattle.gp_ask.specs.Changes.{after_of, before_of, by_identity, cells_in, change_text, changed_text, changed_texts, changes_of, side_texts, written_row_texts, written_texts}
 use Rattle.gp_ask.proofs.ChangedLines.{turned-rows}
 
 -- ---- the row of an identity, where no two have one
 
 module _ {M : Type 0} where
-  pub none-there : (id : Identity) (rows : List (Annotated M)) → holds id rows ≡ false → cells_in id rows ≡ None
+  pub none-there : (id : Identity) (rows : List (Annotated M)) → holds_identity id rows ≡ false → cells_in id rows ≡ None
   none-there id [] is = refl
   none-there id (row ∷ rows) is =
-      let parts = or_parts (same_identity row.identity id) (holds id rows) is in
+      let parts = or_parts (same_identity row.identity id) (holds_identity id rows) is in
       ap (λ b. cond b (Some row.cells) (cells_in id rows)) parts.0 ∙ none-there id rows parts.1
 
   -- behind a row of another identity
@@ -65,16 +65,16 @@ module _ {M : Type 0} where
         (mapped-cells f keeps rows different.1) (none_each (λ other. same_row other row) rows different.0),
   )
 
-  dropped : (p : Annotated M → Bool) (rows : List (Annotated M)) → HaveDifferentIdentities rows → AllByRecursion (λ row. p row ≡ true → holds row.identity (filter (λ own. not (p own)) rows) ≡ false) rows
+  dropped : (p : Annotated M → Bool) (rows : List (Annotated M)) → HaveDifferentIdentities rows → AllByRecursion (λ row. p row ≡ true → holds_identity row.identity (filter (λ own. not (p own)) rows) ≡ false) rows
   dropped p [] different = tt
   dropped p (row ∷ rows) different = (
     λ passes.
-        ap (λ b. holds row.identity (cond (not b) (row ∷ filter (λ own. not (p own)) rows) (filter (λ own. not (p own)) rows))) passes
+        ap (λ b. holds_identity row.identity (cond (not b) (row ∷ filter (λ own. not (p own)) rows) (filter (λ own. not (p own)) rows))) passes
         ∙ any_filter (λ other. same_row other row) (λ own. not (p own)) rows different.0,
-    each_both (λ other. p other ≡ true → holds other.identity (filter (λ own. not (p own)) (row ∷ rows)) ≡ false)
-        (λ other. p other ≡ true → holds other.identity (filter (λ own. not (p own)) rows) ≡ false) (λ other. same_row other row ≡ false)
+    each_both (λ other. p other ≡ true → holds_identity other.identity (filter (λ own. not (p own)) (row ∷ rows)) ≡ false)
+        (λ other. p other ≡ true → holds_identity other.identity (filter (λ own. not (p own)) rows) ≡ false) (λ other. same_row other row ≡ false)
         (λ other rest differ passes.
-        elim (p row) as (λ b. holds other.identity (cond (not b) (row ∷ filter (λ own. not (p own)) rows) (filter (λ own. not (p own)) rows)) ≡ false) [
+        elim (p row) as (λ b. holds_identity other.identity (cond (not b) (row ∷ filter (λ own. not (p own)) rows) (filter (λ own. not (p own)) rows)) ≡ false) [
           | true ↦ rest passes
           | false ↦ (λ i. (turned-rows row other ∙ differ) i || rest passes i)
         ]) rows (dropped p rows different.1) (none_each (λ other. same_row other row) rows different.0),
@@ -158,7 +158,7 @@ module _ {M : Type 0} (domain : Annotations M) (t k : ℕ) where
       (each_both _ _ _ (λ row own other. (own, other)) (db table) (own-cells (db table) different) (mapped-cells (effects.changed domain t k sets c) (keeps-identity sets c) (db table) different)))
   all-shown (delete table c) db fresh different after =
       each_filter _ (IsShown (delete table c) (db table) (step domain t k (delete table c) db table)) (λ row. true) (λ row any shown. shown) (filter (λ row. passes c row.cells) (db table))
-      (each_filter _ (λ row. (cells_in row.identity (db table) ≡ Some row.cells) × (passes c row.cells ≡ true → holds row.identity (filter (λ own. not (passes c own.cells)) (db table)) ≡ false)) (λ row. passes c row.cells)
+      (each_filter _ (λ row. (cells_in row.identity (db table) ≡ Some row.cells) × (passes c row.cells ≡ true → holds_identity row.identity (filter (λ own. not (passes c own.cells)) (db table)) ≡ false)) (λ row. passes c row.cells)
       (λ row is both. record {
         older = both.0;
         newer = in-table table (filter (λ own. not (passes c own.cells)) (db table)) (db table) row.identity ∙ none-there row.identity (filter (λ own. not (passes c own.cells)) (db table)) (both.1 is);
@@ -183,7 +183,7 @@ module _ {M : Type 0} (domain : Annotations M) (t k : ℕ) where
 
   module _ (tables : List Table) (statement : Statement) (before after : Database M) (table : ℕ) where
     lines-of : (rows : List (Annotated M)) → AllByRecursion (IsShown statement (before table) (after table)) rows
-        → flat_map (written_text tables before after) (written_in table rows) ≡ map (changed_text (name_at table tables) statement) rows
+        → flat_map (written_row_texts tables before after) (written_in table rows) ≡ map (changed_text (name_at table tables) statement) rows
     lines-of [] shown = refl
     lines-of (row ∷ rows) shown = λ i. one-line (name_at table tables) statement row (before table) (after table) shown.0 i ++ lines-of rows shown.1 i
 
@@ -210,7 +210,7 @@ module _ {M : Type 0} (domain : Annotations M) (t k : ℕ) where
     lines-written : (rows : List (Annotated M)) → AllByRecursion (IsShown statement (before table) (after table)) rows
         → written_texts tables (written_in table rows) before after ≡ changed_texts (name_at table tables) statement rows
     lines-written rows shown =
-        ap (flat_map (written_text tables before after)) (sorted-pairs rows)
+        ap (flat_map (written_row_texts tables before after)) (sorted-pairs rows)
         ∙ lines-of (sorted_by by_identity rows) (sorted_each by_identity (IsShown statement (before table) (after table)) rows shown)
 
   module _ (tables : List Table) (statement : Statement) (db : Database M) (fresh : IsFresh (db (target_of statement))) (different : HaveDifferentIdentities (db (target_of statement)))

@@ -1,4 +1,4 @@
--- Part of the statement: which questions are answered, and from which dumps. Every question that was read is such: so says the law
+-- Of the contract of `answer`, as its premises: which questions are answered, and from which dumps. Every question that was read is such: so says the law
 -- `read_questions_are_valid`.
 use Rattle.std.specs.Prelude.{◌≡◌, Bool, true, not, ◌&&◌, length}
 use Rattle.gp_grammar.specs.declared.limits.TheConstants.{MAX_FROM}
@@ -10,7 +10,7 @@ use Rattle.gp_log.specs.LogFacts.{tables_in}
 use Rattle.gp_log.specs.LogFitting.{SpansFit, statements_fit}
 use Rattle.gp_log.specs.Sessions.{KeepsSessions}
 use Rattle.gp_dump.specs.Dumps.{Dump}
-use Rattle.gp_ask.specs.Asking.{spans_at}
+use Rattle.gp_ask.specs.Asking.{table_spans}
 
 -- no FROM has more items than a line may have
 abbrev pub has_few_items : y.Query → Bool
@@ -36,4 +36,4 @@ pub record IsAnswerable (dump : Dump) : Type 0 where
   pub statements : statements_fit (tables_in dump.entries) dump.entries ≡ true
   -- one list of row versions for each table
   pub tables : length dump.tables ≡ length (tables_in dump.entries)
-  pub spans : SpansFit (tables_in dump.entries) (spans_at dump.tables)
+  pub spans : SpansFit (tables_in dump.entries) (table_spans dump.tables)

@@ -16,7 +16,7 @@ use Rattle.gp_dump.specs.Dumps.{Dump, dump_of}
 use Rattle.gp_dumpline.specs.Texts.{entry_text, span_text}
 use Rattle.gp_ask.specs.declared.answered.Answered.{Answered}
 use Rattle.gp_ask.specs.declared.answered.Answered.TheVariants.{Checked, Log, Versions, Refused}
-use Rattle.gp_ask.specs.Asking.{Programs, ask_to, held_ask, spans_at}
+use Rattle.gp_ask.specs.Asking.{Programs, ask_to, ask_held, table_spans}
 use Rattle.gp_ask.specs.Changes.{changes_held, changes_to, commit_changes_held, commit_changes_to}
 use Rattle.gp_ask.specs.Differences.{causes_answer, diff_answer}
 use Rattle.gp_ask.specs.Hypothetical.{what_if_held}
@@ -36,7 +36,7 @@ log_answer t entries = if is_known t entries then Log (map entry_text (entries_o
 -- ---- the row versions of a table
 
 abbrev pub versions_answer : List ℕ → List (List Span) → Option ℕ → Answered
-versions_answer name tables found = option_map_or (λ (place : ℕ). Versions (map span_text (spans_at tables place))) found (Refused (E04 name))
+versions_answer name tables found = option_map_or (λ (place : ℕ). Versions (map span_text (table_spans tables place))) found (Refused (E04 name))
 
 -- ---- the answer to a question
 
@@ -64,7 +64,7 @@ module _ (programs : Programs) where
   held_to state (y.changes t k) = changes_held state t k
   held_to state (y.commit_changes t) = commit_changes_held state t
   held_to state y.check = Checked None
-  held_to state (y.diff first second query) = diff_answer (held_ask programs state) (what_if_held programs state.entries) first second query
-  held_to state (y.causes kept query) = causes_answer (held_ask programs state) (what_if_held programs state.entries) state.entries kept query
-  held_to state (y.ask how point query) = held_ask programs state how point query
+  held_to state (y.diff first second query) = diff_answer (ask_held programs state) (what_if_held programs state.entries) first second query
+  held_to state (y.causes kept query) = causes_answer (ask_held programs state) (what_if_held programs state.entries) state.entries kept query
+  held_to state (y.ask how point query) = ask_held programs state how point query
   held_to state (y.what_if change how point query) = what_if_held programs state.entries change how point query

@@ -25,7 +25,7 @@ use Rattle.gp_log.specs.LogFacts.{tables_in}
 use Rattle.gp_dump.specs.Dumps.{Dump}
 use Rattle.gp_semiring.specs.declared.rules.Rule.{Rule}
 use Rattle.gp_semiring.specs.Witnesses.{sets_text}
-use Rattle.gp_history.specs.ValueAnswers.{all_elements, history_refusal, limited, values_of}
+use Rattle.gp_history.specs.ValueAnswers.{all_elements, history_refusal, limited, row_values}
 use Rattle.gp_history.specs.Agreement.{agree, occurrence}
 use Rattle.gp_semiring.specs.Listing.{listed}
 use Rattle.gp_ask.specs.declared.answered.Answered.{Answered}
@@ -35,8 +35,8 @@ use Rattle.gp_ask.specs.Values.{Semiring, evaluated, or_refused, rule_of, semiri
 use Rattle.gp_ask.specs.Witnesses.{minimal_of}
 
 -- the row versions of a table of a dump
-abbrev pub spans_at : List (List Span) → ℕ → List Span
-spans_at tables place = slice_index_or tables place []
+abbrev pub table_spans : List (List Span) → ℕ → List Span
+table_spans tables place = slice_index_or tables place []
 
 -- ---- queries
 
@@ -63,7 +63,7 @@ minimal_answer elements = with_values sets_text (limited parameters.answer minim
 -- their values in a semiring, by the same monomials
 abbrev pub values_answer : Semiring → SemiringName → List Rule × Option ℕ → Result (List (Element Monomial)) Refusal → Answered
 values_answer semiring name rules elements =
-    evaluated semiring rules name (limited parameters.answer (values_of semiring.plus_of semiring.zero_of semiring.one_of semiring.times_of (value_of semiring rules)) elements)
+    evaluated semiring rules name (limited parameters.answer (row_values semiring.plus_of semiring.zero_of semiring.one_of semiring.times_of (value_of semiring rules)) elements)
 
 -- values by rules; those in witnesses without rules are the minimal witnesses
 abbrev pub valued_answer : SemiringName → List y.Rule → Option ℕ → Result (List (Element Monomial)) Refusal → Answered
@@ -82,17 +82,17 @@ module _ (programs : Programs) where
   -- A query that was checked. Rows are those of the dump's own versions. Their provenance, the elements by which they have values, and the rows that remain
   -- without those that patterns leave out are over the versions as the log's transactions annotate them. An explained query is its program, whatever the rows are.
   abbrev pub dump_answer : Dump → y.How → y.Point → Select → Answered
-  dump_answer dump y.rows point select = of_elements (rows_answer parameters dump.entries (spans_at dump.tables) point select)
+  dump_answer dump y.rows point select = of_elements (rows_answer parameters dump.entries (table_spans dump.tables) point select)
   dump_answer dump y.provenance point select =
-      with_monomials (annotated_answer monomials parameters agree (tables_in dump.entries) dump.entries (spans_at dump.tables) point select)
+      with_monomials (annotated_answer monomials parameters agree (tables_in dump.entries) dump.entries (table_spans dump.tables) point select)
   dump_answer dump (y.explain prov) point select = Program (programs dump.entries prov point select)
   dump_answer dump (y.value name rules other) point select =
-      valued_answer name rules other (all_elements monomials parameters agree (tables_in dump.entries) dump.entries (spans_at dump.tables) point select)
+      valued_answer name rules other (all_elements monomials parameters agree (tables_in dump.entries) dump.entries (table_spans dump.tables) point select)
   dump_answer dump (y.without patterns) point select =
       of_elements
       (remaining_answer (has_left_out (map rule_of patterns)) select
-      (at_point monomials dump.entries point (annotated_versions monomials dump.entries (spans_at dump.tables)))
-      (history_refusal monomials parameters agree (tables_in dump.entries) dump.entries (spans_at dump.tables) point))
+      (at_point monomials dump.entries point (annotated_versions monomials dump.entries (table_spans dump.tables)))
+      (history_refusal monomials parameters agree (tables_in dump.entries) dump.entries (table_spans dump.tables) point))
 
   abbrev pub ask_to : Dump → y.How → y.Point → y.Query → Answered
   ask_to dump how point query = query_answer (dump_answer dump how point) (log_refusal dump.entries point) (checked_query (tables_in dump.entries) query)
@@ -110,5 +110,5 @@ module _ (programs : Programs) where
   history_answer state (y.without patterns) point select =
       of_elements (remaining_answer (has_left_out (map rule_of patterns)) select (held_at state point) (log_refusal state.entries point))
 
-  abbrev pub held_ask : State Monomial → y.How → y.Point → y.Query → Answered
-  held_ask state how point query = query_answer (history_answer state how point) (log_refusal state.entries point) (checked_query state.catalogue query)
+  abbrev pub ask_held : State Monomial → y.How → y.Point → y.Query → Answered
+  ask_held state how point query = query_answer (history_answer state how point) (log_refusal state.entries point) (checked_query state.catalogue query)

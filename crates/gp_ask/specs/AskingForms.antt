@@ -18,7 +18,7 @@ use Rattle.gp_semiring.specs.declared.rules.Rule.{Rule}
 use Rattle.gp_history.specs.ValueAnswers.{all_elements, history_refusal}
 use Rattle.gp_history.specs.Agreement.{agree}
 use Rattle.gp_ask.specs.declared.answered.Answered.{Answered}
-use Rattle.gp_ask.specs.Asking.{of_elements, query_answer, spans_at}
+use Rattle.gp_ask.specs.Asking.{of_elements, query_answer, table_spans}
 use Rattle.gp_ask.specs.Printed.{dump_answer, history_answer}
 use Rattle.gp_ask.specs.Remaining.{has_left_out, remaining_answer}
 use Rattle.gp_ask.specs.Values.{kind_of, rule_of}
@@ -44,14 +44,14 @@ dump_program dump prov = dump_answer dump (y.explain prov)
 
 -- the elements of the answer over the annotated versions, however many they are
 abbrev pub dump_elements : Dump → y.Point → Select → Result (List (Element Monomial)) Refusal
-dump_elements dump point select = all_elements monomials parameters agree (tables_in dump.entries) dump.entries (spans_at dump.tables) point select
+dump_elements dump point select = all_elements monomials parameters agree (tables_in dump.entries) dump.entries (table_spans dump.tables) point select
 
 -- the rows without those that these patterns leave out
 abbrev pub dump_remaining : List Rule → Dump → y.Point → Select → Answered
 dump_remaining patterns dump point select =
     of_elements
-    (remaining_answer (has_left_out patterns) select (at_point monomials dump.entries point (annotated_versions monomials dump.entries (spans_at dump.tables)))
-    (history_refusal monomials parameters agree (tables_in dump.entries) dump.entries (spans_at dump.tables) point))
+    (remaining_answer (has_left_out patterns) select (at_point monomials dump.entries point (annotated_versions monomials dump.entries (table_spans dump.tables)))
+    (history_refusal monomials parameters agree (tables_in dump.entries) dump.entries (table_spans dump.tables) point))
 
 -- a query over a state, given what answers it once it is checked
 abbrev pub dump_query : Dump → (Select → Answered) → y.Point → y.Query → Answered

@@ -1,4 +1,4 @@
--- Part of the statement: the answer to a question about rows over a backend. A question is refused first as any other is: its version, transaction or
+-- Of the contract of `answer_by`: the answer to a question about rows over a backend. A question is refused first as any other is: its version, transaction or
 -- statement is not in the log, or the check of its query. Then what the backend gives for the merged program decides alone.
 use Rattle.std.specs.Prelude.{◌≡◌, ℕ, true, false, List, Option, Some, None, Result, Ok, Err}
 use Rattle.gp_base.specs.declared.refusal.Refusal.{Refusal}
@@ -23,11 +23,11 @@ use Rattle.gp_reenact.specs.Programs.{merged_at}
 use Rattle.gp_dump.specs.Dumps.{Dump}
 use Rattle.gp_ask.specs.declared.answered.Answered.{Answered}
 use Rattle.gp_ask.specs.declared.answered.Answered.TheVariants.{Rows, Refused}
-use Rattle.gp_ask.specs.Asking.{spans_at}
+use Rattle.gp_ask.specs.Asking.{table_spans}
 
 -- the rows of a dump's past versions, each with its identity and the mark NO
 abbrev pub past_of : Dump → PlainEnvironment
-past_of dump = encoded (as_of unannotated (spans_at dump.tables))
+past_of dump = encoded (as_of unannotated (table_spans dump.tables))
 
 -- what is given: rows in row order, or the refusal of a stop of transaction t
 abbrev pub Shows : ℕ → Given → Answered → Type 0

@@ -31,7 +31,7 @@ use Rattle.gp_reenact.specs.Looking.{looked_refusal}
 use Rattle.gp_versions.specs.declared.span.Span.{Span}
 use Rattle.gp_ask.specs.declared.answered.Answered.{Answered}
 use Rattle.gp_ask.specs.declared.answered.Answered.TheVariants.{Changes}
-use Rattle.gp_ask.specs.Asking.{spans_at}
+use Rattle.gp_ask.specs.Asking.{table_spans}
 use Rattle.gp_ask.specs.Values.{or_refused, unless_refused}
 
 -- ---- texts
@@ -67,12 +67,12 @@ changed_text name statement row = change_text name row.identity (before_of state
 abbrev pub changed_texts : {M : Type 0} → List ℕ → Statement → List (Annotated M) → List (List ℕ)
 changed_texts name statement rows = map (changed_text name statement) (sorted_by by_identity rows)
 
-abbrev pub of_changes : {M : Type 0} → List ℕ → Statement → Result (List (Annotated M)) Refusal → Answered
-of_changes name statement rows = or_refused (λ own. Changes (changed_texts name statement own)) rows
+abbrev pub table_changes : {M : Type 0} → List ℕ → Statement → Result (List (Annotated M)) Refusal → Answered
+table_changes name statement rows = or_refused (λ own. Changes (changed_texts name statement own)) rows
 
 -- a SELECT changes nothing, whatever its transaction read; given the tables, and what a statement changed of a table
 abbrev pub changes_of : {M : Type 0} → List Table → Option ℕ → Statement → Result (List (Annotated M)) Refusal → Answered
-changes_of tables table statement rows = option_map_or (λ (place : ℕ). of_changes (name_at place tables) statement rows) table (Changes [])
+changes_of tables table statement rows = option_map_or (λ (place : ℕ). table_changes (name_at place tables) statement rows) table (Changes [])
 
 -- a number without a statement changes nothing
 abbrev pub if_any : (Statement → Answered) → Option Statement → Answered
@@ -82,8 +82,8 @@ if_any answer statement = option_map_or answer statement (Changes [])
 abbrev pub dump_changes : Dump → ℕ → ℕ → Statement → Answered
 dump_changes dump t k statement =
     changes_of (tables_in dump.entries) (target statement) statement
-    (given (looked_refusal parameters dump.entries (spans_at dump.tables) t k statement)
-    (changed_rows unannotated t (suc k) statement (run_before unannotated (log_of dump.entries) t k (as_of unannotated (spans_at dump.tables)))))
+    (given (looked_refusal parameters dump.entries (table_spans dump.tables) t k statement)
+    (changed_rows unannotated t (suc k) statement (run_before unannotated (log_of dump.entries) t k (as_of unannotated (table_spans dump.tables)))))
 
 abbrev pub changes_to : Dump → ℕ → ℕ → Answered
 changes_to dump t k = unless_refused (changes_refusal t k dump.entries) (if_any (dump_changes dump t (k - 1)) (statement_at t k dump.entries))
@@ -134,26 +134,26 @@ abbrev pub side_texts : List ℕ → Identity → Option (List Cell) → Option 
 side_texts name id None None = []
 side_texts name id before after = change_text name id before after ∷ []
 
-abbrev pub written_text : {M : Type 0} → List Table → Database M → Database M → Written → List (List ℕ)
-written_text tables before after pair =
+abbrev pub written_row_texts : {M : Type 0} → List Table → Database M → Database M → Written → List (List ℕ)
+written_row_texts tables before after pair =
     side_texts (name_at pair.table tables) pair.identity (cells_in pair.identity (before pair.table)) (cells_in pair.identity (after pair.table))
 
 -- A line for each row that was written, by table and then by identity: its cells in the database before, and in the one after.
 abbrev pub written_texts : {M : Type 0} → List Table → List Written → Database M → Database M → List (List ℕ)
-written_texts tables written before after = flat_map (written_text tables before after) (sorted_by written_cmp written)
+written_texts tables written before after = flat_map (written_row_texts tables before after) (sorted_by written_cmp written)
 
 -- The rows that statement k + 1 wrote: from what its transaction read before it, by the rule of the history machine, to what the transaction read after it.
-abbrev pub held_changes : State Monomial → ℕ → ℕ → Answered
-held_changes state t k =
+abbrev pub history_changes : State Monomial → ℕ → ℕ → Answered
+history_changes state t k =
     let before = start_by monomials (log_of state.entries) t k state.committed in
     Changes (written_texts state.catalogue (wrote_by monomials t (suc k) (statement_at t (suc k) state.entries) before) before (state.views t (suc k)))
 
 abbrev pub changes_held : State Monomial → ℕ → ℕ → Answered
-changes_held state t k = unless_refused (changes_refusal t k state.entries) (held_changes state t (k - 1))
+changes_held state t k = unless_refused (changes_refusal t k state.entries) (history_changes state t (k - 1))
 
 -- the rows that the commit of a version wrote: from the version before to its own
-abbrev pub held_writes : State Monomial → ℕ → Answered
-held_writes state version = Changes (written_texts state.catalogue (state.written version) (state.committed (version - 1)) (state.committed version))
+abbrev pub history_writes : State Monomial → ℕ → Answered
+history_writes state version = Changes (written_texts state.catalogue (state.written version) (state.committed (version - 1)) (state.committed version))
 
 abbrev pub commit_changes_held : State Monomial → ℕ → Answered
-commit_changes_held state t = unless_refused (transaction_refusal t state.entries) (option_map_or (held_writes state) (version_of t state.entries) (Changes []))
+commit_changes_held state t = unless_refused (transaction_refusal t state.entries) (option_map_or (history_writes state) (version_of t state.entries) (Changes []))

@@ -4,7 +4,7 @@ use Rattle.std.specs.Prelude.{List}
 use Rattle.gp_grammar.specs.Syntax as y
 use Rattle.gp_log.specs.Parameters.{parameters}
 use Rattle.gp_machine.specs.Entries.{Entry}
-use Rattle.gp_whatif.specs.Changed.{changed}
+use Rattle.gp_whatif.specs.Changed.{changed_log}
 use Rattle.gp_dump.specs.Dumps.{Dump}
 use Rattle.gp_ask.specs.declared.answered.Answered.{Answered}
 use Rattle.gp_ask.specs.Printed.{answer_to, ask_to, changed_answer}
@@ -12,7 +12,7 @@ use Rattle.gp_ask.specs.Differences.{causes_answer, diff_answer}
 use Rattle.gp_ask.specs.Hypothetical.{replayed_dump}
 
 abbrev pub what_if_answer : List Entry → y.LogChange → y.How → y.Point → y.Query → Answered
-what_if_answer entries change how point query = changed_answer (λ own. ask_to (replayed_dump own)) (changed parameters entries change) how point query
+what_if_answer entries change how point query = changed_answer (λ own. ask_to (replayed_dump own)) (changed_log parameters entries change) how point query
 
 abbrev pub computed_answer : Dump → y.Question → Answered
 computed_answer dump (y.what_if change how point query) = what_if_answer dump.entries change how point query

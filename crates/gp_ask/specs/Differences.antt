@@ -67,11 +67,11 @@ cause_of rows own (Ok others) = cause_lines own (delta rows others)
 cause_of rows own (Err refusal) = refused_text own refusal ∷ []
 
 -- given the answers without each of these statements
-abbrev pub lines_of : (ℕ × ℕ → Answered) → List (ℕ × ℕ) → List (List Cell) → List (List ℕ)
-lines_of without statements rows = flat_map (λ own. cause_of rows own (rows_in (without own))) statements
+abbrev pub all_cause_lines : (ℕ × ℕ → Answered) → List (ℕ × ℕ) → List (List Cell) → List (List ℕ)
+all_cause_lines without statements rows = flat_map (λ own. cause_of rows own (rows_in (without own))) statements
 
 abbrev pub causes_of : (ℕ × ℕ → Answered) → List (ℕ × ℕ) → Result (List (List Cell)) Refusal → Answered
-causes_of without statements rows = or_refused (λ own. Causes (lines_of without statements own)) rows
+causes_of without statements rows = or_refused (λ own. Causes (all_cause_lines without statements own)) rows
 
 -- ---- by the answers to questions about states, and to those about states with a change
 

@@ -11,7 +11,7 @@ use Rattle.gp_log.specs.Parameters.{parameters}
 use Rattle.gp_log.specs.LogFacts.{tables_in}
 use Rattle.gp_machine.specs.Entries.{Entry}
 use Rattle.gp_machine.specs.Questions.{log_refusal}
-use Rattle.gp_whatif.specs.Changed.{changed}
+use Rattle.gp_whatif.specs.Changed.{changed_log}
 use Rattle.gp_ask.specs.Asking.{Programs, asked}
 use Rattle.gp_ask.specs.Questions.{ReadQuestion}
 
@@ -29,7 +29,7 @@ module _ (programs : Programs) where
   -- by the changed log, unless the change is refused
   abbrev pub ExplainsQuestion : List Entry → y.Question → Type 0
   ExplainsQuestion entries (y.ask (y.explain prov) point query) = ExplainsAsk entries prov point query
-  ExplainsQuestion entries (y.what_if change (y.explain prov) point query) = IfOk (changed parameters entries change) (λ (own : List Entry). ExplainsAsk own prov point query)
+  ExplainsQuestion entries (y.what_if change (y.explain prov) point query) = IfOk (changed_log parameters entries change) (λ (own : List Entry). ExplainsAsk own prov point query)
   ExplainsQuestion entries question = Unit {0}
 
   -- each line of a file of questions that is read as one

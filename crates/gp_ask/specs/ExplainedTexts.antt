@@ -8,7 +8,7 @@ use Rattle.gp_log.specs.Parameters.{parameters}
 use Rattle.gp_log.specs.LogFacts.{tables_in}
 use Rattle.gp_machine.specs.Entries.{Entry}
 use Rattle.gp_machine.specs.Questions.{log_refusal}
-use Rattle.gp_whatif.specs.Changed.{changed}
+use Rattle.gp_whatif.specs.Changed.{changed_log}
 use Rattle.gp_ask.specs.Asking.{asked}
 use Rattle.gp_ask.specs.Programs.{explained_text}
 
@@ -21,5 +21,5 @@ ExplainsAsk entries prov point query =
 module _ (entries : List Entry) where
   abbrev pub ExplainsQuestion : y.Question → Type 0
   ExplainsQuestion (y.ask (y.explain prov) point query) = ExplainsAsk entries prov point query
-  ExplainsQuestion (y.what_if change (y.explain prov) point query) = IfOk (changed parameters entries change) (λ (own : List Entry). ExplainsAsk own prov point query)
+  ExplainsQuestion (y.what_if change (y.explain prov) point query) = IfOk (changed_log parameters entries change) (λ (own : List Entry). ExplainsAsk own prov point query)
   ExplainsQuestion question = Unit {0}

@@ -19,10 +19,10 @@ use Rattle.gp_machine.specs.Questions.{log_refusal, stop_refusal}
 use Rattle.gp_machine.specs.Replayed.{replayed_state}
 use Rattle.gp_machine.specs.Replaying as made
 use Rattle.gp_semiring.specs.Rules.{first_outside}
-use Rattle.gp_whatif.specs.Changed.{changed}
+use Rattle.gp_whatif.specs.Changed.{changed_log}
 use Rattle.gp_dump.specs.Dumps.{Dump, dump_of}
 use Rattle.gp_ask.specs.declared.answered.Answered.{Answered}
-use Rattle.gp_ask.specs.Asking.{Programs, ask_to, held_ask}
+use Rattle.gp_ask.specs.Asking.{Programs, ask_to, ask_held}
 use Rattle.gp_ask.specs.Values.{or_refused, outside_refusal, rule_of, semiring_of, unless_refused}
 
 -- the dump of the history that the commits of a log, made again, lead to
@@ -66,4 +66,4 @@ module _ (programs : Programs) where
 
   -- from the log of a dump: what the history held that would have been, its rows and their provenance
   abbrev pub what_if_held : List Entry → y.LogChange → y.How → y.Point → y.Query → Answered
-  what_if_held entries change how point query = changed_answer (λ own. held_ask programs (replayed_state monomials (tables_in own) own)) (changed parameters entries change) how point query
+  what_if_held entries change how point query = changed_answer (λ own. ask_held programs (replayed_state monomials (tables_in own) own)) (changed_log parameters entries change) how point query

@@ -6,5 +6,5 @@ use Rattle.gp_log.specs.Logs.{entry_view}
 use Rattle.gp_machine.specs.Entries as m
 use Rattle.gp_dumpline.specs.Texts.{entry_text}
 
-abbrev pub lines_of : ℕ → List Entry → List (List ℕ)
-lines_of t entries = map entry_text (filter (is_of t) (map entry_view entries))
+abbrev pub transaction_lines : ℕ → List Entry → List (List ℕ)
+transaction_lines t entries = map entry_text (filter (is_of t) (map entry_view entries))

@@ -22,8 +22,8 @@ ask_to = asking.ask_to program_lines
 abbrev pub history_answer : State Monomial → y.How → y.Point → Select → Answered
 history_answer = asking.history_answer program_lines
 
-abbrev pub held_ask : State Monomial → y.How → y.Point → y.Query → Answered
-held_ask = asking.held_ask program_lines
+abbrev pub ask_held : State Monomial → y.How → y.Point → y.Query → Answered
+ask_held = asking.ask_held program_lines
 
 abbrev pub remade_answer : (y.How → y.Point → y.Query → Answered) → List Entry → y.How → y.Point → y.Query → Answered
 remade_answer = hypothetical.remade_answer program_lines

@@ -2,7 +2,7 @@
 use Rattle.std.specs.Prelude.{ℕ, Bool, List}
 use Rattle.gp_grammar.specs.Syntax as y
 use Rattle.gp_algebra.specs.Statements.{Select}
-use Rattle.gp_explain.specs.ExplainedLines.{lines_of}
+use Rattle.gp_explain.specs.ExplainedLines.{text_lines}
 use Rattle.gp_log.specs.LogFacts.{tables_in}
 use Rattle.gp_machine.specs.Entries.{Entry}
 use Rattle.gp_plantext.specs.Spelling.{program_text}
@@ -13,4 +13,4 @@ abbrev pub explained_text : List Entry → Bool → y.Point → Select → List 
 explained_text entries prov point select = program_text (tables_in entries) (merged_at prov entries point select)
 
 abbrev pub program_lines : List Entry → Bool → y.Point → Select → List (List ℕ)
-program_lines entries prov point select = lines_of (explained_text entries prov point select)
+program_lines entries prov point select = text_lines (explained_text entries prov point select)

@@ -6,7 +6,7 @@ use Rattle.gp_grammar.specs.LineReading.{Fault, AreReadAs}
 use Rattle.gp_grammar.specs.QuestionGrammar.{IsQuestion}
 use Rattle.gp_grammar.specs.Syntax as y
 use Rattle.gp_syntax.specs.Lines.{script_lines}
-use Rattle.gp_syntax.specs.Refusals.{refusal_of}
+use Rattle.gp_syntax.specs.Refusals.{refusal_of_fault}
 use Rattle.gp_ask.specs.declared.answered.Answered.{Answered}
 use Rattle.gp_ask.specs.declared.answered.Answered.TheVariants.{Refused}
 use Rattle.gp_ask.specs.declared.format.Format.{Format}
@@ -26,7 +26,7 @@ is_refused other = false
 
 -- A line that is read as this; a fault in its text refuses it. The answers are a parameter: those of a dump, or those that a history held.
 abbrev pub answered : (y.Question → Answered) → Result y.Question Fault → Answered
-answered answers (Err fault) = Refused (refusal_of fault)
+answered answers (Err fault) = Refused (refusal_of_fault fault)
 answered answers (Ok question) = answers question
 
 module _ (format : Format) (answers : y.Question → Answered) where

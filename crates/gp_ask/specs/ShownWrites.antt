@@ -1,4 +1,5 @@
--- Of the laws: what the lines of a commit show of a table, given which of its rows the commit wrote, and its rows in the version before and in its own.
+-- Of the law `commits_show_what_they_wrote`: what the lines of a commit show of a table, given which of its rows the commit wrote, and its rows in the version
+-- before and in its own.
 use Rattle.std.specs.Prelude.{◌≡◌, ◌⊎◌, ℕ, Bool, true, List, [], ◌∷◌, map, Option, Some, None}
 use Rattle.std.specs.List.{AllByRecursion}
 use Rattle.std.specs.declared.cmp.Ordering.TheVariants.{Less}
@@ -9,12 +10,10 @@ use Rattle.gp_ask.specs.Changes.{change_text}
 
 -- ---- the rows of a version by their identities
 
--- there is a row of this identity
 abbrev pub HasRow : {M : Type 0} → List (Annotated M) → Identity → Type 0
 HasRow [] id = ⊥
 HasRow (row ∷ rows) id = (row.identity ≡ id) ⊎ HasRow rows id
 
--- there is one of these cells
 abbrev pub HasCells : {M : Type 0} → List (Annotated M) → Identity → List Cell → Type 0
 HasCells [] id cells = ⊥
 HasCells (row ∷ rows) id cells = ((row.identity ≡ id) × (row.cells ≡ cells)) ⊎ HasCells rows id cells

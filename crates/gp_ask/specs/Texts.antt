@@ -6,7 +6,7 @@ use Rattle.std.specs.List.{concat, flat_map}
 use Rattle.gp_base.specs.Numbered.{newline, numbered, refused_text, rows_text}
 use Rattle.gp_base.specs.Texts.{row_text}
 use Rattle.gp_base.specs.Tokens.{monomial_text}
-use Rattle.gp_base.specs.Writing.{joined}
+use Rattle.gp_base.specs.Writing.{joined_texts}
 use Rattle.gp_semiring.specs.declared.listed.Listed as l
 use Rattle.gp_ask.specs.declared.answered.Answered.{Answered}
 use Rattle.gp_ask.specs.declared.answered.Valued.{Valued}
@@ -23,7 +23,7 @@ listed_text number word texts =
 
 -- a row with its provenance polynomial: its monomials in order, with plus signs between them
 abbrev pub provenance_text : l.Listed → List ℕ
-provenance_text listed = concat (row_text listed.row ∷ codes " : " ∷ joined monomial_text (codes " + ") listed.monomials ∷ [])
+provenance_text listed = concat (row_text listed.row ∷ codes " : " ∷ joined_texts monomial_text (codes " + ") listed.monomials ∷ [])
 
 -- a row with the text of its value in a semiring
 abbrev pub value_text : Valued → List ℕ

@@ -385,7 +385,7 @@ fn all_lines(alloc: Global, found: Vec<Option<Text>>) -> Result<Sequence<Text>, 
 /// The lines of the statements that the rows depend on.
 fn cause_lines(alloc: Global, asked: &Asked<'_>) -> Result<Sequence<Text>, NoMemory>
     requires asked { IsAsked asked.now }
-    ensures { IfOk result (λ lines. lines ≡ d.lines_of (d.without_in
+    ensures { IfOk result (λ lines. lines ≡ d.all_cause_lines (d.without_in
         (what_if_answer (dump_view asked.now.dump.now).entries) (kept_view asked.now.kept.now)
         (query_view asked.now.query.now))
         (d.committed_writes (dump_view asked.now.dump.now).entries) asked.now.rows.now) }

@@ -13,7 +13,7 @@ ghost use Rattle.gp_log.specs.Parameters.{parameters};
 ghost use Rattle.gp_machine.specs.Entries.{Entry, committer_of, versions_in};
 ghost use Rattle.gp_machine.specs.Event.{name_at};
 ghost use Rattle.gp_syntax.specs.Views.{change_view, how_view, query_view, point_view};
-ghost use Rattle.gp_whatif.specs.Changed.{changed};
+ghost use Rattle.gp_whatif.specs.Changed.{changed_log};
 ghost use Rattle.gp_whatif.specs.Replays.{IsMade, IsReplayable};
 ghost use Rattle.gp_ask.specs.Answerable.{has_few_items};
 ghost use Rattle.gp_ask.specs.Computed.{computed_answer};
@@ -137,7 +137,7 @@ fn replayed_answer(
     }
 }
 
-/// The same, unless the question is refused before anything is run.
+/// The answer over the made rows, unless the question is refused before anything is run.
 fn remade_rows(
     alloc: Global,
     log: Log,
@@ -208,7 +208,7 @@ pub fn what_if_from(
     requires query { query_is_valid (query_view query.now) ≡ true }
     requires few { has_few_items (query_view query.now) ≡ true }
     requires made { (new : List Entry)
-        → changed parameters (dump_view dump.now).entries (change_view change.now) ≡ Ok new
+        → changed_log parameters (dump_view dump.now).entries (change_view change.now) ≡ Ok new
         → (made.count ≤ versions_in new) × IsMade new made.count made.versions.items }
     ensures answered { IfOk result (λ answered. answered ≡ computed_answer (dump_view dump.now) (y.what_if
         (change_view change.now) (how_view how.now) (point_view state) (query_view query.now))) }

@@ -17,7 +17,7 @@ ghost use Rattle.gp_semiring.specs.Values.{token_value};
 ghost use Rattle.gp_semiring.specs.declared.rules.Rule as v;
 ghost use Rattle.gp_syntax.specs.Views.{point_view};
 ghost use Rattle.gp_ask.specs.Answerable.{IsAnswerable};
-ghost use Rattle.gp_ask.specs.Asking.{spans_at};
+ghost use Rattle.gp_ask.specs.Asking.{table_spans};
 ghost use Rattle.gp_ask.specs.Keeping.{AreKept, MayBeKeptBy, MayBeKeptOf};
 
 use crate::rules::{are_same, copy_rules};
@@ -136,7 +136,7 @@ pub fn rows_with_values<K: Semiring>(
         (value_answer parameters K.plus_of K.zero_of K.one_of K.times_of
         (token_value K.one_of K.number_of K.itself_of (rules.rules, rules.other)) agree
         (tables_in (dump_view dump.now).entries) (dump_view dump.now).entries
-        (spans_at (dump_view dump.now).tables) (point_view state) (select_view select.now)) }
+        (table_spans (dump_view dump.now).tables) (point_view state) (select_view select.now)) }
 {
     let own = copy_rules(alloc, &rules)?;
     let valuation = by_rules::<K>(alloc, rules)?;

@@ -32,15 +32,15 @@ ghost use Rattle.gp_semiring.specs.Values.{token_value};
 ghost use Rattle.gp_history.specs.ValueForms.{held_value_answer, value_answer};
 ghost use Rattle.gp_versions.specs.declared.span.Span.{Span};
 ghost use Rattle.gp_versions.specs.Spans.{span_cmp};
-ghost use Rattle.gp_whatif.specs.Changed.{changed};
+ghost use Rattle.gp_whatif.specs.Changed.{changed_log};
 ghost use Rattle.gp_whatif.specs.Replays.{IsCoherent, IsReplayable, stop_upto};
 ghost use Rattle.gp_ask.specs.Answerable.{question_is_valid};
 ghost use Rattle.gp_ask.specs.Printed.{answer_to, held_to, what_if_held};
 ghost use Rattle.gp_ask.specs.Computed.{computed_answer, what_if_answer};
-ghost use Rattle.gp_ask.specs.Asking.{spans_at};
+ghost use Rattle.gp_ask.specs.Asking.{table_spans};
 ghost use Rattle.gp_ask.specs.Changes.{spans_texts};
 ghost use Rattle.gp_ask.specs.Deltas.{delta};
-ghost use Rattle.gp_ask.specs.DeltaForms.{added_rows, removed_rows, row_of};
+ghost use Rattle.gp_ask.specs.DeltaForms.{added_rows, removed_rows, signed_row};
 ghost use Rattle.gp_ask.specs.Explained.{ExplainsLines};
 ghost use Rattle.gp_ask.specs.Hypothetical.{remaking_refusal, replayed_dump};
 ghost use Rattle.gp_ask.specs.Isolated.{IsIsolated, LosesToFirst};
@@ -98,7 +98,7 @@ fn rules_give_the_values_of_the_history<K: Semiring>()
 pub fn unstopped_histories_answer_as_their_dumps()
     ensures { (state : State Monomial) → IsUnstopped monomials parameters state
         → tables_in state.entries ≡ state.catalogue → (tables : List (List Span))
-        → ((place : ℕ) → IsPermutation (spans_at tables place) (state_spans state place))
+        → ((place : ℕ) → IsPermutation (table_spans tables place) (state_spans state place))
         → (how : y.How) (point : y.Point) (query : y.Query)
         → answer_to (dump_in state.entries tables) (y.ask how point query)
         ≡ held_to state (y.ask how point query) }
@@ -143,7 +143,7 @@ pub fn histories_are_isolated()
     ensures reached { (lines : List Line) → IsIsolated (after monomials parameters start lines) }
     ensures lost { (lines : List Line) → LosesToFirst (after monomials parameters start lines) }
     ensures remade { (dump : Dump) → IsDump dump → (change : y.LogChange) (entries : List Entry)
-        → changed parameters dump.entries change ≡ Ok entries → remaking_refusal entries ≡ None
+        → changed_log parameters dump.entries change ≡ Ok entries → remaking_refusal entries ≡ None
         → IsIsolated (replayed_state monomials (tables_in entries) entries) }
 {
     reached_states_are_histories::<BaseMonomial>();
@@ -191,7 +191,7 @@ pub fn deltas_are_differences()
         → Contains (removed_rows (delta rows others)) row
         → Contains (added_rows (delta rows others)) row → ⊥ }
     ensures order { (rows others : List (List Cell)) → IsSorted row_cmp rows
-        → IsSorted row_cmp others → IsSorted row_cmp (map row_of (delta rows others)) }
+        → IsSorted row_cmp others → IsSorted row_cmp (map signed_row (delta rows others)) }
     ensures none { (rows others : List (List Cell)) → (delta rows others ≡ []) ↔ (rows ≡ others) }
 {}
 
@@ -202,7 +202,7 @@ pub fn replays_answer_as_their_histories()
     ensures { (entries : List Entry) → CommitsInOrder (log_of entries)
         → replay_stop unannotated (log_of entries) parameters (length (tables_in entries))
         (versions_in entries) ≡ None → (tables : List (List Span))
-        → ((place : ℕ) → IsPermutation (spans_at tables place) (replayed_spans unannotated
+        → ((place : ℕ) → IsPermutation (table_spans tables place) (replayed_spans unannotated
         (log_of entries) (length (tables_in entries)) (versions_in entries) place))
         → (how : y.How) (point : y.Point) (query : y.Query)
         → answer_to (dump_in entries tables) (y.ask how point query)
@@ -224,7 +224,7 @@ pub fn changed_histories_answer_their_questions()
         ≡ what_if_held entries change how point query }
     ensures any_order { (entries : List Entry) → IsReplayable entries
         → stop_upto entries (versions_in entries) ≡ None → (tables : List (List Span))
-        → ((place : ℕ) → IsPermutation (spans_at tables place) (replayed_spans unannotated
+        → ((place : ℕ) → IsPermutation (table_spans tables place) (replayed_spans unannotated
         (log_of entries) (length (tables_in entries)) (versions_in entries) place))
         → (how : y.How) (point : y.Point) (query : y.Query)
         → answer_to (dump_in entries tables) (y.ask how point query)

@@ -8,7 +8,7 @@ ghost use Rattle.gp_machine.specs.Entries.{is_of};
 ghost use Rattle.gp_dumpline.specs.Texts.{entry_text};
 ghost use Rattle.gp_ask.specs.Answers.{entries_of};
 ghost use Rattle.gp_ask.specs.Answers as a;
-ghost use Rattle.gp_ask.specs.Lines.{lines_of};
+ghost use Rattle.gp_ask.specs.Lines.{transaction_lines};
 
 use crate::answered::Answered;
 use gp_base::{NoMemory, Refusal, Sequence, Text};
@@ -49,7 +49,7 @@ fn push_line(
     t: u64,
     lines: &mut Sequence<Text>,
 ) -> Result<(), NoMemory>
-    ensures { OnOk result (lines.new ≡ lines.old ++ lines_of t (entry.now ∷ [])) }
+    ensures { OnOk result (lines.new ≡ lines.old ++ transaction_lines t (entry.now ∷ [])) }
 {
     if is_of(entry, t) {
         lines.push(entry_line(alloc, entry)?)?;

@@ -15,7 +15,7 @@ ghost use Rattle.gp_machine.specs.Questions.{annotated_answer};
 ghost use Rattle.gp_syntax.specs.Views.{query_view, point_view};
 ghost use Rattle.gp_ask.specs.Answerable.{IsAnswerable};
 ghost use Rattle.gp_ask.specs.Computed.{computed_answer};
-ghost use Rattle.gp_ask.specs.Asking.{spans_at};
+ghost use Rattle.gp_ask.specs.Asking.{table_spans};
 ghost use Rattle.gp_ask.specs.AskingForms.{dump_provenance};
 ghost use Rattle.gp_ask.specs.Keeping.{MayBeKeptOf};
 
@@ -48,7 +48,7 @@ fn rows_with_monomials(
     ensures answer { Proves (λ rows. rows.items) result
         (annotated_answer monomials parameters agree
         (tables_in (dump_view dump.now).entries) (dump_view dump.now).entries
-        (spans_at (dump_view dump.now).tables) (point_view state) (select_view select.now)) }
+        (table_spans (dump_view dump.now).tables) (point_view state) (select_view select.now)) }
 {
     provenance_from(
         alloc,

@@ -6,7 +6,7 @@ ghost use Rattle.gp_grammar.specs.Syntax as y;
 ghost use Rattle.gp_dump.specs.Views.{dump_view};
 ghost use Rattle.gp_dumpline.specs.Texts.{span_text};
 ghost use Rattle.gp_ask.specs.Computed.{computed_answer};
-ghost use Rattle.gp_ask.specs.Asking.{spans_at};
+ghost use Rattle.gp_ask.specs.Asking.{table_spans};
 
 use crate::answered::Answered;
 use gp_base::{Name, NoMemory, Refusal, Sequence, Text};
@@ -37,7 +37,7 @@ fn span_lines(alloc: Global, spans: &[Span]) -> Result<Sequence<Text>, NoMemory>
 
 /// The spans of a table; none if it is not there.
 fn spans_of(dump: &Dump, table: u32) -> &[Span]
-    ensures { result.now ≡ spans_at (dump_view dump.now).tables table }
+    ensures { result.now ≡ table_spans (dump_view dump.now).tables table }
 {
     match dump.versions.as_slice().get(table as usize) {
         Some(versions) => versions.as_slice(),

@@ -23,7 +23,6 @@ fn kind_of(kind: WrittenKind) -> TokenKind
     }
 }
 
-/// A rule.
 fn rule_of(rule: &WrittenRule) -> Rule
     ensures { result ≡ v.rule_of (rule_view rule.now) }
 {
@@ -71,7 +70,6 @@ fn pattern_of(rule: &WrittenRule) -> Rule
     }
 }
 
-/// The patterns in order.
 fn patterns_in_order(alloc: Global, rules: &[WrittenRule]) -> Result<Sequence<Rule>, NoMemory>
     ensures { IfOk result (λ found. found ≡ map r.pattern_of (map rule_view rules.now)) }
 {

@@ -17,7 +17,7 @@ ghost use Rattle.gp_semiring.specs.Rules as r;
 ghost use Rattle.gp_semiring.specs.Values.{token_value};
 ghost use Rattle.gp_history.specs.ValueForms as a;
 ghost use Rattle.gp_ask.specs.Answerable.{IsAnswerable, has_few_items};
-ghost use Rattle.gp_ask.specs.Asking.{spans_at};
+ghost use Rattle.gp_ask.specs.Asking.{table_spans};
 ghost use Rattle.gp_ask.specs.AskingForms as f;
 ghost use Rattle.gp_ask.specs.ValueForms.{dump_values};
 ghost use Rattle.gp_ask.specs.Hypothetical as h;
@@ -160,7 +160,7 @@ fn rows_by<K: Semiring>(
         (a.value_answer parameters K.plus_of K.zero_of K.one_of K.times_of
         (token_value K.one_of K.number_of K.itself_of (rules.rules, rules.other)) agree
         (tables_in (dump_view dump.now).entries) (dump_view dump.now).entries
-        (spans_at (dump_view dump.now).tables) (point_view state) (select_view select.now))) }
+        (table_spans (dump_view dump.now).tables) (point_view state) (select_view select.now))) }
 {
     match rows_with_values::<K>(alloc, dump, state, select, rules, slot) {
         Ok(rows) => Ok(Answered::Values(valued_rows(alloc, rows.as_slice())?)),
@@ -169,7 +169,7 @@ fn rows_by<K: Semiring>(
     }
 }
 
-/// The same, unless a number of the rules stands for no element: then nothing is run.
+/// The answer for values in one semiring. Nothing is run where a number of the rules stands for no element.
 fn values_in<K: Semiring>(
     alloc: Global,
     dump: &Dump,

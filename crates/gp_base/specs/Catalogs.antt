@@ -3,7 +3,6 @@ use Rattle.std.specs.Prelude.{ℕ, List, map, Option, position}
 use Rattle.std.specs.Str.{bytes_eq}
 use Rattle.gp_base.specs.declared.table.Table.{Table}
 
--- the names of the tables
 abbrev pub table_names : List Table → List (List ℕ)
 table_names = map (λ (table : Table). table.name)
 

@@ -1,4 +1,4 @@
--- Part of the statement: cells that the code can hold, and those of users.
+-- Of the contract of `to_cell` and of the law `row_text_is_injective`: cells that the code can hold, and those of users.
 use Rattle.std.specs.Prelude.{List, [], ◌∷◌, FitsSigned}
 use Rattle.std.specs.Int.{w64}
 use Rattle.gp_base.specs.declared.cell.Cell.{Cell}

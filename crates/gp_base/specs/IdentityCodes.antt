@@ -16,8 +16,8 @@ abbrev mutual
   sources_code no_sources = 0 ∷ []
   sources_code (source id ids) = 1 ∷ (code id ++ sources_code ids)
 
-abbrev with_numbers : ℕ → ℕ → ℕ → Sources × List ℕ → Option (Identity × List ℕ)
-with_numbers t k n read = Some (identity t k n read.0, read.1)
+abbrev numbered_identity : ℕ → ℕ → ℕ → Sources × List ℕ → Option (Identity × List ℕ)
+numbered_identity t k n read = Some (identity t k n read.0, read.1)
 
 abbrev with_source : Identity → Sources × List ℕ → Option (Sources × List ℕ)
 with_source id read = Some (source id read.0, read.1)
@@ -29,7 +29,7 @@ abbrev mutual
   decode (suc steps) [] = None
   decode (suc steps) (t ∷ []) = None
   decode (suc steps) (t ∷ k ∷ []) = None
-  decode (suc steps) (t ∷ k ∷ n ∷ xs) = option_and_then (with_numbers t k n) (decode_sources steps xs)
+  decode (suc steps) (t ∷ k ∷ n ∷ xs) = option_and_then (numbered_identity t k n) (decode_sources steps xs)
 
   decode_sources : ℕ → List ℕ → Option (Sources × List ℕ)
   decode_sources zero xs = None
@@ -40,7 +40,7 @@ abbrev mutual
 mutual
   decode-code : (id : Identity) (steps : ℕ) (xs : List ℕ) → length (code id) ≤ steps → decode steps (code id ++ xs) ≡ Some (id, xs)
   decode-code (identity t k n ids) zero xs enough = absurd (omega (arith, enough))
-  decode-code (identity t k n ids) (suc steps) xs enough = ap (option_and_then (with_numbers t k n)) (decode_sources-code ids steps xs (omega (arith, enough)))
+  decode-code (identity t k n ids) (suc steps) xs enough = ap (option_and_then (numbered_identity t k n)) (decode_sources-code ids steps xs (omega (arith, enough)))
 
   decode_sources-code : (ids : Sources) (steps : ℕ) (xs : List ℕ) → length (sources_code ids) ≤ steps → decode_sources steps (sources_code ids ++ xs) ≡ Some (ids, xs)
   decode_sources-code no_sources zero xs enough = absurd (omega (arith, enough))

@@ -2,8 +2,8 @@
 use Rattle.std.specs.Prelude.{ℕ}
 use Rattle.gp_base.specs.Identities.{Identity, identity}
 
-abbrev pub transaction_of : Identity → ℕ
-transaction_of (identity t k n ids) = t
+abbrev pub identity_transaction : Identity → ℕ
+identity_transaction (identity t k n ids) = t
 
-abbrev pub statement_of : Identity → ℕ
-statement_of (identity t k n ids) = k
+abbrev pub identity_statement : Identity → ℕ
+identity_statement (identity t k n ids) = k

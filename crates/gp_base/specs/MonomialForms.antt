@@ -1,4 +1,4 @@
--- Part of the statement: tokens and monomials that the code can hold.
+-- Of the contract of `powers` and of the law `product_adds_counts`: tokens and monomials that the code can hold.
 use Rattle.std.specs.Prelude.{ℕ, ◌≤◌, Bool, true, [], ◌∷◌, unwrap_or, IsTrue}
 use Rattle.std.specs.Ordering.{is_lt}
 use Rattle.std.specs.FinMap.{find, is_sorted}

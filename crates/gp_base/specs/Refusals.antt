@@ -10,7 +10,6 @@ use Rattle.gp_base.specs.declared.refusal.Fate.TheVariants.{Active, RolledBack, 
 use Rattle.gp_base.specs.declared.refusal.Refusal.{Refusal}
 use Rattle.gp_base.specs.declared.refusal.Refusal.TheVariants as r
 
--- a limit
 abbrev pub limit_text : Limit → List ℕ
 limit_text l.Tables = codes "tables"
 limit_text l.Columns = codes "columns"

@@ -8,7 +8,7 @@ use Rattle.gp_base.specs.declared.cell.Cell.TheVariants.{Null, Int, Text, Id, Ma
 use Rattle.gp_base.specs.declared.display.TheConstants.{QUOTE}
 use Rattle.gp_base.specs.Identities.{identity_text}
 use Rattle.gp_base.specs.Tokens.{monomial_text}
-use Rattle.gp_base.specs.Writing.{joined}
+use Rattle.gp_base.specs.Writing.{joined_texts}
 
 -- a byte of a text value inside its quotes
 abbrev pub quoted_byte : ℕ → List ℕ
@@ -26,4 +26,4 @@ cell_text (Mono monomial) = concat (codes "[" ∷ monomial_text monomial ∷ cod
 
 -- a row: its cells, separated by a comma and a space
 abbrev pub row_text : List Cell → List ℕ
-row_text = joined cell_text (codes ", ")
+row_text = joined_texts cell_text (codes ", ")

@@ -8,7 +8,7 @@ use Rattle.std.specs.declared.cmp.Ordering.{Ordering}
 use Rattle.std.specs.declared.cmp.Ordering.TheVariants.{Less, Greater}
 use Rattle.std.specs.Cmp.Lexicographic.{slice_cmp}
 use Rattle.std.specs.FinMap.Entries.{by_order}
-use Rattle.gp_base.specs.Writing.{joined}
+use Rattle.gp_base.specs.Writing.{joined_texts}
 use Rattle.gp_base.specs.declared.token.Token.{Token}
 use Rattle.gp_base.specs.declared.token.Token.TheVariants.{Inserted, Queried, Updated}
 
@@ -34,7 +34,7 @@ is_token (Inserted t k n) = is_u32 t && (is_u32 k && is_u32 n)
 is_token (Queried t k) = is_u32 t && is_u32 k
 is_token (Updated t k) = is_u32 t && is_u32 k
 
--- the greatest count
+-- a count of 64 bits stops there
 abbrev pub greatest_count : ℕ
 greatest_count = 0xffff_ffff_ffff_ffff
 
@@ -79,4 +79,4 @@ abbrev pub power_text : Token × ℕ → List ℕ
 power_text pair = if pair.1 == 1 then token_text pair.0 else concat (token_text pair.0 ∷ codes "^" ∷ decimal pair.1 ∷ [])
 
 abbrev pub monomial_text : Monomial → List ℕ
-monomial_text = joined power_text (codes "*")
+monomial_text = joined_texts power_text (codes "*")

@@ -1,4 +1,4 @@
--- Part of the statement: cells that a user can write.
+-- Of the law `lines_are_one_line` (gp_dumpline) and of the contract of `check` (gp_check): cells that a user can write.
 use Rattle.std.specs.Prelude.{Bool, true, false}
 use Rattle.gp_base.specs.declared.cell.Cell.{Cell}
 use Rattle.gp_base.specs.declared.cell.Cell.TheVariants.{Null, Int, Text}

@@ -179,7 +179,6 @@ impl TextFormat<(Token, u64)> for PowerFormat {
     }
 }
 
-/// The text of a monomial.
 fn monomial_text(alloc: Global, monomial: &Monomial) -> Result<Vec<u8>, NoMemory>
     ensures { IfOk result (λ text. text.items ≡ monomial_text monomial.now) }
 {

@@ -2,7 +2,7 @@
 
 ghost use Rattle.std.specs.Prelude.{◌≡◌, ◌++◌, IfOk, OnOk, OnErr, List, ℕ, ◌∷◌};
 ghost use Rattle.std.specs.List.{flat_map};
-ghost use Rattle.gp_base.specs.Writing.{joined};
+ghost use Rattle.gp_base.specs.Writing.{joined_texts};
 ghost use Rattle.gp_base.specs.DirectWriting.{AppendsPrefix};
 
 use crate::error::NoMemory;
@@ -71,9 +71,9 @@ fn write_from<T, W: TextFormat<T>>(
     out: &mut Vec<u8>,
 ) -> Result<(), NoMemory>
     ensures ok { OnOk result (out.new.items
-        ≡ out.old.items ++ joined W.text separator.now (first.now ∷ others.now)) }
+        ≡ out.old.items ++ joined_texts W.text separator.now (first.now ∷ others.now)) }
     ensures err { OnErr result (AppendsPrefix out.old.items out.new.items
-        (joined W.text separator.now (first.now ∷ others.now))) }
+        (joined_texts W.text separator.now (first.now ∷ others.now))) }
 {
     texts.write(alloc, first, out)?;
     write_others(alloc, others, texts, separator, out)?;
@@ -90,9 +90,9 @@ pub fn write_joined<T, W: TextFormat<T>>(
     out: &mut Vec<u8>,
 ) -> Result<(), NoMemory>
     ensures ok { OnOk result
-        (out.new.items ≡ out.old.items ++ joined W.text separator.now items.now) }
+        (out.new.items ≡ out.old.items ++ joined_texts W.text separator.now items.now) }
     ensures err { OnErr result
-        (AppendsPrefix out.old.items out.new.items (joined W.text separator.now items.now)) }
+        (AppendsPrefix out.old.items out.new.items (joined_texts W.text separator.now items.now)) }
 {
     match items {
         [] => Ok(()),

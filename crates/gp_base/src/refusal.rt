@@ -299,7 +299,6 @@ fn semiring_refusal_text(alloc: Global, number: u64, semiring: &Text) -> Result<
     )
 }
 
-/// The text of a refusal.
 fn refusal_text(alloc: Global, refusal: &Refusal) -> Result<Vec<u8>, NoMemory>
     ensures { IfOk result (λ text. text.items ≡ refusal_text refusal.now) }
 {

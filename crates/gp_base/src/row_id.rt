@@ -4,7 +4,7 @@ ghost use Rattle.std.specs.Prelude.{◌≡◌, ◌<◌, ◌≤◌, IfSome, Match
 ghost use Rattle.std.specs.Ordering.{eq_by_cmp, as_partial_cmp};
 ghost use Rattle.std.specs.Cmp.{eq_by_cmp_equiv, partial_equiv_from_equiv, po};
 ghost use Rattle.gp_base.specs.Identities.{identity, identity_cmp, nodes, nodes_in, sources_cmp};
-ghost use Rattle.gp_base.specs.IdentityParts.{statement_of, transaction_of};
+ghost use Rattle.gp_base.specs.IdentityParts.{identity_statement, identity_transaction};
 ghost use Rattle.gp_base.specs.IdentityForms.{AreIdentities, IsIdentity, number_of, sources_in, sources_of};
 ghost use Rattle.gp_base.specs.IdentityOrder.{identity_cmp_total};
 
@@ -85,14 +85,14 @@ impl RowId {
 
     /// The transaction that made the row, from 1.
     pub fn t(&self) -> u32
-        ensures { result ≡ transaction_of self.now }
+        ensures { result ≡ identity_transaction self.now }
     {
         self.t
     }
 
     /// The statement that made the row, from 1.
     pub fn k(&self) -> u32
-        ensures { result ≡ statement_of self.now }
+        ensures { result ≡ identity_statement self.now }
     {
         self.k
     }

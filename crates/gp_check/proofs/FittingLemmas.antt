@@ -26,7 +26,7 @@ use Rattle.gp_check.specs.declared.place.Resolution.{Resolution}
 use Rattle.gp_check.specs.declared.place.Resolution.TheVariants.{Absent, Found, Ambiguous}
 use Rattle.gp_check.specs.Scopes.{Source, Scope, ColumnName, columns_of, scope_behind, scope_of, target_scope, place_behind, may_be_of, place_in, only_place, resolution}
 use Rattle.gp_check.specs.Faults.{unless, first_fault, table_fault, items_fault, block_columns_fault, column_fault, resolution_fault, set_name, set_fault, widths_agree, first_refusal, width_behind, scope_width, items_width, block_width, have_width, have_one_width, block_tables_fault, query_tables_fault}
-use Rattle.gp_check.specs.Meaning.{column_expr, expr_of, cond_of, where_of, exprs_of, number_of_table, branch_of, select_of, column_number, set_of, statement_of}
+use Rattle.gp_check.specs.Meaning.{column_expr, expr_of, cond_of, where_of, exprs_of, number_of_table, branch_of, select_of, column_number, set_expr_of, meant_statement}
 use Rattle.gp_check.specs.Valid.{is_valid, tables_are_valid, set_is_valid, term_is_valid, condition_is_valid, items_are_valid, block_is_valid, query_is_valid, table_is_valid}
 use Rattle.gp_check.specs.Checking.{refused_by, checked, checked_query}
 use Rattle.gp_check.specs.Views.{Checks}
@@ -384,7 +384,7 @@ set_column scope width fits name none = by (resolution scope name) refl none
         ap (λ r. is_column width (column_number r)) is ∙ is_column-numbered width place.number n.0 n.1
 
 sets_fit : (scope : Scope) (width : ℕ) → Within width scope → (sets : List SetTerm) → list_all set_is_valid sets ≡ true
-    → first_fault (set_fault scope) sets ≡ None → list_all (set_fits width) (map (set_of scope) sets) ≡ true
+    → first_fault (set_fault scope) sets ≡ None → list_all (set_fits width) (map (set_expr_of scope) sets) ≡ true
 sets_fit scope width fits [] valid none = refl
 sets_fit scope width fits (set ∷ sets) valid none =
     let v = and_parts (set_is_valid set) _ valid in let n = none_of (set_fault scope set) _ none in
@@ -402,7 +402,7 @@ rows_fit : (width : ℕ) (rows : List (List Cell)) → list_all (list_all is_use
 rows_fit width rows valid same = all_of_two _ _ _ (λ row cells width. and_from _ _ width cells) rows valid same
 
 pub fits : (tables : List Table) (command : Command) → list_all table_is_valid tables ≡ true → is_statement command ≡ true → is_valid command ≡ true
-    → first_refusal tables command ≡ None → statement_fits tables (statement_of tables command) ≡ true
+    → first_refusal tables command ≡ None → statement_fits tables (meant_statement tables command) ≡ true
 fits tables (y.create table) columns statement valid none = absurd (true≢false (sym statement))
 fits tables (y.begin read_committed) columns statement valid none = absurd (true≢false (sym statement))
 fits tables y.Command.commit columns statement valid none = absurd (true≢false (sym statement))
@@ -443,7 +443,7 @@ pub statement_fits_if_checked : (tables : List Table) (command : Command) → is
     → Checks statement_view result (checked tables command)
     → IfOk result (λ stmt. tables_are_valid tables ≡ true → is_valid command ≡ true → statement_fits tables (statement_view stmt) ≡ true)
 statement_fits_if_checked tables command statement (Ok stmt) is = λ columns valid.
-    let a = accepted (first_refusal tables command) (statement_of tables command) (statement_view stmt) is in
+    let a = accepted (first_refusal tables command) (meant_statement tables command) (statement_view stmt) is in
     subst (λ s. statement_fits tables s ≡ true) a.1 (fits tables command columns statement valid a.0)
 statement_fits_if_checked tables command statement (Err stop) is = tt
 

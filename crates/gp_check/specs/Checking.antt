@@ -7,13 +7,13 @@ use Rattle.gp_grammar.specs.Syntax as y
 use Rattle.gp_grammar.specs.Syntax.{Query, Command}
 use Rattle.gp_algebra.specs.Statements.{Select, Statement}
 use Rattle.gp_check.specs.Faults.{first_refusal}
-use Rattle.gp_check.specs.Meaning.{select_of, statement_of}
+use Rattle.gp_check.specs.Meaning.{select_of, meant_statement}
 
 abbrev pub refused_by : {A : Type 0} → Option Refusal → A → Result A Refusal
 refused_by fault meaning = option_map_or Err fault (Ok meaning)
 
 abbrev pub checked : List Table → Command → Result Statement Refusal
-checked tables command = refused_by (first_refusal tables command) (statement_of tables command)
+checked tables command = refused_by (first_refusal tables command) (meant_statement tables command)
 
 -- a query of a question is checked like that of a SELECT
 abbrev pub checked_query : List Table → Query → Result Select Refusal

@@ -9,7 +9,7 @@ use Rattle.gp_base.specs.declared.refusal.Refusal.TheVariants.{E04, E05, E06, E0
 use Rattle.gp_base.specs.declared.table.Column.{Column}
 use Rattle.gp_base.specs.declared.table.Table.{Table}
 use Rattle.gp_base.specs.Catalogs.{place_of}
-use Rattle.gp_grammar.specs.Limits.{listed}
+use Rattle.gp_grammar.specs.Limits.{select_terms}
 use Rattle.gp_grammar.specs.Syntax as y
 use Rattle.gp_grammar.specs.Syntax.{Bytes, Term, SetTerm, Item, Items, Block, Query, Command}
 use Rattle.gp_check.specs.declared.place.Resolution.{Resolution}
@@ -92,7 +92,7 @@ where_fault scope (Some term) = term_fault scope term
 
 unfoldable pub block_columns_fault : List Table → Block → Option Refusal
 block_columns_fault tables block =
-    option_or (first_fault (term_fault (scope_of tables block.from)) (listed block.items)) (where_fault (scope_of tables block.from) block.cond)
+    option_or (first_fault (term_fault (scope_of tables block.from)) (select_terms block.items)) (where_fault (scope_of tables block.from) block.cond)
 
 abbrev pub set_name : SetTerm → ColumnName
 set_name set = record { item = None; col = set.col }

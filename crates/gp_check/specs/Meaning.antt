@@ -75,14 +75,14 @@ abbrev pub column_number : Resolution → ℕ
 column_number (Found place) = place.number
 column_number _ = 0
 
-abbrev pub set_of : Scope → SetTerm → SetExpr
-set_of scope set = record { col = column_number (resolution scope (set_name set)); expr = expr_of scope set.term }
+abbrev pub set_expr_of : Scope → SetTerm → SetExpr
+set_expr_of scope set = record { col = column_number (resolution scope (set_name set)); expr = expr_of scope set.term }
 
-abbrev pub statement_of : List Table → Command → Statement
-statement_of tables (y.insert table rows) = s.insert (number_of_table tables table) rows
-statement_of tables (y.insert_select table query) = s.insert_select (number_of_table tables table) (select_of tables query)
-statement_of tables (y.update table sets cond) =
-    s.update (number_of_table tables table) (map (set_of (target_scope tables table)) sets) (where_of (target_scope tables table) cond)
-statement_of tables (y.delete table cond) = s.delete (number_of_table tables table) (where_of (target_scope tables table) cond)
-statement_of tables (y.select query) = s.read (select_of tables query)
-statement_of tables _ = s.read []
+abbrev pub meant_statement : List Table → Command → Statement
+meant_statement tables (y.insert table rows) = s.insert (number_of_table tables table) rows
+meant_statement tables (y.insert_select table query) = s.insert_select (number_of_table tables table) (select_of tables query)
+meant_statement tables (y.update table sets cond) =
+    s.update (number_of_table tables table) (map (set_expr_of (target_scope tables table)) sets) (where_of (target_scope tables table) cond)
+meant_statement tables (y.delete table cond) = s.delete (number_of_table tables table) (where_of (target_scope tables table) cond)
+meant_statement tables (y.select query) = s.read (select_of tables query)
+meant_statement tables _ = s.read []

@@ -1,4 +1,4 @@
--- Part of the statement: the types of terms as a relation with one constructor for each rule, and that the function `type_of` is this relation.
+-- Of the law `typing_follows_the_rules`: the types of terms as a relation with one constructor for each rule, and that the function `type_of` is this relation.
 use Rattle.std.specs.Prelude.{◌≡◌, ℤ, Bool, true, Option, Some}
 use Rattle.gp_grammar.specs.declared.op.Op.{Op}
 use Rattle.gp_grammar.specs.Syntax as y

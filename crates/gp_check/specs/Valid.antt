@@ -1,5 +1,6 @@
--- Part of the statement: valid commands, queries and tables. What the check makes of a valid command over valid tables fits them, and every
--- command that was read from a text is valid: so say the laws `read_commands_are_valid`, `read_lines_are_valid`, `read_questions_are_valid`.
+-- Of the contract of `check`, as its premises, and of the law `read_commands_are_valid`: valid commands, queries and tables. What the check makes of a valid
+-- command over valid tables fits them, and every command, line and question that was read from a text is valid (`read_lines_are_valid`,
+-- `read_questions_are_valid`).
 use Rattle.std.specs.Prelude.{nat_lt, Bool, true, ◌&&◌, List, length, Option, Some, None}
 use Rattle.std.specs.List.{list_all}
 use Rattle.gp_base.specs.declared.cell.Cell.TheVariants as cell

@@ -1,4 +1,4 @@
--- Part of the statement: what the results of the code say.
+-- Of the contracts of `check` and `check_query`: what the results of the code say.
 use Rattle.std.specs.Prelude.{◌≡◌, Option, Some, None, Result, Ok, Err}
 use Rattle.gp_base.specs.declared.refusal.Refusal.{Refusal}
 use Rattle.gp_check.specs.declared.error.CheckStop.{CheckStop}

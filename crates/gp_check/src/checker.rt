@@ -117,7 +117,6 @@ fn check_insert_select(
     })
 }
 
-/// Checks an UPDATE.
 fn check_update(
     alloc: Global,
     catalog: &Catalog,
@@ -145,7 +144,6 @@ fn check_update(
     })
 }
 
-/// Checks a DELETE.
 fn check_delete(
     alloc: Global,
     catalog: &Catalog,
@@ -178,7 +176,6 @@ fn check_blocks(alloc: Global, catalog: &Catalog, blocks: &[Block]) -> Result<Se
     Ok(select(alloc, catalog, blocks)?)
 }
 
-/// Checks a statement.
 fn check_statement(alloc: Global, catalog: &Catalog, command: &Command) -> Result<Stmt, CheckStop>
     requires { is_statement (command_view command.now) ≡ true }
     ensures { Checks statement_view result (checked catalog.now (command_view command.now)) }

@@ -1,7 +1,7 @@
 //! Columns that are not there or ambiguous.
 
 ghost use Rattle.std.specs.Prelude.{map, Ok};
-ghost use Rattle.gp_grammar.specs.Limits.{listed};
+ghost use Rattle.gp_grammar.specs.Limits.{select_terms};
 ghost use Rattle.gp_syntax.specs.Views.{block_view, condition_view, items_view, set_view, term_view};
 ghost use Rattle.gp_check.specs.Faults.{block_columns_fault, column_fault, first_fault, set_fault, term_fault, where_fault};
 ghost use Rattle.gp_check.specs.Views.{Checks, Finds, source_view};
@@ -87,7 +87,8 @@ fn known_term_columns(scope: &[Source], terms: &[Term]) -> Result<(), CheckStop>
 /// Refuses the first column of a select list that is not known.
 fn known_item_columns(scope: &[Source], items: &Items) -> Result<(), CheckStop>
     ensures { Finds result
-        (first_fault (term_fault (map source_view scope.now)) (listed (items_view items.now))) }
+        (first_fault (term_fault (map source_view scope.now))
+        (select_terms (items_view items.now))) }
 {
     match items {
         Items::Star => Ok(()),

@@ -28,7 +28,7 @@ pub fn read_commands_are_valid()
         → command_of text ≡ Ok command → is_valid command ≡ true }
 {}
 
-/// The same for the command of a script line that was read.
+/// The command of a script line that was read is valid, as the line is one command behind its session.
 pub fn read_lines_are_valid()
     ensures derived { (text : List ℕ) (line : ScriptLine)
         → ReadsLine IsScriptLine line_shape text line → is_valid line.command ≡ true }
@@ -36,7 +36,7 @@ pub fn read_lines_are_valid()
         → script_line_of text ≡ Ok line → is_valid line.command ≡ true }
 {}
 
-/// The same for the query of a question that was read, for [`crate::check_query`], and for the commands of its changes.
+/// The query of a question that was read is valid, for [`crate::check_query`], and so are the commands of its changes.
 pub fn read_questions_are_valid()
     ensures derived { (text : List ℕ) (question : Question)
         → ReadsLine IsQuestion question_shape text question → question_is_valid question ≡ true }

@@ -281,7 +281,6 @@ fn items_exprs(alloc: Global, scope: &[Source], items: &Items) -> Result<Sequenc
     }
 }
 
-/// The numbers of the tables of a FROM.
 fn table_numbers(alloc: Global, catalog: &Catalog, from: &[Item]) -> Result<Sequence<u32>, NoMemory>
     ensures { IfOk result (λ places. places
         ≡ map (λ (item : y.Item). m.number_of_table catalog.now item.table)
@@ -337,7 +336,7 @@ pub fn set_exprs(
     sets: &[SetTerm],
 ) -> Result<Sequence<SetExpr>, NoMemory>
     ensures { IfOk result (λ exprs. map a.set_view exprs
-        ≡ map (m.set_of (map source_view scope.now)) (map set_view sets.now)) }
+        ≡ map (m.set_expr_of (map source_view scope.now)) (map set_view sets.now)) }
 {
     let mut exprs = Sequence::new(alloc);
     for set in sets {

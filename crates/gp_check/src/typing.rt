@@ -23,7 +23,6 @@ use std::alloc::Global;
 /// The types of a select list: a position is None where its term is not well typed.
 pub type Types = Sequence<Option<TermType>>;
 
-/// The type of a column.
 fn column_type(scope: &[Source], item: &Option<Name>, col: &Name) -> Option<TermType>
     ensures { result ≡ t.type_of (map source_view scope.now) (y.col item.now col.now) }
 {

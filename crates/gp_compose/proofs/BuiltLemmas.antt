@@ -18,7 +18,7 @@ use Rattle.gp_rewrite.proofs.FitLemmas.{delete_is_simple, update_is_simple}
 use Rattle.gp_rewrite.proofs.FormLemmas.{query_answers, rewritten_step}
 use Rattle.gp_rewrite.proofs.ReadLemmas.{query_reads, rewritten_reads}
 use Rattle.gp_rewrite.proofs.SoundLemmas.{query_sound, rewritten_sound}
-use Rattle.gp_compose.specs.Composed.{after, as_of, commit, composed, current, current_before, last_write, moved, onto, published, step_of, writes}
+use Rattle.gp_compose.specs.Composed.{program_after, program_as_of, program_of_commit, composed, current, current_before, last_write, moved, onto, published_query, step_of, writes}
 use Rattle.gp_compose.specs.StepForms.{is_target, steps_of}
 use Rattle.gp_compose.specs.Composing.{looking, looking_program, published_table}
 use Rattle.gp_compose.proofs.ComposedLemmas.{writes_is}
@@ -150,7 +150,7 @@ module _ (columns : ℕ → ℕ) (log : Log) (t : ℕ) where
   before_reads k table = before_has (λ query. reads_only (numbers_with [] (composed columns log t k)) query ≡ true) table k (λ v. refl) (λ old new query is. and_from (reads_only (numbers_with [] (composed columns log t k)) query) true is refl)
       (λ j within e. stands_among (suc j) table [] (composed columns log t k) (stands_within k j table within e))
 
-  published_table_is : (before table : ℕ) → IsTable columns (step_table (composed columns log t (log.statement_count t))) table (published log t before table)
+  published_table_is : (before table : ℕ) → IsTable columns (step_table (composed columns log t (log.statement_count t))) table (published_query log t before table)
   published_table_is before table = go (last_write log t (log.statement_count t) table)
     where
       last : IsTable columns (step_table (composed columns log t (log.statement_count t))) table (current log t (log.statement_count t) table)
@@ -160,14 +160,14 @@ module _ (columns : ℕ → ℕ) (log : Log) (t : ℕ) where
       go None = refl
       go (Some j) = (refl, last, refl)
 
-  published_sound : (before table : ℕ) → is_sound (published log t before table) ≡ true
+  published_sound : (before table : ℕ) → is_sound (published_query log t before table) ≡ true
   published_sound before table = go (last_write log t (log.statement_count t) table)
     where
       go : (o : Option ℕ) → is_sound (onto (log.version t (log.statement_count t)) before table o (current log t (log.statement_count t) table)) ≡ true
       go None = refl
       go (Some j) = and_from (is_sound (current log t (log.statement_count t) table)) true (current_sound (log.statement_count t) table) refl
 
-  published_reads : (before table : ℕ) → reads_only (numbers_with [] (composed columns log t (log.statement_count t))) (published log t before table) ≡ true
+  published_reads : (before table : ℕ) → reads_only (numbers_with [] (composed columns log t (log.statement_count t))) (published_query log t before table) ≡ true
   published_reads before table = go (last_write log t (log.statement_count t) table)
     where
       go : (o : Option ℕ) → reads_only (numbers_with [] (composed columns log t (log.statement_count t))) (onto (log.version t (log.statement_count t)) before table o (current log t (log.statement_count t) table)) ≡ true
@@ -242,7 +242,7 @@ module _ (catalogue : List Table) (log : Log) (t : ℕ) (some_transaction : 0 < 
     last_sound = sound;
   }
 
-  pub after_is_built : (k : ℕ) (select : Select) → select_fits catalogue select ≡ true → IsWellBuilt (width_of catalogue) (after (width_of catalogue) log t k select)
+  pub after_is_built : (k : ℕ) (select : Select) → select_fits catalogue select ≡ true → IsWellBuilt (width_of catalogue) (program_after (width_of catalogue) log t k select)
   after_is_built k select fit = record {
     steps =
         composed_is_built k (query_of (current log t k) select) (query_reads (numbers_with [] (composed (width_of catalogue) log t k)) (current log t k) (current_reads (width_of catalogue) log t k) select)
@@ -253,19 +253,19 @@ module _ (catalogue : List Table) (log : Log) (t : ℕ) (some_transaction : 0 < 
       tables : (table : ℕ) → IsTable (width_of catalogue) (step_table (composed (width_of catalogue) log t k)) table (current log t k table)
       tables table = subst (λ n. IsTable (width_of catalogue) (step_table (composed (width_of catalogue) log t n)) table (current log t k table)) (plus_zero k) (current_table (width_of catalogue) log t k 0 table)
 
-  pub commit_is_built : (before : ℕ) (select : Select) → select_fits catalogue select ≡ true → IsWellBuilt (width_of catalogue) (commit (width_of catalogue) log t before select)
+  pub commit_is_built : (before : ℕ) (select : Select) → select_fits catalogue select ≡ true → IsWellBuilt (width_of catalogue) (program_of_commit (width_of catalogue) log t before select)
   commit_is_built before select fit =
       let steps = composed (width_of catalogue) log t (log.statement_count t) in
       record {
         steps =
-            composed_is_built (log.statement_count t) (query_of (published log t before) select) (query_reads (numbers_with [] steps) (published log t before) (published_reads (width_of catalogue) log t before) select)
-            (query_sound (published log t before) (published_sound (width_of catalogue) log t before) catalogue select fit);
-        answer = query_answers catalogue (step_table steps) (published log t before) (published_table_is (width_of catalogue) log t before) select fit;
+            composed_is_built (log.statement_count t) (query_of (published_query log t before) select) (query_reads (numbers_with [] steps) (published_query log t before) (published_reads (width_of catalogue) log t before) select)
+            (query_sound (published_query log t before) (published_sound (width_of catalogue) log t before) catalogue select fit);
+        answer = query_answers catalogue (step_table steps) (published_query log t before) (published_table_is (width_of catalogue) log t before) select fit;
       }
 
   pub published_is_built : (before table : ℕ) → IsTableProgram (width_of catalogue) table (published_table (width_of catalogue) log t before table)
   published_is_built before table = record {
-    steps = composed_is_built (log.statement_count t) (published log t before table) (published_reads (width_of catalogue) log t before table) (published_sound (width_of catalogue) log t before table);
+    steps = composed_is_built (log.statement_count t) (published_query log t before table) (published_reads (width_of catalogue) log t before table) (published_sound (width_of catalogue) log t before table);
     contents = published_table_is (width_of catalogue) log t before table;
   }
 
@@ -315,7 +315,7 @@ module _ (catalogue : List Table) (log : Log) (t : ℕ) (some_transaction : 0 < 
       contents (s.delete own c) e is = subst (λ place. IsTable (width_of catalogue) (step_table steps) place (current_before log t k own)) (same_Some own table is) (before own)
       contents (s.read select) e is = absurd (none-some table is)
 
-pub as_of_is_built : (catalogue : List Table) (version : ℕ) (select : Select) → select_fits catalogue select ≡ true → IsWellBuilt (width_of catalogue) (as_of version select)
+pub as_of_is_built : (catalogue : List Table) (version : ℕ) (select : Select) → select_fits catalogue select ≡ true → IsWellBuilt (width_of catalogue) (program_as_of version select)
 as_of_is_built catalogue version select fit = record {
   steps = record {
     rising = tt;

@@ -12,7 +12,7 @@ use Rattle.gp_machine.specs.Entries.{Log}
 use Rattle.gp_machine.specs.Publishing.{was_written}
 use Rattle.gp_machine.specs.Runs.{at_commit, run}
 use Rattle.gp_rewrite.specs.Meaning.{AreAsWide, IsMonoid}
-use Rattle.gp_compose.specs.Composed.{current, last_write, onto, published}
+use Rattle.gp_compose.specs.Composed.{current, last_write, onto, published_query}
 use Rattle.gp_compose.proofs.ComposedLemmas.{current_is, step_rows, untouched}
 use Rattle.gp_compose.proofs.PublishedLists.{nothing_published, publish_means}
 
@@ -22,7 +22,7 @@ module _ {M : Type 0} (domain : Annotations M) (monoid : IsMonoid domain) (catal
     (fits : (k : ℕ) (statement : Statement) → log.statement t (suc k) ≡ Some statement → statement_fits catalogue statement ≡ true)
     (unmarked : (version table : ℕ) → AllByRecursion (λ row. row.mark ≡ false) (env version table)) where
   pub published_is : (before table : ℕ) →
-      meaning domain (step_rows domain (width_of catalogue) log t env (log.statement_count t)) env (published log t before table) ≡ map (scanned domain) (at_commit domain log t before env table)
+      meaning domain (step_rows domain (width_of catalogue) log t env (log.statement_count t)) env (published_query log t before table) ≡ map (scanned domain) (at_commit domain log t before env table)
   published_is before table = go (last_write log t count table) refl
     where
       count : ℕ

@@ -18,7 +18,7 @@ use Rattle.gp_log.specs.Sessions.{KeepsSessions}
 use Rattle.gp_log.proofs.KeptSessions.{read_before, rising}
 use Rattle.gp_rewrite.specs.Rewriting.{branch_of, made_of, made_onto, product_of, query_of, rewritten, selected_by}
 use Rattle.gp_rewrite.specs.RewritingForms.{product_onto, union_onto}
-use Rattle.gp_compose.specs.Composed.{composed, current, current_before, last_write, moved, onto, program_at, published, step_of, writes}
+use Rattle.gp_compose.specs.Composed.{composed, current, current_before, last_write, moved, onto, program_at, published_query, step_of, writes}
 use Rattle.gp_compose.specs.StepForms.{steps_of}
 use Rattle.gp_base.proofs.SmallLemmas.{each_append}
 
@@ -112,7 +112,7 @@ module _ (n : ℕ) (columns : ℕ → ℕ) (log : Log) (t : ℕ) where
       moved_up_to (log.version t k) (log.version t (suc k)) table (last_write log t k table) (current log t k table) (within k (omega arith)) (within (suc k) (omega arith))
       (current_up_to k table (λ j l. within j (omega arith)))
 
-  published_up_to : (before table : ℕ) → ReadUpTo log t (log.statement_count t) n → before ≤ n → ReadsUpTo n (published log t before table)
+  published_up_to : (before table : ℕ) → ReadUpTo log t (log.statement_count t) n → before ≤ n → ReadsUpTo n (published_query log t before table)
   published_up_to before table within later = go (last_write log t (log.statement_count t) table)
     where
       go : (o : Option ℕ) → ReadsUpTo n (onto (log.version t (log.statement_count t)) before table o (current log t (log.statement_count t) table))
@@ -168,8 +168,8 @@ needed_scans columns entries is (y.Point.commit t) (to_commit {version = version
     let before : ℕ = version_before (version_of t entries) in
     let within : ReadUpTo log t (statement_count t entries) before = λ j l. up_to j version made (read_before entries is t version j made l) in
     each_contained (IsUpTo before) (annotated_program_scans (program_at columns entries (y.Point.commit t) select))
-    (program_up_to before columns log t (statement_count t entries) (query_of (published log t before) select) within
-    (query_up_to before (published log t before) (λ table. published_up_to before columns log t before table within (omega arith)) select)) scan among
+    (program_up_to before columns log t (statement_count t entries) (query_of (published_query log t before) select) within
+    (query_up_to before (published_query log t before) (λ table. published_up_to before columns log t before table within (omega arith)) select)) scan among
   where
     up_to : (j v : ℕ) → version_of t entries ≡ Some v → statement_version t j entries < v → statement_version t j entries ≤ version_before (version_of t entries)
     up_to j zero made l = absurd (omega arith)

@@ -1,6 +1,7 @@
--- Part of the statement: the statements of a transaction as one program. Each statement that writes a table is a step, over the current query of each
--- table: the step that wrote the table last, or a scan of the version that the statement reads. Where a statement reads another version than the one
--- before, PUBLISH moves what the transaction wrote onto it. What a COMMIT published is PUBLISH onto the version before the commit.
+-- Of the law `composed_programs_mean_the_states` and of the contract of `program`: the statements of a transaction as one program. Each statement that writes a
+-- table is a step, over the current query of each table: the step that wrote the table last, or a scan of the version that the statement reads. Where a
+-- statement reads another version than the one before, PUBLISH moves what the transaction wrote onto it. What a COMMIT published is PUBLISH onto the version
+-- before the commit.
 use Rattle.std.specs.Prelude.{ℕ, zero, suc, ◌==◌, Bool, false, List, [], ◌∷◌, ◌++◌, Option, Some, None, option_and_then, if◌then◌else◌}
 use Rattle.std.specs.Option.{option_map, option_map_or, option_to_list}
 use Rattle.gp_grammar.specs.Syntax as y
@@ -59,24 +60,24 @@ composed columns log t (suc k) = composed columns log t k ++ step_of columns t (
 -- ---- programs
 
 -- a query over what the transaction read after its k-th statement
-abbrev pub after : (ℕ → ℕ) → Log → ℕ → ℕ → Select → Program
-after columns log t k select = record { steps = composed columns log t k; last = query_of (current log t k) select }
+abbrev pub program_after : (ℕ → ℕ) → Log → ℕ → ℕ → Select → Program
+program_after columns log t k select = record { steps = composed columns log t k; last = query_of (current log t k) select }
 
 -- a table that the transaction published: onto the version before its commit
-abbrev pub published : Log → ℕ → ℕ → ℕ → Query
-published log t before table =
+abbrev pub published_query : Log → ℕ → ℕ → ℕ → Query
+published_query log t before table =
     onto (log.version t (log.statement_count t)) before table (last_write log t (log.statement_count t) table) (current log t (log.statement_count t) table)
 
 -- a query over what the transaction published
-abbrev pub commit : (ℕ → ℕ) → Log → ℕ → ℕ → Select → Program
-commit columns log t before select = record { steps = composed columns log t (log.statement_count t); last = query_of (published log t before) select }
+abbrev pub program_of_commit : (ℕ → ℕ) → Log → ℕ → ℕ → Select → Program
+program_of_commit columns log t before select = record { steps = composed columns log t (log.statement_count t); last = query_of (published_query log t before) select }
 
 -- a query over a version
-abbrev pub as_of : ℕ → Select → Program
-as_of version select = record { steps = []; last = query_of (λ table. q.scan table version) select }
+abbrev pub program_as_of : ℕ → Select → Program
+program_as_of version select = record { steps = []; last = query_of (λ table. q.scan table version) select }
 
 -- the program of a state
 abbrev pub program_at : (ℕ → ℕ) → List Entry → y.Point → Select → Program
-program_at columns entries (y.as_of version) select = as_of version select
-program_at columns entries (y.after t k) select = after columns (log_of entries) t k select
-program_at columns entries (y.Point.commit t) select = commit columns (log_of entries) t (version_before (version_of t entries)) select
+program_at columns entries (y.as_of version) select = program_as_of version select
+program_at columns entries (y.after t k) select = program_after columns (log_of entries) t k select
+program_at columns entries (y.Point.commit t) select = program_of_commit columns (log_of entries) t (version_before (version_of t entries)) select

@@ -21,7 +21,6 @@ own_statement t (Ran line session command u statement) = if u == t then Some sta
 own_statement t (Committed line session u) = None
 own_statement t (Ended line session end u) = None
 
--- the same of an entry of the code
 abbrev pub own_in : ℕ → code.Entry → Option Statement
 own_in t entry = own_statement t (entry_view entry)
 
@@ -76,7 +75,7 @@ pub record AreParts (columns : ℕ → ℕ) (log : Log) (t k count read : ℕ) (
 abbrev pub IsComposed : (ℕ → ℕ) → Log → ℕ → ℕ → ℕ → Parts → Type 0
 IsComposed columns log t k count parts = AreParts columns log t k count (log.version t k) (current log t k) parts
 
--- the same, over the tables of a log of the code
+-- given a log of the code, which has the tables
 abbrev pub IsComposedIn : Logged → ℕ → ℕ → Parts → Type 0
 IsComposedIn log t k parts = IsComposed (width_of (tables log)) (log_of (entries log)) t k (length (tables log)) parts
 

@@ -20,7 +20,7 @@ ghost use Rattle.gp_machine.specs.Questions.{is_known, log_refusal, needed_versi
 ghost use Rattle.gp_machine.specs.Runs.{at_commit, run, run_before};
 ghost use Rattle.gp_log.specs.LogFitting.{statements_fit};
 ghost use Rattle.gp_log.specs.Sessions.{KeepsSessions};
-ghost use Rattle.gp_rewrite.specs.Meaning.{IsMonoid, of_element, unmarked};
+ghost use Rattle.gp_rewrite.specs.Meaning.{IsMonoid, row_of_element, unmarked};
 ghost use Rattle.gp_compose.specs.Composed.{composed, program_at};
 ghost use Rattle.gp_compose.specs.Composing.{looking_program, published_table};
 ghost use Rattle.gp_compose.specs.Seen.{looked_at};
@@ -38,7 +38,7 @@ pub fn composed_programs_mean_the_states<M>()
         → (point : y.Point) (select : Select) → select_fits catalogue select ≡ true
         → map unmarked
         (program_meaning domain env (program_at (width_of catalogue) entries point select))
-        ≡ map of_element (answer domain select (at_point domain entries point env)) }
+        ≡ map row_of_element (answer domain select (at_point domain entries point env)) }
     ensures tables { (domain : Annotations M) → IsMonoid domain → (catalogue : List Table)
         (entries : List Entry) → statements_fit catalogue entries ≡ true
         → (env : Environment M) → AreVersions catalogue env

@@ -5,7 +5,7 @@ use Rattle.std.proofs.lemmas.Bool.{cases_Bool, leb-false, lt-ltb}
 use Rattle.gp_grammar.specs.Syntax.{insert}
 use Rattle.gp_grammar.specs.declared.limits.TheConstants.{MAX_LINE_LENGTH, MAX_VALUES}
 use Rattle.gp_csv.specs.Faults.{Fault}
-use Rattle.gp_csv.specs.Scripts.{Row, line_of, fits_line, batches_from, batches_of}
+use Rattle.gp_csv.specs.Scripts.{Row, session_line, fits_line, batches_from, batches_of}
 use Rattle.gp_csv.specs.SheetForms.{PassesLimit}
 use Rattle.gp_csv.specs.declared.error.TheConstants.{LONG_ROW, TOO_MANY}
 use Rattle.gp_csv.specs.declared.script.TheConstants.{MAX_ROWS, MAX_INSERTS}
@@ -28,8 +28,8 @@ some-rows line row = let e = length-append line (row ∷ []) in omega (arith, e)
 passes : (name : List ℕ) (line : List Row) (row : Row) → fits_line name (line ++ row ∷ []) ≡ false → PassesLimit name (line ++ row ∷ [])
 passes name line row e = elim (cases_Bool (leb (length (line ++ row ∷ [])) MAX_VALUES)) [
   | inr many ↦ inl (leb-false (length (line ++ row ∷ [])) MAX_VALUES many)
-  | inl few ↦ elim (cases_Bool (leb (length (line_of (insert name (line ++ row ∷ [])))) MAX_LINE_LENGTH)) [
-    | inr long ↦ inr (leb-false (length (line_of (insert name (line ++ row ∷ [])))) MAX_LINE_LENGTH long)
+  | inl few ↦ elim (cases_Bool (leb (length (session_line (insert name (line ++ row ∷ [])))) MAX_LINE_LENGTH)) [
+    | inr long ↦ inr (leb-false (length (session_line (insert name (line ++ row ∷ [])))) MAX_LINE_LENGTH long)
     | inl short ↦ let f = rw (lt-ltb 0 (length (line ++ row ∷ [])) (some-rows line row), few, short) at e in cc
   ]
 ]

@@ -5,7 +5,7 @@ use Rattle.std.proofs.lemmas.Bool.{cases_Bool, and_from, ltb-false, le-leb, leb-
 use Rattle.gp_grammar.specs.Syntax.{insert}
 use Rattle.gp_grammar.specs.declared.limits.TheConstants.{MAX_LINE_LENGTH}
 use Rattle.gp_csv.specs.Faults.{Fault}
-use Rattle.gp_csv.specs.Scripts.{Row, line_of, fits_line, batches_from, batches_of}
+use Rattle.gp_csv.specs.Scripts.{Row, session_line, fits_line, batches_from, batches_of}
 use Rattle.gp_csv.specs.SheetForms.{rows_in}
 use Rattle.gp_csv.specs.declared.error.TheConstants.{LONG_ROW, TOO_MANY}
 use Rattle.gp_csv.specs.declared.script.TheConstants.{MAX_ROWS, MAX_INSERTS}
@@ -18,11 +18,11 @@ pub same_lines : (a b : Lines) → ◌≡◌ {A = Result Lines Fault} (Ok a) (Ok
 same_lines a b e = cc
 
 abbrev pub is_long : List ℕ → Row → Bool
-is_long name row = ltb MAX_LINE_LENGTH (length (line_of (insert name (row ∷ []))))
+is_long name row = ltb MAX_LINE_LENGTH (length (session_line (insert name (row ∷ []))))
 
 one-fits : (name : List ℕ) (row : Row) → is_long name row ≡ false → fits_line name (row ∷ []) ≡ true
 one-fits name row short =
-    le-leb (length (line_of (insert name (row ∷ [])))) MAX_LINE_LENGTH (ltb-false MAX_LINE_LENGTH (length (line_of (insert name (row ∷ [])))) short)
+    le-leb (length (session_line (insert name (row ∷ [])))) MAX_LINE_LENGTH (ltb-false MAX_LINE_LENGTH (length (session_line (insert name (row ∷ [])))) short)
 
 -- what is so of the lines of a script, where a line of these rows is there, so many lines are begun, and this is the next record
 record Holds (name : List ℕ) (number n : ℕ) (line rows : List Row) (lines : Lines) : Type 0 where

@@ -12,7 +12,7 @@ use Rattle.gp_grammar.specs.declared.limits.TheConstants.{MAX_LINE_LENGTH, MAX_V
 use Rattle.gp_csv.specs.Faults.{Fault, refuse, result_map, result_then}
 use Rattle.gp_csv.specs.Packing.{Output, has_room, joined, begun, line_end, put_row, put_rows, tuple_text, insert_text, no_line, create_of, packed_script, script_head, script_end}
 use Rattle.gp_base.specs.CellForms.{ArePlain}
-use Rattle.gp_csv.specs.Scripts.{line_of, ended_line, fits_line, batches_from, batches_of, transaction_break, inserts_from, script_text, script_of}
+use Rattle.gp_csv.specs.Scripts.{session_line, ended_line, fits_line, batches_from, batches_of, transaction_break, inserts_from, script_text, script_of}
 use Rattle.gp_csv.specs.SheetForms.{ArePlainRows}
 use Rattle.gp_csv.specs.declared.error.TheConstants.{LONG_ROW, TOO_MANY}
 use Rattle.gp_csv.specs.declared.script.TheConstants.{MAX_ROWS, MAX_INSERTS, MAX_STEPS}
@@ -32,7 +32,7 @@ put_full line (Err fault) = tt
 
 lines-full : (name : List ℕ) (number n : ℕ) (line rows : List (List Cell)) → IfOk (batches_from name number n line rows) IsFull
 lines-full name number n line [] = tt
-lines-full name number n line (row ∷ rows) = elim (cases_Bool (ltb MAX_LINE_LENGTH (length (line_of (insert name (row ∷ [])))))) [
+lines-full name number n line (row ∷ rows) = elim (cases_Bool (ltb MAX_LINE_LENGTH (length (session_line (insert name (row ∷ [])))))) [
   | inl long ↦ rw long tt
   | inr short ↦ rw short (elim (cases_Bool (ltb (MAX_ROWS + 1) number)) [
     | inl many ↦ rw many tt
@@ -73,13 +73,13 @@ transaction_break-text : (n : ℕ) → codes "\n" ++ script_text (transaction_br
 transaction_break-text n = rw (lt-ltb 0 (suc n) (omega arith)) (transaction_break-by (suc n) (eqb (suc n % MAX_STEPS) 0) refl ∙ sym (line_end-suc n))
 
 tail-more : (name : List ℕ) (n : ℕ) (line : List (List Cell)) (more : List (List (List Cell))) → IsFull more
-    → tail name (suc n) (line ∷ more) ≡ line_of (insert name line) ++ (line_end (suc n) ++ tail name (suc (suc n)) more)
+    → tail name (suc n) (line ∷ more) ≡ session_line (insert name line) ++ (line_end (suc n) ++ tail name (suc (suc n)) more)
 tail-more name n line [] full = absurd full
 tail-more name n line (next ∷ others) full =
     let rest : List Command = insert name next ∷ (inserts_from name (suc (suc n)) others ++ (Command.commit ∷ [])) in
     ap (λ (t : List ℕ). ended_line (insert name line) ++ t) (ap script_text (append_assoc (transaction_break (suc n)) (insert name next ∷ inserts_from name (suc (suc n)) others) (Command.commit ∷ [])) ∙ script-append (transaction_break (suc n)) rest)
-    ∙ append_assoc (line_of (insert name line)) (codes "\n") (script_text (transaction_break (suc n)) ++ script_text rest)
-    ∙ ap (λ (t : List ℕ). line_of (insert name line) ++ t) (sym (append_assoc (codes "\n") (script_text (transaction_break (suc n))) (script_text rest)) ∙ ap (λ (t : List ℕ). t ++ script_text rest) (transaction_break-text n))
+    ∙ append_assoc (session_line (insert name line)) (codes "\n") (script_text (transaction_break (suc n)) ++ script_text rest)
+    ∙ ap (λ (t : List ℕ). session_line (insert name line) ++ t) (sym (append_assoc (codes "\n") (script_text (transaction_break (suc n))) (script_text rest)) ∙ ap (λ (t : List ℕ). t ++ script_text rest) (transaction_break-text n))
 
 -- ---- rows put in turn
 
@@ -96,18 +96,18 @@ same_cond f g true false x y x' y' e hx hy = absurd cc
 same_cond f g false true x y x' y' e hx hy = absurd cc
 
 expected-more : (before name : List ℕ) (n : ℕ) (line : List (List Cell)) (r : Result (List (List (List Cell))) Fault) → IfOk r IsFull
-    → expected (before ++ (line_of (insert name line) ++ line_end (suc n))) name (suc (suc n)) r ≡ expected before name (suc n) (result_map (λ (more : List (List (List Cell))). line ∷ more) r)
+    → expected (before ++ (session_line (insert name line) ++ line_end (suc n))) name (suc (suc n)) r ≡ expected before name (suc n) (result_map (λ (more : List (List (List Cell))). line ∷ more) r)
 expected-more before name n line (Err fault) full = refl
 expected-more before name n line (Ok more) full =
-    ap (λ (t : List ℕ). Ok t) (append_assoc before (line_of (insert name line) ++ line_end (suc n)) (tail name (suc (suc n)) more)
-    ∙ ap (λ (t : List ℕ). before ++ t) (append_assoc (line_of (insert name line)) (line_end (suc n)) (tail name (suc (suc n)) more) ∙ sym (tail-more name n line more full)))
+    ap (λ (t : List ℕ). Ok t) (append_assoc before (session_line (insert name line) ++ line_end (suc n)) (tail name (suc (suc n)) more)
+    ∙ ap (λ (t : List ℕ). before ++ t) (append_assoc (session_line (insert name line)) (line_end (suc n)) (tail name (suc (suc n)) more) ∙ sym (tail-more name n line more full)))
 
 -- the last line as the script has it
 abbrev last_line : List ℕ → ℕ → List (List Cell) → Line
-last_line name n line = record { length = length (line_of (insert name line)); rows = length line; inserts = n }
+last_line name n line = record { length = length (session_line (insert name line)); rows = length line; inserts = n }
 
 abbrev last_written : List ℕ → List ℕ → ℕ → List (List Cell) → Output
-last_written before name n line = (before ++ line_of (insert name line), last_line name n line)
+last_written before name n line = (before ++ session_line (insert name line), last_line name n line)
 
 same_test : (a b : Bool) → (a ≡ true → b ≡ true) → (b ≡ true → a ≡ true) → a ≡ b
 same_test true b f g = sym (f refl)
@@ -126,10 +126,10 @@ room-numbers k m l n em en =
 
 -- the length of a line with one row more
 more-length : (name : List ℕ) (first : List Cell) (line : List (List Cell)) (row : List Cell) → ArePlain first → ArePlainRows line → ArePlain row
-    → length (line_of (insert name (first ∷ (line ++ row ∷ [])))) ≡ length (line_of (insert name (first ∷ line))) + 2 + length (tuple_text row)
+    → length (session_line (insert name (first ∷ (line ++ row ∷ [])))) ≡ length (session_line (insert name (first ∷ line))) + 2 + length (tuple_text row)
 more-length name first line row plain others last =
-    let e : length (line_of (insert name (first ∷ (line ++ row ∷ [])))) ≡ length (line_of (insert name (first ∷ line))) + length (concat (codes ", " ∷ tuple_text row ∷ [])) =
-    ap (λ (t : List ℕ). length t) (line-more name first line row plain others last) ∙ length-append (line_of (insert name (first ∷ line))) (concat (codes ", " ∷ tuple_text row ∷ [])) in
+    let e : length (session_line (insert name (first ∷ (line ++ row ∷ [])))) ≡ length (session_line (insert name (first ∷ line))) + length (concat (codes ", " ∷ tuple_text row ∷ [])) =
+    ap (λ (t : List ℕ). length t) (line-more name first line row plain others last) ∙ length-append (session_line (insert name (first ∷ line))) (concat (codes ", " ∷ tuple_text row ∷ [])) in
     let f : length (tuple_text row ++ []) ≡ length (tuple_text row) = ap (λ (t : List ℕ). length t) (append-nil (tuple_text row)) in
     omega (arith, e, f)
 
@@ -139,34 +139,34 @@ row-count first row line = let e : length (line ++ row ∷ []) ≡ length line +
 room : (name : List ℕ) (n : ℕ) (first : List Cell) (line : List (List Cell)) (row : List Cell) → ArePlain first → ArePlainRows line → ArePlain row
     → has_room (last_line name n (first ∷ line)) (tuple_text row) ≡ fits_line name (first ∷ (line ++ row ∷ []))
 room name n first line row plain others last =
-    room-numbers (length line) (length (first ∷ (line ++ row ∷ []))) (length (line_of (insert name (first ∷ line))) + 2 + length (tuple_text row)) (length (line_of (insert name (first ∷ (line ++ row ∷ [])))))
+    room-numbers (length line) (length (first ∷ (line ++ row ∷ []))) (length (session_line (insert name (first ∷ line))) + 2 + length (tuple_text row)) (length (session_line (insert name (first ∷ (line ++ row ∷ [])))))
     (row-count first row line) (more-length name first line row plain others last)
 
 joined-is : (before name : List ℕ) (n : ℕ) (first : List Cell) (line : List (List Cell)) (row : List Cell) → ArePlain first → ArePlainRows line → ArePlain row
     → joined (last_written before name n (first ∷ line)) (tuple_text row) ≡ last_written before name n (first ∷ (line ++ row ∷ []))
 joined-is before name n first line row plain others last =
     same_written _ _ _ _ _ _ _ _
-    (append_assoc before (line_of (insert name (first ∷ line))) (concat (codes ", " ∷ tuple_text row ∷ [])) ∙ ap (λ (t : List ℕ). before ++ t) (sym (line-more name first line row plain others last)))
+    (append_assoc before (session_line (insert name (first ∷ line))) (concat (codes ", " ∷ tuple_text row ∷ [])) ∙ ap (λ (t : List ℕ). before ++ t) (sym (line-more name first line row plain others last)))
     (sym (more-length name first line row plain others last))
     (let e : length (first ∷ (line ++ row ∷ [])) ≡ suc (suc (length line)) = row-count first row line in omega (arith, e))
     refl
 
-one-length : (name : List ℕ) (row : List Cell) → ArePlain row → length (insert_text name) + length (tuple_text row) ≡ length (line_of (insert name (row ∷ [])))
+one-length : (name : List ℕ) (row : List Cell) → ArePlain row → length (insert_text name) + length (tuple_text row) ≡ length (session_line (insert name (row ∷ [])))
 one-length name row plain = sym (ap (λ (t : List ℕ). length t) (line-one name row plain) ∙ length-append (insert_text name) (tuple_text row))
 
 begun-is : (before name : List ℕ) (n : ℕ) (line : List (List Cell)) (row : List Cell) → ArePlain row
-    → begun (insert_text name) (last_written before name (suc n) line) (tuple_text row) ≡ last_written (before ++ (line_of (insert name line) ++ line_end (suc n))) name (suc (suc n)) (row ∷ [])
+    → begun (insert_text name) (last_written before name (suc n) line) (tuple_text row) ≡ last_written (before ++ (session_line (insert name line) ++ line_end (suc n))) name (suc (suc n)) (row ∷ [])
 begun-is before name n line row plain =
     same_written _ _ _ _ _ _ _ _
-    (append_assoc before (line_of (insert name line)) (line_end (suc n) ++ (insert_text name ++ (tuple_text row ++ [])))
-    ∙ ap (λ (t : List ℕ). before ++ t) (sym (append_assoc (line_of (insert name line)) (line_end (suc n)) (insert_text name ++ (tuple_text row ++ []))))
-    ∙ sym (append_assoc before (line_of (insert name line) ++ line_end (suc n)) (insert_text name ++ (tuple_text row ++ [])))
-    ∙ ap (λ (t : List ℕ). (before ++ (line_of (insert name line) ++ line_end (suc n))) ++ t) (ap (λ (t : List ℕ). insert_text name ++ t) (append-nil (tuple_text row)) ∙ sym (line-one name row plain)))
+    (append_assoc before (session_line (insert name line)) (line_end (suc n) ++ (insert_text name ++ (tuple_text row ++ [])))
+    ∙ ap (λ (t : List ℕ). before ++ t) (sym (append_assoc (session_line (insert name line)) (line_end (suc n)) (insert_text name ++ (tuple_text row ++ []))))
+    ∙ sym (append_assoc before (session_line (insert name line) ++ line_end (suc n)) (insert_text name ++ (tuple_text row ++ [])))
+    ∙ ap (λ (t : List ℕ). (before ++ (session_line (insert name line) ++ line_end (suc n))) ++ t) (ap (λ (t : List ℕ). insert_text name ++ t) (append-nil (tuple_text row)) ∙ sym (line-one name row plain)))
     (one-length name row plain)
     refl
     (omega arith)
 
-long-is : (name : List ℕ) (row : List Cell) → ArePlain row → ltb MAX_LINE_LENGTH (length (insert_text name) + length (tuple_text row)) ≡ ltb MAX_LINE_LENGTH (length (line_of (insert name (row ∷ []))))
+long-is : (name : List ℕ) (row : List Cell) → ArePlain row → ltb MAX_LINE_LENGTH (length (insert_text name) + length (tuple_text row)) ≡ ltb MAX_LINE_LENGTH (length (session_line (insert name (row ∷ []))))
 long-is name row plain = ap (λ (k : ℕ). ltb MAX_LINE_LENGTH k) (one-length name row plain)
 
 ended-text : (before line : List ℕ) → (before ++ line) ++ codes "\ns1: COMMIT\n" ≡ before ++ ((line ++ codes "\n") ++ (codes "s1: COMMIT\n" ++ []))
@@ -176,8 +176,8 @@ put-is : (before name : List ℕ) (number n : ℕ) (first : List Cell) (line row
     → finished (put_rows (insert_text name) number (last_written before name (suc n) (first ∷ line)) rows) ≡ expected before name (suc n) (batches_from name number (suc n) (first ∷ line) rows)
 unfolding put_row
 put-is before name number n first line [] plain others rest =
-    ap (λ (t : List ℕ). Ok ((before ++ line_of (insert name (first ∷ line))) ++ t)) (script_end-suc n)
-    ∙ ap (λ (t : List ℕ). Ok t) (ended-text before (line_of (insert name (first ∷ line))) ∙ ap (λ (t : List ℕ). before ++ (ended_line (insert name (first ∷ line)) ++ (t ++ []))) (sym commit-line))
+    ap (λ (t : List ℕ). Ok ((before ++ session_line (insert name (first ∷ line))) ++ t)) (script_end-suc n)
+    ∙ ap (λ (t : List ℕ). Ok t) (ended-text before (session_line (insert name (first ∷ line))) ∙ ap (λ (t : List ℕ). before ++ (ended_line (insert name (first ∷ line)) ++ (t ++ []))) (sym commit-line))
 put-is before name number n first line (row ∷ rows) plain others rest =
     let f : Result Output Fault → Result (List ℕ) Fault = λ r. finished (result_then (λ (next : Output). put_rows (insert_text name) (suc number) next rows) r) in
     let g : Result (List (List (List Cell))) Fault → Result (List ℕ) Fault = expected before name (suc n) in
@@ -193,14 +193,14 @@ put-is before name number n first line (row ∷ rows) plain others rest =
     let z2 : Result (List (List (List Cell))) Fault = cond (fits_line name all) (batches_from name (suc number) (suc n) all rows) z3 in
     let y1 : Result Output Fault = cond (ltb (MAX_ROWS + 1) number) stop y2 in
     let z1 : Result (List (List (List Cell))) Fault = cond (ltb (MAX_ROWS + 1) number) halt z2 in
-    same_cond f g (ltb MAX_LINE_LENGTH (length (insert_text name) + length (tuple_text row))) (ltb MAX_LINE_LENGTH (length (line_of (insert name (row ∷ []))))) (refuse LONG_ROW number) y1 (refuse LONG_ROW number) z1 (long-is name row rest.0) refl
+    same_cond f g (ltb MAX_LINE_LENGTH (length (insert_text name) + length (tuple_text row))) (ltb MAX_LINE_LENGTH (length (session_line (insert name (row ∷ []))))) (refuse LONG_ROW number) y1 (refuse LONG_ROW number) z1 (long-is name row rest.0) refl
     (same_cond f g (ltb (MAX_ROWS + 1) number) (ltb (MAX_ROWS + 1) number) stop y2 halt z2 refl refl
     (same_cond f g (has_room (last_line name (suc n) (first ∷ line)) (tuple_text row)) (fits_line name all) (Ok (joined so_far (tuple_text row))) y3 (batches_from name (suc number) (suc n) all rows) z3 (room name (suc n) first line row plain others rest.0)
     (ap (λ (w : Output). finished (put_rows (insert_text name) (suc number) w rows)) (joined-is before name (suc n) first line row plain others rest.0)
     ∙ put-is before name (suc number) n first (line ++ row ∷ []) rows plain (all_more line row others rest.0) rest.1)
     (same_cond f g (leb MAX_INSERTS (suc n)) (leb MAX_INSERTS (suc n)) stop y4 halt z4 refl refl
     (ap (λ (w : Output). finished (put_rows (insert_text name) (suc number) w rows)) (begun-is before name n (first ∷ line) row rest.0)
-    ∙ put-is (before ++ (line_of (insert name (first ∷ line)) ++ line_end (suc n))) name (suc number) (suc n) row [] rows rest.0 tt rest.1
+    ∙ put-is (before ++ (session_line (insert name (first ∷ line)) ++ line_end (suc n))) name (suc number) (suc n) row [] rows rest.0 tt rest.1
     ∙ expected-more before name n (first ∷ line) (batches_from name (suc number) (suc (suc n)) (row ∷ []) rows) (lines-full name (suc number) (suc (suc n)) (row ∷ []) rows)))))
 
 -- the lines before the first INSERT
@@ -208,7 +208,7 @@ head-text : (name : List ℕ) (cols : List Column) (rest : List ℕ) → script_
 head-text name cols rest =
     append_assoc (codes "s1: ") (command_text (create_of name cols) ++ codes "\ns1: BEGIN\n") rest
     ∙ ap (λ (t : List ℕ). codes "s1: " ++ t) (append_assoc (command_text (create_of name cols)) (codes "\ns1: BEGIN\n") rest)
-    ∙ sym (ap (λ (t : List ℕ). ended_line (create_of name cols) ++ (t ++ rest)) begin-line ∙ append_assoc (line_of (create_of name cols)) (codes "\n") (codes "s1: BEGIN\n" ++ rest) ∙ append_assoc (codes "s1: ") (command_text (create_of name cols)) (codes "\n" ++ (codes "s1: BEGIN\n" ++ rest)))
+    ∙ sym (ap (λ (t : List ℕ). ended_line (create_of name cols) ++ (t ++ rest)) begin-line ∙ append_assoc (session_line (create_of name cols)) (codes "\n") (codes "s1: BEGIN\n" ++ rest) ∙ append_assoc (codes "s1: ") (command_text (create_of name cols)) (codes "\n" ++ (codes "s1: BEGIN\n" ++ rest)))
 
 abbrev whole : List ℕ → List Column → List (List (List Cell)) → List ℕ
 whole name cols lines = script_text (create_of name cols ∷ begin false ∷ (inserts_from name 0 lines ++ (Command.commit ∷ [])))
@@ -231,7 +231,7 @@ packed-rows name cols [] plain = ap (λ (t : List ℕ). Ok t) (head-text name co
 packed-rows name cols (row ∷ rows) plain =
     let f : Result Output Fault → Result (List ℕ) Fault = λ r. finished (result_then (λ (next : Output). put_rows (insert_text name) 3 next rows) r) in
     let g : Result (List (List (List Cell))) Fault → Result (List ℕ) Fault = λ r. result_map (λ (lines : List (List (List Cell))). whole name cols lines) r in
-    same_cond f g (ltb MAX_LINE_LENGTH (length (insert_text name) + length (tuple_text row))) (ltb MAX_LINE_LENGTH (length (line_of (insert name (row ∷ []))))) (refuse LONG_ROW 2) (Ok (begun (insert_text name) (script_head name cols, no_line) (tuple_text row))) (refuse LONG_ROW 2) (batches_from name 3 1 (row ∷ []) rows) (long-is name row plain.0) refl
+    same_cond f g (ltb MAX_LINE_LENGTH (length (insert_text name) + length (tuple_text row))) (ltb MAX_LINE_LENGTH (length (session_line (insert name (row ∷ []))))) (refuse LONG_ROW 2) (Ok (begun (insert_text name) (script_head name cols, no_line) (tuple_text row))) (refuse LONG_ROW 2) (batches_from name 3 1 (row ∷ []) rows) (long-is name row plain.0) refl
     (ap (λ (w : Output). finished (put_rows (insert_text name) 3 w rows)) (first-written name cols row plain.0)
     ∙ put-is (script_head name cols) name 3 0 row [] rows plain.0 tt plain.1
     ∙ expected-whole name cols (batches_from name 3 1 (row ∷ []) rows) (lines-full name 3 1 (row ∷ []) rows))

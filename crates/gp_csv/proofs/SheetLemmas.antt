@@ -8,7 +8,7 @@ use Rattle.gp_base.specs.declared.cell.Cell.{Cell}
 use Rattle.gp_base.specs.declared.table.Column.{Column}
 use Rattle.gp_csv.specs.Faults.{Fault, refuse, result_map}
 use Rattle.gp_csv.specs.Fields.{cell_of, cells_from}
-use Rattle.gp_csv.specs.Sheets.{columns_from, inferred, row_of, rows_from}
+use Rattle.gp_csv.specs.Sheets.{columns_from, inferred, sheet_row, rows_from}
 use Rattle.gp_csv.specs.declared.heading.Heading.{Heading}
 
 -- ---- columns
@@ -77,11 +77,11 @@ row_more : (rows : List (List Cell)) (row : List Cell) (others : Result (List (L
 row_more rows row (Err fault) = refl
 row_more rows row (Ok more) = ap (λ (x : List (List Cell)). Ok x) (append_assoc rows (row ∷ []) more)
 
-pub rows-next : (rows : List (List Cell)) (row : List Cell) (columns : List Column) (number : ℕ) (fields : List (List ℕ)) (others : List (List (List ℕ))) → row_of columns number fields ≡ Ok row
+pub rows-next : (rows : List (List Cell)) (row : List Cell) (columns : List Column) (number : ℕ) (fields : List (List ℕ)) (others : List (List (List ℕ))) → sheet_row columns number fields ≡ Ok row
     → rows_after (rows ++ row ∷ []) columns (suc number) others ≡ rows_after rows columns number (fields ∷ others)
 rows-next rows row columns number fields others found = rw found (row_more rows row (rows_from columns (suc number) others))
 
-pub rows-stop : (rows : List (List Cell)) (columns : List Column) (number : ℕ) (fields : List (List ℕ)) (others : List (List (List ℕ))) (c : ℕ) (n : ℕ) → row_of columns number fields ≡ refuse c n
+pub rows-stop : (rows : List (List Cell)) (columns : List Column) (number : ℕ) (fields : List (List ℕ)) (others : List (List (List ℕ))) (c : ℕ) (n : ℕ) → sheet_row columns number fields ≡ refuse c n
     → rows_after rows columns number (fields ∷ others) ≡ refuse c n
 rows-stop rows columns number fields others c n found = rw found refl
 

@@ -17,7 +17,7 @@ use Rattle.gp_lexer.specs.Layout.{Page, put, written, empty_page}
 use Rattle.gp_lexer.specs.Lexemes.{symbol_text}
 use Rattle.gp_grammar.specs.Syntax.{Lexemes, Command, begin, insert}
 use Rattle.gp_csv.specs.Packing.{tuple_text, insert_text}
-use Rattle.gp_csv.specs.Scripts.{line_of, ended_line}
+use Rattle.gp_csv.specs.Scripts.{session_line, ended_line}
 use Rattle.gp_csv.specs.SheetForms.{ArePlainRows}
 use Rattle.gp_grammar.specs.Canonical.{cell_lexemes, tuple_lexemes, listed_lexemes, command_lexemes}
 
@@ -146,12 +146,12 @@ insert-parts name row rows =
 
 -- the line of an INSERT, from the texts of its rows
 pub line-text : (name : List ℕ) (row : List Cell) (rows : List (List Cell)) → ArePlain row → ArePlainRows rows
-    → line_of (insert name (row ∷ rows)) ≡ insert_text name ++ (tuple_text row ++ tuple_texts rows)
+    → session_line (insert name (row ∷ rows)) ≡ insert_text name ++ (tuple_text row ++ tuple_texts rows)
 line-text name row rows plain others =
     ap (λ (p : Page). codes "s1: " ++ p.text) (insert-page name row rows plain others) ∙ insert-parts name (tuple_text row) (tuple_texts rows)
 
 -- a line of one row
-pub line-one : (name : List ℕ) (row : List Cell) → ArePlain row → line_of (insert name (row ∷ [])) ≡ insert_text name ++ tuple_text row
+pub line-one : (name : List ℕ) (row : List Cell) → ArePlain row → session_line (insert name (row ∷ [])) ≡ insert_text name ++ tuple_text row
 line-one name row plain = line-text name row [] plain tt ∙ ap (λ (t : List ℕ). insert_text name ++ t) (append-nil (tuple_text row))
 
 all-more : (rows : List (List Cell)) (row : List Cell) → ArePlainRows rows → ArePlain row → ArePlainRows (rows ++ row ∷ [])
@@ -160,7 +160,7 @@ all-more (first ∷ rows) row plain last = (plain.0, all-more rows row plain.1 l
 
 -- and of one row more
 pub line-more : (name : List ℕ) (first : List Cell) (rows : List (List Cell)) (row : List Cell) → ArePlain first → ArePlainRows rows → ArePlain row
-    → line_of (insert name (first ∷ (rows ++ row ∷ []))) ≡ line_of (insert name (first ∷ rows)) ++ concat (codes ", " ∷ tuple_text row ∷ [])
+    → session_line (insert name (first ∷ (rows ++ row ∷ []))) ≡ session_line (insert name (first ∷ rows)) ++ concat (codes ", " ∷ tuple_text row ∷ [])
 line-more name first rows row plain others last =
     line-text name first (rows ++ row ∷ []) plain (all-more rows row others last)
     ∙ ap (λ (t : List ℕ). insert_text name ++ (tuple_text first ++ t)) (flat_map-append (λ (y : List Cell). codes ", " ++ tuple_text y) rows (row ∷ []))

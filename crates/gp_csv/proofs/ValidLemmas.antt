@@ -20,7 +20,7 @@ use Rattle.gp_csv.specs.Faults.{Fault, or_refuse, refuse, result_map, result_the
 use Rattle.gp_csv.specs.Fields.{positive_of, negative_of, magnitude_of, number_of, null_field, unescaped, text_cell, int_cell_of, value_cell_of, cell_of, cells_from}
 use Rattle.gp_csv.specs.Headings.{header_of, heading_named, heading_of, headings_from, is_taken, kind_of_suffix, name_len, with_heading}
 use Rattle.gp_csv.specs.SheetForms.{ArePlainRows, IsSheet, is_cell_of, is_row_of, column_names, Returns}
-use Rattle.gp_csv.specs.Sheets.{columns_from, row_of, rows_from, sheet_under, sheet_of_records, records_of}
+use Rattle.gp_csv.specs.Sheets.{columns_from, sheet_row, rows_from, sheet_under, sheet_of_records, records_of}
 use Rattle.gp_csv.specs.declared.error.CsvStop.{CsvStop}
 use Rattle.gp_csv.specs.declared.error.CsvStop.TheVariants.{Refused, NoMemory}
 use Rattle.gp_csv.specs.declared.error.TheConstants.{BAD_CELL, BAD_HEADER}
@@ -123,8 +123,8 @@ from_or : {A : Type 0} (c number : ℕ) (o : Option A) (found : A) → or_refuse
 from_or c number None found e = absurd cc
 from_or c number (Some x) found e = cc
 
-row-is_cell_of : (columns : List Column) (number : ℕ) (fields : List (List ℕ)) (cells : List Cell) → row_of columns number fields ≡ Ok cells → is_row_of columns cells ≡ true
-unfolding row_of
+row-is_cell_of : (columns : List Column) (number : ℕ) (fields : List (List ℕ)) (cells : List Cell) → sheet_row columns number fields ≡ Ok cells → is_row_of columns cells ≡ true
+unfolding sheet_row
 row-is_cell_of columns number fields cells e =
     let f = refused_else (not (list_all is_utf8 fields)) _ _ _ cells e in
     let g = found_else (eqb (length fields) (length columns)) _ _ _ cells f in
@@ -136,7 +136,7 @@ same_rows c d e = cc
 rows-suit : (columns : List Column) (number : ℕ) (others : List (List (List ℕ))) (rows : List (List Cell)) → rows_from columns number others ≡ Ok rows → list_all (is_row_of columns) rows ≡ true
 rows-suit columns number [] rows e = subst (λ (rs : List (List Cell)). list_all (is_row_of columns) rs ≡ true) (same_rows [] rows e) refl
 rows-suit columns number (fields ∷ others) rows e =
-    let x = from_then (λ (row : List Cell). result_map (λ (more : List (List Cell)). row ∷ more) (rows_from columns (suc number) others)) (row_of columns number fields) rows e in
+    let x = from_then (λ (row : List Cell). result_map (λ (more : List (List Cell)). row ∷ more) (rows_from columns (suc number) others)) (sheet_row columns number fields) rows e in
     let m = from_map (λ (more : List (List Cell)). x.0 ∷ more) (rows_from columns (suc number) others) rows x.2 in
     subst (λ (rs : List (List Cell)). list_all (is_row_of columns) rs ≡ true) m.2 (and_from (is_row_of columns x.0) (list_all (is_row_of columns) m.0) (row-is_cell_of columns number fields x.0 x.1) (rows-suit columns (suc number) others m.0 m.1))
 

@@ -15,18 +15,18 @@ abbrev pub Row : Type 0
 Row = List Cell
 
 -- a line of the script, without its line feed and with it
-abbrev pub line_of : Command → List ℕ
-line_of command = codes "s1: " ++ command_text command
+abbrev pub session_line : Command → List ℕ
+session_line command = codes "s1: " ++ command_text command
 
 abbrev pub ended_line : Command → List ℕ
-ended_line command = line_of command ++ 10 ∷ []
+ended_line command = session_line command ++ 10 ∷ []
 
 -- ---- rows to batches
 
 -- an INSERT of this batch is a line that a script can have: it has rows, but not too many, and is not too long
 abbrev pub fits_line : List ℕ → List Row → Bool
 fits_line name batch =
-    nat_lt 0 (length batch) && (nat_le (length batch) MAX_VALUES && nat_le (length (line_of (insert name batch))) MAX_LINE_LENGTH)
+    nat_lt 0 (length batch) && (nat_le (length batch) MAX_VALUES && nat_le (length (session_line (insert name batch))) MAX_LINE_LENGTH)
 
 -- The batches that begin with this one, where `count` is their number so far, and `number` is the record of the next row. A row joins the last batch,
 -- unless the line would be too long; then it begins the next one. Since a longer line never fits where a shorter one does not, each batch has as
@@ -34,7 +34,7 @@ fits_line name batch =
 abbrev pub batches_from : List ℕ → ℕ → ℕ → List Row → List Row → Result (List (List Row)) Fault
 batches_from name number count batch [] = Ok (batch ∷ [])
 batches_from name number count batch (row ∷ rows) =
-    if nat_lt MAX_LINE_LENGTH (length (line_of (insert name (row ∷ [])))) then refuse LONG_ROW number
+    if nat_lt MAX_LINE_LENGTH (length (session_line (insert name (row ∷ [])))) then refuse LONG_ROW number
     else (if nat_lt (MAX_ROWS + 1) number then refuse TOO_MANY number
     else (if fits_line name (batch ++ row ∷ []) then batches_from name (suc number) count (batch ++ row ∷ []) rows
     else (if nat_le MAX_INSERTS count then refuse TOO_MANY number
@@ -44,7 +44,7 @@ batches_from name number count batch (row ∷ rows) =
 unfoldable pub batches_of : List ℕ → List Row → Result (List (List Row)) Fault
 batches_of name [] = Ok []
 batches_of name (row ∷ rows) =
-    if nat_lt MAX_LINE_LENGTH (length (line_of (insert name (row ∷ [])))) then refuse LONG_ROW 2 else batches_from name 3 1 (row ∷ []) rows
+    if nat_lt MAX_LINE_LENGTH (length (session_line (insert name (row ∷ [])))) then refuse LONG_ROW 2 else batches_from name 3 1 (row ∷ []) rows
 
 -- ---- batches to commands
 

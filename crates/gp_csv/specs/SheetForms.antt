@@ -1,5 +1,5 @@
--- Part of the statement: what the laws of sheets and scripts say: valid sheets, rows that a script can have, its batches, and what a call returns whose
--- definition gives a value or a fault.
+-- Of the contracts of `read_sheet` and `write_script`, and of the law `batches_hold_the_rows`: valid sheets, rows that a script can have, its batches, and what
+-- a call returns whose definition gives a value or a fault.
 use Rattle.std.specs.Prelude.{List, [], ◌∷◌, ◌≡◌, ◌⊎◌, ◌<◌, ◌≤◌, ℕ, Bool, true, false, ◌&&◌, length, map, Result, Ok, Err}
 use Rattle.std.specs.List.{flat_map, IsDistinct, list_all}
 use Rattle.std.specs.Str.{bytes_eq}
@@ -13,7 +13,7 @@ use Rattle.gp_base.specs.declared.table.Kind.{Kind}
 use Rattle.gp_base.specs.declared.table.Kind.TheVariants as kind
 use Rattle.gp_grammar.specs.declared.limits.TheConstants.{MAX_COLUMNS, MAX_LINE_LENGTH, MAX_VALUES}
 use Rattle.gp_grammar.specs.Syntax.{insert}
-use Rattle.gp_csv.specs.Scripts.{Row, line_of}
+use Rattle.gp_csv.specs.Scripts.{Row, session_line}
 use Rattle.gp_csv.specs.declared.sheet.Sheet.{Sheet}
 use Rattle.gp_csv.specs.declared.error.CsvStop.{CsvStop}
 use Rattle.gp_csv.specs.declared.error.CsvStop.TheVariants.{Refused, NoMemory}
@@ -30,7 +30,7 @@ rows_in batches = flat_map (λ (batch : List Row). batch) batches
 
 -- the line of an INSERT of these rows would have too many rows, or be too long
 abbrev pub PassesLimit : List ℕ → List Row → Type 0
-PassesLimit name batch = (MAX_VALUES < length batch) ⊎ (MAX_LINE_LENGTH < length (line_of (insert name batch)))
+PassesLimit name batch = (MAX_VALUES < length batch) ⊎ (MAX_LINE_LENGTH < length (session_line (insert name batch)))
 
 -- a cell that a user can write and that a column of this type can hold
 abbrev pub is_cell_of : Kind → Cell → Bool

@@ -35,8 +35,8 @@ columns_from place others (heading ∷ headings) =
 -- ---- rows
 
 -- the row of the record of this number, or its first fault
-unfoldable pub row_of : List Column → ℕ → List (List ℕ) → Result (List Cell) Fault
-row_of columns number fields =
+unfoldable pub sheet_row : List Column → ℕ → List (List ℕ) → Result (List Cell) Fault
+sheet_row columns number fields =
     if not (list_all is_utf8 fields) then refuse NOT_UTF8 number
     else (if length fields == length columns then or_refuse BAD_CELL number (cells_from 0 fields columns) else refuse BAD_LENGTH number)
 
@@ -44,7 +44,7 @@ row_of columns number fields =
 abbrev pub rows_from : List Column → ℕ → List (List (List ℕ)) → Result (List (List Cell)) Fault
 rows_from columns number [] = Ok []
 rows_from columns number (fields ∷ others) =
-    result_then (λ (row : List Cell). result_map (λ (rows : List (List Cell)). row ∷ rows) (rows_from columns (suc number) others)) (row_of columns number fields)
+    result_then (λ (row : List Cell). result_map (λ (rows : List (List Cell)). row ∷ rows) (rows_from columns (suc number) others)) (sheet_row columns number fields)
 
 -- ---- sheets
 

@@ -182,7 +182,6 @@ fn add_row(
     put_row(script, prefix, number, line, &tuple)
 }
 
-/// Adds the rows.
 #[tactic(auto, using(crate::proofs::PackingLemmas::put_steps))]
 fn add_rows(
     alloc: Global,

@@ -6,7 +6,7 @@ ghost use Rattle.csv.specs.Records.{field_at, fields_of};
 ghost use Rattle.gp_csv.specs.Faults.{or_refuse};
 ghost use Rattle.gp_csv.specs.Fields.{cells_from, is_int_field};
 ghost use Rattle.gp_csv.specs.SheetForms.{ArePlainRows, IsSheet, Returns};
-ghost use Rattle.gp_csv.specs.Sheets.{columns_from, inferred, row_of, rows_from, sheet_of, sheet_of_records, sheet_under};
+ghost use Rattle.gp_csv.specs.Sheets.{columns_from, inferred, sheet_row, rows_from, sheet_of, sheet_of_records, sheet_under};
 
 use crate::error::{BAD_CELL, BAD_HEADER, BAD_LENGTH, CsvStop, NOT_UTF8};
 use crate::field::{is_int_field, parse_cell};
@@ -125,14 +125,14 @@ fn read_cells(
 }
 
 /// The row of the record of this number.
-#[tactic(auto, unfolding(crate::specs::Sheets::row_of))]
+#[tactic(auto, unfolding(crate::specs::Sheets::sheet_row))]
 fn read_row(
     alloc: Global,
     columns: &[Column],
     number: u32,
     record: &ByteRecord,
 ) -> Result<Row, CsvStop>
-    ensures { Returns (λ row. row) result (row_of columns.now number (fields_of record.now)) }
+    ensures { Returns (λ row. row) result (sheet_row columns.now number (fields_of record.now)) }
 {
     if !are_utf8(record) {
         return Err(CsvStop::Refused {

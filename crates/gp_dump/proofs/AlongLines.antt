@@ -4,7 +4,7 @@ use Rattle.gp_base.specs.Annotated.{Annotations}
 use Rattle.gp_machine.specs.Event.{Line, after, line_event}
 use Rattle.gp_machine.specs.Parameters.{Parameters}
 use Rattle.gp_machine.specs.State.{State, start}
-use Rattle.gp_log.specs.ScriptLines.{AreLinesAfter, AreScriptLines, IsScriptLine}
+use Rattle.gp_log.specs.ScriptLines.{AreLinesAfter, AreScriptLines, IsLineAfter}
 
 module _ {M : Type 0} (domain : Annotations M) (parameters : Parameters) where
   after_more : (state : State M) (done : List Line) (line : Line) → after domain parameters state (done ++ line ∷ []) ≡ (line_event domain parameters (after domain parameters state done) line).0
@@ -12,7 +12,7 @@ module _ {M : Type 0} (domain : Annotations M) (parameters : Parameters) where
   after_more state (one ∷ done) line = after_more (line_event domain parameters state one).0 done line
 
   module _ (Holds : ℕ → State M → Type 0)
-      (keeps : (done : List Line) (last : ℕ) (line : Line) → IsScriptLine last line → Holds last (after domain parameters start done) → Holds line.number (line_event domain parameters (after domain parameters start done) line).0) where
+      (keeps : (done : List Line) (last : ℕ) (line : Line) → IsLineAfter last line → Holds last (after domain parameters start done) → Holds line.number (line_event domain parameters (after domain parameters start done) line).0) where
     from : (done : List Line) (last : ℕ) (lines : List Line) → AreLinesAfter last lines → Holds last (after domain parameters start done) → (newest : ℕ) × Holds newest (after domain parameters (after domain parameters start done) lines)
     from done last [] are h = (last, h)
     from done last (line ∷ lines) are h =

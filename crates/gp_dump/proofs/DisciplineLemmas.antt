@@ -21,7 +21,7 @@ use Rattle.gp_algebra.specs.Statements.{Statement}
 use Rattle.gp_check.specs.Checking.{checked}
 use Rattle.gp_machine.specs.Event.{count_refusal}
 use Rattle.gp_log.specs.declared.limit.TheConstants.{MAX_STATEMENTS, MAX_STEPS}
-use Rattle.gp_log.specs.Discipline.{Disorder, doing, last_line, running, transaction_in}
+use Rattle.gp_log.specs.Discipline.{Disorder, command_entry, last_line, statement_entry, transaction_in}
 use Rattle.gp_log.specs.LogFacts.{tables_in}
 use Rattle.gp_log.specs.Parameters.{parameters}
 use Rattle.gp_log.specs.Logs.{entry_view, log_view, what_view}
@@ -176,19 +176,19 @@ few-counts own all steps few =
 -- a statement in a transaction, within the counts: by its check
 pub run-checked : (older : List m.Entry) (line session t : ℕ) (active : Option ℕ) (command : y.Command) (catalog : List Table) (found : Result Statement Refusal) → active ≡ Some t
     → is_statement command ≡ true → m.statement_count t older < MAX_STEPS → m.statements_in older < MAX_STATEMENTS → catalog ≡ tables_in older → checked catalog command ≡ found
-    → doing parameters older line session (allowed active command) ≡ running parameters older line session t command None found
+    → command_entry parameters older line session (allowed active command) ≡ statement_entry parameters older line session t command None found
 run-checked older line session t active command catalog found is statement steps all tables says =
-    ap (λ (may : Option ℕ). doing parameters older line session (allowed may command)) is
-    ∙ (ap (doing parameters older line session) (statement-runs t command statement)
-    ∙ (ap (λ (refusal : Option Refusal). running parameters older line session t command refusal (checked (tables_in older) command)) (few-counts (m.statement_count t older) (m.statements_in older) steps all)
-    ∙ ap (running parameters older line session t command None) (ap (λ (ts : List Table). checked ts command) (sym tables) ∙ says)))
+    ap (λ (may : Option ℕ). command_entry parameters older line session (allowed may command)) is
+    ∙ (ap (command_entry parameters older line session) (statement-runs t command statement)
+    ∙ (ap (λ (refusal : Option Refusal). statement_entry parameters older line session t command refusal (checked (tables_in older) command)) (few-counts (m.statement_count t older) (m.statements_in older) steps all)
+    ∙ ap (statement_entry parameters older line session t command None) (ap (λ (ts : List Table). checked ts command) (sym tables) ∙ says)))
 
 -- the ends of a transaction
-pub commit-ends : (older : List m.Entry) (line session : ℕ) (active : Option ℕ) → doing parameters older line session (allowed active y.Command.commit) ≡ ended line session active what.Commit
+pub commit-ends : (older : List m.Entry) (line session : ℕ) (active : Option ℕ) → command_entry parameters older line session (allowed active y.Command.commit) ≡ ended line session active what.Commit
 commit-ends older line session None = refl
 commit-ends older line session (Some t) = refl
 
-pub rollback-ends : (older : List m.Entry) (line session : ℕ) (active : Option ℕ) → doing parameters older line session (allowed active y.rollback) ≡ ended line session active what.Rollback
+pub rollback-ends : (older : List m.Entry) (line session : ℕ) (active : Option ℕ) → command_entry parameters older line session (allowed active y.rollback) ≡ ended line session active what.Rollback
 rollback-ends older line session None = refl
 rollback-ends older line session (Some t) = refl
 

@@ -14,7 +14,7 @@ use Rattle.gp_algebra.specs.Effects.{Written}
 use Rattle.gp_algebra.specs.Statements.{Statement}
 use Rattle.gp_check.specs.Checking.{refused_by}
 use Rattle.gp_check.specs.Faults.{first_refusal}
-use Rattle.gp_check.specs.Meaning.{statement_of}
+use Rattle.gp_check.specs.Meaning.{meant_statement}
 use Rattle.gp_check.proofs.FittingLemmas.{accepted}
 use Rattle.gp_machine.proofs.Distinct.{each_filter, each_weaker}
 use Rattle.gp_machine.proofs.LimitLemmas.{counts_are_within}
@@ -107,8 +107,8 @@ module _ {M : Type 0} (domain : Annotations M) (state : State M) (line session :
     starts = started_fits state.catalogue active.version (version_now state active) (state.committed (version_now state active)) active.seen (fitting.committed (version_now state active)) (fitting.views session active e)
 
     run_it : (command : Command) → command_of (command_text command) ≡ Ok command → first_refusal state.catalogue command ≡ None → (refusal : Option Refusal)
-        → refusal_of domain parameters state.catalogue active.transaction (suc active.statements) (statement_of state.catalogue command) (start_now state active) ≡ refusal
-        → Fitting (ran domain state line session active command (statement_of state.catalogue command) refusal).0
+        → refusal_of domain parameters state.catalogue active.transaction (suc active.statements) (meant_statement state.catalogue command) (start_now state active) ≡ refusal
+        → Fitting (ran domain state line session active command (meant_statement state.catalogue command) refusal).0
     run_it command read none (Some refusal) f = fitting
     run_it command read none None f =
         let r = reached.running session active e in
@@ -117,7 +117,7 @@ module _ {M : Type 0} (domain : Annotations M) (state : State M) (line session :
         let few = within.transactions in
         let count = r.count in
         let steps = within.steps active.transaction in
-        let nodes = (within_limits domain parameters state.catalogue active.transaction (suc active.statements) (statement_of state.catalogue command) (start_now state active) f).nodes in
+        let nodes = (within_limits domain parameters state.catalogue active.transaction (suc active.statements) (meant_statement state.catalogue command) (start_now state active) f).nodes in
         record {
           committed = fitting.committed;
           views = views_with state.catalogue _
@@ -127,14 +127,14 @@ module _ {M : Type 0} (domain : Annotations M) (state : State M) (line session :
               fitting.views;
         }
 
-    check_it : (command : Command) → command_of (command_text command) ≡ Ok command → (refusal : Option Refusal) (checked : Result Statement Refusal) → refused_by (first_refusal state.catalogue command) (statement_of state.catalogue command) ≡ checked
+    check_it : (command : Command) → command_of (command_text command) ≡ Ok command → (refusal : Option Refusal) (checked : Result Statement Refusal) → refused_by (first_refusal state.catalogue command) (meant_statement state.catalogue command) ≡ checked
         → Fitting (running domain state line session active command parameters refusal checked).0
     check_it command read (Some refusal) checked is = fitting
     check_it command read None (Err refusal) is = fitting
     check_it command read None (Ok statement) is =
-        let c = accepted (first_refusal state.catalogue command) (statement_of state.catalogue command) statement is in
+        let c = accepted (first_refusal state.catalogue command) (meant_statement state.catalogue command) statement is in
         subst (λ s. Fitting (ran domain state line session active command s (refusal_of domain parameters state.catalogue active.transaction (suc active.statements) s (start_now state active))).0) c.1
-        (run_it command read c.0 (refusal_of domain parameters state.catalogue active.transaction (suc active.statements) (statement_of state.catalogue command) (start_now state active)) refl)
+        (run_it command read c.0 (refusal_of domain parameters state.catalogue active.transaction (suc active.statements) (meant_statement state.catalogue command) (start_now state active)) refl)
 
     commit_it : (lost : Option Conflict) (full : Bool) → Fitting (committing state line session active lost full).0
     commit_it (Some conflict) full = end_it active Lost

@@ -22,7 +22,7 @@ use Rattle.gp_algebra.specs.Fitting.{row_fits, statement_fits}
 use Rattle.gp_algebra.specs.Statements.{Statement}
 use Rattle.gp_algebra.proofs.FittingMore.{statement_more}
 use Rattle.gp_check.specs.Faults.{first_refusal}
-use Rattle.gp_check.specs.Meaning.{statement_of}
+use Rattle.gp_check.specs.Meaning.{meant_statement}
 use Rattle.gp_check.specs.Valid.{is_valid, tables_are_valid}
 use Rattle.gp_check.proofs.FittingLemmas.{accepted, fits}
 use Rattle.gp_check.proofs.ValidLemmas.{tables-added}
@@ -82,7 +82,7 @@ ran_fits : (older : List Entry) (line session : ℕ) (command : Command) (t : �
     → is_valid command ≡ true → tables_are_valid (tables_in older) ≡ true → statement_fits (tables_in older) statement ≡ true
 ran_fits older line session command t statement follows valid columns =
     let was = was_checked older line session command t statement follows in
-    let is = accepted (first_refusal (tables_in older) command) (statement_of (tables_in older) command) statement was.1 in
+    let is = accepted (first_refusal (tables_in older) command) (meant_statement (tables_in older) command) statement was.1 in
     subst (λ made. statement_fits (tables_in older) made ≡ true) is.1 (fits (tables_in older) command columns was.0 valid is.0)
 
 log_valid : (entries : List Entry) → AreReadable entries → tables_are_valid (tables_in entries) ≡ true

@@ -11,7 +11,7 @@ use Rattle.gp_base.specs.declared.table.Table.{Table}
 use Rattle.gp_grammar.specs.Syntax as y
 use Rattle.gp_grammar.specs.Syntax.{Bytes, Command}
 use Rattle.gp_check.specs.Faults.{first_refusal, query_tables_fault, table_fault}
-use Rattle.gp_check.specs.Meaning.{number_of_table, statement_of}
+use Rattle.gp_check.specs.Meaning.{number_of_table, meant_statement}
 use Rattle.gp_check.proofs.FittingLemmas.{accepted, known, none_of}
 use Rattle.gp_versions.specs.declared.span.Span.{Span}
 use Rattle.gp_versions.specs.Spans.{span_cmp}
@@ -41,7 +41,7 @@ use Rattle.std.proofs.lemmas.Bool.{ltb-true}
 target : (tables : List Table) (name : Bytes) → table_fault tables name ≡ None → number_of_table tables name < length tables
 target tables name none = ltb-true (number_of_table tables name) (length tables) (known tables name none)
 
-has_target : (tables : List Table) (command : Command) → first_refusal tables command ≡ None → HasTarget (length tables) (statement_of tables command)
+has_target : (tables : List Table) (command : Command) → first_refusal tables command ≡ None → HasTarget (length tables) (meant_statement tables command)
 has_target tables (y.insert name rows) none = target tables name (none_of (table_fault tables name) _ none).0
 has_target tables (y.insert_select name query) none = target tables name (none_of (table_fault tables name) _ (none_of (option_or (table_fault tables name) (query_tables_fault tables query)) _ none).0).0
 has_target tables (y.update name sets cond) none = target tables name (none_of (table_fault tables name) _ none).0
@@ -54,7 +54,7 @@ has_target tables y.rollback none = tt
 
 pub checks_targets : ChecksTargets parameters
 checks_targets tables command statement e =
-    let c = accepted (first_refusal tables command) (statement_of tables command) statement e in
+    let c = accepted (first_refusal tables command) (meant_statement tables command) statement e in
     subst (HasTarget (length tables)) c.1 (has_target tables command c.0)
 
 -- ---- the spans of all tables

@@ -27,7 +27,7 @@ use Rattle.gp_machine.proofs.EntryCounts.{count-most}
 use Rattle.gp_machine.specs.Entries.{Entry, RolledBack, Lost, Created, Began, Ran, Committed, Ended, is_commit, line_of, session_of, statement_count, statements_in, transactions_in, versions_in}
 use Rattle.gp_machine.specs.Event.{count_refusal}
 use Rattle.gp_log.specs.declared.limit.TheConstants.{MAX_ENTRIES}
-use Rattle.gp_log.specs.Discipline.{Said, Does, Loses, Flaw, Disorder, creating, doing, last_line, next_entry, running, said_by, transaction_in}
+use Rattle.gp_log.specs.Discipline.{Said, Does, Loses, Flaw, Disorder, creation_entry, command_entry, last_line, next_entry, statement_entry, said_by, transaction_in}
 use Rattle.gp_log.specs.LogFacts.{tables_in}
 use Rattle.gp_log.specs.Parameters.{parameters}
 use Rattle.gp_dumpline.specs.Numbers.{beyond_versions}
@@ -75,38 +75,38 @@ module _ (older : List Entry) (line session : ℕ) where
   unless-flaw true flaw r entry e = absurd cc
   unless-flaw false flaw r entry e = e
 
-  creating-parts : (table : Table) (o : Option Refusal) (entry : Entry) → creating parameters older line session table o ≡ Ok entry → HasParts line session (Does (y.create table)) entry
+  creating-parts : (table : Table) (o : Option Refusal) (entry : Entry) → creation_entry parameters older line session table o ≡ Ok entry → HasParts line session (Does (y.create table)) entry
   creating-parts table (Some refusal) entry e = absurd cc
   creating-parts table None entry e = parts-of (Created line session table) entry (Does (y.create table)) (record { line_is = refl; session_is = refl; said_is = refl }) (cc)
 
-  running-parts : (t : ℕ) (command : Command) (o : Option Refusal) (r : Result Statement Refusal) (entry : Entry) → running parameters older line session t command o r ≡ Ok entry → HasParts line session (Does command) entry
+  running-parts : (t : ℕ) (command : Command) (o : Option Refusal) (r : Result Statement Refusal) (entry : Entry) → statement_entry parameters older line session t command o r ≡ Ok entry → HasParts line session (Does command) entry
   running-parts t command (Some refusal) r entry e = absurd cc
   running-parts t command None (Err refusal) entry e = absurd cc
   running-parts t command None (Ok statement) entry e = parts-of (Ran line session command t statement) entry (Does command) (record { line_is = refl; session_is = refl; said_is = refl }) (cc)
 
-  create-parts : (table : Table) (active : Option ℕ) (entry : Entry) → doing parameters older line session (allowed active (y.create table)) ≡ Ok entry → HasParts line session (Does (y.create table)) entry
+  create-parts : (table : Table) (active : Option ℕ) (entry : Entry) → command_entry parameters older line session (allowed active (y.create table)) ≡ Ok entry → HasParts line session (Does (y.create table)) entry
   create-parts table None entry e = creating-parts table (parameters.created (tables_in older) table) entry (unless-flaw (leb parameters.tables (length (tables_in older))) Disorder _ entry e)
   create-parts table (Some t) entry e = absurd cc
 
-  begin-parts : (read_committed : Bool) (active : Option ℕ) (entry : Entry) → doing parameters older line session (allowed active (y.begin read_committed)) ≡ Ok entry → HasParts line session (Does (y.begin read_committed)) entry
+  begin-parts : (read_committed : Bool) (active : Option ℕ) (entry : Entry) → command_entry parameters older line session (allowed active (y.begin read_committed)) ≡ Ok entry → HasParts line session (Does (y.begin read_committed)) entry
   begin-parts read_committed None entry e =
       let is : Ok (Began line session (suc (transactions_in older)) read_committed) ≡ Ok entry = unless-flaw (leb parameters.transactions (transactions_in older)) Disorder _ entry e in
       parts-of (Began line session (suc (transactions_in older)) read_committed) entry (Does (y.begin read_committed)) (record { line_is = refl; session_is = refl; said_is = refl }) (cc)
   begin-parts read_committed (Some t) entry e = absurd cc
 
-  commit-parts : (active : Option ℕ) (entry : Entry) → doing parameters older line session (allowed active y.Command.commit) ≡ Ok entry → HasParts line session (Does y.Command.commit) entry
+  commit-parts : (active : Option ℕ) (entry : Entry) → command_entry parameters older line session (allowed active y.Command.commit) ≡ Ok entry → HasParts line session (Does y.Command.commit) entry
   commit-parts None entry e = absurd cc
   commit-parts (Some t) entry e = parts-of (Committed line session t) entry (Does y.Command.commit) (record { line_is = refl; session_is = refl; said_is = refl }) (cc)
 
-  rollback-parts : (active : Option ℕ) (entry : Entry) → doing parameters older line session (allowed active y.rollback) ≡ Ok entry → HasParts line session (Does y.rollback) entry
+  rollback-parts : (active : Option ℕ) (entry : Entry) → command_entry parameters older line session (allowed active y.rollback) ≡ Ok entry → HasParts line session (Does y.rollback) entry
   rollback-parts None entry e = absurd cc
   rollback-parts (Some t) entry e = parts-of (Ended line session RolledBack t) entry (Does y.rollback) (record { line_is = refl; session_is = refl; said_is = refl }) (cc)
 
-  run-parts : (command : Command) (active : Option ℕ) (entry : Entry) → doing parameters older line session (allowed_to active (Run command)) ≡ Ok entry → HasParts line session (Does command) entry
+  run-parts : (command : Command) (active : Option ℕ) (entry : Entry) → command_entry parameters older line session (allowed_to active (Run command)) ≡ Ok entry → HasParts line session (Does command) entry
   run-parts command None entry e = absurd cc
   run-parts command (Some t) entry e = running-parts t command (count_refusal parameters (statement_count t older) (statements_in older)) (parameters.checked (tables_in older) command) entry e
 
-  doing-parts : (command : Command) (active : Option ℕ) (entry : Entry) → doing parameters older line session (allowed active command) ≡ Ok entry → HasParts line session (Does command) entry
+  doing-parts : (command : Command) (active : Option ℕ) (entry : Entry) → command_entry parameters older line session (allowed active command) ≡ Ok entry → HasParts line session (Does command) entry
   doing-parts (y.create table) active entry e = create-parts table active entry e
   doing-parts (y.begin read_committed) active entry e = begin-parts read_committed active entry e
   doing-parts y.Command.commit active entry e = commit-parts active entry e

@@ -24,12 +24,12 @@ use Rattle.gp_machine.specs.Reached.{IsReached}
 use Rattle.gp_machine.specs.State.{Active, State, start, with_value}
 use Rattle.gp_log.specs.declared.limit.TheConstants.{MAX_LINE}
 use Rattle.gp_log.specs.Discipline as d
-use Rattle.gp_log.specs.Discipline.{Does, Disorder, Flaw, IsLog, IsNext, Loses, Said, Unchecked, doing, last_line, next_entry, said_by, transaction_in}
+use Rattle.gp_log.specs.Discipline.{Does, Disorder, Flaw, IsLog, IsNext, Loses, Said, Unchecked, command_entry, last_line, next_entry, said_by, transaction_in}
 use Rattle.gp_log.specs.LogFacts.{tables_in}
 use Rattle.gp_dumpline.specs.Forms.{said_of}
 use Rattle.gp_dumpline.specs.Texts.{said_text}
 use Rattle.gp_dump.specs.WholeDumps.{AreReadable}
-use Rattle.gp_log.specs.ScriptLines.{AreScriptLines, IsScriptLine}
+use Rattle.gp_log.specs.ScriptLines.{AreScriptLines, IsLineAfter}
 use Rattle.gp_log.proofs.LineCommands.{reads-parsed}
 use Rattle.gp_dumpline.proofs.SaidLaws.{said-is}
 use Rattle.gp_dump.proofs.AlongLines.{along}
@@ -51,7 +51,7 @@ pub record Logged {M : Type 0} (parameters : Parameters) (last : ℕ) (state : S
   pub running : (session : ℕ) → transaction_in session state.entries ≡ option_map transaction (state.active session)
   pub tables : tables_in state.entries ≡ state.catalogue
 
-module _ {M : Type 0} (domain : Annotations M) (parameters : Parameters) (state : State M) (last : ℕ) (line : Line) (is : IsScriptLine last line) (reached : IsReached domain parameters state) (logged : Logged parameters last state) where
+module _ {M : Type 0} (domain : Annotations M) (parameters : Parameters) (state : State M) (last : ℕ) (line : Line) (is : IsLineAfter last line) (reached : IsReached domain parameters state) (logged : Logged parameters last state) where
   abbrev number : ℕ
   number = line.number
 
@@ -112,12 +112,12 @@ module _ {M : Type 0} (domain : Annotations M) (parameters : Parameters) (state 
   create_it table read e (Some refusal) f = same
   create_it table read e None f =
       enter (created state number session table) (Created number session table) None refl refl refl
-      (ap (λ t. doing parameters state.entries number session (allowed t (y.create table))) (runs None e)
-      ∙ ap (λ tables. if nat_le parameters.tables (length tables) then Err Disorder else d.creating parameters state.entries number session table (parameters.created tables table)) logged.tables
+      (ap (λ t. command_entry parameters state.entries number session (allowed t (y.create table))) (runs None e)
+      ∙ ap (λ tables. if nat_le parameters.tables (length tables) then Err Disorder else d.creation_entry parameters state.entries number session table (parameters.created tables table)) logged.tables
       ∙ go (nat_le parameters.tables (length state.catalogue)) (parameters.created state.catalogue table) f)
       (read_said (y.create table) read) (still None (runs None e)) (unchanged None e) (ap (λ tables. tables ++ table ∷ []) logged.tables)
     where
-      go : (b : Bool) (o : Option Refusal) → (if b then Some (E14 limit.Tables) else o) ≡ None → (if b then Err Disorder else d.creating parameters state.entries number session table o) ≡ Ok (Created number session table)
+      go : (b : Bool) (o : Option Refusal) → (if b then Some (E14 limit.Tables) else o) ≡ None → (if b then Err Disorder else d.creation_entry parameters state.entries number session table o) ≡ Ok (Created number session table)
       go true o f = absurd (some_none (E14 limit.Tables) f)
       go false None f = refl
       go false (Some refusal) f = absurd (some_none refusal f)
@@ -134,7 +134,7 @@ module _ {M : Type 0} (domain : Annotations M) (parameters : Parameters) (state 
         seen = record { view = state.committed (versions_in state.entries); written = [] };
       }))
       refl refl refl
-      (ap (λ t. doing parameters state.entries number session (allowed t (y.begin read_committed))) (runs None e)
+      (ap (λ t. command_entry parameters state.entries number session (allowed t (y.begin read_committed))) (runs None e)
       ∙ ap (λ b. if b then Err Disorder else Ok (Began number session (suc (transactions_in state.entries)) read_committed)) f)
       (read_said (y.begin read_committed) read) (λ n. refl) (λ n. refl) logged.tables
 
@@ -150,10 +150,10 @@ module _ {M : Type 0} (domain : Annotations M) (parameters : Parameters) (state 
 
         follows : next_entry parameters state.entries number session (Does command) ≡ Ok (Ran number session command active.transaction statement)
         follows =
-            (λ i. doing parameters state.entries number session (allowed (runs (Some active) e i) command))
-            ∙ ap (doing parameters state.entries number session) a
-            ∙ (λ i. d.running parameters state.entries number session active.transaction command (count_refusal parameters (count i) (statements_in state.entries)) (parameters.checked (logged.tables i) command))
-            ∙ (λ i. d.running parameters state.entries number session active.transaction command (f i) (g i))
+            (λ i. command_entry parameters state.entries number session (allowed (runs (Some active) e i) command))
+            ∙ ap (command_entry parameters state.entries number session) a
+            ∙ (λ i. d.statement_entry parameters state.entries number session active.transaction command (count_refusal parameters (count i) (statements_in state.entries)) (parameters.checked (logged.tables i) command))
+            ∙ (λ i. d.statement_entry parameters state.entries number session active.transaction command (f i) (g i))
 
         go : (o : Option Refusal) → Logged parameters line.number (ran domain state number session active command statement o).0
         go (Some refusal) = same
@@ -167,12 +167,12 @@ module _ {M : Type 0} (domain : Annotations M) (parameters : Parameters) (state 
     commit_it read None true = same
     commit_it read None false =
         enter (published state number session active) (Committed number session active.transaction) None refl refl refl
-        (ap (λ t. doing parameters state.entries number session (allowed t y.Command.commit)) (runs (Some active) e)) (read_said y.Command.commit read) (λ n. refl) (λ n. refl) logged.tables
+        (ap (λ t. command_entry parameters state.entries number session (allowed t y.Command.commit)) (runs (Some active) e)) (read_said y.Command.commit read) (λ n. refl) (λ n. refl) logged.tables
 
     rollback_it : command_of (command_text y.rollback) ≡ Ok y.rollback → Logged parameters line.number (ended state number session active RolledBack)
     rollback_it read =
         enter (ended state number session active RolledBack) (Ended number session RolledBack active.transaction) None refl refl refl
-        (ap (λ t. doing parameters state.entries number session (allowed t y.rollback)) (runs (Some active) e)) (read_said y.rollback read) (λ n. refl) (λ n. refl) logged.tables
+        (ap (λ t. command_entry parameters state.entries number session (allowed t y.rollback)) (runs (Some active) e)) (read_said y.rollback read) (λ n. refl) (λ n. refl) logged.tables
 
     checks : (command : Command) → allowed (Some active.transaction) command ≡ Ok (Runs active.transaction command) → command_of (command_text command) ≡ Ok command → Logged parameters line.number (answered domain parameters state number session (Some active) (Run command)).0
     checks command a read = run_it command a read (count_refusal parameters active.statements (statements_in state.entries)) refl (parameters.checked state.catalogue command) refl

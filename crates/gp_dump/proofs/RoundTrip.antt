@@ -21,7 +21,7 @@ use Rattle.gp_dumpline.specs.Texts.{count_text, end_text, entry_text, header, sa
 use Rattle.gp_dumpline.specs.Laws.{IsOneLine}
 use Rattle.gp_dumpline.proofs.HeaderLaws.{header-again as header_form-again, header-takes}
 use Rattle.gp_dumpline.proofs.SaidLaws.{is-said, said-is}
-use Rattle.gp_dump.specs.Dumps.{Dump, IsRow, has_read_committed, line_text, sections_texts, spans_in, texts_of}
+use Rattle.gp_dump.specs.Dumps.{Dump, IsRow, has_read_committed, with_newline, sections_texts, spans_in, texts_of}
 use Rattle.gp_dump.specs.Writing.{section_texts}
 use Rattle.gp_dump.specs.WholeDumps.{AreInPlace, AreOfTables, AreReadable, IsDump, IsTextOf}
 use Rattle.gp_dump.specs.Lines.{Line, Whole, Cut, Missing, lines_of, onto as put}
@@ -550,10 +550,10 @@ line-again (byte ∷ text) bytes one = elim (cases_Bool (eqb byte 10)) [
       rw (other, line-again text bytes rest) refl
 ]
 
-pub lines-again : (texts : List (List ℕ)) → AllByRecursion HasNoLineFeed texts → lines_of (flat_map line_text texts) ≡ whole_lines texts ++ Missing ∷ []
+pub lines-again : (texts : List (List ℕ)) → AllByRecursion HasNoLineFeed texts → lines_of (flat_map with_newline texts) ≡ whole_lines texts ++ Missing ∷ []
 lines-again [] all = refl
 lines-again (text ∷ texts) all =
-    ap lines_of (append_assoc text (10 ∷ []) (flat_map line_text texts)) ∙ line-again text (flat_map line_text texts) all.0 ∙ ap (λ (lines : List Line). Whole text ∷ lines) (lines-again texts all.1)
+    ap lines_of (append_assoc text (10 ∷ []) (flat_map with_newline texts)) ∙ line-again text (flat_map with_newline texts) all.0 ∙ ap (λ (lines : List Line). Whole text ∷ lines) (lines-again texts all.1)
 
 -- the bytes of lines
 abbrev pub bytes_of : List Line → List ℕ
@@ -576,9 +576,9 @@ bytes-lines (byte ∷ bytes) = elim (cases_Bool (eqb byte 10)) [
   | inr other ↦ rw other (put-bytes byte (lines_of bytes) ∙ ap (λ (x : List ℕ). byte ∷ x) (bytes-lines bytes))
 ]
 
-bytes-whole : (texts : List (List ℕ)) (more : List Line) → bytes_of (whole_lines texts ++ Missing ∷ more) ≡ flat_map line_text texts
+bytes-whole : (texts : List (List ℕ)) (more : List Line) → bytes_of (whole_lines texts ++ Missing ∷ more) ≡ flat_map with_newline texts
 bytes-whole [] more = refl
-bytes-whole (text ∷ texts) more = ap (λ (bytes : List ℕ). text ++ 10 ∷ bytes) (bytes-whole texts more) ∙ sym (append_assoc text (10 ∷ []) (flat_map line_text texts))
+bytes-whole (text ∷ texts) more = ap (λ (bytes : List ℕ). text ++ 10 ∷ bytes) (bytes-whole texts more) ∙ sym (append_assoc text (10 ∷ []) (flat_map with_newline texts))
 
 -- ---- each line of a dump is one line
 

@@ -30,7 +30,7 @@ use Rattle.gp_check.specs.declared.place.Place.{Place}
 use Rattle.gp_check.specs.Scopes.{Scope, columns_of, only_place, place_behind, resolution, scope_behind, scope_of, target_scope}
 use Rattle.gp_check.specs.Typing.{column_type, kind_type, operands_agree, type_of}
 use Rattle.gp_check.specs.Faults.{agree_with, all_agree, block_columns_fault, block_tables_fault, block_types, cells_agree, first_fault, first_refusal, items_fault, kind_types, query_is_typed, query_tables_fault, set_fault, set_is_typed, set_name, table_fault, unless, widths_agree, repeated_set}
-use Rattle.gp_check.specs.Meaning.{branch_of, column_number, expr_of, number_of_table, select_of, set_of, statement_of, where_of}
+use Rattle.gp_check.specs.Meaning.{branch_of, column_number, expr_of, number_of_table, select_of, set_expr_of, meant_statement, where_of}
 use Rattle.gp_check.specs.Valid.{block_is_valid, condition_is_valid, is_valid, items_are_valid, set_is_valid}
 use Rattle.gp_check.proofs.FittingLemmas.{holds_if, known, none_of}
 use Rattle.gp_machine.proofs.Distinct.{each_filter, each_weaker, none_each}
@@ -234,13 +234,13 @@ assigned_fits sets row before (col ∷ cols) all f =
         ] refl
 
 module _ (tables : List Table) (name : Bytes) (row : List Cell) (fits : FitsScope (target_scope tables name) row) where
-  set_fits_column : (set : SetTerm) → set_is_typed (target_scope tables name) set ≡ true → set_is_valid set ≡ true → FitsSet 0 (columns_of tables name) row (set_of (target_scope tables name) set)
+  set_fits_column : (set : SetTerm) → set_is_typed (target_scope tables name) set ≡ true → set_is_valid set ≡ true → FitsSet 0 (columns_of tables name) row (set_expr_of (target_scope tables name) set)
   set_fits_column set typed valid = go (place_behind 0 set.col (columns_of tables name)) refl
     where
       target : (o : Option Place) → place_behind 0 set.col (columns_of tables name) ≡ o → resolution (target_scope tables name) (set_name set) ≡ only_place (cons_option o [])
       target o at = ap (λ o. only_place (cons_option o [])) at
 
-      go : (o : Option Place) → place_behind 0 set.col (columns_of tables name) ≡ o → FitsSet 0 (columns_of tables name) row (set_of (target_scope tables name) set)
+      go : (o : Option Place) → place_behind 0 set.col (columns_of tables name) ≡ o → FitsSet 0 (columns_of tables name) row (set_expr_of (target_scope tables name) set)
       go None at = absurd (true≢false (sym (sym (ap (λ r. operands_agree (column_type r) (type_of (target_scope tables name) set.term)) (target None at)) ∙ typed)))
       go (Some place) at =
           let agree : operands_agree (Some (kind_type place.kind)) (type_of (target_scope tables name) set.term) ≡ true =
@@ -251,7 +251,7 @@ module _ (tables : List Table) (name : Bytes) (row : List Cell) (fits : FitsScop
             fits = agreeing place.kind (type_of (target_scope tables name) set.term) (value (expr_of (target_scope tables name) set.term) row) agree (λ a is. value_fits (target_scope tables name) row fits set.term a valid is);
           }
 
-  sets_fit_columns : (sets : List SetTerm) → list_all (set_is_typed (target_scope tables name)) sets ≡ true → list_all set_is_valid sets ≡ true → AllByRecursion (FitsSet 0 (columns_of tables name) row) (map (set_of (target_scope tables name)) sets)
+  sets_fit_columns : (sets : List SetTerm) → list_all (set_is_typed (target_scope tables name)) sets ≡ true → list_all set_is_valid sets ≡ true → AllByRecursion (FitsSet 0 (columns_of tables name) row) (map (set_expr_of (target_scope tables name)) sets)
   sets_fit_columns [] typed valid = tt
   sets_fit_columns (set ∷ sets) typed valid =
       let e = and_parts (set_is_typed (target_scope tables name) set) _ typed in
@@ -276,7 +276,7 @@ few_blocks shape none =
 
 module _ {M : Type 0} (domain : Annotations M) (tables : List Table) where
   changed_fits : (t k : ℕ) (name : Bytes) (sets : List SetTerm) (c : Cond) (row : Annotated M) → table_fault tables name ≡ None → list_all (set_is_typed (target_scope tables name)) sets ≡ true → list_all set_is_valid sets ≡ true
-      → FitsRow tables (number_of_table tables name) row → FitsRow tables (number_of_table tables name) (changed domain t k (map (set_of (target_scope tables name)) sets) c row)
+      → FitsRow tables (number_of_table tables name) row → FitsRow tables (number_of_table tables name) (changed domain t k (map (set_expr_of (target_scope tables name)) sets) c row)
   changed_fits t k name sets c row none typed valid r = go (passes c row.cells) refl
     where
       cols : List Column
@@ -285,19 +285,19 @@ module _ {M : Type 0} (domain : Annotations M) (tables : List Table) where
       f : fits_columns (columns_of tables name) row.cells ≡ true
       f = row_columns tables name row.identity row.cells none r
 
-      new : fits_columns (columns_of tables name) (assigned (map (set_of (target_scope tables name)) sets) row.cells) ≡ true
+      new : fits_columns (columns_of tables name) (assigned (map (set_expr_of (target_scope tables name)) sets) row.cells) ≡ true
       new =
-          subst (λ n. fits_columns (columns_of tables name) (values (assigned_from (map (set_of (target_scope tables name)) sets) 0 n) row.cells) ≡ true) (sym (fits_length (columns_of tables name) row.cells f))
-          (assigned_fits (map (set_of (target_scope tables name)) sets) row.cells 0 (columns_of tables name)
+          subst (λ n. fits_columns (columns_of tables name) (values (assigned_from (map (set_expr_of (target_scope tables name)) sets) 0 n) row.cells) ≡ true) (sym (fits_length (columns_of tables name) row.cells f))
+          (assigned_fits (map (set_expr_of (target_scope tables name)) sets) row.cells 0 (columns_of tables name)
           (sets_fit_columns tables name row.cells (row_fits (columns_of tables name) row.cells f, tt) sets typed valid) (row_fits (columns_of tables name) row.cells f))
 
-      go : (b : Bool) → passes c row.cells ≡ b → FitsRow tables (number_of_table tables name) (changed domain t k (map (set_of (target_scope tables name)) sets) c row)
-      go true is = subst (λ b. FitsRow tables (number_of_table tables name) (if b then record { identity = row.identity; cells = assigned (map (set_of (target_scope tables name)) sets) row.cells; mark = true; annotation = domain.times row.annotation (domain.token (Updated t k)) } else row)) (sym is)
+      go : (b : Bool) → passes c row.cells ≡ b → FitsRow tables (number_of_table tables name) (changed domain t k (map (set_expr_of (target_scope tables name)) sets) c row)
+      go true is = subst (λ b. FitsRow tables (number_of_table tables name) (if b then record { identity = row.identity; cells = assigned (map (set_expr_of (target_scope tables name)) sets) row.cells; mark = true; annotation = domain.times row.annotation (domain.token (Updated t k)) } else row)) (sym is)
           (target_row tables name row.identity _ none new r.readable)
-      go false is = subst (λ b. FitsRow tables (number_of_table tables name) (if b then record { identity = row.identity; cells = assigned (map (set_of (target_scope tables name)) sets) row.cells; mark = true; annotation = domain.times row.annotation (domain.token (Updated t k)) } else row)) (sym is) r
+      go false is = subst (λ b. FitsRow tables (number_of_table tables name) (if b then record { identity = row.identity; cells = assigned (map (set_expr_of (target_scope tables name)) sets) row.cells; mark = true; annotation = domain.times row.annotation (domain.token (Updated t k)) } else row)) (sym is) r
 
   pub step_fits : (t k : ℕ) (command : Command) (db : Database M) → IsPart t → IsPart k → first_refusal tables command ≡ None → is_valid command ≡ true → passed_limit (command_shape command) ≡ None
-      → is_over_nodes domain MAX_NODES t k (statement_of tables command) db ≡ false → AllFit tables db → AllFit tables (step domain t k (statement_of tables command) db)
+      → is_over_nodes domain MAX_NODES t k (meant_statement tables command) db ≡ false → AllFit tables db → AllFit tables (step domain t k (meant_statement tables command) db)
   step_fits t k (y.insert name rows) db pt pk none valid shape few fit =
       let n = none_of (table_fault tables name) _ none in
       let w = none_of (unless (widths_agree tables (y.insert name rows)) E15) _ n.1 in

@@ -16,7 +16,7 @@ use Rattle.gp_log.specs.declared.entry.Entry.{Entry}
 use Rattle.gp_log.specs.LogFacts.{tables_in}
 use Rattle.gp_log.specs.Logs.{entry_view, log_view}
 use Rattle.gp_dumpline.specs.Texts.{count_text, end_text, entry_text, header, section_text, span_text}
-use Rattle.gp_dump.specs.Dumps.{dump_text, line_text, sections_texts}
+use Rattle.gp_dump.specs.Dumps.{dump_text, with_newline, sections_texts}
 use Rattle.gp_dump.specs.WholeDumps.{dump_with}
 use Rattle.gp_dump.specs.Views.{tables_view}
 use Rattle.gp_dump.specs.Writing.{found_text, log_line_text, ordered, place_text, row_line_text, section_texts}
@@ -40,7 +40,7 @@ rows-text spans places apart are-whole moved sorted =
 
 -- ---- sections
 
-lines-text : (spans : List Span) → flat_map line_text (map span_text spans) ≡ flat_map row_line_text spans
+lines-text : (spans : List Span) → flat_map with_newline (map span_text spans) ≡ flat_map row_line_text spans
 lines-text [] = refl
 lines-text (span ∷ spans) = ap (λ (rest : List ℕ). row_line_text span ++ rest) (lines-text spans)
 
@@ -49,14 +49,14 @@ length-sorted spans = length_permutation spans (sorted_by span_cmp spans) (permu
 
 -- a section line, a line feed, and the row lines
 pub section-text : (front : List ℕ) (table : Table) (spans : List Span) (rows : ℕ) → rows ≡ length spans
-    → ((front ++ section_text table.name rows) ++ 10 ∷ []) ++ flat_map row_line_text (sorted_by span_cmp spans) ≡ front ++ flat_map line_text (section_texts table (sorted_by span_cmp spans))
+    → ((front ++ section_text table.name rows) ++ 10 ∷ []) ++ flat_map row_line_text (sorted_by span_cmp spans) ≡ front ++ flat_map with_newline (section_texts table (sorted_by span_cmp spans))
 section-text front table spans rows count =
     let sorted : List Span = sorted_by span_cmp spans in
     let number : rows ≡ length sorted = count ∙ sym (length-sorted spans) in
     ap (λ (text : List ℕ). text ++ flat_map row_line_text sorted) (append_assoc front (section_text table.name rows) (10 ∷ []))
-    ∙ append_assoc front (line_text (section_text table.name rows)) (flat_map row_line_text sorted)
-    ∙ ap (λ (rest : List ℕ). front ++ (line_text (section_text table.name rows) ++ rest)) (sym (lines-text sorted))
-    ∙ ap (λ (n : ℕ). front ++ (line_text (section_text table.name n) ++ flat_map line_text (map span_text sorted))) number
+    ∙ append_assoc front (with_newline (section_text table.name rows)) (flat_map row_line_text sorted)
+    ∙ ap (λ (rest : List ℕ). front ++ (with_newline (section_text table.name rows) ++ rest)) (sym (lines-text sorted))
+    ∙ ap (λ (n : ℕ). front ++ (with_newline (section_text table.name n) ++ flat_map with_newline (map span_text sorted))) number
 
 sections-step : (tables : List Table) (spans : List (List Span)) (place : ℕ) (table : Table) (here : List Span) → slice_get tables place ≡ Some table → slice_get spans place ≡ Some here
     → sections_texts (drop place tables) (drop place spans) ≡ section_texts table here ++ sections_texts (drop (suc place) tables) (drop (suc place) spans)
@@ -70,10 +70,10 @@ sections-step (first ∷ tables) (found ∷ spans) (suc place) table here is are
 
 -- the text of the tables from a place on
 pub sections-more : (tables : List Table) (spans : List (List Span)) (place : ℕ) (table : Table) (here : List Span) → slice_get tables place ≡ Some table → slice_get spans place ≡ Some here
-    → flat_map line_text (sections_texts (drop place tables) (drop place spans)) ≡ flat_map line_text (section_texts table here) ++ flat_map line_text (sections_texts (drop (place + 1) tables) (drop (place + 1) spans))
+    → flat_map with_newline (sections_texts (drop place tables) (drop place spans)) ≡ flat_map with_newline (section_texts table here) ++ flat_map with_newline (sections_texts (drop (place + 1) tables) (drop (place + 1) spans))
 sections-more tables spans place table here is are =
     let step = sections-step tables spans place table here is are in
-    rw add-one (ap (flat_map line_text) step ∙ flat_map-append line_text (section_texts table here) (sections_texts (drop (suc place) tables) (drop (suc place) spans)))
+    rw add-one (ap (flat_map with_newline) step ∙ flat_map-append with_newline (section_texts table here) (sections_texts (drop (suc place) tables) (drop (suc place) spans)))
 
 -- the spans of the table at a place, in the order of their lines
 pub ordered-at : (versions : List Versions) (place : ℕ) (table : Versions) → place < length versions → table ≡ get_or versions place table → slice_get (ordered versions) place ≡ Some (sorted_by span_cmp table.spans)
@@ -112,7 +112,7 @@ reverse-map f (x ∷ xs) =
 view-reverse : (entries : List Entry) → reverse (log_view entries) ≡ map entry_view entries
 view-reverse entries = reverse-map entry_view (reverse entries) ∙ ap (map entry_view) (reverse-reverse entries)
 
-log-text : (entries : List Entry) → flat_map line_text (map entry_text (map entry_view entries)) ≡ flat_map log_line_text entries
+log-text : (entries : List Entry) → flat_map with_newline (map entry_text (map entry_view entries)) ≡ flat_map log_line_text entries
 log-text [] = refl
 log-text (entry ∷ entries) = ap (λ (rest : List ℕ). log_line_text entry ++ rest) (log-text entries)
 
@@ -121,18 +121,18 @@ view-length entries = length-map (reverse entries) entry_view ∙ length-reverse
 
 -- all that is written
 pub whole-text : (second : Bool) (entries : List Entry) (versions : List Versions)
-    → ((([] ++ (line_text (header second) ++ line_text (count_text (length entries)))) ++ flat_map log_line_text entries) ++ flat_map line_text (sections_texts (tables_in (log_view entries)) (ordered versions))) ++ line_text end_text
+    → ((([] ++ (with_newline (header second) ++ with_newline (count_text (length entries)))) ++ flat_map log_line_text entries) ++ flat_map with_newline (sections_texts (tables_in (log_view entries)) (ordered versions))) ++ with_newline end_text
     ≡ dump_text second (dump_with (log_view entries) (tables_view versions))
 whole-text second entries versions =
-    let head : List ℕ = line_text (header second) in
-    let count : List ℕ = line_text (count_text (length entries)) in
+    let head : List ℕ = with_newline (header second) in
+    let count : List ℕ = with_newline (count_text (length entries)) in
     let log : List ℕ = flat_map log_line_text entries in
     let sections : List (List ℕ) = sections_texts (tables_in (log_view entries)) (ordered versions) in
-    let last : List ℕ = line_text end_text in
-    let log-is : flat_map line_text (map entry_text (reverse (log_view entries))) ≡ log = ap (λ (all : List m.Entry). flat_map line_text (map entry_text all)) (view-reverse entries) ∙ log-text entries in
-    let behind : flat_map line_text (sections ++ end_text ∷ []) ≡ flat_map line_text sections ++ last = flat_map-append line_text sections (end_text ∷ []) ∙ ap (λ (text : List ℕ). flat_map line_text sections ++ text) (append-nil last) in
-    let body : flat_map line_text (map entry_text (reverse (log_view entries)) ++ (sections ++ end_text ∷ [])) ≡ log ++ (flat_map line_text sections ++ last) =
-    flat_map-append line_text (map entry_text (reverse (log_view entries))) (sections ++ end_text ∷ []) ∙ (λ i. log-is i ++ behind i) in
-    let number : line_text (count_text (length (log_view entries))) ≡ count = ap (λ (n : ℕ). line_text (count_text n)) (view-length entries) in
-    append_assoc ((head ++ count) ++ log) (flat_map line_text sections) last ∙ append_assoc (head ++ count) log (flat_map line_text sections ++ last) ∙ append_assoc head count (log ++ (flat_map line_text sections ++ last))
+    let last : List ℕ = with_newline end_text in
+    let log-is : flat_map with_newline (map entry_text (reverse (log_view entries))) ≡ log = ap (λ (all : List m.Entry). flat_map with_newline (map entry_text all)) (view-reverse entries) ∙ log-text entries in
+    let behind : flat_map with_newline (sections ++ end_text ∷ []) ≡ flat_map with_newline sections ++ last = flat_map-append with_newline sections (end_text ∷ []) ∙ ap (λ (text : List ℕ). flat_map with_newline sections ++ text) (append-nil last) in
+    let body : flat_map with_newline (map entry_text (reverse (log_view entries)) ++ (sections ++ end_text ∷ [])) ≡ log ++ (flat_map with_newline sections ++ last) =
+    flat_map-append with_newline (map entry_text (reverse (log_view entries))) (sections ++ end_text ∷ []) ∙ (λ i. log-is i ++ behind i) in
+    let number : with_newline (count_text (length (log_view entries))) ≡ count = ap (λ (n : ℕ). with_newline (count_text n)) (view-length entries) in
+    append_assoc ((head ++ count) ++ log) (flat_map with_newline sections) last ∙ append_assoc (head ++ count) log (flat_map with_newline sections ++ last) ∙ append_assoc head count (log ++ (flat_map with_newline sections ++ last))
     ∙ sym (λ i. head ++ (number i ++ body i))

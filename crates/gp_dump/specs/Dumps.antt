@@ -33,8 +33,8 @@ pub record Dump : Type 0 where
 -- ---- its text
 
 -- a line, with the line feed that ends it
-abbrev pub line_text : List ℕ → List ℕ
-line_text text = text ++ newline
+abbrev pub with_newline : List ℕ → List ℕ
+with_newline text = text ++ newline
 
 -- the sections of tables, each of its name, then its row lines
 abbrev pub sections_texts : List Table → List (List Span) → List (List ℕ)
@@ -46,7 +46,7 @@ texts_of second dump =
     header second ∷ count_text (length dump.entries) ∷ (map entry_text (reverse dump.entries) ++ (sections_texts (tables_in dump.entries) dump.tables ++ end_text ∷ []))
 
 abbrev pub dump_text : Bool → Dump → List ℕ
-dump_text second dump = flat_map line_text (texts_of second dump)
+dump_text second dump = flat_map with_newline (texts_of second dump)
 
 -- BEGIN READ COMMITTED is in the log, and so is only in texts of the second format
 abbrev pub has_read_committed : List Entry → Bool
@@ -97,7 +97,7 @@ is_after last span =
     is_lt (identity_cmp last.id span.id)
     || (same_identity last.id span.id && (nat_lt last.from span.from && has_ended_by last.to span.from))
 
--- the same, given the spans before, the last one first
+-- the first span of a table has none before it; given the spans before, the last one first
 abbrev pub is_next : List Span → Span → Bool
 is_next [] span = true
 is_next (last ∷ earlier) span = is_after last span

@@ -105,7 +105,7 @@ pub data Breaks : Due → List ℕ → ℕ → Type 0 where
   no_end : (due : Due) (log : List Entry) (tables : List (List Span)) (text : List ℕ) → IsBetween due log tables → slice_get (tables_in log) (length tables) ≡ None → text ≢ end_text → Breaks due text 14
   goes_on : (dump : Dump) (text : List ℕ) → Breaks (Nothing dump) text 14
 
--- The same of a line. Rule 1 is that it is UTF-8. Rule 3 is that a line feed ends it; it comes before all but rules 1 and 2.
+-- A line that breaks a rule, with the number of the rule. Rule 1 is that it is UTF-8. Rule 3 is that a line feed ends it; it comes before all but rules 1 and 2.
 pub data LineBreaks : Due → Line → ℕ → Type 0 where
   no_text : (due : Due) (text : List ℕ) → is_utf8 text ≡ false → LineBreaks due (Whole text) 1
   no_cut_text : (due : Due) (text : List ℕ) → is_utf8 text ≡ false → LineBreaks due (Cut text) 1

@@ -1,4 +1,4 @@
--- Part of the statement: a dump of the code as one of the statement.
+-- Of the contracts of `read_dump` and `write_dump`: a dump of the code as one of the statement.
 use Rattle.std.specs.Prelude.{List, map}
 use Rattle.gp_versions.specs.declared.span.Span.{Span}
 use Rattle.gp_versions.specs.Spans.{Versions}

@@ -7,7 +7,7 @@ use Rattle.gp_versions.specs.Spans.{Versions, span_cmp}
 use Rattle.gp_log.specs.declared.entry.Entry.{Entry}
 use Rattle.gp_log.specs.Logs.{entry_view}
 use Rattle.gp_dumpline.specs.Texts.{entry_text, section_text, span_text}
-use Rattle.gp_dump.specs.Dumps.{line_text}
+use Rattle.gp_dump.specs.Dumps.{with_newline}
 use Rattle.gp_dump.specs.Views.{tables_view}
 
 -- the section of a table: its name, then its row lines
@@ -16,10 +16,10 @@ section_texts table spans = section_text table.name (length spans) ∷ map span_
 
 -- the log line of an entry of the code
 abbrev pub log_line_text : Entry → List ℕ
-log_line_text entry = line_text (entry_text (entry_view entry))
+log_line_text entry = with_newline (entry_text (entry_view entry))
 
 abbrev pub row_line_text : Span → List ℕ
-row_line_text span = line_text (span_text span)
+row_line_text span = with_newline (span_text span)
 
 -- the row line of a span that was looked up
 abbrev pub found_text : Option Span → List ℕ

@@ -9,7 +9,7 @@ ghost use Rattle.gp_grammar.specs.Syntax.{is_statement};
 ghost use Rattle.gp_check.specs.Valid.{table_is_valid};
 ghost use Rattle.gp_log.specs.Contents.{entries, tables};
 ghost use Rattle.gp_log.specs.Discipline as d;
-ghost use Rattle.gp_log.specs.Discipline.{doing};
+ghost use Rattle.gp_log.specs.Discipline.{command_entry};
 ghost use Rattle.gp_log.specs.Kinds.{IsAddable};
 ghost use Rattle.gp_log.specs.Parameters.{parameters};
 ghost use Rattle.gp_log.specs.Logs.{entry_view};
@@ -51,7 +51,8 @@ fn transaction_in(log: &Log, session: u32) -> Option<u32>
 /// Checks a new table, in a session with this transaction or none.
 fn check_create(log: &Log, active: Option<u32>, table: &Table) -> Result<(), EntryStop>
     ensures entry { (line session : ℕ) → GivesEntry (λ _. Created line session table.now) result
-        (doing parameters (entries log.now) line session (allowed active (y.create table.now))) }
+        (command_entry parameters (entries log.now) line session
+        (allowed active (y.create table.now))) }
     ensures room { OnOk result (length (tables log.now) < MAX_TABLES) }
     ensures new { OnOk result (place_of table.now.name (tables log.now) ≡ None) }
 {
@@ -75,7 +76,8 @@ fn create(
     table: Table,
 ) -> Result<Entry, EntryStop>
     ensures entry { GivesEntry entry_view result
-        (doing parameters (entries log.now) line session (allowed active (y.create table))) }
+        (command_entry parameters (entries log.now) line session
+        (allowed active (y.create table))) }
     ensures new { IfOk result (λ entry. IsAddable (entries log.now) entry) }
     ensures valid { table_is_valid table ≡ true → IfOk result (λ entry. CreatesValid entry.what) }
 {
@@ -98,8 +100,8 @@ fn begin(
     active: Option<u32>,
     read_committed: bool,
 ) -> Result<Entry, EntryStop>
-    ensures entry { GivesEntry entry_view result (doing parameters (entries log.now) line session (allowed active
-        (y.begin read_committed))) }
+    ensures entry { GivesEntry entry_view result (command_entry parameters (entries log.now)
+        line session (allowed active (y.begin read_committed))) }
     ensures new { IfOk result (λ entry. IsAddable (entries log.now) entry) }
     ensures valid { IfOk result (λ entry. CreatesValid entry.what) }
 {
@@ -133,7 +135,7 @@ fn check_run(
     requires { is_statement (command_view command.now) ≡ true }
     ensures entry { (line session : ℕ) → GivesEntry
         (λ run. Ran line session (command_view command.now) run.t (statement_view run.stmt)) result
-        (doing parameters (entries log.now) line session (allowed active
+        (command_entry parameters (entries log.now) line session (allowed active
         (command_view command.now))) }
     ensures number { IfOk result (λ run. run.k ≡ suc (statement_count run.t (entries log.now))) }
 {
@@ -165,8 +167,8 @@ fn statement(
     command: Command,
 ) -> Result<Entry, EntryStop>
     requires { is_statement (command_view command) ≡ true }
-    ensures entry { GivesEntry entry_view result (doing parameters (entries log.now) line session (allowed active
-        (command_view command))) }
+    ensures entry { GivesEntry entry_view result (command_entry parameters (entries log.now)
+        line session (allowed active (command_view command))) }
     ensures new { IfOk result (λ entry. IsAddable (entries log.now) entry) }
     ensures valid { IfOk result (λ entry. CreatesValid entry.what) }
 {

@@ -145,7 +145,6 @@ fn next_entry<'a>(
     }
 }
 
-/// The log.
 #[tactic(auto, using(crate::proofs::GrowthLemmas::entry_steps))]
 fn read_log(
     alloc: Global,
@@ -260,7 +259,6 @@ fn next_table<'a>(
     }
 }
 
-/// The tables.
 #[tactic(auto, using(crate::proofs::GrowthLemmas::table_steps))]
 fn read_tables<'a>(
     alloc: Global,

@@ -5,7 +5,7 @@ ghost use Rattle.std.specs.List.{All, flat_map};
 ghost use Rattle.gp_base.specs.Order.{sorted_by};
 ghost use Rattle.gp_versions.specs.Spans.{span_cmp};
 ghost use Rattle.gp_dumpline.specs.Texts.{count_text, end_text, header};
-ghost use Rattle.gp_dump.specs.Dumps.{has_read_committed, line_text, sections_texts, written_text};
+ghost use Rattle.gp_dump.specs.Dumps.{has_read_committed, with_newline, sections_texts, written_text};
 ghost use Rattle.gp_dump.specs.WholeDumps.{dump_with};
 ghost use Rattle.gp_dump.specs.Views.{tables_view};
 ghost use Rattle.gp_dump.specs.Writing.{log_line_text, ordered, place_text, row_line_text, section_texts};
@@ -37,7 +37,7 @@ fn has_read_committed(log: &Log) -> bool
 /// Appends the first two lines.
 fn write_head(alloc: Global, second: bool, lines: u32, out: &mut Vec<u8>) -> Result<(), NoMemory>
     ensures ok { OnOk result (out.new.items
-        ≡ out.old.items ++ (line_text (header second) ++ line_text (count_text lines))) }
+        ≡ out.old.items ++ (with_newline (header second) ++ with_newline (count_text lines))) }
 {
     out.extend_from_slice(header(second))?;
     out.push(b'\n')?;
@@ -112,7 +112,8 @@ fn write_table(
     out: &mut Vec<u8>,
 ) -> Result<(), NoMemory>
     ensures ok { OnOk result (out.new.items ≡ out.old.items
-        ++ flat_map line_text (section_texts table.now (sorted_by span_cmp versions.now.spans))) }
+        ++ flat_map with_newline
+        (section_texts table.now (sorted_by span_cmp versions.now.spans))) }
 {
     let Ok(rows) = u32::try_from(versions.len()) else {
         return Err(NoMemory);
@@ -132,7 +133,7 @@ fn write_tables(
 ) -> Result<(), NoMemory>
     requires same { length versions.now ≡ length tables.now }
     ensures ok { OnOk result (out.new.items ≡ out.old.items
-        ++ flat_map line_text (sections_texts tables.now (ordered versions.now))) }
+        ++ flat_map with_newline (sections_texts tables.now (ordered versions.now))) }
 {
     for place in 0..tables.len() {
         write_table(alloc, tables.table(place), &versions[place as usize], out)?;
@@ -142,7 +143,7 @@ fn write_tables(
 
 /// Appends the last line.
 fn write_end(out: &mut Vec<u8>) -> Result<(), NoMemory>
-    ensures ok { OnOk result (out.new.items ≡ out.old.items ++ line_text end_text) }
+    ensures ok { OnOk result (out.new.items ≡ out.old.items ++ with_newline end_text) }
 {
     out.extend_from_slice(END)?;
     out.push(b'\n')?;

@@ -1,4 +1,4 @@
--- Part of the statement: what the laws of lines say of a text.
+-- Of the law `lines_are_one_line`: a text of one line.
 use Rattle.std.specs.Prelude.{◌≡◌, ◌==◌, ℕ, true, false, List}
 use Rattle.std.specs.List.{list_any}
 use Rattle.std.specs.Str.{is_utf8}

@@ -17,7 +17,7 @@ number_of [] = None
 number_of (byte ∷ []) = read_on 0 (byte ∷ [])
 number_of (byte ∷ next ∷ bytes) = if byte == 48 then None else read_on 0 (byte ∷ next ∷ bytes)
 
--- the same, where it is at most this
+-- a decimal number that is at most this
 abbrev pub number_up_to : ℕ → List ℕ → Option ℕ
 number_up_to most text = option_and_then (λ n. if nat_le n most then Some n else None) (number_of text)
 

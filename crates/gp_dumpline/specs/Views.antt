@@ -1,4 +1,4 @@
--- Part of the statement: lines and what they say, as the code has them.
+-- Of the contracts of `parse_log_line` and `parse_said`: lines and what they say, as the code has them.
 use Rattle.std.specs.Prelude.{◌≡◌, true}
 use Rattle.gp_syntax.specs.Views.{command_view}
 use Rattle.gp_check.specs.Valid.{is_valid}

@@ -11,7 +11,7 @@ use Rattle.gp_base.specs.declared.limit.Limit.TheVariants as limit
 use Rattle.gp_base.specs.declared.refusal.Refusal.TheVariants.{E09, E10, E14}
 use Rattle.gp_base.specs.declared.table.Table.{Table}
 use Rattle.gp_base.specs.Annotated.{Database, unannotated}
-use Rattle.gp_base.specs.IdentityParts.{transaction_of}
+use Rattle.gp_base.specs.IdentityParts.{identity_transaction}
 use Rattle.gp_grammar.specs.Syntax as y
 use Rattle.gp_grammar.specs.Syntax.{Command}
 use Rattle.gp_check.specs.Valid.{is_valid}
@@ -134,7 +134,7 @@ respanned entries versions others sessions kept spans same = record {
   numbers = kept.numbers;
   unended = kept.unended;
   below = λ place. subst (AreBelow (suc (versions_in entries))) (sym (spans place)) (kept.below place);
-  makers = λ place. subst (AllByRecursion (λ (span : Span). transaction_of span.id ≤ transactions_in entries)) (sym (spans place)) (kept.makers place);
+  makers = λ place. subst (AllByRecursion (λ (span : Span). identity_transaction span.id ≤ transactions_in entries)) (sym (spans place)) (kept.makers place);
   each = λ session running at. session-stays entries entries versions others running spans (omega (arith, same)) (omega arith) (omega arith) refl (kept.each session running at);
   apart = kept.apart;
 }
@@ -174,7 +174,7 @@ created_sound entries versions sessions line session table added kept valid few 
       numbers = kept.numbers;
       unended = kept.unended;
       below = λ place. subst (AreBelow (suc (versions_in entries))) (sym (spans place)) (kept.below place);
-      makers = λ place. subst (AllByRecursion (λ (span : Span). transaction_of span.id ≤ transactions_in entries)) (sym (spans place)) (kept.makers place);
+      makers = λ place. subst (AllByRecursion (λ (span : Span). identity_transaction span.id ≤ transactions_in entries)) (sym (spans place)) (kept.makers place);
       each = λ other running at.
           session-stays entries (Created line session table ∷ entries) versions (versions ++ added ∷ []) running spans (omega (arith, versions-pushed)) (omega arith) (omega arith) refl (kept.each other running at);
       apart = kept.apart;
@@ -243,7 +243,7 @@ began_sound entries versions sessions line place kind active kept within at few 
       begin = omega (arith, begin);
       last = omega (arith, last);
       count = sym (kept.numbers active.t (omega (arith, t)));
-      others = λ table. all-weaker (λ (span : Span). transaction_of span.id ≤ transactions_in entries) (λ (span : Span). transaction_of span.id ≢ active.t) (λ span is same. omega (arith, is, same, t)) (spans_of versions table) (kept.makers table);
+      others = λ table. all-weaker (λ (span : Span). identity_transaction span.id ≤ transactions_in entries) (λ (span : Span). identity_transaction span.id ≢ active.t) (λ span is same. omega (arith, is, same, t)) (spans_of versions table) (kept.makers table);
       below = λ table. let before = (tables table).below in let now = snapshot_first active (versions_in entries) (omega (arith, begin)) in omega (arith, before, now, begin);
       there = λ table. subst (AreThere (table_at table versions).spans) (sym (tables table).carried) tt;
       beyond = λ table high. nothing-written active versions (versions_in entries) table (tables table) high;
@@ -258,7 +258,7 @@ began_sound entries versions sessions line place kind active kept within at few 
       numbers = λ number above. kept.numbers number (omega (arith, above));
       unended = omega (arith, kept.unended, count-taken sessions place after within at);
       below = kept.below;
-      makers = λ table. all-weaker (λ (span : Span). transaction_of span.id ≤ transactions_in entries) (λ (span : Span). transaction_of span.id ≤ suc (transactions_in entries)) (λ span is. omega (arith, is)) (spans_of versions table) (kept.makers table);
+      makers = λ table. all-weaker (λ (span : Span). identity_transaction span.id ≤ transactions_in entries) (λ (span : Span). identity_transaction span.id ≤ suc (transactions_in entries)) (λ span is. omega (arith, is)) (spans_of versions table) (kept.makers table);
       each = sessions-stay entries later versions sessions place after kept within (omega arith) (omega arith) (λ session other elsewhere there. refl) mine;
       apart = stay-apart entries later versions sessions place after kept within (λ session other elsewhere there same. omega (arith, (kept.each session other there).began, same, t));
     }

@@ -9,7 +9,7 @@ use Rattle.std.proofs.Math.ListN.{get_or-eq_default}
 use Rattle.gp_base.specs.declared.cell.Cell.{Cell}
 use Rattle.gp_base.specs.declared.stored.Stored.{Stored}
 use Rattle.gp_base.specs.Identities.{Identity, same_identity}
-use Rattle.gp_base.specs.IdentityParts.{transaction_of}
+use Rattle.gp_base.specs.IdentityParts.{identity_transaction}
 use Rattle.gp_versions.specs.declared.span.Span.{Span}
 use Rattle.gp_versions.specs.declared.span.Write.{Write}
 use Rattle.gp_versions.specs.Commits.{AreBelow, after_commit, begun, ended}
@@ -190,11 +190,11 @@ module _ (entries : List Entry) (held : List Versions) (sessions : List (Option 
   mine = kept.each (suc place) running at
 
   abbrev IsMade : Identity → Type 0
-  IsMade id = transaction_of id ≤ transactions_in entries
+  IsMade id = identity_transaction id ≤ transactions_in entries
 
   made-own : (table : ℕ) → AllByRecursion (λ (stored : Stored). IsMade stored.id) (writes_at table running.active.tables).own
   made-own table =
-      all-weaker (λ (stored : Stored). transaction_of stored.id ≡ running.active.t) (λ (stored : Stored). IsMade stored.id) (λ stored is. omega (arith, is, mine.began))
+      all-weaker (λ (stored : Stored). identity_transaction stored.id ≡ running.active.t) (λ (stored : Stored). IsMade stored.id) (λ stored is. omega (arith, is, mine.began))
       (writes_at table running.active.tables).own (inserted-own running.active.t running.active.last (writes_at table running.active.tables).own (holds table).own).0
 
   made : (table : ℕ) → AllByRecursion (λ (span : Span). IsMade span.id) (spans_of versions table)

@@ -5,7 +5,7 @@ use Rattle.std.specs.Option.{option_map}
 use Rattle.gp_base.specs.declared.catalog.TheConstants.{MAX_TABLES}
 use Rattle.gp_base.specs.declared.table.Table.{Table}
 use Rattle.gp_base.specs.Annotated.{unannotated}
-use Rattle.gp_base.specs.IdentityParts.{transaction_of}
+use Rattle.gp_base.specs.IdentityParts.{identity_transaction}
 use Rattle.gp_grammar.specs.declared.limits.TheConstants.{MAX_SESSION}
 use Rattle.gp_grammar.specs.Syntax.{Command}
 use Rattle.gp_check.specs.Valid.{tables_are_valid}
@@ -153,7 +153,7 @@ pub record IsSound (entries : List Entry) (versions : List Versions) (sessions :
   -- the sessions run the transactions that have not ended
   pub unended : count_running sessions + ends_in entries ≡ transactions_in entries
   pub below : (place : ℕ) → AreBelow (suc (versions_in entries)) (spans_of versions place)
-  pub makers : (place : ℕ) → AllByRecursion (λ (span : Span). transaction_of span.id ≤ transactions_in entries) (spans_of versions place)
+  pub makers : (place : ℕ) → AllByRecursion (λ (span : Span). identity_transaction span.id ≤ transactions_in entries) (spans_of versions place)
   pub each : (session : ℕ) (running : Running) → session_at session sessions ≡ Some running → IsSession entries versions running
   pub apart : (session other : ℕ) (a b : Running) → session_at session sessions ≡ Some a → session_at other sessions ≡ Some b
       → a.active.t ≡ b.active.t → session ≡ other

@@ -6,7 +6,7 @@ use Rattle.gp_base.specs.declared.refusal.Refusal.TheVariants.{E11, E14}
 use Rattle.gp_base.specs.declared.table.Table.{Table}
 use Rattle.gp_base.specs.Annotated.{Database, unannotated}
 use Rattle.gp_base.specs.Identities.{Identity}
-use Rattle.gp_base.specs.IdentityParts.{transaction_of}
+use Rattle.gp_base.specs.IdentityParts.{identity_transaction}
 use Rattle.gp_algebra.specs.Effects.{step, wrote}
 use Rattle.gp_algebra.specs.Statements as s
 use Rattle.gp_algebra.specs.Statements.{Statement}
@@ -68,7 +68,7 @@ module _ (tables : List Table) (versions : List Versions) (newest : ℕ) (old : 
     pub there : (is_read statement ≡ true) ⊎ (target_of statement < length versions)
     pub statements : new.statements ≡ suc old.statements
     pub view : (table : ℕ) → view_at new.active.tables versions now table ≡ step unannotated old.active.t (suc old.statements) statement start table
-    pub base : (table : ℕ) (id : Identity) → transaction_of id ≢ old.active.t
+    pub base : (table : ℕ) (id : Identity) → identity_transaction id ≢ old.active.t
         → base_at new.active.tables versions table id
         ≡ base_after now (has_written (wrote unannotated old.active.t (suc old.statements) statement start) table id) (base_at old.active.tables versions table id)
     pub below : (table : ℕ)

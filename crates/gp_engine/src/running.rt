@@ -123,7 +123,6 @@ impl Running {
         }
     }
 
-    /// SELECT.
     #[tactic(auto, using(crate::proofs::OverlayLemmas::base_read))]
     fn select(
         &mut self,

@@ -35,7 +35,6 @@ impl Model for State {
     ghost view = { λ a. record { log = a.log; versions = a.versions.items; sessions = a.sessions } };
 }
 
-/// No transaction.
 fn no_transaction() -> Option<Running>
     ensures { result ≡ None }
 {

@@ -1,4 +1,4 @@
--- Part of the statement: what is asked of a backend, and what the executor gives as one.
+-- Of the contract of a `Backend`: what is asked of a backend, and what the executor gives as one.
 use Rattle.std.specs.Prelude.{◌≡◌, ◌<◌, ◌≤◌, ℕ, Bool, true, false, not, List, length, map, None, Some, Result, Ok, Err}
 use Rattle.std.specs.List.{list_any}
 use Rattle.std.specs.List.Sorted.{IsPermutation}

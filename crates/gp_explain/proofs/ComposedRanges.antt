@@ -20,7 +20,7 @@ use Rattle.gp_log.specs.LogFacts.{tables_in}
 use Rattle.gp_log.specs.LogFitting.{statements_fit}
 use Rattle.gp_log.proofs.FittingLogs.{statement_at_fits}
 use Rattle.gp_rewrite.specs.Rewriting.{query_of}
-use Rattle.gp_compose.specs.Composed.{after, as_of, commit, composed, current, current_before, last_write, moved, onto, program_at, published, step_of, writes}
+use Rattle.gp_compose.specs.Composed.{program_after, program_as_of, program_of_commit, composed, current, current_before, last_write, moved, onto, program_at, published_query, step_of, writes}
 use Rattle.gp_compose.specs.StepForms.{steps_of}
 use Rattle.gp_prov.specs.ToPlain.{plain_program}
 use Rattle.gp_reenact.specs.Programs.{merged_at}
@@ -111,9 +111,9 @@ module _ (catalogue : List Table) (few : (table : ℕ) → width_of catalogue ta
     read_range k count select fit short = query_range catalogue few of_step prov (current log t k) (current_range k count) (current_far k) select fit short
 
     published_range : (before : ℕ) → IsU32 before → IsU32 (log.statement_count t) → (select : Select) → select_fits catalogue select ≡ true → HasFewTables select
-        → InRange (query_of (published log t before) select)
+        → InRange (query_of (published_query log t before) select)
     published_range before past count select fit short =
-        query_range catalogue few of_step prov (published log t before)
+        query_range catalogue few of_step prov (published_query log t before)
         (λ table. onto_range (log.version t (log.statement_count t)) before table (last_write log t (log.statement_count t) table) (current log t (log.statement_count t) table)
         (versions (log.statement_count t)) past (current_range (log.statement_count t) count table))
         (λ table. onto_far (log.version t (log.statement_count t)) before table (last_write log t (log.statement_count t) table) (current log t (log.statement_count t) table)) select fit short
@@ -220,14 +220,14 @@ module _ (entries : List Entry) (small : IsSmall entries) (fit : statements_fit 
 
   point_range : (point : y.Point) → log_refusal entries point ≡ None → ProgramInRange (plain_program (width_of tables) prov (program_at (width_of tables) entries point select))
   point_range (y.as_of version) e =
-      program_range (width_of tables) prov (as_of version select) tt
+      program_range (width_of tables) prov (program_as_of version select) tt
       (version_range tables small.columns (step_table []) prov version (within version (versions_in entries) (as_of_most entries version e) (versions_most entries)) select fitting short)
   point_range (y.after t k) e =
       let parts = none_parts (transaction_refusal t entries) (statement_refusal t k entries) e in
       let steps = composed (width_of tables) (log_of entries) t k in
       let transaction = within t (transactions_in entries) (known_most entries t parts.0) (count-most _ entries) in
       let count = within k (statement_count t entries) (statement_most entries t k parts.1) (count-most _ entries) in
-      program_range (width_of tables) prov (after (width_of tables) (log_of entries) t k select)
+      program_range (width_of tables) prov (program_after (width_of tables) (log_of entries) t k select)
       (composed_range tables small.columns (step_table steps) prov (log_of entries) t transaction (read_most t) (at_fits t) k count)
       (read_range tables small.columns (step_table steps) prov (log_of entries) t transaction (read_most t) (at_fits t) k count select fitting short)
   point_range (y.Point.commit t) e =
@@ -235,7 +235,7 @@ module _ (entries : List Entry) (small : IsSmall entries) (fit : statements_fit 
       let steps = composed (width_of tables) (log_of entries) t (statement_count t entries) in
       let transaction = within t (transactions_in entries) (known_most entries t e) (count-most _ entries) in
       let past = within before before (omega arith) (before_most t entries) in
-      program_range (width_of tables) prov (commit (width_of tables) (log_of entries) t before select)
+      program_range (width_of tables) prov (program_of_commit (width_of tables) (log_of entries) t before select)
       (composed_range tables small.columns (step_table steps) prov (log_of entries) t transaction (read_most t) (at_fits t) (statement_count t entries) (count_most t))
       (published_range tables small.columns (step_table steps) prov (log_of entries) t transaction (read_most t) (at_fits t) before past (count_most t) select fitting short)
 

@@ -19,7 +19,7 @@ use Rattle.gp_machine.specs.Questions.{log_refusal, statement_refusal, transacti
 use Rattle.gp_log.specs.LogFitting.{statements_fit}
 use Rattle.gp_log.specs.LogFacts.{tables_in}
 use Rattle.gp_rewrite.specs.Rewriting.{rewritten}
-use Rattle.gp_compose.specs.Composed.{after, as_of, commit, composed, current, current_before, last_write, moved, onto, program_at, published, step_of, writes}
+use Rattle.gp_compose.specs.Composed.{program_after, program_as_of, program_of_commit, composed, current, current_before, last_write, moved, onto, program_at, published_query, step_of, writes}
 use Rattle.gp_compose.specs.StepForms.{steps_of}
 use Rattle.gp_log.proofs.FittingLogs.{statement_at_fits}
 use Rattle.gp_plantext.specs.Spellable.{table_is_spellable}
@@ -105,23 +105,23 @@ module _ (catalogue : List Table) (named : (table : ℕ) → is_there catalogue 
                 let query = rewritten_shaped catalogue (current_before log t k) (before_shaped k) (before_have k) t (suc k) some_transaction some own statement is fit in
                 and_from _ true (and_from (table_is_spellable catalogue own) (annotated_is_shaped catalogue (rewritten columns t (suc k) statement (current_before log t k))) table query) refl
 
-    pub after_shaped : (prov : Bool) (k : ℕ) (select : Select) → select_fits catalogue select ≡ true → is_shaped catalogue (plain_program columns prov (after columns log t k select)) ≡ true
+    pub after_shaped : (prov : Bool) (k : ℕ) (select : Select) → select_fits catalogue select ≡ true → is_shaped catalogue (plain_program columns prov (program_after columns log t k select)) ≡ true
     after_shaped prov k select fit =
-        program_shaped catalogue columns prov (after columns log t k select) (composed_shaped k) (query_shaped catalogue (current log t k) (current_shaped k) (current_have k) select fit)
+        program_shaped catalogue columns prov (program_after columns log t k select) (composed_shaped k) (query_shaped catalogue (current log t k) (current_shaped k) (current_have k) select fit)
 
     pub commit_shaped : (prov : Bool) (before : ℕ) (select : Select) → select_fits catalogue select ≡ true
-        → is_shaped catalogue (plain_program columns prov (commit columns log t before select)) ≡ true
+        → is_shaped catalogue (plain_program columns prov (program_of_commit columns log t before select)) ≡ true
     commit_shaped prov before select fit =
-        program_shaped catalogue columns prov (commit columns log t before select) (composed_shaped (log.statement_count t))
-        (query_shaped catalogue (published log t before)
+        program_shaped catalogue columns prov (program_of_commit columns log t before select) (composed_shaped (log.statement_count t))
+        (query_shaped catalogue (published_query log t before)
         (λ table there. onto_shaped (log.version t (log.statement_count t)) before table (last_write log t (log.statement_count t) table) (current log t (log.statement_count t) table) there
         (current_shaped (log.statement_count t) table there))
         (λ table. onto_have (log.version t (log.statement_count t)) before table (last_write log t (log.statement_count t) table) (current log t (log.statement_count t) table)) select fit)
 
   as_of_shaped : (prov : Bool) (version : ℕ) (select : Select) → select_fits catalogue select ≡ true
-      → is_shaped catalogue (plain_program (width_of catalogue) prov (as_of version select)) ≡ true
+      → is_shaped catalogue (plain_program (width_of catalogue) prov (program_as_of version select)) ≡ true
   as_of_shaped prov version select fit =
-      program_shaped catalogue (width_of catalogue) prov (as_of version select) refl
+      program_shaped catalogue (width_of catalogue) prov (program_as_of version select) refl
       (query_shaped catalogue (λ table. q.scan table version) named (λ table. refl) select fit)
 
   -- a log that does not refuse a transaction has one of this number

@@ -9,7 +9,7 @@ use Rattle.gp_base.specs.Numbered.{newline}
 use Rattle.gp_algebra.specs.Plain.{PlainProgram}
 use Rattle.gp_plantext.specs.Spelling.{Spells}
 use Rattle.gp_plantext.specs.Spelling.{last_text, program_text, query_text, step_text}
-use Rattle.gp_explain.specs.ExplainedLines.{lines_from, lines_of}
+use Rattle.gp_explain.specs.ExplainedLines.{lines_from, text_lines}
 use Rattle.gp_explain.specs.LineTexts.{AreLines, is_line}
 
 -- whether nothing is behind the last line feed, given whether nothing is before the text
@@ -57,7 +57,7 @@ program_ends tables program =
     (ends_behind (codes "QUERY ") (query_text tables program.last ++ (newline ++ []))
     (ends_behind (query_text tables program.last) (newline ++ []) (λ done. refl)))
 
-pub spelled_lines : (tables : List Table) (program : PlainProgram) (text : List ℕ) → Spells tables program text → AreLines (lines_of text) text
+pub spelled_lines : (tables : List Table) (program : PlainProgram) (text : List ℕ) → Spells tables program text → AreLines (text_lines text) text
 spelled_lines tables program text spelled = record {
   whole = lines_join [] text true (λ e. refl) (ap (ends true) (sym spelled.is) ∙ program_ends tables program true);
   single = lines_alone [] text refl;

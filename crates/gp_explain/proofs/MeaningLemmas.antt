@@ -29,7 +29,7 @@ use Rattle.gp_prov.specs.ToPlain.{plain_program}
 use Rattle.gp_prov.proofs.MeaningLemmas.{answers_are}
 use Rattle.gp_reenact.specs.Programs.{merged_at}
 use Rattle.gp_reenact.proofs.ReplayLemmas.{plain_is_built}
-use Rattle.gp_rewrite.specs.Meaning.{IsMonoid, of_element, unmarked}
+use Rattle.gp_rewrite.specs.Meaning.{IsMonoid, row_of_element, unmarked}
 use Rattle.gp_compose.specs.Composed.{program_at}
 use Rattle.gp_compose.proofs.ProgramLemmas.{asked_program_is_built, program_is}
 use Rattle.gp_compose.specs.Versions.{AreVersions}
@@ -40,11 +40,11 @@ monoid : IsMonoid monomials
 monoid = record { right_one = times-one; associative = times-associative }
 
 -- the rows of a query are those of an answer, if they are its elements but for marks
-rows_out : (prov : Bool) (made : List (Derived Monomial)) (chosen : List (Element Monomial)) → map unmarked made ≡ map of_element chosen
+rows_out : (prov : Bool) (made : List (Derived Monomial)) (chosen : List (Element Monomial)) → map unmarked made ≡ map row_of_element chosen
     → map (λ (row : Derived Monomial). row.cells ++ noted prov (cell.Mono row.annotation)) made ≡ map (answer_row prov) chosen
 rows_out prov made chosen same =
     let shown : Derived Monomial → List Cell = λ row. row.cells ++ noted prov (cell.Mono row.annotation) in
-    sym (map-map shown unmarked made) ∙ ap (map shown) same ∙ map-map shown of_element chosen
+    sym (map-map shown unmarked made) ∙ ap (map shown) same ∙ map-map shown row_of_element chosen
 
 module _ (entries : List Entry) (select : Select) (fit : statements_fit (tables_in entries) entries ≡ true) (fits : select_fits (tables_in entries) select ≡ true) (point : y.Point)
     (known : log_refusal entries point ≡ None) (prov : Bool) where

@@ -6,5 +6,5 @@ abbrev pub lines_from : List ℕ → List ℕ → List (List ℕ)
 lines_from line [] = []
 lines_from line (byte ∷ bytes) = if byte == 10 then line ∷ lines_from [] bytes else lines_from (line ++ byte ∷ []) bytes
 
-abbrev pub lines_of : List ℕ → List (List ℕ)
-lines_of text = lines_from [] text
+abbrev pub text_lines : List ℕ → List (List ℕ)
+text_lines text = lines_from [] text

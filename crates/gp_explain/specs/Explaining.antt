@@ -1,4 +1,4 @@
--- Part of the statement: what explaining a query over a state answers: the text of its merged program, or the refusal that the log gives. Running out of
+-- Of the contract of `explain`: what explaining a query over a state answers: the text of its merged program, or the refusal that the log gives. Running out of
 -- memory says nothing.
 use Rattle.std.specs.Prelude.{◌≡◌, ℕ, List, Option, Some, None, Result, Ok, Err}
 use Rattle.gp_base.specs.declared.refusal.Refusal.{Refusal}

@@ -13,7 +13,7 @@ ghost use Rattle.gp_plantext.specs.Spelling.{Spells, program_text};
 ghost use Rattle.gp_plantext.specs.Spellable.{is_spellable};
 ghost use Rattle.gp_reenact.specs.Programs.{merged_at};
 ghost use Rattle.gp_explain.specs.Explained.{Explains};
-ghost use Rattle.gp_explain.specs.ExplainedLines.{lines_of};
+ghost use Rattle.gp_explain.specs.ExplainedLines.{text_lines};
 ghost use Rattle.gp_explain.specs.LineTexts.{AreLines};
 ghost use Rattle.gp_explain.specs.Numbers.{ProgramInRange};
 ghost use Rattle.gp_explain.specs.Shapes.{AreNamed};
@@ -63,5 +63,5 @@ pub fn texts_explain_states()
 pub fn explained_texts_are_lines()
     ensures { (entries : List Entry) (prov : Bool) (point : y.Point) (select : Select)
         (text : List ℕ) → Explains entries point select prov text
-        → AreLines (lines_of text) text }
+        → AreLines (text_lines text) text }
 {}

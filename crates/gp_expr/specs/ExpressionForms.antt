@@ -1,4 +1,4 @@
--- Part of the statement: expressions without CASE in their conditions, and the leaves of expressions.
+-- Of the contracts of `eval` and `truth`, as their premises: expressions without CASE in their conditions, and the leaves of expressions.
 use Rattle.std.specs.Prelude.{ℕ, Bool, true, false, ◌&&◌}
 use Rattle.gp_base.specs.declared.cell.Cell.{Cell}
 use Rattle.gp_expr.specs.Expressions.{Expr, Cond, Parts, col, constant, add, sub, mul, neg, case, new_id, times, always, compare, is_null, is_true, and, or, not, no_parts, part}

@@ -1,4 +1,4 @@
--- Part of the statement: values with an identity of too many nodes.
+-- Of the contract of `eval`, and of where programs stop (`Stops` of gp_algebra): values with an identity of too many nodes.
 use Rattle.std.specs.Prelude.{ℕ, Bool, false, ◌||◌, List, nat_lt, if◌then◌else◌}
 use Rattle.gp_base.specs.declared.cell.Cell.{Cell}
 use Rattle.gp_base.specs.declared.cell.Cell.TheVariants as cell

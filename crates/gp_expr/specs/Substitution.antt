@@ -1,4 +1,5 @@
--- Part of the statement: expressions in place of the columns of another one. A column that is not there becomes NULL, as its value is.
+-- Of the contracts of `substitute` and `substitute_cond`: expressions in place of the columns of another one. A column that is not there becomes NULL, as its
+-- value is.
 use Rattle.std.specs.Prelude.{ℕ, zero, suc, List, map, get_or}
 use Rattle.gp_base.specs.declared.cell.Cell.TheVariants as cell
 use Rattle.gp_expr.specs.Expressions as e

@@ -1,4 +1,4 @@
--- Part of the statement: the expressions and conditions of the code without the pointers in their boxes.
+-- Of the contracts of `eval`, `truth` and `copy_expr`: the expressions and conditions of the code without the pointers in their boxes.
 use Rattle.std.specs.Prelude.{List, [], ◌∷◌}
 use Rattle.gp_expr.specs.Expressions as e
 use Rattle.gp_expr.specs.declared.expr.Expr.{Expr, Col, Const, Add', Sub', Mul', Neg', Case', NewId', Times', Row_of-Expr, end_of-Expr, more_of-Expr}

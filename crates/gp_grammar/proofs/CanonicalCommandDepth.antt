@@ -15,7 +15,7 @@ use Rattle.gp_lexer.specs.declared.lexeme.Lexeme.TheVariants.{Symbol as Sign, Wo
 use Rattle.gp_grammar.specs.declared.limits.TheConstants.{MAX_LEVELS, MAX_OPEN}
 use Rattle.gp_grammar.specs.Syntax as syntax
 use Rattle.gp_grammar.specs.Syntax.{Lexemes, Bytes, Term, SetTerm, Item, Items, Block, Query, Command}
-use Rattle.gp_grammar.specs.Limits.{Shape, levels, some_above, passed_limit, terms_of_condition, listed, terms_of_query, command_shape}
+use Rattle.gp_grammar.specs.Limits.{Shape, levels, some_above, passed_limit, terms_of_condition, select_terms, terms_of_query, command_shape}
 use Rattle.gp_grammar.specs.Depth.{is_too_deep}
 use Rattle.gp_grammar.specs.Canonical.{kind_lexeme, term_lexemes, joined_lexemes, listed_lexemes, column_definition_lexemes, cell_lexemes, tuple_lexemes, item_lexemes, items_lexemes, condition_lexemes, block_lexemes, query_lexemes, set_lexemes, command_lexemes}
 use Rattle.gp_grammar.proofs.ShapeLemmas.{first_limit, of_shape}
@@ -85,7 +85,7 @@ unfolding AreShallow
 terms-even [] h = even-none
 terms-even (x ∷ xs) h = both MAX_OPEN (term_lexemes x) (flat_map (λ y. Sign s.Comma ∷ term_lexemes y) xs) (term-even x h.0) (terms-flat xs h.1)
 
-items-even : (x : Items) → AreShallow (listed x) → Even (items_lexemes x)
+items-even : (x : Items) → AreShallow (select_terms x) → Even (items_lexemes x)
 items-even syntax.star h = λ room rest k. refl
 items-even (syntax.list xs) h = terms-even xs h
 
@@ -101,9 +101,9 @@ item-by n false table name room rest h = refl
 item-even : (n : ℕ) (x : Item) → Balanced n (item_lexemes x)
 item-even n x = item-by n (bytes_eq x.table x.name) x.table x.name
 
-block-even : (x : Block) → AreShallow (listed x.items ++ terms_of_condition x.cond) → Even (block_lexemes x)
+block-even : (x : Block) → AreShallow (select_terms x.items ++ terms_of_condition x.cond) → Even (block_lexemes x)
 block-even x h =
-    let w : AreShallow (listed x.items) × AreShallow (terms_of_condition x.cond) = shallow-split (listed x.items) (terms_of_condition x.cond) h in
+    let w : AreShallow (select_terms x.items) × AreShallow (terms_of_condition x.cond) = shallow-split (select_terms x.items) (terms_of_condition x.cond) h in
     let tail : Even (Sign s.From ∷ (listed_lexemes item_lexemes x.from ++ condition_lexemes x.cond)) =
     both MAX_OPEN (listed_lexemes item_lexemes x.from) (condition_lexemes x.cond) (list-even MAX_OPEN (Sign s.Comma ∷ []) item_lexemes (comma-balanced MAX_OPEN) (item-even MAX_OPEN) x.from)
     (condition-even x.cond w.1) in
@@ -112,14 +112,14 @@ block-even x h =
 blocks-flat : (q : Query) → AreShallow (terms_of_query q) → Even (flat_map (λ y. Sign s.Union ∷ Sign s.All ∷ block_lexemes y) q)
 blocks-flat [] h = even-none
 blocks-flat (x ∷ q) h =
-    let w : AreShallow (listed x.items ++ terms_of_condition x.cond) × AreShallow (terms_of_query q) = shallow-split (listed x.items ++ terms_of_condition x.cond) (terms_of_query q) h in
+    let w : AreShallow (select_terms x.items ++ terms_of_condition x.cond) × AreShallow (terms_of_query q) = shallow-split (select_terms x.items ++ terms_of_condition x.cond) (terms_of_query q) h in
     let b : Even (Sign s.Union ∷ Sign s.All ∷ block_lexemes x) = block-even x w.0 in
     both MAX_OPEN (Sign s.Union ∷ Sign s.All ∷ block_lexemes x) (flat_map (λ y. Sign s.Union ∷ Sign s.All ∷ block_lexemes y) q) b (blocks-flat q w.1)
 
 query-even : (q : Query) → AreShallow (terms_of_query q) → Even (query_lexemes q)
 query-even [] h = even-none
 query-even (x ∷ q) h =
-    let w : AreShallow (listed x.items ++ terms_of_condition x.cond) × AreShallow (terms_of_query q) = shallow-split (listed x.items ++ terms_of_condition x.cond) (terms_of_query q) h in
+    let w : AreShallow (select_terms x.items ++ terms_of_condition x.cond) × AreShallow (terms_of_query q) = shallow-split (select_terms x.items ++ terms_of_condition x.cond) (terms_of_query q) h in
     both MAX_OPEN (block_lexemes x) (flat_map (λ y. Sign s.Union ∷ Sign s.All ∷ block_lexemes y) q) (block-even x w.0) (blocks-flat q w.1)
 
 set-even : (x : SetTerm) → levels x.term ≤ MAX_LEVELS → Even (set_lexemes x)

@@ -7,7 +7,7 @@ use Rattle.gp_grammar.specs.declared.limits.TheConstants.{MAX_COLUMNS, MAX_FROM,
 use Rattle.gp_grammar.specs.Syntax as syntax
 use Rattle.gp_grammar.specs.Syntax.{Term, SetTerm, Item, Items, Block, Query, Command, ScriptLine, LogChange, Side, Question}
 use Rattle.gp_grammar.specs.Limits as l
-use Rattle.gp_grammar.specs.Limits.{Limit, Shape, nodes, levels, some_above, passed_limit, terms_of_condition, listed, terms_of_query, query_shape, shape_of_terms, command_shape, line_shape, change_shape, side_shape, both, question_shape}
+use Rattle.gp_grammar.specs.Limits.{Limit, Shape, nodes, levels, some_above, passed_limit, terms_of_condition, select_terms, terms_of_query, query_shape, shape_of_terms, command_shape, line_shape, change_shape, side_shape, both, question_shape}
 use Rattle.gp_grammar.specs.Laws.{CapsFairly, term_shape}
 use Rattle.gp_grammar.specs.Capping.{is_large, capped, capped_set, capped_items, capped_block, capped_command, capped_line, capped_change, capped_side, capped_question}
 use Rattle.gp_grammar.specs.Grammar.{IsTerm}
@@ -99,11 +99,11 @@ within-exact s h = exact-terms s.terms (none-small _ _ _ _ _ _ (sym (of_shape s)
 
 -- ---- queries
 
-listed-length : (items : Items) → length (listed (capped_items items)) ≡ length (listed items)
+listed-length : (items : Items) → length (select_terms (capped_items items)) ≡ length (select_terms items)
 listed-length syntax.star = refl
 listed-length (syntax.list xs) = length-map xs capped
 
-listed-terms : (items : Items) → listed (capped_items items) ≡ map capped (listed items)
+listed-terms : (items : Items) → select_terms (capped_items items) ≡ map capped (select_terms items)
 listed-terms syntax.star = refl
 listed-terms (syntax.list xs) = refl
 
@@ -111,26 +111,26 @@ condition-terms : (cond : Option Term) → terms_of_condition (option_map capped
 condition-terms None = refl
 condition-terms (Some x) = refl
 
-query-columns : (q : Query) → map (λ (block : Block). length (listed block.items)) (map capped_block q) ≡ map (λ (block : Block). length (listed block.items)) q
+query-columns : (q : Query) → map (λ (block : Block). length (select_terms block.items)) (map capped_block q) ≡ map (λ (block : Block). length (select_terms block.items)) q
 query-columns [] = refl
-query-columns (b ∷ q) = ap (λ z. z ∷ map (λ (block : Block). length (listed block.items)) (map capped_block q)) (listed-length b.items) ∙ ap (λ z. length (listed b.items) ∷ z) (query-columns q)
+query-columns (b ∷ q) = ap (λ z. z ∷ map (λ (block : Block). length (select_terms block.items)) (map capped_block q)) (listed-length b.items) ∙ ap (λ z. length (select_terms b.items) ∷ z) (query-columns q)
 
 query-from : (q : Query) → map (λ (block : Block). length block.from) (map capped_block q) ≡ map (λ (block : Block). length block.from) q
 query-from [] = refl
 query-from (b ∷ q) = ap (λ z. length b.from ∷ z) (query-from q)
 
-block-terms : (b : Block) → listed (capped_items b.items) ++ terms_of_condition (option_map capped b.cond) ≡ map capped (listed b.items ++ terms_of_condition b.cond)
+block-terms : (b : Block) → select_terms (capped_items b.items) ++ terms_of_condition (option_map capped b.cond) ≡ map capped (select_terms b.items ++ terms_of_condition b.cond)
 block-terms b =
     ap (λ z. z ++ terms_of_condition (option_map capped b.cond)) (listed-terms b.items)
-    ∙ ap (λ z. map capped (listed b.items) ++ z) (condition-terms b.cond)
-    ∙ sym (map-append capped (listed b.items) (terms_of_condition b.cond))
+    ∙ ap (λ z. map capped (select_terms b.items) ++ z) (condition-terms b.cond)
+    ∙ sym (map-append capped (select_terms b.items) (terms_of_condition b.cond))
 
 query-terms : (q : Query) → terms_of_query (map capped_block q) ≡ map capped (terms_of_query q)
 query-terms [] = refl
 query-terms (b ∷ q) =
     ap (λ z. z ++ terms_of_query (map capped_block q)) (block-terms b)
-    ∙ ap (λ z. map capped (listed b.items ++ terms_of_condition b.cond) ++ z) (query-terms q)
-    ∙ sym (map-append capped (listed b.items ++ terms_of_condition b.cond) (terms_of_query q))
+    ∙ ap (λ z. map capped (select_terms b.items ++ terms_of_condition b.cond) ++ z) (query-terms q)
+    ∙ sym (map-append capped (select_terms b.items ++ terms_of_condition b.cond) (terms_of_query q))
 
 query-shape : (q : Query) → query_shape (map capped_block q) ≡ capped_shape (query_shape q)
 query-shape q =
@@ -139,7 +139,7 @@ query-shape q =
     ∙ ap (λ z. record { columns = (query_shape q).columns; from = (query_shape q).from; branches = z; values = 0; terms = terms_of_query (map capped_block q) }) (length-map q capped_block)
     ∙ ap (λ z. record { columns = (query_shape q).columns; from = (query_shape q).from; branches = length q; values = 0; terms = z }) (query-terms q)
 
-exact-items : (items : Items) → AreExact (listed items) → capped_items items ≡ items
+exact-items : (items : Items) → AreExact (select_terms items) → capped_items items ≡ items
 exact-items syntax.star h = refl
 exact-items (syntax.list xs) h = ap (λ z. syntax.list z) (exact-map xs h)
 
@@ -148,16 +148,16 @@ unfolding AreExact
 exact-condition None h = refl
 exact-condition (Some x) h = ap (λ z. Some z) h.0
 
-exact-block : (b : Block) → AreExact (listed b.items ++ terms_of_condition b.cond) → capped_block b ≡ b
+exact-block : (b : Block) → AreExact (select_terms b.items ++ terms_of_condition b.cond) → capped_block b ≡ b
 exact-block b h =
-    let w : AreExact (listed b.items) × AreExact (terms_of_condition b.cond) = exact-split (listed b.items) (terms_of_condition b.cond) h in
+    let w : AreExact (select_terms b.items) × AreExact (terms_of_condition b.cond) = exact-split (select_terms b.items) (terms_of_condition b.cond) h in
     ap (λ z. record { items = z; from = b.from; cond = option_map capped b.cond }) (exact-items b.items w.0)
     ∙ ap (λ z. record { items = b.items; from = b.from; cond = z }) (exact-condition b.cond w.1)
 
 exact-query : (q : Query) → AreExact (terms_of_query q) → map capped_block q ≡ q
 exact-query [] h = refl
 exact-query (b ∷ q) h =
-    let w : AreExact (listed b.items ++ terms_of_condition b.cond) × AreExact (terms_of_query q) = exact-split (listed b.items ++ terms_of_condition b.cond) (terms_of_query q) h in
+    let w : AreExact (select_terms b.items ++ terms_of_condition b.cond) × AreExact (terms_of_query q) = exact-split (select_terms b.items ++ terms_of_condition b.cond) (terms_of_query q) h in
     ap (λ z. z ∷ map capped_block q) (exact-block b w.0) ∙ ap (λ z. b ∷ z) (exact-query q w.1)
 
 -- ---- commands

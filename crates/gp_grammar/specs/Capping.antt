@@ -42,7 +42,8 @@ capped (y.is_null a holds) = is_null (capped a) holds
 capped (y.is_true a holds) = is_true (capped a) holds
 capped (y.case a b c) = case (capped a) (capped b) (capped c)
 
--- the same for each term of a command or a question
+-- ---- each term of a command or a question
+
 abbrev pub capped_set : SetTerm → SetTerm
 capped_set set = record { col = set.col; term = capped set.term }
 

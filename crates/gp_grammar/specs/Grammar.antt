@@ -15,7 +15,6 @@ pub data Phrase : Type 0 where
   operations : Level → Phrase
   negation test comparison factor primary : Phrase
 
--- the operands of a level
 abbrev pub operand : Level → Phrase
 operand l.Disjunction = operations l.Conjunction
 operand l.Conjunction = negation
@@ -51,6 +50,6 @@ pub data Derives : Phrase → Lexemes → Term → Type 0 where
       → Derives (operations l.Disjunction) c z
       → Derives primary (Sign s.Case ∷ Sign s.When ∷ (a ++ (Sign s.Then ∷ (b ++ (Sign s.Else ∷ (c ++ (Sign s.End ∷ []))))))) (case x y z)
 
--- the lexemes are a term
+-- a term of the lowest level is any term
 abbrev pub IsTerm : Lexemes → Term → Type 0
 IsTerm = Derives (operations l.Disjunction)

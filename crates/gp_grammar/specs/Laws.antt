@@ -1,4 +1,5 @@
--- Part of the statement: what the laws say of a parser, a grammar and the definitions of reading.
+-- Of the laws `terms_are_parsed`, `commands_are_parsed`, `questions_are_parsed` and `lines_are_read_once`: what is said of a parser, a grammar and the
+-- definitions of reading.
 use Rattle.std.specs.Prelude.{◌≡◌, ◌↔◌, ℕ, Bool, List, [], ◌∷◌, None, Ok, Err, true, false, ◌==◌, ◌&&◌}
 use Rattle.std.specs.List.{list_any}
 use Rattle.std.specs.Str.{IsUtf8}

@@ -31,16 +31,16 @@ terms_of_condition None = []
 terms_of_condition (Some x) = x ∷ []
 
 -- the terms of a select list; `*` has none
-abbrev pub listed : Items → List Term
-listed y.star = []
-listed (y.list xs) = xs
+abbrev pub select_terms : Items → List Term
+select_terms y.star = []
+select_terms (y.list xs) = xs
 
 abbrev pub terms_of_query : Query → List Term
-terms_of_query = flat_map (λ (block : Block). listed block.items ++ terms_of_condition block.cond)
+terms_of_query = flat_map (λ (block : Block). select_terms block.items ++ terms_of_condition block.cond)
 
 abbrev pub query_shape : Query → Shape
 query_shape blocks = record {
-  columns = map (λ (block : Block). length (listed block.items)) blocks;
+  columns = map (λ (block : Block). length (select_terms block.items)) blocks;
   from = map (λ (block : Block). length block.from) blocks;
   branches = length blocks;
   values = 0;

@@ -16,8 +16,8 @@ pub data Fault : Type 0 where
   over : Limit → Fault
 
 -- the column of the first lexeme of the rest, or that after the last byte
-abbrev pub column_of : Lexemes → List ℕ → ℕ → Lexemes → ℕ
-column_of lexemes columns end rest = slice_index_or columns (length lexemes - length rest) end
+abbrev pub lexeme_column : Lexemes → List ℕ → ℕ → Lexemes → ℕ
+lexeme_column lexemes columns end rest = slice_index_or columns (length lexemes - length rest) end
 
 -- a text is UTF-8, and these are its lexemes and their columns
 pub record HasLexemes (bytes : Bytes) (lexemes : Lexemes) (columns : List ℕ) : Type 0 where
@@ -25,7 +25,7 @@ pub record HasLexemes (bytes : Bytes) (lexemes : Lexemes) (columns : List ℕ) :
   pub found : lexed bytes ≡ Ok (lexemes, columns)
 
 module _ {A : Type 0} (Is : Lexemes → A → Type 0) (shape : A → Shape) where
-  -- a text is read as this
+  -- the tests in their order: UTF-8, lexemes, brackets, the grammar, the limits
   pub record ReadsText (bytes : Bytes) (x : A) : Type 0 where
     pub lexemes : Lexemes
     pub columns : List ℕ
@@ -42,16 +42,15 @@ module _ {A : Type 0} (Is : Lexemes → A → Type 0) (shape : A → Shape) wher
         → RefusesText bytes (over depth)
     stopped : (lexemes rest : Lexemes) (columns : List ℕ) → HasLexemes bytes lexemes columns → is_too_deep MAX_OPEN lexemes ≡ false
         → Stops Is lexemes rest
-        → RefusesText bytes (syntax (column_of lexemes columns (length bytes + 1) rest))
+        → RefusesText bytes (syntax (lexeme_column lexemes columns (length bytes + 1) rest))
     limited : (lexemes : Lexemes) (columns : List ℕ) (x : A) (limit : Limit) → HasLexemes bytes lexemes columns → is_too_deep MAX_OPEN lexemes ≡ false
         → Is lexemes x → passed_limit (shape x) ≡ Some limit → RefusesText bytes (over limit)
 
-  -- a line is read as this
+  -- the length of a line is tested before its text
   pub record ReadsLine (bytes : Bytes) (x : A) : Type 0 where
     pub short : length bytes ≤ MAX_LINE_LENGTH
     pub text : ReadsText bytes x
 
-  -- a line is refused
   pub data RefusesLine (bytes : Bytes) : Fault → Type 0 where
     long : MAX_LINE_LENGTH < length bytes → RefusesLine bytes too_long
     refused : (fault : Fault) → length bytes ≤ MAX_LINE_LENGTH → RefusesText bytes fault → RefusesLine bytes fault

@@ -6,7 +6,7 @@ use Rattle.gp_grammar.specs.declared.limits.TheConstants.{MAX_LINE_LENGTH, MAX_O
 use Rattle.gp_grammar.specs.Syntax.{Lexemes, Bytes, Command, ScriptLine, Question}
 use Rattle.gp_grammar.specs.Depth.{is_too_deep}
 use Rattle.gp_grammar.specs.Limits.{Limit, depth, Shape, command_shape, line_shape, question_shape, passed_limit}
-use Rattle.gp_grammar.specs.LineReading.{Fault, too_long, not_utf8, lexical, syntax, over, column_of}
+use Rattle.gp_grammar.specs.LineReading.{Fault, too_long, not_utf8, lexical, syntax, over, lexeme_column}
 use Rattle.gp_grammar.specs.Parsing.{Outcome, Parser, whole}
 use Rattle.gp_grammar.specs.CommandParsing.{command, script_line}
 use Rattle.gp_grammar.specs.QuestionParsing.{question}
@@ -17,7 +17,7 @@ within_shape x (Some limit) = Err (over limit)
 
 abbrev pub placed : {A : Type 0} → (A → Shape) → Lexemes → List ℕ → ℕ → Outcome A → Result A Fault
 placed shape lexemes columns end (Ok x) = within_shape x (passed_limit (shape x))
-placed shape lexemes columns end (Err rest) = Err (syntax (column_of lexemes columns end rest))
+placed shape lexemes columns end (Err rest) = Err (syntax (lexeme_column lexemes columns end rest))
 
 abbrev pub read_lexemes : {A : Type 0} → Parser A → (A → Shape) → Lexemes → List ℕ → ℕ → Result A Fault
 read_lexemes parser shape lexemes columns end =

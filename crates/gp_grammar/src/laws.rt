@@ -19,7 +19,7 @@ pub fn terms_are_parsed()
     ensures fair { CapsFairly term IsTerm capped term_shape }
 {}
 
-/// The same for commands.
+/// The parser of commands takes, refuses and caps as that of terms does.
 pub fn commands_are_parsed()
     ensures complete { ParsesExactly command IsCommand capped_command command_shape }
     ensures place { StopsExactly command IsCommand capped_command command_shape }
@@ -27,7 +27,7 @@ pub fn commands_are_parsed()
     ensures fair { CapsFairly command IsCommand capped_command command_shape }
 {}
 
-/// The same for the lines of scripts.
+/// The parser of script lines takes, refuses and caps as that of terms does.
 pub fn script_lines_are_parsed()
     ensures complete { ParsesExactly script_line IsScriptLine capped_line line_shape }
     ensures place { StopsExactly script_line IsScriptLine capped_line line_shape }
@@ -35,7 +35,7 @@ pub fn script_lines_are_parsed()
     ensures fair { CapsFairly script_line IsScriptLine capped_line line_shape }
 {}
 
-/// The same for questions.
+/// The parser of questions takes, refuses and caps as that of terms does.
 pub fn questions_are_parsed()
     ensures complete { ParsesExactly question IsQuestion capped_question question_shape }
     ensures place { StopsExactly question IsQuestion capped_question question_shape }
@@ -50,13 +50,14 @@ pub fn command_texts_are_read()
     ensures refuses { RefusesTextsExactly command IsCommand capped_command command_shape }
 {}
 
-/// The same for the lines of scripts, which have a greatest length.
+/// A text is read as a line of a script, or refused, as it is as a command; but such lines have a greatest length.
 pub fn script_lines_are_read()
     ensures reads { ReadsLinesExactly script_line IsScriptLine capped_line line_shape }
     ensures refuses { RefusesLinesExactly script_line IsScriptLine capped_line line_shape }
 {}
 
-/// The same for questions. The command of a change is a statement.
+/// A text is read as a question, or refused, as it is as a line of a script (`reads`, `refuses`). The command of a change is a
+/// statement (`statement`).
 pub fn questions_are_read()
     ensures reads { ReadsLinesExactly question IsQuestion capped_question question_shape }
     ensures refuses { RefusesLinesExactly question IsQuestion capped_question question_shape }

@@ -6,7 +6,7 @@ use Rattle.gp_base.specs.Annotated.{Annotations, Environment}
 use Rattle.gp_expr.specs.Values.{passes}
 use Rattle.gp_algebra.specs.declared.plain.ScanAt.{ScanAt}
 use Rattle.gp_algebra.specs.AnnotatedQueries.{Program, Query, QueryStep, scan, step, select, project, product, union, given, new_rows, publish}
-use Rattle.gp_algebra.specs.AnnotatedMeaning.{Derived, scanned, projected, crossed, renewed, published, meaning, steps_meaning, program_meaning}
+use Rattle.gp_algebra.specs.AnnotatedMeaning.{Derived, scanned, projected, crossed, renewed, published_onto, meaning, steps_meaning, program_meaning}
 use Rattle.gp_algebra.specs.Plain.{no_steps, with_step}
 use Rattle.gp_algebra.specs.Scans.{annotated_program_scans, annotated_query_scans, annotated_steps_scans}
 use Rattle.gp_algebra.specs.Stops.{first_stop}
@@ -34,7 +34,7 @@ module _ {M : Type 0} (domain : Annotations M) (a b : Environment M) where
   meaning_agrees steps (new_rows t k b query) e = ap (map (renewed domain t k b)) (meaning_agrees steps query e)
   meaning_agrees steps (publish x y z) e =
       let others : AgreesOn (annotated_query_scans y ++ annotated_query_scans z) a b = agree_right (annotated_query_scans x) (annotated_query_scans y ++ annotated_query_scans z) e in
-      λ i. published domain (meaning_agrees steps x (agree_left (annotated_query_scans x) (annotated_query_scans y ++ annotated_query_scans z) e) i)
+      λ i. published_onto domain (meaning_agrees steps x (agree_left (annotated_query_scans x) (annotated_query_scans y ++ annotated_query_scans z) e) i)
       (meaning_agrees steps y (agree_left (annotated_query_scans y) (annotated_query_scans z) others) i) (meaning_agrees steps z (agree_right (annotated_query_scans y) (annotated_query_scans z) others) i)
 
   first_agrees : (first : QueryStep) (others : List QueryStep) (steps : ℕ → List (Derived M)) → AgreesOn (annotated_steps_scans (first ∷ others)) a b → meaning domain steps a first.query ≡ meaning domain steps b first.query

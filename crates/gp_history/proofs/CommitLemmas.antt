@@ -26,7 +26,7 @@ use Rattle.gp_machine.specs.Committed.{unmarked}
 use Rattle.gp_machine.specs.Entries.{Entry, Log, log_of}
 use Rattle.gp_machine.specs.Event.{name_at}
 use Rattle.gp_machine.specs.Points.{RunStop}
-use Rattle.gp_machine.specs.Questions.{annotation_stop, difference, stop_refusal}
+use Rattle.gp_machine.specs.Questions.{annotation_stop, difference_refusal, stop_refusal}
 use Rattle.gp_machine.specs.SeenRows.{AreDistinct, HaveDifferentIdentities}
 use Rattle.gp_machine.proofs.Distinct.{none_any}
 use Rattle.gp_machine.proofs.Simulation.{annotation_same}
@@ -41,7 +41,7 @@ use Rattle.gp_history.specs.declared.error.HistoryStop.{HistoryStop}
 use Rattle.gp_history.specs.declared.error.HistoryStop.TheVariants.{Inconsistent, Rows, Ancestry, NoMemory}
 use Rattle.gp_history.specs.Agreement.{agree, key_of, keys_agree}
 use Rattle.gp_history.specs.Annotating.{Annotates}
-use Rattle.gp_history.specs.Changes.{AreChanges, AreNotes, ChangesTable, Finds, FindsRows, IsChange, IsKept, are_noted, commit_stop, held, is_noted, limited_to, made, maker, maker_stop, past, past_of, published, stop_within}
+use Rattle.gp_history.specs.Changes.{AreChanges, AreNotes, ChangesTable, Finds, FindsRows, IsChange, IsKept, are_noted, commit_stop, held, is_noted, limited_to, made, maker, maker_stop, past, past_of, published_whole, stop_within}
 use Rattle.gp_history.specs.Images.{IsImage}
 use Rattle.gp_history.specs.Matching.{keys_of}
 use Rattle.gp_history.specs.Noted.{first_noted, first_written}
@@ -116,16 +116,16 @@ stop_none (Some stop) e = absurd (cc)
 
 -- the first table that differs
 difference_first : {M : Type 0} (domain : Annotations M) (catalogue : List Table) (version count n : ℕ) (db other : Database M) → count < n
-    → difference domain parameters agree catalogue version count db other ≡ None → agree (db count) (other count) ≡ false
-    → difference domain parameters agree catalogue version n db other ≡ Some (E24 version (name_at count catalogue))
+    → difference_refusal domain parameters agree catalogue version count db other ≡ None → agree (db count) (other count) ≡ false
+    → difference_refusal domain parameters agree catalogue version n db other ≡ Some (E24 version (name_at count catalogue))
 difference_first domain catalogue version count zero db other less same not = absurd (omega arith)
 difference_first domain catalogue version count (suc n) db other less same not =
     by (eq-or-lt_of_le (omega arith)) (λ lower. difference_first domain catalogue version count n db other lower same not)
   where
-    by : (count ≡ n) ⊎ (count < n) → (count < n → difference domain parameters agree catalogue version n db other ≡ Some (E24 version (name_at count catalogue)))
-        → difference domain parameters agree catalogue version (suc n) db other ≡ Some (E24 version (name_at count catalogue))
+    by : (count ≡ n) ⊎ (count < n) → (count < n → difference_refusal domain parameters agree catalogue version n db other ≡ Some (E24 version (name_at count catalogue)))
+        → difference_refusal domain parameters agree catalogue version (suc n) db other ≡ Some (E24 version (name_at count catalogue))
     by (inl is) earlier =
-        subst (λ m. difference domain parameters agree catalogue version (suc m) db other ≡ Some (E24 version (name_at count catalogue))) is
+        subst (λ m. difference_refusal domain parameters agree catalogue version (suc m) db other ≡ Some (E24 version (name_at count catalogue))) is
         (λ i. option_or (same i) (cond (not i) None (Some (E24 version (name_at count catalogue)))))
     by (inr lower) earlier = ap (λ o. option_or o (cond (agree (db n) (other n)) None (Some (E24 version (name_at n catalogue))))) (earlier lower)
 
@@ -191,31 +191,31 @@ module _ {M : Type 0} (domain : Annotations M) (entries : List Entry) (spans : �
 
   -- what agrees with the spans of a version has no row twice
   pub published_differ : (table : ℕ) → NoOverlap (spans table) → agree (made domain log spans before table) (held domain log spans before table) ≡ true
-      → HaveDifferentIdentities (published domain log spans before table)
+      → HaveDifferentIdentities (published_whole domain log spans before table)
   published_differ table apart same =
       let bag : SameBag (identified (made domain log spans before table)) (identified (held domain log spans before table)) =
       unpermuted (identified (made domain log spans before table)) (identified (held domain log spans before table)) (agree_is (made domain log spans before table) (held domain log spans before table) same) in
-      rows_differ (published domain log spans before table)
+      rows_differ (published_whole domain log spans before table)
       (distinct_bag
-      (subst (λ (own : List Identity). SameBag own (ids (held domain log spans before table))) (map-map (λ p. p.0) (λ row. (row.identity, row.cells)) (map unmarked (published domain log spans before table)) ∙ map-map (λ row. row.identity) unmarked (published domain log spans before table))
+      (subst (λ (own : List Identity). SameBag own (ids (held domain log spans before table))) (map-map (λ p. p.0) (λ row. (row.identity, row.cells)) (map unmarked (published_whole domain log spans before table)) ∙ map-map (λ row. row.identity) unmarked (published_whole domain log spans before table))
       (subst (λ (own : List Identity). SameBag (map (λ p. p.0) (identified (made domain log spans before table))) own) (map-map (λ p. p.0) (λ row. (row.identity, row.cells)) (held domain log spans before table))
       (mapped (λ p. p.0) bag)))
       (ids_differ (held domain log spans before table) (held_differ domain (spans_at (suc before) (spans table)) (held-differ (suc before) (spans table) apart))))
 
   -- computed rows, in any order, say what becomes of their table
-  pub rows_change : (table : ℕ) → NoOverlap (spans table) → (rows : List (Annotated M)) → IsPermutation rows (published domain log spans before table) → maker_stop domain log spans before ≡ None
+  pub rows_change : (table : ℕ) → NoOverlap (spans table) → (rows : List (Annotated M)) → IsPermutation rows (published_whole domain log spans before table) → maker_stop domain log spans before ≡ None
       → (result : Result (Option (BTreeMap Identity M)) HistoryStop) → FindsRows rows (spans table) (suc before) table result → ChangesTable domain log spans before table result
   rows_change table apart rows moved no_stop result finds = by result finds
     where
       keys : keys_agree (map key_of rows) (keys_of (suc before) (spans table)) ≡ agree (made domain log spans before table) (held domain log spans before table)
       keys =
-          keys_moved (map key_of rows) (map key_of (published domain log spans before table)) (keys_of (suc before) (spans table)) (IsPermutation-map key_of rows (published domain log spans before table) moved)
-          ∙ (λ i. keys_agree (sym (unmarked_keys (published domain log spans before table)) i) (keys_same domain (suc before) (spans table) i))
+          keys_moved (map key_of rows) (map key_of (published_whole domain log spans before table)) (keys_of (suc before) (spans table)) (IsPermutation-map key_of rows (published_whole domain log spans before table) moved)
+          ∙ (λ i. keys_agree (sym (unmarked_keys (published_whole domain log spans before table)) i) (keys_same domain (suc before) (spans table) i))
 
       notes_are : agree (made domain log spans before table) (held domain log spans before table) ≡ true → (notes : BTreeMap Identity M) → AreNotes rows (spans table) (suc before) notes
           → Finds domain (suc before) notes (spans table) (made domain log spans before table)
       notes_are same notes are =
-          notes_found domain (suc before) rows (published domain log spans before table) (unpermuted rows (published domain log spans before table) moved)
+          notes_found domain (suc before) rows (published_whole domain log spans before table) (unpermuted rows (published_whole domain log spans before table) moved)
           (published_differ table apart same) notes (spans table) are
 
       by : (result : Result (Option (BTreeMap Identity M)) HistoryStop) → FindsRows rows (spans table) (suc before) table result → ChangesTable domain log spans before table result
@@ -237,7 +237,7 @@ module _ {M : Type 0} (domain : Annotations M) (entries : List Entry) (spans : �
   -- ---- all tables
 
   abbrev differs : ℕ → Option Refusal
-  differs count = difference domain parameters agree (tables_in entries) (suc before) count (made domain log spans before) (held domain log spans before)
+  differs count = difference_refusal domain parameters agree (tables_in entries) (suc before) count (made domain log spans before) (held domain log spans before)
 
   -- the first tables, this many, agree
   pub record Partly (count : ℕ) (changes : List (Option (BTreeMap Identity M))) : Type 0 where
@@ -258,7 +258,7 @@ module _ {M : Type 0} (domain : Annotations M) (entries : List Entry) (spans : �
       where
         same : identified (made domain log spans before table) ≡ identified (held domain log spans before table)
         same =
-            unmarked_identified (published domain log spans before table)
+            unmarked_identified (published_whole domain log spans before table)
             ∙ ap identified (kept_is domain image entries spans spans fit spans_fit before (maker log before) before table kept.unwritten)
             ∙ map-map (λ row. (row.identity, row.cells)) _ (spans_at before (spans table))
             ∙ ap (map (λ (span : Span). (span.id, span.row))) (sym (untouched_spans before (spans table) kept.untouched))
@@ -352,7 +352,7 @@ module _ {M : Type 0} (domain : Annotations M) (catalogue : List Table) (log : L
 
   stop_more : (u : ℕ) → stop_upto (suc u) ≡ option_or (stop_upto u) (commit_stop domain log spans u catalogue)
   stop_more u =
-      ap (λ (db : Database M). option_or (stop_upto u) (option_or (option_map stop_refusal (maker_stop domain log spans u)) (difference domain parameters agree catalogue (suc u) (length catalogue) db (held domain log spans u))))
+      ap (λ (db : Database M). option_or (stop_upto u) (option_or (option_map stop_refusal (maker_stop domain log spans u)) (difference_refusal domain parameters agree catalogue (suc u) (length catalogue) db (held domain log spans u))))
       (ap (λ b. cond b (made domain log spans u) (computed domain log spans u (suc u))) (eq_itself (suc u)))
 
   -- no stop up to the next version

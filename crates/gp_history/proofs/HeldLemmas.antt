@@ -22,7 +22,7 @@ use Rattle.gp_machine.specs.QuestionForms.{AreAlike, IsAsked}
 use Rattle.gp_machine.specs.Questions.{annotated_answer, annotation_stop, given, held_answer, log_refusal, needed_version, own_stop}
 use Rattle.gp_machine.specs.State.{State}
 use Rattle.gp_machine.proofs.AskedLemmas.{asked}
-use Rattle.gp_history.specs.ValueAnswers.{history_refusal, limited, values_of}
+use Rattle.gp_history.specs.ValueAnswers.{history_refusal, limited, row_values}
 use Rattle.gp_history.specs.ValueForms.{held_value_answer, value_answer}
 use Rattle.gp_history.proofs.ValueLemmas.{values_moved}
 
@@ -54,12 +54,12 @@ module _ (parameters : Parameters) (agree : List (Annotated Monomial) → List (
       (held : IsAsked state.entries point → IsPermutation (answer monomials query (at_point monomials state.entries point (annotated_versions monomials state.entries spans))) (answer monomials query (held_at state point))) where
     pub values_held : value_answer parameters plus zero_of one_of times_of value agree state.catalogue state.entries spans point query ≡ held_value_answer parameters plus zero_of one_of times_of value state point query
     values_held =
-        ap (λ refusal. limited parameters.answer (values_of plus zero_of one_of times_of value) (given refusal (answer monomials query (at_point monomials state.entries point (annotated_versions monomials state.entries spans))))) (log_refuses alike)
+        ap (λ refusal. limited parameters.answer (row_values plus zero_of one_of times_of value) (given refusal (answer monomials query (at_point monomials state.entries point (annotated_versions monomials state.entries spans))))) (log_refuses alike)
         ∙ same (log_refusal state.entries point) refl
       where
         same : (refusal : Option Refusal) → log_refusal state.entries point ≡ refusal
-            → limited parameters.answer (values_of plus zero_of one_of times_of value) (given refusal (answer monomials query (at_point monomials state.entries point (annotated_versions monomials state.entries spans))))
-            ≡ limited parameters.answer (values_of plus zero_of one_of times_of value) (given refusal (answer monomials query (held_at state point)))
+            → limited parameters.answer (row_values plus zero_of one_of times_of value) (given refusal (answer monomials query (at_point monomials state.entries point (annotated_versions monomials state.entries spans))))
+            ≡ limited parameters.answer (row_values plus zero_of one_of times_of value) (given refusal (answer monomials query (held_at state point)))
         same (Some refusal) e = refl
         same None e =
             ap (λ (rows : List (List Cell × K)). given (cond (nat_lt parameters.answer (length rows)) (Some E27) None) rows)

@@ -27,7 +27,7 @@ use Rattle.gp_versions.proofs.SameLemmas.{same-exact}
 use Rattle.gp_history.specs.declared.error.HistoryStop.{HistoryStop}
 use Rattle.gp_history.specs.declared.error.HistoryStop.TheVariants.{Inconsistent, Rows, Ancestry, NoMemory}
 use Rattle.gp_history.specs.Agreement.{agree, key_of, keys_agree}
-use Rattle.gp_history.specs.Changes.{ChangesTable, Finds, FindsRows, Publishes, held, limited_to, made, maker, maker_stop, past, past_of, published, published_of, stop_within}
+use Rattle.gp_history.specs.Changes.{ChangesTable, Finds, FindsRows, Publishes, held, limited_to, made, maker, maker_stop, past, past_of, published_whole, published_of, stop_within}
 use Rattle.gp_history.specs.Matching.{keys_of}
 use Rattle.gp_history.specs.Narrowing.{IsRead, at_begin, at_end, of_commit}
 use Rattle.gp_history.specs.SpanAnnotations.{AreAnnotated, versions_with}
@@ -108,7 +108,7 @@ module _ {M : Type 0} (domain : Annotations M) (entries : List Entry) (spans few
   version = suc before
 
   -- what is published of the others is published of them by the whole run
-  commit : Narrows stays kept (published domain log spans before) (published_of domain log spans before few)
+  commit : Narrows stays kept (published_whole domain log spans before) (published_of domain log spans before few)
   commit =
       commit_narrows domain stays kept kept_unmarked log t not_own all_leave (past domain log spans before) (past_of domain log spans before few) before
       (λ j within. narrows (log.version t j) (at_begin within)) (narrows before at_end)
@@ -125,7 +125,7 @@ module _ {M : Type 0} (domain : Annotations M) (entries : List Entry) (spans few
 
   module _ (table : ℕ) (rows : List (Annotated M)) (moved : IsPermutation rows (published_of domain log spans before few table)) where
     abbrev all : List (Annotated M)
-    all = published domain log spans before table
+    all = published_whole domain log spans before table
 
     abbrev own : List (Annotated M)
     own = published_of domain log spans before few table

@@ -13,7 +13,7 @@ use Rattle.gp_base.specs.UserCells.{is_user_cell}
 use Rattle.gp_expr.specs.ExpressionForms.{cond_all_leaves, cond_is_simple}
 use Rattle.gp_algebra.specs.Fitting.{cond_fits, is_column, is_there, set_fits, statement_fits}
 use Rattle.gp_algebra.proofs.SimpleLemmas.{fitting_insert-simple}
-use Rattle.gp_base.specs.IdentityParts.{transaction_of}
+use Rattle.gp_base.specs.IdentityParts.{identity_transaction}
 use Rattle.gp_algebra.specs.Statements.{Statement, delete, insert, insert_select, read, update, width_of}
 use Rattle.gp_machine.specs.Entries.{Log}
 use Rattle.gp_versions.specs.declared.span.Span.{Span}
@@ -21,7 +21,7 @@ use Rattle.gp_versions.specs.Spans.{holds_at, is_before_end}
 use Rattle.gp_versions.specs.TableSpans.{AreWhole, NoOverlap}
 use Rattle.gp_history.specs.Narrowing as n
 use Rattle.gp_history.specs.Narrowing.{Covers, IsLeft, IsLeftBy, IsNarrow, IsPart, chosen_with, inserts_into, is_held, leaves, narrow_spans, narrow_versions, only, part_annotations, part_spans, row_stays, stays_if, tests_are_simple}
-use Rattle.gp_history.specs.SpanAnnotations.{rows_with, versions_with}
+use Rattle.gp_history.specs.SpanAnnotations.{span_rows, versions_with}
 use Rattle.gp_history.specs.declared.narrowed.Narrowed.{Narrowed}
 use Rattle.gp_history.specs.declared.narrowed.Part.{Part}
 use Rattle.gp_history.specs.declared.narrowed.Reach.{Reach}
@@ -208,7 +208,7 @@ module _ {M : Type 0} (log : Log) (t before table : ℕ) (spans : List Span) (an
     stays = stays;
     met = λ v read span holds. meets_held reach v span (covers.all v read) holds;
     held = λ v read span is. held_each reach v span (covers.all v read) (parts span is).0;
-    foreign = λ span is. not_true (transaction_of span.id == t) (others span is).0;
+    foreign = λ span is. not_true (identity_transaction span.id == t) (others span is).0;
     left_alone = λ span is k statement there. all_at (leaves table span.row) statements statement (others span is).1 (found k statement there);
     room = λ k statement there into. subst (λ (count : ℕ). most + count ≤ MAX_TABLE_ROWS) by.left.count (room (any_at (inserts_into table) statements statement (found k statement there) into));
     spans_are = by.left.spans_are;
@@ -218,13 +218,13 @@ module _ {M : Type 0} (log : Log) (t before table : ℕ) (spans : List Span) (an
       stays : Span → Bool
       stays = stays_if by.tested reach t statements table
 
-      parts : (span : Span) → stays span ≡ true → (is_held reach span ≡ true) × ((not (transaction_of span.id == t) && list_all (leaves table span.row) statements) ≡ true)
+      parts : (span : Span) → stays span ≡ true → (is_held reach span ≡ true) × ((not (identity_transaction span.id == t) && list_all (leaves table span.row) statements) ≡ true)
       parts span is =
-          and_parts (is_held reach span) (not (transaction_of span.id == t) && list_all (leaves table span.row) statements)
+          and_parts (is_held reach span) (not (identity_transaction span.id == t) && list_all (leaves table span.row) statements)
           (and_parts by.tested (row_stays reach t statements table span) is).1
 
-      others : (span : Span) → stays span ≡ true → (not (transaction_of span.id == t) ≡ true) × (list_all (leaves table span.row) statements ≡ true)
-      others span is = and_parts (not (transaction_of span.id == t)) (list_all (leaves table span.row) statements) (parts span is).1
+      others : (span : Span) → stays span ≡ true → (not (identity_transaction span.id == t) ≡ true) × (list_all (leaves table span.row) statements ≡ true)
+      others span is = and_parts (not (identity_transaction span.id == t)) (list_all (leaves table span.row) statements) (parts span is).1
 
   -- with a lesser limit
   pub part_within : (most less : ℕ) (few : List Span) (left : List M) → less ≤ most → IsPart log t before most table spans annotations few left → IsPart log t before less table spans annotations few left
@@ -341,8 +341,8 @@ module _ {M : Type 0} (spans : ℕ → List Span) (known : List (List M)) where
     whole_versions version table = by (slice_get narrowed.parts.items table) refl
       where
         by : (found : Option (Part M)) → slice_get narrowed.parts.items table ≡ found
-            → rows_with version (part_spans (unwrap_or found narrowed.none)) (part_annotations (unwrap_or found narrowed.none)) ≡ rows_with version (spans table) (slice_index_or known table [])
-        by (Some part) is = λ i. rows_with version ((all.each table part is).0 i) ((all.each table part is).1 i)
+            → span_rows version (part_spans (unwrap_or found narrowed.none)) (part_annotations (unwrap_or found narrowed.none)) ≡ span_rows version (spans table) (slice_index_or known table [])
+        by (Some part) is = λ i. span_rows version ((all.each table part is).0 i) ((all.each table part is).1 i)
         by None is =
-            ap (λ (some : List Span). rows_with version some (part_annotations narrowed.none)) no_spans
-            ∙ sym (ap (λ (some : List Span). rows_with version some (slice_index_or known table [])) (none table is))
+            ap (λ (some : List Span). span_rows version some (part_annotations narrowed.none)) no_spans
+            ∙ sym (ap (λ (some : List Span). span_rows version some (slice_index_or known table [])) (none table is))

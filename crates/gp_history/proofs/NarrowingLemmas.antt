@@ -9,7 +9,7 @@ use Rattle.std.proofs.lemmas.Map.Views.{any-filter_same}
 use Rattle.gp_base.specs.declared.cell.Cell.{Cell}
 use Rattle.gp_base.specs.declared.limit.TheConstants.{MAX_TABLE_ROWS}
 use Rattle.gp_base.specs.Annotated.{Annotated, Annotations, Environment}
-use Rattle.gp_base.specs.IdentityParts.{transaction_of}
+use Rattle.gp_base.specs.IdentityParts.{identity_transaction}
 use Rattle.gp_base.specs.Identities.{Identity, Sources, identity, identity_cmp, same_identity}
 use Rattle.gp_base.proofs.SmallLemmas.{each_map, eq_itself, filter-map, filter_agree, length-map}
 use Rattle.gp_expr.specs.Expressions.{Cond}
@@ -25,7 +25,7 @@ use Rattle.gp_versions.proofs.HeldLemmas.{held-differ}
 use Rattle.gp_versions.proofs.SameLemmas.{same-exact, same-itself, same-sym}
 use Rattle.gp_history.specs.Changes.{Finds, ends_at, is_touched}
 use Rattle.gp_history.specs.Narrowing.{IsNarrow, IsPart, IsRead, at_end, chosen_with, inserts_into, is_among, is_refused, leaves, narrow_annotations, narrow_spans, narrow_versions, of_commit, skips}
-use Rattle.gp_history.specs.SpanAnnotations.{AreAnnotated, row_with, rows_with}
+use Rattle.gp_history.specs.SpanAnnotations.{AreAnnotated, span_row, span_rows}
 use Rattle.gp_history.specs.declared.narrowed.Narrowed.{Narrowed}
 use Rattle.gp_history.proofs.NarrowLemmas.{ArePassedOver, AreUnmarked, HasRoom, Leaves, Narrows, Skips, SkipsOne}
 
@@ -186,7 +186,7 @@ module _ {M : Type 0} (log : Log) (t before most table : ℕ) (spans : List Span
     where
       own : (span : Span) → (same_identity span.id (identity t k n ids) ≡ true) × (part.stays span ≡ true) → ⊥
       own span both =
-          let same : transaction_of span.id ≡ t = ap transaction_of (same-exact span.id (identity t k n ids) both.0) in
+          let same : identity_transaction span.id ≡ t = ap identity_transaction (same-exact span.id (identity t k n ids) both.0) in
           false≢true (sym (part.foreign span both.1) ∙ (λ i. same i == t) ∙ eq_itself t)
 
   -- ---- the version that the commit makes
@@ -226,11 +226,11 @@ module _ {M : Type 0} (log : Log) (t before most table : ℕ) (spans : List Span
 
 -- ---- all tables
 
-rows_are : {M : Type 0} (version : ℕ) (f : Span → M) (spans : List Span) → rows_with version spans (map f spans) ≡ map (λ span. row_with (f span) span) (spans_at version spans)
+rows_are : {M : Type 0} (version : ℕ) (f : Span → M) (spans : List Span) → span_rows version spans (map f spans) ≡ map (λ span. span_row (f span) span) (spans_at version spans)
 rows_are version f [] = refl
 rows_are version f (span ∷ spans) =
-    elim (holds_at version span) as (λ b. cond b (row_with (f span) span ∷ rows_with version spans (map f spans)) (rows_with version spans (map f spans)) ≡ map (λ span. row_with (f span) span) (cond b (span ∷ spans_at version spans) (spans_at version spans))) [
-      | true ↦ ap (λ (rows : List (Annotated _)). row_with (f span) span ∷ rows) (rows_are version f spans)
+    elim (holds_at version span) as (λ b. cond b (span_row (f span) span ∷ span_rows version spans (map f spans)) (span_rows version spans (map f spans)) ≡ map (λ span. span_row (f span) span) (cond b (span ∷ spans_at version spans) (spans_at version spans))) [
+      | true ↦ ap (λ (rows : List (Annotated _)). span_row (f span) span ∷ rows) (rows_are version f spans)
       | false ↦ rows_are version f spans
     ]
 
@@ -265,7 +265,7 @@ module _ {M : Type 0} (domain : Annotations M) (log : Log) (t before : ℕ) (spa
 
   -- the spans that are left have their annotations
   pub versions_are : narrow_versions narrowed ≡ few_past
-  versions_are = λ i. λ v table. (ap (rows_with v (few table)) (annotations_are table) ∙ rows_are v (annotation table) (few table)) i
+  versions_are = λ i. λ v table. (ap (span_rows v (few table)) (annotations_are table) ∙ rows_are v (annotation table) (few table)) i
     where
       annotation : ℕ → Span → M
       annotation table span = annotation_of domain span.id (computed domain log spans before span.from table)

@@ -43,7 +43,7 @@ use Rattle.gp_prov.proofs.MeaningLemmas.{HaveWidths, answers_are, rows_between, 
 use Rattle.gp_reenact.specs.Reenacting.{spans_of, transaction_at}
 use Rattle.gp_reenact.proofs.ReplayLemmas.{refusal_at, run_refused}
 use Rattle.gp_reenact.proofs.StopLemmas.{gives_run, program_stops, step_stop}
-use Rattle.gp_rewrite.specs.Meaning.{AreAsWide, of_element, unmarked}
+use Rattle.gp_rewrite.specs.Meaning.{AreAsWide, row_of_element, unmarked}
 use Rattle.gp_versions.specs.declared.span.Span.{Span}
 use Rattle.gp_versions.specs.Spans.{Versions, holds_at, is_before_end, spans_at}
 use Rattle.gp_history.specs.Agreement.{occurrence}
@@ -136,12 +136,12 @@ program_kept columns prov program = λ i. steps_kept columns (step_table program
 
 -- ---- rows with their monomials
 
-occurrences : (made : List (Derived Monomial)) (chosen : List (Element Monomial)) → map unmarked made ≡ map of_element chosen
+occurrences : (made : List (Derived Monomial)) (chosen : List (Element Monomial)) → map unmarked made ≡ map row_of_element chosen
     → map (λ (row : Derived Monomial). row.cells ++ cell.Mono row.annotation ∷ []) made ≡ map occurrence chosen
 occurrences made chosen same =
     sym (map-map (λ (row : Derived Monomial). row.cells ++ cell.Mono row.annotation ∷ []) unmarked made)
     ∙ ap (map (λ (row : Derived Monomial). row.cells ++ cell.Mono row.annotation ∷ [])) same
-    ∙ map-map (λ (row : Derived Monomial). row.cells ++ cell.Mono row.annotation ∷ []) of_element chosen
+    ∙ map-map (λ (row : Derived Monomial). row.cells ++ cell.Mono row.annotation ∷ []) row_of_element chosen
 
 -- ---- the program of a state
 

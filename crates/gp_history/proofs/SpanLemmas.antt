@@ -12,24 +12,24 @@ use Rattle.gp_machine.specs.Entries.{Log}
 use Rattle.gp_versions.specs.declared.span.Span.{Span}
 use Rattle.gp_versions.specs.Spans.{holds_at, is_before_end, spans_at}
 use Rattle.gp_history.specs.Changes.{Finds, IsChange, ends_at, is_touched, made, changed_at, maker, renewed, renewed_at, renewed_by, renewed_span}
-use Rattle.gp_history.specs.SpanAnnotations.{AreAnnotated, row_with, rows_with, versions_with}
+use Rattle.gp_history.specs.SpanAnnotations.{AreAnnotated, span_row, span_rows, versions_with}
 use Rattle.std.proofs.lemmas.Bool.{eqb-true, or_parts}
 use Rattle.gp_base.proofs.SmallLemmas.{eq_not}
 
 -- ---- the versions that annotated spans hold
 
-rows_are : {M : Type 0} (version : ℕ) (f : Span → M) (spans : List Span) → rows_with version spans (map f spans) ≡ map (λ span. row_with (f span) span) (spans_at version spans)
+rows_are : {M : Type 0} (version : ℕ) (f : Span → M) (spans : List Span) → span_rows version spans (map f spans) ≡ map (λ span. span_row (f span) span) (spans_at version spans)
 rows_are version f [] = refl
 rows_are version f (span ∷ spans) =
-    elim (holds_at version span) as (λ b. cond b (row_with (f span) span ∷ rows_with version spans (map f spans)) (rows_with version spans (map f spans)) ≡ map (λ span. row_with (f span) span) (cond b (span ∷ spans_at version spans) (spans_at version spans))) [
-      | true ↦ ap (λ (rows : List (Annotated _)). row_with (f span) span ∷ rows) (rows_are version f spans)
+    elim (holds_at version span) as (λ b. cond b (span_row (f span) span ∷ span_rows version spans (map f spans)) (span_rows version spans (map f spans)) ≡ map (λ span. span_row (f span) span) (cond b (span ∷ spans_at version spans) (spans_at version spans))) [
+      | true ↦ ap (λ (rows : List (Annotated _)). span_row (f span) span ∷ rows) (rows_are version f spans)
       | false ↦ rows_are version f spans
     ]
 
 module _ {M : Type 0} (domain : Annotations M) (log : Log) (spans : ℕ → List Span) (version : ℕ) (annotations : List (List M)) (are : AreAnnotated domain log spans version annotations) where
   -- the versions of spans that were annotated are the annotated versions
   pub versions_are : versions_with spans annotations ≡ annotated domain spans (computed domain log spans version)
-  versions_are = λ i. λ v table. (ap (rows_with v (spans table)) (are.tables table) ∙ rows_are v (λ span. annotation_of domain span.id (computed domain log spans version span.from table)) (spans table)) i
+  versions_are = λ i. λ v table. (ap (span_rows v (spans table)) (are.tables table) ∙ rows_are v (λ span. annotation_of domain span.id (computed domain log spans version span.from table)) (spans table)) i
 
 -- ---- a version that touches no span
 

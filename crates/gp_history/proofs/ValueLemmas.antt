@@ -37,7 +37,7 @@ use Rattle.gp_kexec.specs.SemiringForms.{counted, word_value, words}
 use Rattle.gp_kexec.proofs.WordLemmas.{counted_carries, value_of_counted, word_carries}
 use Rattle.gp_history.specs.DistinctRows.{distinct_rows}
 use Rattle.gp_history.specs.Room.{HasRoom}
-use Rattle.gp_history.specs.ValueAnswers.{all_elements, history_refusal, limited, values_of}
+use Rattle.gp_history.specs.ValueAnswers.{all_elements, history_refusal, limited, row_values}
 use Rattle.gp_history.specs.AnswerForms.{IgnoreAnnotations, carried, summed_answer, sums_of}
 use Rattle.gp_history.specs.ValueForms.{value_answer}
 use Rattle.gp_history.proofs.AnswerCounts.{IsCountable, elements_countable}
@@ -81,20 +81,20 @@ module _ {K : Type 0} {element : K → Type 0} {zero_of one_of : K} {plus times_
   rows_same (e ∷ elements) = ap (λ rows. e.cells ∷ rows) (rows_same elements)
 
   -- the values of rows are sums of the values of monomials, added row by row
-  pub values_summed : (elements : List (Element Monomial)) → summed row_cmp plus (map valued (pairs_of elements)) ≡ values_of plus zero_of one_of times_of value elements
+  pub values_summed : (elements : List (Element Monomial)) → summed row_cmp plus (map valued (pairs_of elements)) ≡ row_values plus zero_of one_of times_of value elements
   values_summed elements =
       summed_totals element zero_of plus laws.plus_zero (map valued (pairs_of elements)) (each_valued (pairs_of elements))
       ∙ ap (λ rows. map (λ row. (row, total_at row_cmp zero_of plus row (map valued (pairs_of elements)))) (distinct_rows rows)) (rows_same elements)
 
   -- so they do not depend on the order of the elements
-  pub values_moved : (elements others : List (Element Monomial)) → IsPermutation elements others → values_of plus zero_of one_of times_of value elements ≡ values_of plus zero_of one_of times_of value others
+  pub values_moved : (elements others : List (Element Monomial)) → IsPermutation elements others → row_values plus zero_of one_of times_of value elements ≡ row_values plus zero_of one_of times_of value others
   values_moved elements others moved =
       sym (values_summed elements)
       ∙ summed_bag row_cmp row_cmp_total exact_rows element plus laws.plus_in laws.plus_assoc laws.plus_comm (map valued (pairs_of elements)) (map valued (pairs_of others))
       (mapped valued (mapped (λ (e : Element Monomial). (e.cells, e.annotation)) (unpermuted elements others moved))) (each_valued (pairs_of elements))
       ∙ values_summed others
 
-  sums_same : (elements : List (Element (List Token))) → AllByRecursion IsCountable elements → sums_of plus (map (element_reannotated word) elements) ≡ values_of plus zero_of one_of times_of value (map (element_reannotated counted) elements)
+  sums_same : (elements : List (Element (List Token))) → AllByRecursion IsCountable elements → sums_of plus (map (element_reannotated word) elements) ≡ row_values plus zero_of one_of times_of value (map (element_reannotated counted) elements)
   sums_same elements few = ap (summed row_cmp plus) (pairs_same elements few) ∙ values_summed (map (element_reannotated counted) elements)
 
   module _ (parameters : Parameters) (agree : List (Annotated Monomial) → List (Annotated Monomial) → Bool) (alike : List (Annotated K) → List (Annotated K) → Bool) (ignore : IgnoreAnnotations agree alike)
@@ -119,7 +119,7 @@ module _ {K : Type 0} {element : K → Type 0} {zero_of one_of : K} {plus times_
 
     countable : (refusal : Option Refusal) → history_refusal words parameters agree_words catalogue entries spans point ≡ refusal
         → limited parameters.answer (sums_of plus) (carried word (given refusal (answer words query (at_point words entries point (annotated_versions words entries spans)))))
-        ≡ limited parameters.answer (values_of plus zero_of one_of times_of value) (carried counted (given refusal (answer words query (at_point words entries point (annotated_versions words entries spans)))))
+        ≡ limited parameters.answer (row_values plus zero_of one_of times_of value) (carried counted (given refusal (answer words query (at_point words entries point (annotated_versions words entries spans)))))
     countable (Some refusal) e = refl
     countable None e =
         let later = none_parts (log_refusal entries point) (option_or (annotation_stop words parameters agree_words catalogue (log_of entries) spans (needed_version entries point)) (own_stop words parameters entries point (annotated_versions words entries spans))) e in
@@ -131,4 +131,4 @@ module _ {K : Type 0} {element : K → Type 0} {zero_of one_of : K} {plus times_
     values_are_sums =
         ap (limited parameters.answer (sums_of plus)) over_values
         ∙ countable (history_refusal words parameters agree_words catalogue entries spans point) refl
-        ∙ sym (ap (limited parameters.answer (values_of plus zero_of one_of times_of value)) over_monomials)
+        ∙ sym (ap (limited parameters.answer (row_values plus zero_of one_of times_of value)) over_monomials)

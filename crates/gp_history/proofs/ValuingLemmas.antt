@@ -49,7 +49,7 @@ use Rattle.gp_reenact.specs.declared.error.ReenactStop.{ReenactStop}
 use Rattle.gp_reenact.specs.declared.error.ReenactStop.TheVariants.{Refused, NoMemory}
 use Rattle.gp_reenact.specs.Reenacting.{spans_of, stopped, transaction_at}
 use Rattle.gp_reenact.proofs.ReplayLemmas.{refusal_at, run_refused}
-use Rattle.gp_rewrite.specs.Meaning.{of_element, unmarked}
+use Rattle.gp_rewrite.specs.Meaning.{row_of_element, unmarked}
 use Rattle.gp_semiring.specs.Sums.{summed}
 use Rattle.gp_history.specs.Room.{HasRoom}
 use Rattle.gp_history.specs.ValueAnswers.{limited}
@@ -141,7 +141,7 @@ module _ {K : Type 0} (domain : Annotations K) (image : IsImage domain) (plus : 
       (program_is words word_monoid (tables_in entries) entries sound.statements (word_past (versions_in entries))
       (wide_rows words (tables_in entries) spans sound.spans (computed words (log_of entries) spans (versions_in entries)))
       (none_marked words (tables_in entries) spans sound.spans (computed words (log_of entries) spans (versions_in entries))) point select fits)
-      ∙ map-map (λ (row : Derived (List Token)). (row.cells, image.image row.annotation)) of_element word_elements
+      ∙ map-map (λ (row : Derived (List Token)). (row.cells, image.image row.annotation)) row_of_element word_elements
       ∙ sym (map-map (λ (element : Element K). (element.cells, element.annotation)) (element_reannotated image.image) word_elements)
       ∙ ap a.pairs_of
       (sym (answer_reannotated words domain image.image image.keeps select (at_point words entries point (word_past (versions_in entries))) (at_point domain entries point (past (versions_in entries)))

@@ -22,7 +22,7 @@ use Rattle.gp_machine.specs.HistorySpans.{as_of}
 use Rattle.gp_machine.specs.Parameters.{Parameters}
 use Rattle.gp_machine.specs.Points.{at_point}
 use Rattle.gp_machine.specs.Runs.{at_commit}
-use Rattle.gp_machine.specs.Questions.{annotation_stop, difference, given, log_refusal, needed_version, own_stop, stop_refusal}
+use Rattle.gp_machine.specs.Questions.{annotation_stop, difference_refusal, given, log_refusal, needed_version, own_stop, stop_refusal}
 use Rattle.gp_history.specs.ValueAnswers.{all_elements, history_refusal}
 use Rattle.gp_history.specs.AnswerForms.{carried}
 use Rattle.gp_machine.proofs.PointReannotation.{VersionsReannotate, at_commit_reannotated, at_point_reannotated, cleared_reannotated, run_stop_reannotated}
@@ -78,7 +78,7 @@ module _ {M N : Type 0} (domain : Annotations M) (other : Annotations N) (h : M 
     module _ (parameters : Parameters) (agree : List (Annotated M) → List (Annotated M) → Bool) (alike : List (Annotated N) → List (Annotated N) → Bool)
         (natural : (rows others : List (Annotated M)) → alike (map (reannotated h) rows) (map (reannotated h) others) ≡ agree rows others) (catalogue : List Table) where
       difference_reannotated : (version tables : ℕ) (db past : Database M) (db' past' : Database N) → Reannotates h db db' → Reannotates h past past'
-          → difference other parameters alike catalogue version tables db' past' ≡ difference domain parameters agree catalogue version tables db past
+          → difference_refusal other parameters alike catalogue version tables db' past' ≡ difference_refusal domain parameters agree catalogue version tables db past
       difference_reannotated version zero db past db' past' same same' = refl
       difference_reannotated version (suc table) db past db' past' same same' =
           λ i. option_or (difference_reannotated version table db past db' past' same same' i) (cond (here i) None (Some (E24 version (name_at table catalogue))))

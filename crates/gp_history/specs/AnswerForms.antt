@@ -1,4 +1,4 @@
--- Part of the statement: answers without annotations.
+-- Of the laws `values_are_sums_over_the_history` and `annotated_answers_are_carried`: answers without annotations.
 use Rattle.std.specs.Prelude.{◌≡◌, ℕ, Bool, List, map, Result, Ok, Err, [], ◌∷◌}
 use Rattle.gp_base.specs.declared.cell.Cell.{Cell}
 use Rattle.gp_base.specs.declared.refusal.Refusal.{Refusal}

@@ -24,7 +24,7 @@ use Rattle.gp_machine.specs.Entries.{Entry, Log, log_of, version_of}
 use Rattle.gp_machine.specs.HistorySpans.{as_of}
 use Rattle.gp_machine.specs.Parameters.{Parameters}
 use Rattle.gp_machine.specs.Points.{RunStop, run_stop, version_before}
-use Rattle.gp_machine.specs.Questions.{difference, stop_refusal}
+use Rattle.gp_machine.specs.Questions.{difference_refusal, stop_refusal}
 use Rattle.gp_machine.specs.Runs.{at_commit}
 use Rattle.gp_versions.specs.declared.span.Span.{Span}
 use Rattle.gp_versions.specs.Spans.{Versions}
@@ -106,7 +106,7 @@ module _ {M : Type 0} (one : M) where
   renewed_by version (Some None) spans annotations = annotations
   renewed_by version (Some (Some found)) spans annotations = renewed version found spans annotations
 
-  -- the same of the table at one place
+  -- other tables than the one at the place keep theirs
   abbrev pub renewed_at : ℕ → ℕ → BTreeMap Identity M → List Span → List M → ℕ → List M
   renewed_at version at found spans annotations table = if table == at then renewed version found spans annotations else annotations
 
@@ -152,11 +152,11 @@ module _ {M : Type 0} (domain : Annotations M) where
     abbrev pub published_of : (ℕ → List Span) → Database M
     published_of few = at_commit domain log (maker log before) before (past_of few)
 
-    abbrev pub published : Database M
-    published = published_of spans
+    abbrev pub published_whole : Database M
+    published_whole = published_of spans
 
     abbrev pub made : Database M
-    made = cleared published
+    made = cleared published_whole
 
     -- the rows that the spans have
     abbrev pub held : Database M
@@ -197,4 +197,4 @@ module _ {M : Type 0} (domain : Annotations M) where
     -- the first stop of the commit: in the run of its transaction, or in the first table that differs
     abbrev pub commit_stop : List Table → Option Refusal
     commit_stop catalogue =
-        option_or (option_map stop_refusal maker_stop) (difference domain parameters agree catalogue (suc before) (length catalogue) made held)
+        option_or (option_map stop_refusal maker_stop) (difference_refusal domain parameters agree catalogue (suc before) (length catalogue) made held)

@@ -1,5 +1,6 @@
--- Part of the statement: annotations that lists of tokens stand for. Lists of tokens are the free annotation, so whatever is made of one, of products and of
--- tokens alone is an image of them (Green, Karvounarakis and Tannen 2007): monomials are, and so are the elements of a semiring under the values of tokens.
+-- Of the contract of an `Annotator`: annotations that lists of tokens stand for. Lists of tokens are the free annotation, so whatever is made of one, of
+-- products and of tokens alone is an image of them (Green, Karvounarakis and Tannen 2007): monomials are, and so are the elements of a semiring under the
+-- values of tokens.
 use Rattle.std.specs.Prelude.{ℕ, List, Option, Some, None, unwrap_or}
 use Rattle.gp_base.specs.declared.token.Token.{Token}
 use Rattle.gp_base.specs.Annotated.{Annotations, monomials}

@@ -7,7 +7,7 @@ use Rattle.std.specs.Option.{is_none}
 use Rattle.gp_base.specs.declared.cell.Cell.{Cell}
 use Rattle.gp_base.specs.declared.limit.TheConstants.{MAX_TABLE_ROWS}
 use Rattle.gp_base.specs.Annotated.{Environment}
-use Rattle.gp_base.specs.IdentityParts.{transaction_of}
+use Rattle.gp_base.specs.IdentityParts.{identity_transaction}
 use Rattle.gp_expr.specs.Expressions.{Cond, always}
 use Rattle.gp_expr.specs.ExpressionForms.{cond_is_simple}
 use Rattle.gp_expr.specs.Values.{passes}
@@ -17,7 +17,7 @@ use Rattle.gp_machine.specs.Entries.{Log}
 use Rattle.gp_versions.specs.declared.span.Span.{Span}
 use Rattle.gp_versions.specs.Spans.{holds_at, is_before_end}
 use Rattle.gp_versions.specs.TableSpans.{AreWhole, NoOverlap}
-use Rattle.gp_history.specs.SpanAnnotations.{rows_with}
+use Rattle.gp_history.specs.SpanAnnotations.{span_rows}
 use Rattle.gp_history.specs.declared.narrowed.Narrowed.{Narrowed}
 use Rattle.gp_history.specs.declared.narrowed.Part.{Part}
 use Rattle.gp_history.specs.declared.narrowed.Reach.{Reach}
@@ -98,9 +98,9 @@ is_held reach span = nat_le span.from reach.first && is_before_end reach.last sp
 -- The row of a span stays as it is: all versions have it, it is no row of the transaction's own, and its statements leave it.
 abbrev pub row_stays : Reach → ℕ → List Statement → ℕ → Span → Bool
 row_stays reach t statements table span =
-    is_held reach span && (not (transaction_of span.id == t) && list_all (leaves table span.row) statements)
+    is_held reach span && (not (identity_transaction span.id == t) && list_all (leaves table span.row) statements)
 
--- the same, if rows are tested
+-- no row stays where an UPDATE or a DELETE writes all rows of the table, so that none is tested
 abbrev pub stays_if : Bool → Reach → ℕ → List Statement → ℕ → Span → Bool
 stays_if tested reach t statements table span = tested && row_stays reach t statements table span
 
@@ -140,7 +140,7 @@ module _ {M : Type 0} where
 
   -- the versions of all tables
   abbrev pub narrow_versions : Narrowed M → Environment M
-  narrow_versions narrowed version table = rows_with version (narrow_spans narrowed table) (narrow_annotations narrowed table)
+  narrow_versions narrowed version table = span_rows version (narrow_spans narrowed table) (narrow_annotations narrowed table)
 
 -- an item, if it is wanted
 abbrev pub only : {X : Type 0} → Bool → X → List X
@@ -152,7 +152,7 @@ pub record IsLeft {M : Type 0} (meets stays : Span → Bool) (spans : List Span)
   pub annotations_are : part_annotations part ≡ chosen_with (λ span. meets span && not (stays span)) spans annotations
   pub count : part.left_out ≡ length (filter stays spans)
 
--- the same by a reach and statements: no more rows stay than a table may have
+-- by a reach and statements, where no more rows stay than a table may have
 pub record IsLeftBy {M : Type 0} (reach : Reach) (t : ℕ) (statements : List Statement) (table : ℕ) (spans : List Span) (annotations : List M) (part : Part M) : Type 0 where
   pub tested : Bool
   pub left : IsLeft (meets reach) (stays_if tested reach t statements table) spans annotations part
@@ -167,13 +167,12 @@ pub record IsPart {M : Type 0} (log : Log) (t before most table : ℕ) (spans : 
   pub stays : Span → Bool
   pub met : (v : ℕ) → IsRead log t before v → (span : Span) → holds_at v span ≡ true → meets span ≡ true
   pub held : (v : ℕ) → IsRead log t before v → (span : Span) → stays span ≡ true → holds_at v span ≡ true
-  pub foreign : (span : Span) → stays span ≡ true → (transaction_of span.id == t) ≡ false
+  pub foreign : (span : Span) → stays span ≡ true → (identity_transaction span.id == t) ≡ false
   pub left_alone : (span : Span) → stays span ≡ true → (k : ℕ) (statement : Statement) → log.statement t k ≡ Some statement → leaves table span.row statement ≡ true
   pub room : (k : ℕ) (statement : Statement) → log.statement t k ≡ Some statement → inserts_into table statement ≡ true → most + length (filter stays spans) ≤ MAX_TABLE_ROWS
   pub spans_are : few ≡ filter (λ span. meets span && not (stays span)) spans
   pub annotations_are : left ≡ chosen_with (λ span. meets span && not (stays span)) spans annotations
 
--- the same of all tables
 abbrev pub IsNarrow : {M : Type 0} → Log → ℕ → ℕ → (ℕ → List Span) → List (List M) → Narrowed M → Type 0
 IsNarrow log t before spans known narrowed =
     (table : ℕ) → IsPart log t before narrowed.most table (spans table) (slice_index_or known table []) (narrow_spans narrowed table) (narrow_annotations narrowed table)

@@ -1,4 +1,5 @@
--- Part of the statement: how often a token can occur in the annotation of a row, and when no count is greater than a monomial can count.
+-- Of the laws `tokens_are_within_nodes` and `values_are_sums_over_the_history`: how often a token can occur in the annotation of a row, and when no count is
+-- greater than a monomial can count.
 use Rattle.std.specs.Prelude.{ℕ, zero, suc, ◌*◌, ◌≤◌, ◌==◌, List, length, if◌then◌else◌}
 use Rattle.std.specs.List.{AllByRecursion}
 use Rattle.gp_base.specs.declared.token.Token.{Token}

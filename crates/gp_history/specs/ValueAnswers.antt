@@ -40,5 +40,5 @@ limited most values (Ok elements) = given (if nat_lt most (length (values elemen
 module _ {K : Type 0} (plus : K → K → K) where
   module _ (zero_of one_of : K) (times : K → K → K) (value : Token → K) where
     -- the distinct rows in row order, each with its value in the semiring: the sum, from zero, of the values of its monomials
-    abbrev pub values_of : List (Element Monomial) → List (List Cell × K)
-    values_of elements = map (λ row. (row, in_semiring zero_of one_of plus times value (pairs_of elements) row)) (distinct_rows (cells_of elements))
+    abbrev pub row_values : List (Element Monomial) → List (List Cell × K)
+    row_values elements = map (λ row. (row, in_semiring zero_of one_of plus times value (pairs_of elements) row)) (distinct_rows (cells_of elements))

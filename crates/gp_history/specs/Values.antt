@@ -1,4 +1,4 @@
--- Part of the statement: what asking for values answers: what is due, or the refusal that is due. Running out of memory says nothing.
+-- Of the contract of `values`: what asking for values answers: what is due, or the refusal that is due. Running out of memory says nothing.
 use Rattle.std.specs.Prelude.{◌≡◌, ◌≤◌, length, Result, Ok, Err}
 use Rattle.std.specs.List.{AllByRecursion}
 use Rattle.gp_base.specs.declared.refusal.Refusal.{Refusal}

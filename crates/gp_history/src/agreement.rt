@@ -89,7 +89,7 @@ pub fn agree<A>(
     sorted_agree(alloc, rows, spans, version)
 }
 
-/// The same, by sorting both.
+/// Sorts both, where they are not in one order as they are.
 fn sorted_agree<A>(
     alloc: Global,
     rows: &[Held<A>],

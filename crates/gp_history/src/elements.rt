@@ -7,7 +7,7 @@ ghost use Rattle.gp_reenact.specs.Reenacting.{spans_of};
 ghost use Rattle.gp_history.specs.Images.{values_are_images};
 ghost use Rattle.gp_history.specs.Narrowing.{narrow_versions};
 ghost use Rattle.gp_history.specs.Scanning.{AgreesOn, IsScanned};
-ghost use Rattle.gp_history.specs.SpanAnnotations.{row_with, rows_with, versions_with};
+ghost use Rattle.gp_history.specs.SpanAnnotations.{span_row, span_rows, versions_with};
 
 use crate::annotated::Annotated;
 use crate::annotator::{Annotator, Publication};
@@ -23,7 +23,7 @@ use std::alloc::Global;
 
 /// The row of a span with its value.
 fn stored<K: Semiring>(alloc: Global, span: &Span, value: &K) -> Result<KStored<K>, NoMemory>
-    ensures { IfOk result (λ stored. stored_view stored ≡ row_with value.now span.now) }
+    ensures { IfOk result (λ stored. stored_view stored ≡ span_row value.now span.now) }
 {
     let value = value.copy(alloc)?;
     let id = span.id.clone()?;
@@ -39,7 +39,7 @@ fn stored_rows<K: Semiring>(
     version: u32,
 ) -> Result<Sequence<KStored<K>>, NoMemory>
     ensures { IfOk result
-        (λ rows. map stored_view rows ≡ rows_with version
+        (λ rows. map stored_view rows ≡ span_rows version
         (map (λ span. span.now) spans.now) (map (λ value. value.now) values.now)) }
 {
     let mut rows = Sequence::new(alloc);

@@ -32,7 +32,7 @@ fn add<A: Drop, N: Annotator<A>>(
     Ok(())
 }
 
-/// The same, if the transaction wrote the row.
+/// A row that the transaction did not write is not among the found ones.
 fn add_written<A: Drop, N: Annotator<A>>(
     alloc: Global,
     annotator: &N,

@@ -43,7 +43,7 @@ fn branch_skips(branch: &Branch, table: u32, row: &Row) -> bool
     from.len() == 1 && is_refused(&branch.cond, row)
 }
 
-/// The same of all SELECTs of a query.
+/// Whether no SELECT of a query makes a row of this one.
 fn select_skips(select: &Select, table: u32, row: &Row) -> bool
     requires { select_is_simple (select_view select.now) ≡ true }
     ensures { result ≡ list_all (n.skips table row.now) (select_view select.now) }
@@ -73,7 +73,7 @@ fn leaves(stmt: &Stmt, table: u32, row: &Row) -> bool
     }
 }
 
-/// The same of all statements of a transaction.
+/// Whether no statement of a transaction writes the row or makes one of it.
 pub fn all_leave(statements: &[&Stmt], table: u32, row: &Row) -> bool
     requires { list_all n.tests_are_simple
         (map (λ stmt. statement_view stmt.now) statements.now) ≡ true }
@@ -106,7 +106,7 @@ fn branch_takes(branch: &Branch, table: u32) -> bool
     is_among(from, table) && (from.len() != 1 || branch.cond.is_none())
 }
 
-/// The same of one of the SELECTs of a query.
+/// Whether one of the SELECTs of a query passes over no row of the table.
 fn select_takes(select: &Select, table: u32) -> bool
     ensures { result ≡ list_any (n.takes table) (select_view select.now) }
 {
@@ -134,7 +134,7 @@ fn sweeps(stmt: &Stmt, table: u32) -> bool
     }
 }
 
-/// The same of one of the statements of a transaction. The rows of the table need not be tested one by one then.
+/// Whether one of the statements of a transaction leaves no row of the table as it is, so that they need not be tested one by one.
 pub fn are_swept(statements: &[&Stmt], table: u32) -> bool
     ensures { result ≡ list_any (n.sweeps table)
         (map (λ stmt. statement_view stmt.now) statements.now) }

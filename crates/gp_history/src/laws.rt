@@ -13,7 +13,7 @@ ghost use Rattle.gp_machine.specs.Committed.{cleared};
 ghost use Rattle.gp_machine.specs.Entries.{log_of, statement_count, version_of, versions_in};
 ghost use Rattle.gp_machine.specs.Event.{Line, after};
 ghost use Rattle.gp_machine.specs.HistorySpans.{state_spans};
-ghost use Rattle.gp_machine.specs.Points.{at_version, version_before};
+ghost use Rattle.gp_machine.specs.Points.{version_or_empty, version_before};
 ghost use Rattle.gp_machine.specs.Questions.{annotated_answer, annotation_stop, held_answer};
 ghost use Rattle.gp_machine.specs.Runs.{at_commit, run};
 ghost use Rattle.gp_machine.specs.State.{start};
@@ -76,6 +76,6 @@ pub fn annotated_versions_are_the_committed_ones<M>()
         → IsPermutation (cleared (at_commit domain (log_of (after domain parameters start lines).entries) t
         (version_before (version_of t (after domain parameters start lines).entries))
         (annotated_versions domain (after domain parameters start lines).entries spans)) table)
-        (at_version (version_of t (after domain parameters start lines).entries)
+        (version_or_empty (version_of t (after domain parameters start lines).entries)
         (after domain parameters start lines).committed table) }
 {}

@@ -15,7 +15,7 @@ ghost use Rattle.gp_history.specs.Narrowing.{narrow_versions};
 ghost use Rattle.gp_history.specs.Noted.{row_view};
 ghost use Rattle.gp_history.specs.Running.{RunsTableOver};
 ghost use Rattle.gp_history.specs.Scanning.{scanned, scans_at};
-ghost use Rattle.gp_history.specs.SpanAnnotations.{row_with, rows_with, versions_with};
+ghost use Rattle.gp_history.specs.SpanAnnotations.{span_row, span_rows, versions_with};
 
 use crate::annotated::Annotated;
 use crate::annotator::{Annotator, Publication};
@@ -34,7 +34,7 @@ use std::alloc::Global;
 
 /// The row of a span, with identity, the mark NO and a monomial.
 fn encoded_row(span: &Span, monomial: &Monomial) -> Result<Row, NoMemory>
-    ensures { IfOk result (λ row. row ≡ encoded_row true (row_with monomial.now span.now)) }
+    ensures { IfOk result (λ row. row ≡ encoded_row true (span_row monomial.now span.now)) }
 {
     let mut row = span.row.clone()?;
     row.push(Cell::Id(span.id.clone()?))?;
@@ -51,7 +51,7 @@ fn encoded_rows(
     version: u32,
 ) -> Result<Sequence<Row>, NoMemory>
     ensures { IfOk result (λ rows.
-        rows ≡ map (encoded_row true) (rows_with version (map (λ span. span.now) spans.now)
+        rows ≡ map (encoded_row true) (span_rows version (map (λ span. span.now) spans.now)
         (map (λ monomial. monomial.now) monomials.now))) }
 {
     let mut rows = Sequence::new(alloc);

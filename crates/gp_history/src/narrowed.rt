@@ -115,7 +115,7 @@ fn row_stays(span: &Span, reach: Reach, t: u32, statements: &[&Stmt], table: u32
     reach.is_held(span) && span.id.t() != t && all_leave(statements, table, &span.row)
 }
 
-/// The same, if rows are tested.
+/// No row stays where an UPDATE or a DELETE writes all rows of the table (`are_swept`), so that none is tested.
 fn stays_if(
     tested: bool,
     span: &Span,

@@ -110,8 +110,8 @@ pub fn provenance(
     provenance_from(alloc, log, versions, state, select, &mut none)
 }
 
-/// The same, from the annotations that earlier questions about this log and these row versions have left, if there are any. It leaves those
-/// that it has, unless it stops on the way to them.
+/// [`provenance`] from the annotations that earlier questions about this log and these row versions have left, if there are any. It leaves
+/// those that it has, unless it stops on the way to them.
 pub fn provenance_from(
     alloc: Global,
     log: &Log,
@@ -133,7 +133,7 @@ pub fn provenance_from(
     kept_provenance(alloc, log, versions, state, select, kept)
 }
 
-/// The same of a state that the log has.
+/// [`provenance_from`] of a state that the log has.
 fn kept_provenance(
     alloc: Global,
     log: &Log,

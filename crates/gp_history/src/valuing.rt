@@ -135,8 +135,8 @@ pub fn values<K: Semiring, F: Answers<K>>(
     values_from(alloc, log, versions, state, select, valuation, &mut none)
 }
 
-/// The same, from the values that earlier questions about this log and these row versions have left under this valuation, if there are
-/// any. It leaves those that it has, unless it stops on the way to them.
+/// [`values`] from those that earlier questions about this log and these row versions have left under this valuation, if there are any. It
+/// leaves those that it has, unless it stops on the way to them.
 pub fn values_from<K: Semiring, F: Answers<K>>(
     alloc: Global,
     log: &Log,
@@ -162,7 +162,7 @@ pub fn values_from<K: Semiring, F: Answers<K>>(
     kept_values(alloc, log, versions, state, select, valuation, kept)
 }
 
-/// The same of a state that the log has.
+/// [`values_from`] of a state that the log has.
 fn kept_values<K: Semiring, F: Answers<K>>(
     alloc: Global,
     log: &Log,

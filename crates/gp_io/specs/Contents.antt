@@ -1,4 +1,4 @@
--- Part of the statement: what the calls of a shelf in memory do to its files, by their events.
+-- Of the law `events_lead_to_files`: what the calls of a shelf in memory do to its files, by their events.
 use Rattle.std.specs.Prelude.{◌≡◌, ℕ, List, [], ◌∷◌, ◌++◌, take, Option, None, Some, bytes_eq, if◌then◌else◌}
 use Rattle.std.specs.Option.{option_map}
 use Rattle.gp_io.specs.Events.{Event, Read, Missing, Unreadable, Replaced, NotReplaced}

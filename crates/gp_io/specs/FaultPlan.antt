@@ -1,4 +1,4 @@
--- Part of the statement: which calls of a shelf or a sink in memory fail, by their numbers from 1 on.
+-- Of the contracts of `MemShelf` and `MemSink`: which calls of a shelf or a sink in memory fail, by their numbers from 1 on.
 use Rattle.std.specs.Prelude.{ℕ, List, Result, Ok, Err}
 use Rattle.gp_io.specs.declared.error.ShelfStop.{ShelfStop}
 use Rattle.gp_io.specs.declared.error.ShelfStop.TheVariants.{Absent, Failed, NoMemory}

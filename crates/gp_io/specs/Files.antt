@@ -1,4 +1,4 @@
--- Files as those of a shelf in memory are seen.
+-- Of the contracts of `CalmShelf` and `MemShelf`: files as those of a shelf in memory are seen.
 use Rattle.std.specs.Prelude.{◌≡◌, ◌≢◌, ℕ, List, [], ◌∷◌, take, Option, None, Some, bytes_eq, if◌then◌else◌}
 use Rattle.std.specs.Option.{option_map}
 

@@ -1,4 +1,4 @@
--- Part of the statement: the files that a list of named files is.
+-- Of the contracts of `CalmShelf::new` and `MemShelf::new`: the files that a list of named files is.
 use Rattle.std.specs.Prelude.{List, map, string_bytes}
 use Rattle.gp_io.specs.declared.named_file.NamedFile.{NamedFile}
 use Rattle.gp_io.specs.Files.{Files}

@@ -1,5 +1,5 @@
--- Part of the statement: how a call to a shelf stops, by the events before it and after it. Where a replacement fails, nothing is known of that
--- one file, as after an open that truncates and a write that fails (IEEE Std 1003.1, open and write).
+-- Of the contract of a `Shelf`: how a call to a shelf stops, by the events before it and after it. Where a replacement fails, nothing is known of that one
+-- file, as after an open that truncates and a write that fails (IEEE Std 1003.1, open and write).
 use Rattle.std.specs.Prelude.{◌≡◌, ℕ, List, [], ◌∷◌, ◌++◌}
 use Rattle.gp_io.specs.declared.error.ShelfStop.{ShelfStop}
 use Rattle.gp_io.specs.declared.error.ShelfStop.TheVariants.{Absent, Failed, NoMemory}

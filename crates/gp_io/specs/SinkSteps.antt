@@ -1,4 +1,4 @@
--- Part of the statement: how a call to a sink stops.
+-- Of the contract of a `Sink`: how a call to a sink stops.
 use Rattle.std.specs.Prelude.{◌≡◌, ℕ, List}
 use Rattle.gp_io.specs.declared.error.SinkStop.{SinkStop}
 use Rattle.gp_io.specs.declared.error.SinkStop.TheVariants.{Failed, NoMemory}

@@ -1,4 +1,4 @@
--- Part of the statement: witnesses by counts.
+-- Of the laws `rules_leave_out` and `values_are_minimal`: witnesses by counts.
 use Rattle.std.specs.Prelude.{◌≤◌, [], ◌∷◌}
 use Rattle.gp_base.specs.declared.token.Token.{Token}
 use Rattle.gp_base.specs.Tokens.{Monomial}

@@ -1,4 +1,4 @@
--- Part of the statement: rows as often as they are counted.
+-- Of the contract of `remaining` and of the law `counted_rows_remain`: rows as often as they are counted.
 use Rattle.std.specs.Prelude.{◌≡◌, ◌<◌, ◌≤◌, ℕ, ◌+◌, List, [], ◌∷◌, ◌++◌, replicate, Result, Ok, Err}
 use Rattle.gp_base.specs.declared.cell.Cell.{Cell}
 use Rattle.gp_base.specs.declared.limit.TheConstants.{MAX_ANSWER_ROWS}

@@ -1,4 +1,4 @@
--- Part of the statement: rows with other annotations, and products of tokens that nothing stops.
+-- Of the laws `programs_carry_annotations` and `values_are_sums`: rows with other annotations, and products of tokens that nothing stops.
 use Rattle.std.specs.Prelude.{◌≤◌, ℕ, zero, suc, List, [], ◌∷◌, ◌++◌, if◌then◌else◌}
 use Rattle.std.specs.Ordering.{eq_by_cmp}
 use Rattle.gp_base.specs.declared.token.Token.{Token}

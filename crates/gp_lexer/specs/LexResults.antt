@@ -1,4 +1,4 @@
--- Part of the statement: what the lexer returns.
+-- Of the contract of `lex`: what the lexer returns.
 use Rattle.std.specs.Prelude.{◌≡◌, ℕ, List, Option, Result, Ok, Err}
 use Rattle.std.specs.Option.{option_map}
 use Rattle.std.specs.Result.{result_ok}

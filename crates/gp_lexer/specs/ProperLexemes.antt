@@ -1,4 +1,4 @@
--- Part of the statement: lexemes that a line can hold.
+-- Of the laws `lexemes_are_proper` and `lexing_inverts_layout`: lexemes that a line can hold.
 use Rattle.std.specs.Prelude.{◌≡◌, ◌<◌, ◌≤◌, ◌^◌, true, false, List, [], ◌∷◌, length}
 use Rattle.std.specs.Char.{is_ascii_control}
 use Rattle.std.specs.List.{list_any}

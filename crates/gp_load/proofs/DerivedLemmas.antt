@@ -33,7 +33,7 @@ use Rattle.gp_grammar.specs.CommandGrammar as g
 use Rattle.gp_grammar.specs.CommandGrammar.{IsColumn, IsCommand, IsList, IsLiteral, IsTuple, comma}
 use Rattle.gp_grammar.specs.Syntax as y
 use Rattle.gp_grammar.specs.Syntax.{Command, Lexemes}
-use Rattle.gp_csv.specs.Scripts.{line_of}
+use Rattle.gp_csv.specs.Scripts.{session_line}
 use Rattle.gp_load.proofs.ReadLemmas.{IsReadable}
 
 abbrev pub IsSome : {A : Type 0} → List A → Type 0
@@ -199,7 +199,7 @@ utf8-all (t ∷ ls) all = (all.0, utf8-all ls all.1)
 -- ---- INSERT
 
 pub insert-readable : (name : List ℕ) (rows : List (List Cell)) → is_name name ≡ true → IsSome rows → AllByRecursion IsUserRow rows → length rows ≤ MAX_VALUES
-    → length (line_of (y.insert name rows)) ≤ MAX_LINE_LENGTH → IsReadable (y.insert name rows)
+    → length (session_line (y.insert name rows)) ≤ MAX_LINE_LENGTH → IsReadable (y.insert name rows)
 insert-readable name rows named some all few short = record {
   laid = refl;
   derived = g.insert name (listed_lexemes tuple_lexemes rows) rows (list-derived IsTuple tuple_lexemes IsUserRow tuple-derived rows some all);
@@ -274,7 +274,7 @@ signs-size : (size (Sign s.Create ∷ Sign s.Table ∷ []) ≡ 13) × ((size (Si
 unfolding symbol_text
 signs-size = (refl, (refl, refl))
 
-create-short : (table : Table) → is_name table.name ≡ true → AllByRecursion IsNamed table.cols → length table.cols ≤ MAX_COLUMNS → length (line_of (y.create table)) ≤ MAX_LINE_LENGTH
+create-short : (table : Table) → is_name table.name ≡ true → AllByRecursion IsNamed table.cols → length table.cols ≤ MAX_COLUMNS → length (session_line (y.create table)) ≤ MAX_LINE_LENGTH
 create-short table named all few =
     let columns : Lexemes = listed_lexemes column_definition_lexemes table.cols in
     let a = laid_out-length (command_lexemes (y.create table)) in
@@ -302,11 +302,11 @@ pub begin-readable : IsReadable (y.begin false)
 unfolding symbol_text
 begin-readable = record { laid = refl; derived = g.begin; within = refl; proper = (tt, tt); texts = (tt, tt); short = let a = laid_out-length (command_lexemes (y.begin false)) in omega (arith, a) }
 
-pub begin-short : length (line_of (y.begin false)) ≤ 20
+pub begin-short : length (session_line (y.begin false)) ≤ 20
 unfolding symbol_text
 begin-short = let a = laid_out-length (command_lexemes (y.begin false)) in omega (arith, a)
 
-pub commit-short : length (line_of y.Command.commit) ≤ 20
+pub commit-short : length (session_line y.Command.commit) ≤ 20
 unfolding symbol_text
 commit-short = let a = laid_out-length (command_lexemes y.Command.commit) in omega (arith, a)
 

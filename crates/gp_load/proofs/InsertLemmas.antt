@@ -8,7 +8,7 @@ use Rattle.std.proofs.lemmas.Map.Views.{any-filter_same}
 use Rattle.std.proofs.lemmas.Slice.Eq.{bytes_eq-Decides}
 use Rattle.gp_base.specs.Annotated.{Annotated, Database, unannotated}
 use Rattle.gp_base.specs.Identities.{Identity, identity, no_sources, nodes, same_identity}
-use Rattle.gp_base.specs.IdentityParts.{transaction_of}
+use Rattle.gp_base.specs.IdentityParts.{identity_transaction}
 use Rattle.gp_base.specs.declared.cell.Cell.{Cell}
 use Rattle.gp_base.specs.declared.cell.Cell.TheVariants as cell
 use Rattle.gp_base.specs.declared.row_id.TheConstants.{MAX_NODES}
@@ -106,10 +106,10 @@ abbrev pub IsWritten : List Written → Row → Type 0
 IsWritten written row = is_written 0 row.identity written ≡ true
 
 abbrev pub IsBy : ℕ → Written → Type 0
-IsBy t pair = transaction_of pair.identity ≡ t
+IsBy t pair = identity_transaction pair.identity ≡ t
 
 abbrev pub IsBefore : ℕ → Row → Type 0
-IsBefore t row = transaction_of row.identity < t
+IsBefore t row = identity_transaction row.identity < t
 
 pub given-by : (t k n : ℕ) (rows : List (List Cell)) → AllByRecursion (IsBy t) (written_in 0 (given_from unannotated t k n rows))
 given-by t k n [] = tt
@@ -155,7 +155,7 @@ given-written t k n (row ∷ rows) = (
       (given_from unannotated t k (suc n) rows) (given-written t k (suc n) rows),
 )
 
-other-identity : (id other : Identity) (t : ℕ) → transaction_of id ≡ t → transaction_of other < t → same_identity id other ≡ false
+other-identity : (id other : Identity) (t : ℕ) → identity_transaction id ≡ t → identity_transaction other < t → same_identity id other ≡ false
 other-identity (identity u k n ids) (identity v l m others) t by before =
     let differ : eqb u v ≡ false = ne_eqb u v (λ e. omega (arith, by, before, e)) in
     rw differ refl

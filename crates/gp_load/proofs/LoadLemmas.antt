@@ -26,7 +26,7 @@ use Rattle.gp_script.specs.declared.script.TheConstants.{MAX_SCRIPT_LENGTH}
 use Rattle.gp_script.specs.History.{has_refusal}
 use Rattle.gp_script.specs.Scripts.{lines_as_read, replies_from, state_after}
 use Rattle.gp_script.proofs.ReadHistory.{is-script, replies-read, state-read}
-use Rattle.gp_csv.specs.Scripts.{batches_of, commands_of, ended_line, fits_line, inserts_from, line_of, script_of, script_text, transaction_break}
+use Rattle.gp_csv.specs.Scripts.{batches_of, commands_of, ended_line, fits_line, inserts_from, session_line, script_of, script_text, transaction_break}
 use Rattle.gp_csv.specs.SheetForms.{rows_in, IsSheet, column_names, is_cell_of, is_row_of}
 use Rattle.gp_csv.specs.declared.script.TheConstants.{MAX_INSERTS, MAX_ROWS, MAX_STEPS}
 use Rattle.gp_csv.specs.declared.sheet.Sheet.{Sheet}
@@ -135,12 +135,12 @@ module _ (table : Table) (named : is_name table.name ≡ true) (columns : IsSome
   batches-good [] fits rows = tt
   batches-good (batch ∷ batches) fits rows =
       let f = and_parts (fits_line table.name batch) (list_all (fits_line table.name) batches) fits in
-      let n = and_parts (ltb 0 (length batch)) (leb (length batch) MAX_VALUES && leb (length (line_of (y.insert table.name batch))) MAX_LINE_LENGTH) f.0 in
-      let g = and_parts (leb (length batch) MAX_VALUES) (leb (length (line_of (y.insert table.name batch))) MAX_LINE_LENGTH) n.1 in
+      let n = and_parts (ltb 0 (length batch)) (leb (length batch) MAX_VALUES && leb (length (session_line (y.insert table.name batch))) MAX_LINE_LENGTH) f.0 in
+      let g = and_parts (leb (length batch) MAX_VALUES) (leb (length (session_line (y.insert table.name batch))) MAX_LINE_LENGTH) n.1 in
       let r = all-parts (is_row_of table.cols) batch (rows_in batches) rows in (
         record {
           readable = insert-readable table.name batch named (some-rows batch n.0) (rows-user table.cols batch columns r.0) (leb-true (length batch) MAX_VALUES g.0)
-              (leb-true (length (line_of (y.insert table.name batch))) MAX_LINE_LENGTH g.1);
+              (leb-true (length (session_line (y.insert table.name batch))) MAX_LINE_LENGTH g.1);
           rows = r.0;
         },
         batches-good batches f.1 r.1,
@@ -260,10 +260,10 @@ columns-named (column ∷ columns) all = let h = and_parts (is_name column.name)
 
 -- ---- the length of the script
 
-ended-length : (c : Command) → length (ended_line c) ≡ length (line_of c) + 1
-ended-length c = length-append (line_of c) (10 ∷ [])
+ended-length : (c : Command) → length (ended_line c) ≡ length (session_line c) + 1
+ended-length c = length-append (session_line c) (10 ∷ [])
 
-cons-length : (c : Command) (cs : List Command) → length (script_text (c ∷ cs)) ≡ length (line_of c) + 1 + length (script_text cs)
+cons-length : (c : Command) (cs : List Command) → length (script_text (c ∷ cs)) ≡ length (session_line c) + 1 + length (script_text cs)
 cons-length c cs =
     let a : length (ended_line c ++ script_text cs) ≡ length (ended_line c) + length (script_text cs) = length-append (ended_line c) (script_text cs) in
     let b = ended-length c in

@@ -32,7 +32,7 @@ use Rattle.gp_grammar.proofs.LineLaws.{lines-read}
 use Rattle.gp_grammar.proofs.ParserLaws.{lawful-line}
 use Rattle.gp_grammar.proofs.ShapeLemmas.{lines-fair}
 use Rattle.gp_grammar.proofs.Utf8Lemmas.{ascii-cons}
-use Rattle.gp_csv.specs.Scripts.{line_of}
+use Rattle.gp_csv.specs.Scripts.{session_line}
 
 -- ---- the lexemes of the end of a line do not depend on the line
 
@@ -103,16 +103,16 @@ pub record IsReadable (c : Command) : Type 0 where
   pub within : passed_limit (command_shape c) ≡ None
   pub proper : AreProper (command_lexemes c)
   pub texts : HaveUtf8Texts (command_lexemes c)
-  pub short : length (line_of c) ≤ MAX_LINE_LENGTH
+  pub short : length (session_line c) ≤ MAX_LINE_LENGTH
 
 line-utf8 : (text : List ℕ) → IsUtf8 text → IsUtf8 (codes "s1: " ++ text)
 line-utf8 text utf8 =
     ascii-cons 115 (49 ∷ 58 ∷ 32 ∷ text) (lit≤ tt) (ascii-cons 49 (58 ∷ 32 ∷ text) (lit≤ tt) (ascii-cons 58 (32 ∷ text) (lit≤ tt) (ascii-cons 32 text (lit≤ tt) utf8)))
 
-pub line-read : (c : Command) → IsReadable c → script_line_of (line_of c) ≡ Ok (record { session = 1; command = c })
+pub line-read : (c : Command) → IsReadable c → script_line_of (session_line c) ≡ Ok (record { session = 1; command = c })
 line-read c h =
-    let found = columns-by (line_of c) (session_lexemes (command_lexemes c)) (lexed (line_of c)) refl (line-lexemes (command_text c) (command_lexemes c) (ap lexemes_of h.laid ∙ lexemes_of-laid_out (command_lexemes c) h.proper)) in
-    (lines-read script_line IsScriptLine capped_line line_shape lawful-line lines-fair (line_of c) (record { session = 1; command = c })).1 (record {
+    let found = columns-by (session_line c) (session_lexemes (command_lexemes c)) (lexed (session_line c)) refl (line-lexemes (command_text c) (command_lexemes c) (ap lexemes_of h.laid ∙ lexemes_of-laid_out (command_lexemes c) h.proper)) in
+    (lines-read script_line IsScriptLine capped_line line_shape lawful-line lines-fair (session_line c) (record { session = 1; command = c })).1 (record {
       short = h.short;
       text = record {
         lexemes = session_lexemes (command_lexemes c);
@@ -125,5 +125,5 @@ line-read c h =
     })
 
 -- it has no control character, and so no line feed and no carriage return
-pub line-plain : (c : Command) → IsReadable c → list_any is_ascii_control (line_of c) ≡ false
+pub line-plain : (c : Command) → IsReadable c → list_any is_ascii_control (session_line c) ≡ false
 line-plain c h = ap (λ (text : List ℕ). list_any is_ascii_control (codes "s1: " ++ text)) h.laid ∙ laid_out-plain (command_lexemes c) h.proper

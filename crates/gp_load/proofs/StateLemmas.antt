@@ -18,7 +18,7 @@ use Rattle.gp_machine.specs.Bases.{Based, is_new, pairs, with_base, with_bases}
 use Rattle.gp_machine.specs.Committed.{is_written, merged, unmarked}
 use Rattle.gp_machine.specs.Conflicts.{least_conflict}
 use Rattle.gp_machine.specs.Entries.{statements_in, transactions_in, versions_in}
-use Rattle.gp_machine.specs.Event.{accepted, beginning, began, committing, conflict_of, count_refusal, created, creating, doing, event, is_full, published, published_rows, ran, refusal_of, running, seen_next, start_now, version_now}
+use Rattle.gp_machine.specs.Event.{accepted, beginning, began, committing, conflict_of, count_refusal, created, creating, doing, event, is_full, published, published_rows, ran, refusal_of, running, seen_after, start_now, version_now}
 use Rattle.gp_machine.specs.Replies.{is_refusal}
 use Rattle.gp_machine.specs.State.{Active, State, start}
 use Rattle.gp_base.specs.declared.limit.TheConstants.{MAX_TABLE_ROWS, MAX_SPANS}
@@ -206,7 +206,7 @@ module _ (table : Table) (rows batch : List (List Cell)) (t k n most line : ℕ)
   runs-on : Running table (rows ++ batch) t (suc k) (suc n) most next
   runs-on = record {
     catalogue = h.catalogue;
-    active = record a { version = version_now state a; statements = suc a.statements; seen = seen_next unannotated state line 1 a command (s.insert 0 batch) };
+    active = record a { version = version_now state a; statements = suc a.statements; seen = seen_after unannotated state line 1 a command (s.insert 0 batch) };
     is = refl;
     transaction = h.transaction;
     steps = ap suc h.steps;

@@ -16,7 +16,6 @@ use Rattle.gp_csv.specs.declared.sheet.Sheet.{Sheet}
 abbrev pub last_rows : State (Unit {0}) → ℕ → List (List Cell)
 last_rows state table = map (λ (row : Annotated (Unit {0})). row.cells) (state.committed (versions_in state.entries) table)
 
--- the table of a sheet
 abbrev pub table_of : List ℕ → Sheet → Table
 table_of name sheet = record { name = name; cols = sheet.cols }
 

@@ -11,7 +11,7 @@ use Rattle.gp_machine.specs.ActionForms.{Action, Begin, Commit, Create, Rollback
 use Rattle.gp_machine.proofs.ActionLemmas.{allowed-is}
 use Rattle.gp_machine.specs.Entries.{Began, Entry, Ran, statement_count, statements_in, transactions_in}
 use Rattle.gp_machine.specs.Event.{count_refusal}
-use Rattle.gp_log.specs.Discipline.{Disorder, Does, Flaw, creating, doing, next_entry, running, transaction_in}
+use Rattle.gp_log.specs.Discipline.{Disorder, Does, Flaw, creation_entry, command_entry, next_entry, statement_entry, transaction_in}
 use Rattle.gp_log.specs.LogFacts.{tables_in}
 use Rattle.gp_log.specs.Parameters.{parameters}
 
@@ -23,13 +23,13 @@ module _ (older : List Entry) (line session : ℕ) (command : Command) (t : ℕ)
   WasRun done = (done ≡ Run command) × (checked (tables_in older) command ≡ Ok statement)
 
   run : (own : ℕ) (other : Command) (refusal : Option Refusal) (found : Result Statement Refusal)
-      → Gives (running parameters older line session own other refusal found) → (other ≡ command) × (found ≡ Ok statement)
+      → Gives (statement_entry parameters older line session own other refusal found) → (other ≡ command) × (found ≡ Ok statement)
   run own other (Some refusal) found e = absurd cc
   run own other None (Err refusal) e = absurd cc
   run own other None (Ok given) e = (cc, cc)
 
   no_table : (full : Bool) (table : Table) (refusal : Option Refusal)
-      → Gives (if full then Err Disorder else creating parameters older line session table refusal) → ⊥
+      → Gives (if full then Err Disorder else creation_entry parameters older line session table refusal) → ⊥
   no_table true table refusal e = cc
   no_table false table (Some refusal) e = cc
   no_table false table None e = cc
@@ -38,7 +38,7 @@ module _ (older : List Entry) (line session : ℕ) (command : Command) (t : ℕ)
   no_begin true level e = cc
   no_begin false level e = cc
 
-  was_run : (active : Option ℕ) (done : Action) → Gives (doing parameters older line session (allowed_to active done)) → WasRun done
+  was_run : (active : Option ℕ) (done : Action) → Gives (command_entry parameters older line session (allowed_to active done)) → WasRun done
   was_run None (Create table) e =
       absurd (no_table (nat_le parameters.tables (length (tables_in older))) table (parameters.created (tables_in older) table) e)
   was_run None (Begin level) e = absurd (no_begin (nat_le parameters.transactions (transactions_in older)) level e)
@@ -67,5 +67,5 @@ module _ (older : List Entry) (line session : ℕ) (command : Command) (t : ℕ)
   pub was_checked : next_entry parameters older line session (Does command) ≡ Ok (Ran line session command t statement)
       → (is_statement command ≡ true) × (checked (tables_in older) command ≡ Ok statement)
   was_checked follows =
-      let was = was_run (transaction_in session older) (action_of command) (subst (λ may. Gives (doing parameters older line session may)) (allowed-is (transaction_in session older) command) follows) in
+      let was = was_run (transaction_in session older) (action_of command) (subst (λ may. Gives (command_entry parameters older line session may)) (allowed-is (transaction_in session older) command) follows) in
       (kind command was.0, was.1)

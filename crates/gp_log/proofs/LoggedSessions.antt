@@ -13,7 +13,7 @@ use Rattle.gp_machine.specs.ActionForms.{Action, Begin, Commit, Create, Rollback
 use Rattle.gp_machine.specs.Entries.{Entry, RolledBack, Lost, Created, Began, Ran, Committed, Ended, statement_count, statements_in, transactions_in}
 use Rattle.gp_machine.specs.Event.{count_refusal}
 use Rattle.gp_machine.specs.Parameters.{Parameters}
-use Rattle.gp_log.specs.Discipline.{Flaw, Disorder, Unchecked, IsLog, IsNext, creating, doing, running, transaction_in}
+use Rattle.gp_log.specs.Discipline.{Flaw, Disorder, Unchecked, IsLog, IsNext, creation_entry, command_entry, statement_entry, transaction_in}
 use Rattle.gp_log.specs.LogFacts.{tables_in}
 use Rattle.gp_log.specs.Sessions.{KeepsSessions}
 
@@ -38,7 +38,7 @@ module _ (parameters : Parameters) where
       two true kind e = absurd (refused_accepted Disorder (Began line session t level) e)
       two false kind e = same (suc (transactions_in older)) kind e
 
-      go : (o : Option ℕ) (kind : Bool) → doing parameters older line session (allowed o (y.begin kind)) ≡ Ok (Began line session t level) → t ≡ suc (transactions_in older)
+      go : (o : Option ℕ) (kind : Bool) → command_entry parameters older line session (allowed o (y.begin kind)) ≡ Ok (Began line session t level) → t ≡ suc (transactions_in older)
       go None kind e = two (nat_le parameters.transactions (transactions_in older)) kind e
       go (Some u) kind e = absurd (refused_accepted Disorder (Began line session t level) e)
 
@@ -46,13 +46,13 @@ module _ (parameters : Parameters) where
   ran_is : (older : List Entry) (line session : ℕ) (command : Command) (t : ℕ) (statement : Statement) → IsNext parameters older (Ran line session command t statement) → transaction_in session older ≡ Some t
   ran_is older line session command t statement next =
       go (transaction_in session older) (action_of command)
-      (subst (λ may. doing parameters older line session may ≡ Ok (Ran line session command t statement)) (allowed-is (transaction_in session older) command) next.follows)
+      (subst (λ may. command_entry parameters older line session may ≡ Ok (Ran line session command t statement)) (allowed-is (transaction_in session older) command) next.follows)
     where
-      created : (table : Table) (o : Option Refusal) → creating parameters older line session table o ≡ accepted (Ran line session command t statement) → ⊥
+      created : (table : Table) (o : Option Refusal) → creation_entry parameters older line session table o ≡ accepted (Ran line session command t statement) → ⊥
       created table (Some refusal) e = cc
       created table None e = cc
 
-      creates : (b : Bool) (table : Table) (o : Option Refusal) → cond b (refused Disorder) (creating parameters older line session table o) ≡ accepted (Ran line session command t statement) → ⊥
+      creates : (b : Bool) (table : Table) (o : Option Refusal) → cond b (refused Disorder) (creation_entry parameters older line session table o) ≡ accepted (Ran line session command t statement) → ⊥
       creates true table o e = cc
       creates false table o e = created table o e
 
@@ -60,12 +60,12 @@ module _ (parameters : Parameters) where
       begins true u level e = cc
       begins false u level e = cc
 
-      runs : (u : ℕ) (other : Command) (o : Option Refusal) (r : Result Statement Refusal) → running parameters older line session u other o r ≡ accepted (Ran line session command t statement) → u ≡ t
+      runs : (u : ℕ) (other : Command) (o : Option Refusal) (r : Result Statement Refusal) → statement_entry parameters older line session u other o r ≡ accepted (Ran line session command t statement) → u ≡ t
       runs u other (Some refusal) r e = absurd (refused_accepted Disorder (Ran line session command t statement) e)
       runs u other None (Err refusal) e = absurd (refused_accepted Unchecked (Ran line session command t statement) e)
       runs u other None (Ok found) e = cc
 
-      go : (o : Option ℕ) (a : Action) → doing parameters older line session (allowed_to o a) ≡ Ok (Ran line session command t statement) → o ≡ Some t
+      go : (o : Option ℕ) (a : Action) → command_entry parameters older line session (allowed_to o a) ≡ Ok (Ran line session command t statement) → o ≡ Some t
       go None (Create table) e = absurd (creates (nat_le parameters.tables (length (tables_in older))) table (parameters.created (tables_in older) table) e)
       go None (Begin level) e = absurd (begins (nat_le parameters.transactions (transactions_in older)) (suc (transactions_in older)) level e)
       go None Commit e = absurd (refused_accepted Disorder (Ran line session command t statement) e)
@@ -85,23 +85,23 @@ module _ (parameters : Parameters) where
       same : (u : ℕ) → accepted (Committed line session u) ≡ accepted (Committed line session t) → u ≡ t
       same u e = cc
 
-      go : (o : Option ℕ) → doing parameters older line session (allowed o y.Command.commit) ≡ Ok (Committed line session t) → o ≡ Some t
+      go : (o : Option ℕ) → command_entry parameters older line session (allowed o y.Command.commit) ≡ Ok (Committed line session t) → o ≡ Some t
       go None e = absurd (refused_accepted Disorder (Committed line session t) e)
       go (Some u) e = ap Some (same u e)
 
 module _ (parameters : Parameters) (older : List Entry) (line session : ℕ) where
   -- CREATE TABLE
-  created_free : (table : Table) (entry : Entry) (o : Option ℕ) → doing parameters older line session (allowed o (y.create table)) ≡ Ok entry → o ≡ None
+  created_free : (table : Table) (entry : Entry) (o : Option ℕ) → command_entry parameters older line session (allowed o (y.create table)) ≡ Ok entry → o ≡ None
   created_free table entry None e = refl
   created_free table entry (Some t) e = absurd cc
 
   -- BEGIN
-  began_free : (level : Bool) (entry : Entry) (o : Option ℕ) → doing parameters older line session (allowed o (y.begin level)) ≡ Ok entry → o ≡ None
+  began_free : (level : Bool) (entry : Entry) (o : Option ℕ) → command_entry parameters older line session (allowed o (y.begin level)) ≡ Ok entry → o ≡ None
   began_free level entry None e = refl
   began_free level entry (Some u) e = absurd cc
 
   -- the end of a transaction
-  rolled_in : (t : ℕ) (o : Option ℕ) → doing parameters older line session (allowed o y.rollback) ≡ Ok (Ended line session RolledBack t) → o ≡ Some t
+  rolled_in : (t : ℕ) (o : Option ℕ) → command_entry parameters older line session (allowed o y.rollback) ≡ Ok (Ended line session RolledBack t) → o ≡ Some t
   rolled_in t None e = absurd cc
   rolled_in t (Some u) e = ap Some (is e)
     where

@@ -45,30 +45,30 @@ pub data Flaw : Type 0 where
 
 module _ (parameters : Parameters) (older : List Entry) (line session : ℕ) where
   -- CREATE TABLE, by the refusal of its names
-  abbrev pub creating : Table → Option Refusal → Result Entry Flaw
-  creating table refusal = option_map_or (λ _. Err Unchecked) refusal (Ok (Created line session table))
+  abbrev pub creation_entry : Table → Option Refusal → Result Entry Flaw
+  creation_entry table refusal = option_map_or (λ _. Err Unchecked) refusal (Ok (Created line session table))
 
   -- a statement, by the refusal of the counts, and by the check
-  abbrev pub running : ℕ → Command → Option Refusal → Result Statement Refusal → Result Entry Flaw
-  running t command (Some refusal) checked = Err Disorder
-  running t command None (Err refusal) = Err Unchecked
-  running t command None (Ok statement) = Ok (Ran line session command t statement)
+  abbrev pub statement_entry : ℕ → Command → Option Refusal → Result Statement Refusal → Result Entry Flaw
+  statement_entry t command (Some refusal) checked = Err Disorder
+  statement_entry t command None (Err refusal) = Err Unchecked
+  statement_entry t command None (Ok statement) = Ok (Ran line session command t statement)
 
   -- what a session may do, by the number of its transaction
-  abbrev pub doing : Result (Allowed ℕ) Refusal → Result Entry Flaw
-  doing (Err refusal) = Err Disorder
-  doing (Ok (Creates table)) =
-      if nat_le parameters.tables (length (tables_in older)) then Err Disorder else creating table (parameters.created (tables_in older) table)
-  doing (Ok (Begins level)) =
+  abbrev pub command_entry : Result (Allowed ℕ) Refusal → Result Entry Flaw
+  command_entry (Err refusal) = Err Disorder
+  command_entry (Ok (Creates table)) =
+      if nat_le parameters.tables (length (tables_in older)) then Err Disorder else creation_entry table (parameters.created (tables_in older) table)
+  command_entry (Ok (Begins level)) =
       if nat_le parameters.transactions (transactions_in older) then Err Disorder else Ok (Began line session (suc (transactions_in older)) level)
-  doing (Ok (Commits t)) = Ok (Committed line session t)
-  doing (Ok (RollsBack t)) = Ok (Ended line session RolledBack t)
-  doing (Ok (Runs t command)) =
-      running t command (count_refusal parameters (statement_count t older) (statements_in older)) (parameters.checked (tables_in older) command)
+  command_entry (Ok (Commits t)) = Ok (Committed line session t)
+  command_entry (Ok (RollsBack t)) = Ok (Ended line session RolledBack t)
+  command_entry (Ok (Runs t command)) =
+      statement_entry t command (count_refusal parameters (statement_count t older) (statements_in older)) (parameters.checked (tables_in older) command)
 
   -- the entry of a line, or why it cannot be next
   abbrev pub next_entry : Said → Result Entry Flaw
-  next_entry (Does command) = doing (allowed (transaction_in session older) command)
+  next_entry (Does command) = command_entry (allowed (transaction_in session older) command)
   next_entry Loses = ok_or (option_map (Ended line session Lost) (transaction_in session older)) Disorder
 
 -- ---- whole logs

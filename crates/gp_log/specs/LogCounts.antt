@@ -1,4 +1,5 @@
--- Part of the statement: the transactions of a log that have ended and that have not, its commits up to a line, and the versions that statements read.
+-- Of the contracts of `append`, `version_at` and `statement_version`: the transactions of a log that have ended and that have not, its commits up to a line,
+-- and the versions that statements read.
 use Rattle.std.specs.Prelude.{ℕ, ◌-◌, ◌&&◌, nat_le, nat_lt, List, Option, Some, None, if◌then◌else◌}
 use Rattle.gp_machine.specs.Entries.{Entry, at_newest, count, is_commit, is_end, is_statement_at, line_of, read_next, transactions_in}
 

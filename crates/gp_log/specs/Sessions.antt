@@ -1,5 +1,5 @@
--- Part of the statement: when a log keeps its sessions, whatever its limits, its lines and its checks. It is what the rules for the next entry of a log
--- say of sessions and of the numbers of transactions.
+-- Of the laws `logs_keep_their_sessions` (gp_whatif) and `composed_programs_scan_what_is_needed` (gp_compose): when a log keeps its sessions, whatever its
+-- limits, its lines and its checks. It is what the rules for the next entry of a log say of sessions and of the numbers of transactions.
 use Rattle.std.specs.Prelude.{◌≡◌, suc, List, [], ◌∷◌, Some, None}
 use Rattle.gp_machine.specs.Entries.{Entry, Created, Began, Ran, Committed, Ended, transactions_in}
 use Rattle.gp_log.specs.Discipline.{transaction_in}

@@ -3,7 +3,7 @@ use Rattle.std.proofs.Common.{◌≡◌, ◌≢◌, ◌∙◌, ℕ, zero, suc, �
 use Rattle.gp_algebra.specs.Effects.{Written, step, wrote}
 use Rattle.gp_algebra.specs.Statements.{Statement}
 use Rattle.gp_base.specs.Annotated.{Annotated, Annotations, Database, Environment}
-use Rattle.gp_base.specs.IdentityParts.{statement_of, transaction_of}
+use Rattle.gp_base.specs.IdentityParts.{identity_statement, identity_transaction}
 use Rattle.gp_machine.proofs.CommitLemmas.{Clean, IsMadeBy, all_sound, bases_within, made_view, view_kept}
 use Rattle.gp_machine.proofs.Distinct.{each_filter, each_weaker}
 use Rattle.gp_machine.proofs.LogLemmas.{versions_le}
@@ -24,7 +24,7 @@ use Rattle.gp_base.proofs.SmallLemmas.{each_append}
 
 -- at BEGIN
 pub begin_view : {M : Type 0} (t : ℕ) (base : Database M) → ((table : ℕ) → HaveDifferentIdentities (base table)) → ((table : ℕ) → AllByRecursion (λ row. row.mark ≡ false) (base table))
-    → ((table : ℕ) → AllByRecursion (λ row. transaction_of row.identity ≢ t) (base table)) → IsViewOf t zero base base []
+    → ((table : ℕ) → AllByRecursion (λ row. identity_transaction row.identity ≢ t) (base table)) → IsViewOf t zero base base []
 begin_view t base different unmarked others = record {
   tables = λ table. record { different = different table; marks = unmarked table; others = refl };
   own = λ table. each_weaker _ _ (λ row n e. absurd (n e)) (base table) (others table);
@@ -35,7 +35,7 @@ pub step_view : {M : Type 0} (domain : Annotations M) (t k : ℕ) (statement : S
     → IsViewOf t (suc k) base (step domain t (suc k) statement view) (written ++ wrote domain t (suc k) statement view)
 step_view domain t k statement base view written is = record {
   tables = step_kept domain t k statement written base view is.tables is.own;
-  own = step_each domain (λ id. transaction_of id ≡ t → statement_of id ≤ suc k) t (suc k) statement view (λ n ids e. omega arith)
+  own = step_each domain (λ id. identity_transaction id ≡ t → identity_statement id ≤ suc k) t (suc k) statement view (λ n ids e. omega arith)
       (λ table. each_weaker _ _ (λ row l e. let m = l e in omega arith) (view table) (is.own table));
 }
 
@@ -49,10 +49,10 @@ pub record IsOver {M : Type 0} (domain : Annotations M) (log : Log) (committed :
 
 module _ {M : Type 0} (domain : Annotations M) (log : Log) (committed : Environment M) (written : ℕ → List Written) (history : IsHistory domain log committed written) (active : Active M) (over : IsOver domain log committed active) where
   -- it made no row of a version
-  pub made_by_others : (v : ℕ) → v ≤ log.versions → (place : ℕ) → AllByRecursion (λ row. transaction_of row.identity ≢ active.transaction) (committed v place)
+  pub made_by_others : (v : ℕ) → v ≤ log.versions → (place : ℕ) → AllByRecursion (λ row. identity_transaction row.identity ≢ active.transaction) (committed v place)
   made_by_others v l place = each_weaker _ _ (λ row m own. apart row m own) (committed v place) (all_sound domain log committed written history v l v (omega arith) place).makers
     where
-      apart : (row : Annotated M) → IsMadeBy log v row.identity → transaction_of row.identity ≡ active.transaction → ⊥
+      apart : (row : Annotated M) → IsMadeBy log v row.identity → identity_transaction row.identity ≡ active.transaction → ⊥
       apart row (u, m, is) own = over.unfinished u (omega arith) (sym is ∙ own)
 
   -- the versions that it has read are fit for it
@@ -91,13 +91,13 @@ active_version domain parameters state reached session active e =
 
 -- before a statement that reads a later version
 pub refreshed_view : {M : Type 0} (t k : ℕ) (base view later : Database M) (written : List Written) → IsViewOf t k base view written → ((table : ℕ) → HaveDifferentIdentities (later table))
-    → ((table : ℕ) → AllByRecursion (λ row. row.mark ≡ false) (later table)) → ((table : ℕ) → AllByRecursion (λ row. transaction_of row.identity ≢ t) (later table))
+    → ((table : ℕ) → AllByRecursion (λ row. row.mark ≡ false) (later table)) → ((table : ℕ) → AllByRecursion (λ row. identity_transaction row.identity ≢ t) (later table))
     → IsViewOf t k later (merged later view written) written
 refreshed_view t k base view later written is different unmarked others = record {
   tables = λ table. kept_merged (λ id. is_written table id written) (base table) (view table) (later table) (is.tables table) (different table) (unmarked table);
   own = λ table. each_append _ _ _
-      (each_filter _ (λ row. transaction_of row.identity ≢ t) _ (λ row f n e. absurd (n e)) (later table) (others table))
-      (each_filter _ (λ row. transaction_of row.identity ≡ t → statement_of row.identity ≤ k) _ (λ row f o. o) (view table) (is.own table));
+      (each_filter _ (λ row. identity_transaction row.identity ≢ t) _ (λ row f n e. absurd (n e)) (later table) (others table))
+      (each_filter _ (λ row. identity_transaction row.identity ≡ t → identity_statement row.identity ≤ k) _ (λ row f o. o) (view table) (is.own table));
 }
 
 -- in a reached state

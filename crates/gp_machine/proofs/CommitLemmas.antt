@@ -10,7 +10,7 @@ use Rattle.gp_algebra.specs.Effects.{Written}
 use Rattle.gp_algebra.specs.Statements.{Statement}
 use Rattle.gp_base.specs.Annotated.{Annotated, Annotations, Database, Environment}
 use Rattle.gp_base.specs.Identities.{Identity, same_identity}
-use Rattle.gp_base.specs.IdentityParts.{statement_of, transaction_of}
+use Rattle.gp_base.specs.IdentityParts.{identity_statement, identity_transaction}
 use Rattle.gp_machine.proofs.BaseLemmas.{each_front, found, is_written_based}
 use Rattle.gp_machine.proofs.Distinct.{differ_map, each_all, each_both, each_filter, each_weaker, none_any}
 use Rattle.gp_machine.proofs.Made.{same_equal}
@@ -21,7 +21,7 @@ use Rattle.gp_machine.specs.Bases.{Based, pairs}
 use Rattle.gp_machine.specs.Committed.{cleared, is_written, merged, unmarked}
 use Rattle.gp_machine.specs.Entries.{Log}
 use Rattle.gp_machine.specs.Histories.{IsHistory}
-use Rattle.gp_machine.specs.Publishing.{holds, publish}
+use Rattle.gp_machine.specs.Publishing.{holds_identity, publish}
 use Rattle.gp_machine.specs.Reading.{Seen, started, wrote_by}
 use Rattle.gp_machine.specs.ReadBy.{seen_by}
 use Rattle.gp_machine.specs.Runs.{at_commit, refreshed, run, stepped}
@@ -31,7 +31,7 @@ use Rattle.gp_base.proofs.SmallLemmas.{any-map, each_append, each_map, or_nothin
 
 -- the identity was made by the transaction of one of the first u commits
 abbrev pub IsMadeBy : Log → ℕ → Identity → Type 0
-IsMadeBy log u id = (v : ℕ) × (v < u) × (transaction_of id ≡ log.committer (suc v))
+IsMadeBy log u id = (v : ℕ) × (v < u) × (identity_transaction id ≡ log.committer (suc v))
 
 -- what holds of a table of a committed database
 pub record Sound {M : Type 0} (log : Log) (u : ℕ) (rows : List (Annotated M)) : Type 0 where
@@ -71,15 +71,15 @@ module _ {M : Type 0} (domain : Annotations M) (log : Log) (committed : Environm
 
   -- no version that t sees has an identity that t made
   abbrev NotOwn : ℕ → ℕ → Type 0
-  NotOwn t k = (j : ℕ) → j ≤ k → (table : ℕ) → AllByRecursion (λ row. transaction_of row.identity ≢ t) (committed (log.version t j) table)
+  NotOwn t k = (j : ℕ) → j ≤ k → (table : ℕ) → AllByRecursion (λ row. identity_transaction row.identity ≢ t) (committed (log.version t j) table)
 
   made_start : (t k : ℕ) → NotOwn t (suc k) → MadeBy t k (seen t k).view → MadeBy t k (started (log.version t k) (log.version t (suc k)) (committed (log.version t (suc k))) (seen t k))
-  made_start t k old made = started_each (λ id. transaction_of id ≡ t → statement_of id ≤ k) (log.version t k) (log.version t (suc k)) (seen t k) (λ table. each_weaker _ _ (λ row n e. absurd (n e)) (committed (log.version t (suc k)) table) (old (suc k) (omega arith) table)) made
+  made_start t k old made = started_each (λ id. identity_transaction id ≡ t → identity_statement id ≤ k) (log.version t k) (log.version t (suc k)) (seen t k) (λ table. each_weaker _ _ (λ row n e. absurd (n e)) (committed (log.version t (suc k)) table) (old (suc k) (omega arith) table)) made
 
   pub made_view : (t k : ℕ) → NotOwn t k → MadeBy t k (seen t k).view
   made_view t zero old = λ table. each_weaker _ _ (λ row n e. absurd (n e)) (committed (log.version t zero) table) (old zero (omega arith) table)
   made_view t (suc k) old =
-      stepped_each (λ id. transaction_of id ≡ t → statement_of id ≤ suc k) t (suc k) (log.statement t (suc k)) (started (log.version t k) (log.version t (suc k)) (committed (log.version t (suc k))) (seen t k)) (λ n ids e. omega arith)
+      stepped_each (λ id. identity_transaction id ≡ t → identity_statement id ≤ suc k) t (suc k) (log.statement t (suc k)) (started (log.version t k) (log.version t (suc k)) (committed (log.version t (suc k))) (seen t k)) (λ n ids e. omega arith)
       (λ table. each_weaker _ _ (λ row l e. let m = l e in omega arith) (started (log.version t k) (log.version t (suc k)) (committed (log.version t (suc k))) (seen t k) table) (made_start t k old (made_view t k (λ j l. old j (omega arith))) table))
 
   -- the versions that t sees
@@ -130,21 +130,21 @@ module _ {M : Type 0} (domain : Annotations M) (log : Log) (committed : Environm
   IsSound u = (table : ℕ) → Sound log u (committed u table)
 
   -- the identities of a version were made by others than the transactions that commit later
-  pub not_own : (u v : ℕ) → u < log.versions → v ≤ u → (rows : List (Annotated M)) → AllByRecursion (λ row. IsMadeBy log v row.identity) rows → AllByRecursion (λ row. transaction_of row.identity ≢ log.committer (suc u)) rows
+  pub not_own : (u v : ℕ) → u < log.versions → v ≤ u → (rows : List (Annotated M)) → AllByRecursion (λ row. IsMadeBy log v row.identity) rows → AllByRecursion (λ row. identity_transaction row.identity ≢ log.committer (suc u)) rows
   not_own u v inside l rows made = each_weaker _ _ (λ row m own. before row m own) rows made
     where
-      before : (row : Annotated M) → IsMadeBy log v row.identity → transaction_of row.identity ≡ log.committer (suc u) → ⊥
+      before : (row : Annotated M) → IsMadeBy log v row.identity → identity_transaction row.identity ≡ log.committer (suc u) → ⊥
       before row (w, below, m) own = let same : w ≡ u = history.once w u (omega arith) inside (sym m ∙ own) in omega arith
 
   -- an identity that the next commit did not write stands in the next version exactly where it stands in this one
-  holds_next : (u table : ℕ) (id : Identity) → u < log.versions → is_written table id (written (suc u)) ≡ false → holds id (committed (suc u) table) ≡ holds id (committed u table)
+  holds_next : (u table : ℕ) (id : Identity) → u < log.versions → is_written table id (written (suc u)) ≡ false → holds_identity id (committed (suc u) table) ≡ holds_identity id (committed u table)
   holds_next u table id inside e =
-      ap (holds id) (history.published u table inside)
+      ap (holds_identity id) (history.published u table inside)
       ∙ any-map (λ row. same_identity row.identity id) unmarked (merged (committed u) (seen (log.committer (suc u)) (log.statement_count (log.committer (suc u)))).view (written (suc u)) table)
       ∙ list_any-append (λ row. same_identity row.identity id) (unwritten p (committed u table)) (filter (λ row. p row.identity) view)
-      ∙ ap (λ b. b || holds id (filter (λ row. p row.identity) view)) (holds_others p id (committed u table) e)
-      ∙ ap (λ b. holds id (committed u table) || b) (none_any _ (filter (λ row. p row.identity) view) (each_filter _ (λ row. Unit {0}) (λ row. p row.identity) (λ row f g. unlike row f) view (each_all _ (λ row. tt) view)))
-      ∙ or_nothing (holds id (committed u table))
+      ∙ ap (λ b. b || holds_identity id (filter (λ row. p row.identity) view)) (holds_others p id (committed u table) e)
+      ∙ ap (λ b. holds_identity id (committed u table) || b) (none_any _ (filter (λ row. p row.identity) view) (each_filter _ (λ row. Unit {0}) (λ row. p row.identity) (λ row f g. unlike row f) view (each_all _ (λ row. tt) view)))
+      ∙ or_nothing (holds_identity id (committed u table))
     where
       p : Identity → Bool
       p id = is_written table id (written (suc u))
@@ -159,12 +159,12 @@ module _ {M : Type 0} (domain : Annotations M) (log : Log) (committed : Environm
       ] refl
 
   -- one that was not written after v stands in a later version exactly where it stands in version v
-  pub holds_since : (u v table : ℕ) (id : Identity) → v ≤ u → u ≤ log.versions → ((w : ℕ) → v < w → w ≤ u → is_written table id (written w) ≡ false) → holds id (committed u table) ≡ holds id (committed v table)
-  holds_since zero v table id l inside e = let is : v ≡ zero = omega arith in ap (λ w. holds id (committed w table)) (sym is)
+  pub holds_since : (u v table : ℕ) (id : Identity) → v ≤ u → u ≤ log.versions → ((w : ℕ) → v < w → w ≤ u → is_written table id (written w) ≡ false) → holds_identity id (committed u table) ≡ holds_identity id (committed v table)
+  holds_since zero v table id l inside e = let is : v ≡ zero = omega arith in ap (λ w. holds_identity id (committed w table)) (sym is)
   holds_since (suc u) v table id l inside e =
       ⊎_elim
       (λ below. holds_next u table id (omega arith) (e (suc u) (omega arith) (omega arith)) ∙ holds_since u v table id (omega arith) (omega arith) (λ w a b. e w a (omega arith)))
-      (λ above. let is : v ≡ suc u = omega arith in ap (λ w. holds id (committed w table)) (sym is))
+      (λ above. let is : v ≡ suc u = omega arith in ap (λ w. holds_identity id (committed w table)) (sym is))
       (cases_lt v (suc u))
 
   -- ---- the versions that a transaction that committed saw
@@ -193,7 +193,7 @@ module _ {M : Type 0} (domain : Annotations M) (log : Log) (committed : Environm
         (each_both _ _ _ (λ based b f v c d. f v (omega (arith, b.1)) d) (seen t k).written (bases_within t k (λ j m. history.later u j inside (omega arith))) (written_front _ (log.statement_count t) k l (history.first u inside))) e
 
     pub known : (k v : ℕ) → k ≤ log.statement_count t → log.version t k ≤ v → v ≤ u → (table : ℕ) →
-        AllByRecursion (λ row. is_written table row.identity (pairs (seen t k).written) ≡ true → holds row.identity (committed (log.version t k) table) ≡ true) (committed v table)
+        AllByRecursion (λ row. is_written table row.identity (pairs (seen t k).written) ≡ true → holds_identity row.identity (committed (log.version t k) table) ≡ true) (committed v table)
     known k v l a b table =
         each_weaker _ _ (λ row h e. sym (holds_since v (log.version t k) table row.identity a (omega arith) (λ w c d. not_rewritten k l table row.identity e w c (omega arith))) ∙ h) (committed v table) (holds_each (committed v table))
 
@@ -222,7 +222,7 @@ module _ {M : Type 0} (domain : Annotations M) (log : Log) (committed : Environm
       let n : ℕ = log.statement_count t in
       ap (λ view. publish (committed (log.version t n)) view (committed u) table) (run_is_seen u inside sound n (omega arith))
       ∙ publish_is (λ id. is_written table id (written (suc u))) (committed (log.version t n) table) ((seen t n).view table) (committed u table) (kept_at_end u inside sound table)
-      (subst (λ w. AllByRecursion (λ row. is_written table row.identity w ≡ true → holds row.identity (committed (log.version t n) table) ≡ true) (committed u table)) (sym (history.wrote u inside)) (known u inside sound n u (omega arith) (history.order u n inside (omega arith)) (omega arith) table))
+      (subst (λ w. AllByRecursion (λ row. is_written table row.identity w ≡ true → holds_identity row.identity (committed (log.version t n) table) ≡ true) (committed u table)) (sym (history.wrote u inside)) (known u inside sound n u (omega arith) (history.order u n inside (omega arith)) (omega arith) table))
 
   -- ---- all versions
 

@@ -5,7 +5,7 @@ use Rattle.std.specs.List.{AllByRecursion}
 use Rattle.std.proofs.lemmas.Bool.{cases_lt}
 use Rattle.gp_algebra.specs.Statements.{Statement}
 use Rattle.gp_base.specs.Annotated.{Annotated, Annotations}
-use Rattle.gp_base.specs.IdentityParts.{transaction_of}
+use Rattle.gp_base.specs.IdentityParts.{identity_transaction}
 use Rattle.gp_base.specs.declared.refusal.Refusal.{Refusal}
 use Rattle.gp_base.specs.declared.table.Table.{Table}
 use Rattle.gp_grammar.specs.Syntax.{Command}
@@ -97,14 +97,14 @@ module _ {M : Type 0} (domain : Annotations M) (parameters : Parameters) where
   all_once lines = once_from start lines (start_reached domain parameters) (λ u l. absurd (omega arith))
 
   pub rows_committed : (lines : List Line) (version table : ℕ) → version ≤ versions_in (after domain parameters start lines).entries
-      → AllByRecursion (λ row. CommittedBy (after domain parameters start lines).entries version (transaction_of row.identity)) ((after domain parameters start lines).committed version table)
+      → AllByRecursion (λ row. CommittedBy (after domain parameters start lines).entries version (identity_transaction row.identity)) ((after domain parameters start lines).committed version table)
   rows_committed lines version table l =
       let state = after domain parameters start lines in
       let reached = all_reached domain parameters lines in
       each_weaker _ _ (λ row m. by row m) (state.committed version table)
       (all_sound domain (log_of state.entries) state.committed state.written reached.history version l version (omega arith) table).makers
     where
-      by : (row : Annotated M) → IsMadeBy (log_of (after domain parameters start lines).entries) version row.identity → CommittedBy (after domain parameters start lines).entries version (transaction_of row.identity)
+      by : (row : Annotated M) → IsMadeBy (log_of (after domain parameters start lines).entries) version row.identity → CommittedBy (after domain parameters start lines).entries version (identity_transaction row.identity)
       by row (u, m, is) =
           let entries = (after domain parameters start lines).entries in
           let maker = (all_reached domain parameters lines).makers u (omega arith) in

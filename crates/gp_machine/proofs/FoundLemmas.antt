@@ -8,7 +8,7 @@ use Rattle.gp_algebra.specs.Effects.{Written, given_from, made, written_in, wrot
 use Rattle.gp_algebra.specs.Statements.{Statement, delete, insert, insert_select, read, update}
 use Rattle.gp_base.specs.Annotated.{Annotated, Annotations, Database, Environment, unannotated}
 use Rattle.gp_base.specs.Identities.{Identity, same_identity}
-use Rattle.gp_base.specs.IdentityParts.{transaction_of}
+use Rattle.gp_base.specs.IdentityParts.{identity_transaction}
 use Rattle.gp_base.specs.declared.cell.Cell.{Cell}
 use Rattle.gp_expr.specs.Values.{passes}
 use Rattle.gp_machine.proofs.ActiveLemmas.{IsOver, active_clean, active_over, made_by_others}
@@ -35,7 +35,7 @@ use Rattle.gp_machine.specs.Event.{Line, after}
 use Rattle.gp_machine.specs.HistorySpans.{as_of, next_written, spans_of}
 use Rattle.gp_machine.specs.Histories.{IsHistory}
 use Rattle.gp_machine.specs.Parameters.{Parameters}
-use Rattle.gp_machine.specs.Publishing.{holds}
+use Rattle.gp_machine.specs.Publishing.{holds_identity}
 use Rattle.gp_machine.specs.Reached.{IsReached}
 use Rattle.gp_machine.specs.Represents.{Kept, Overlay, Represents, RepresentsActive, base_in}
 use Rattle.gp_machine.specs.Reading.{Seen, wrote_by}
@@ -55,47 +55,47 @@ or_cases : (a b : Bool) → (a || b) ≡ true → (a ≡ true) ⊎ (b ≡ true)
 or_cases true b e = inl refl
 or_cases false b e = inr e
 
-pub holds_own : {M : Type 0} (P : Identity → Type 0) (id : Identity) (rows : List (Annotated M)) → AllByRecursion (λ row. P row.identity) rows → holds id rows ≡ true → P id
+pub holds_own : {M : Type 0} (P : Identity → Type 0) (id : Identity) (rows : List (Annotated M)) → AllByRecursion (λ row. P row.identity) rows → holds_identity id rows ≡ true → P id
 holds_own P id [] each e = absurd (false≢true e)
 holds_own P id (row ∷ rows) each e =
-    (elim (same_identity row.identity id) as (λ b. same_identity row.identity id ≡ b → (b || holds id rows) ≡ true → P id) [
+    (elim (same_identity row.identity id) as (λ b. same_identity row.identity id ≡ b → (b || holds_identity id rows) ≡ true → P id) [
       | true ↦ λ is e. subst P (same_equal row.identity id is) each.0
       | false ↦ λ is e. holds_own P id rows each.1 e
     ]) refl e
 
-holds_filter : {M : Type 0} (test : Annotated M → Bool) (id : Identity) (rows : List (Annotated M)) → holds id (filter test rows) ≡ true → holds id rows ≡ true
+holds_filter : {M : Type 0} (test : Annotated M → Bool) (id : Identity) (rows : List (Annotated M)) → holds_identity id (filter test rows) ≡ true → holds_identity id rows ≡ true
 holds_filter test id [] e = e
 holds_filter test id (row ∷ rows) e =
-    (elim (test row) as (λ b. holds id (cond b (row ∷ filter test rows) (filter test rows)) ≡ true → (same_identity row.identity id || holds id rows) ≡ true) [
-      | true ↦ λ e. ⊎_elim (λ here. ap (λ b. b || holds id rows) here) (λ there. or_right (same_identity row.identity id) (holds id rows) (holds_filter test id rows there)) (or_cases (same_identity row.identity id) (holds id (filter test rows)) e)
-      | false ↦ λ e. or_right (same_identity row.identity id) (holds id rows) (holds_filter test id rows e)
+    (elim (test row) as (λ b. holds_identity id (cond b (row ∷ filter test rows) (filter test rows)) ≡ true → (same_identity row.identity id || holds_identity id rows) ≡ true) [
+      | true ↦ λ e. ⊎_elim (λ here. ap (λ b. b || holds_identity id rows) here) (λ there. or_right (same_identity row.identity id) (holds_identity id rows) (holds_filter test id rows there)) (or_cases (same_identity row.identity id) (holds_identity id (filter test rows)) e)
+      | false ↦ λ e. or_right (same_identity row.identity id) (holds_identity id rows) (holds_filter test id rows e)
     ]) e
 
 module _ {M : Type 0} (domain : Annotations M) where
-  given_own : (t k n : ℕ) (rows : List (List Cell)) → AllByRecursion (λ row. transaction_of row.identity ≡ t) (given_from domain t k n rows)
+  given_own : (t k n : ℕ) (rows : List (List Cell)) → AllByRecursion (λ row. identity_transaction row.identity ≡ t) (given_from domain t k n rows)
   given_own t k n [] = tt
   given_own t k n (cells ∷ rows) = (refl, given_own t k (suc n) rows)
 
-  made_own : (t k : ℕ) (elements : List (Element M)) → AllByRecursion (λ row. transaction_of row.identity ≡ t) (map (made domain t k) elements)
+  made_own : (t k : ℕ) (elements : List (Element M)) → AllByRecursion (λ row. identity_transaction row.identity ≡ t) (map (made domain t k) elements)
   made_own t k [] = tt
   made_own t k (element ∷ elements) = (refl, made_own t k elements)
 
   -- a row that a statement wrote in a table
-  in_table : (table other : ℕ) (id : Identity) (rows : List (Annotated M)) → is_written other id (written_in table rows) ≡ true → (other ≡ table) × (holds id rows ≡ true)
+  in_table : (table other : ℕ) (id : Identity) (rows : List (Annotated M)) → is_written other id (written_in table rows) ≡ true → (other ≡ table) × (holds_identity id rows ≡ true)
   in_table table other id rows e =
-      let both = and_parts (table == other) (holds id rows) (sym (is_written_in domain table other id rows) ∙ e) in
+      let both = and_parts (table == other) (holds_identity id rows) (sym (is_written_in domain table other id rows) ∙ e) in
       (sym (eqb-true table other both.0), both.1)
 
   wrote_own : (t k : ℕ) (statement : Statement) (view : Database M) (table : ℕ) (id : Identity) → is_written table id (wrote domain t k statement view) ≡ true
-      → (transaction_of id ≡ t) ⊎ (holds id (view table) ≡ true)
-  wrote_own t k (insert place rows) view table id e = inl (holds_own (λ id. transaction_of id ≡ t) id (given_from domain t k 1 rows) (given_own t k 1 rows) (in_table place table id _ e).1)
-  wrote_own t k (insert_select place select) view table id e = inl (holds_own (λ id. transaction_of id ≡ t) id (map (made domain t k) (answer domain select view)) (made_own t k (answer domain select view)) (in_table place table id _ e).1)
-  wrote_own t k (update place sets c) view table id e = let both = in_table place table id _ e in inr (holds_filter (λ row. passes c row.cells) id (view table) (subst (λ p. holds id (filter (λ row. passes c row.cells) (view p)) ≡ true) (sym both.0) both.1))
-  wrote_own t k (delete place c) view table id e = let both = in_table place table id _ e in inr (holds_filter (λ row. passes c row.cells) id (view table) (subst (λ p. holds id (filter (λ row. passes c row.cells) (view p)) ≡ true) (sym both.0) both.1))
+      → (identity_transaction id ≡ t) ⊎ (holds_identity id (view table) ≡ true)
+  wrote_own t k (insert place rows) view table id e = inl (holds_own (λ id. identity_transaction id ≡ t) id (given_from domain t k 1 rows) (given_own t k 1 rows) (in_table place table id _ e).1)
+  wrote_own t k (insert_select place select) view table id e = inl (holds_own (λ id. identity_transaction id ≡ t) id (map (made domain t k) (answer domain select view)) (made_own t k (answer domain select view)) (in_table place table id _ e).1)
+  wrote_own t k (update place sets c) view table id e = let both = in_table place table id _ e in inr (holds_filter (λ row. passes c row.cells) id (view table) (subst (λ p. holds_identity id (filter (λ row. passes c row.cells) (view p)) ≡ true) (sym both.0) both.1))
+  wrote_own t k (delete place c) view table id e = let both = in_table place table id _ e in inr (holds_filter (λ row. passes c row.cells) id (view table) (subst (λ p. holds_identity id (filter (λ row. passes c row.cells) (view p)) ≡ true) (sym both.0) both.1))
   wrote_own t k (read select) view table id e = absurd (false≢true e)
 
   stepped_own : (t k : ℕ) (statement : Option Statement) (view : Database M) (table : ℕ) (id : Identity) → is_written table id (wrote_by domain t k statement view) ≡ true
-      → (transaction_of id ≡ t) ⊎ (holds id (view table) ≡ true)
+      → (identity_transaction id ≡ t) ⊎ (holds_identity id (view table) ≡ true)
   stepped_own t k None view table id e = absurd (false≢true e)
   stepped_own t k (Some statement) view table id e = wrote_own t k statement view table id e
 
@@ -113,17 +113,17 @@ module _ {M : Type 0} (domain : Annotations M) (log : Log) (committed : Environm
     pub number : ℕ
     pub within : number ≤ k
     pub base : based.base ≡ log.version t number
-    pub read : (transaction_of based.pair.identity ≡ t) ⊎ (holds based.pair.identity (committed based.base based.pair.table) ≡ true)
+    pub read : (identity_transaction based.pair.identity ≡ t) ⊎ (holds_identity based.pair.identity (committed based.base based.pair.table) ≡ true)
 
   pub bases_read : (t k : ℕ) → Clean domain log committed written history t k → AllByRecursion (IsRead t k) (seen_by domain log t k committed).written
   bases_read t zero fit = tt
   bases_read t (suc k) fit =
       each_append _ (seen_by domain log t k committed).written _
       (each_weaker _ _ (λ based r. record { number = r.number; within = omega (arith, r.within); base = r.base; read = r.read }) (seen_by domain log t k committed).written (bases_read t k less))
-      (each_map _ (λ pair. (is_new (seen_by domain log t k committed).written pair ≡ true) × ((transaction_of pair.identity ≡ t) ⊎ (holds pair.identity (start_by domain log t k committed pair.table) ≡ true))) (with_base (log.version t (suc k)))
+      (each_map _ (λ pair. (is_new (seen_by domain log t k committed).written pair ≡ true) × ((identity_transaction pair.identity ≡ t) ⊎ (holds_identity pair.identity (start_by domain log t k committed pair.table) ≡ true))) (with_base (log.version t (suc k)))
       (λ pair r. record { number = suc k; within = omega arith; base = refl; read = ⊎_elim inl (λ held. inr (there pair r.0 held)) r.1 })
       (filter (is_new (seen_by domain log t k committed).written) now)
-      (each_filter _ (λ pair. (transaction_of pair.identity ≡ t) ⊎ (holds pair.identity (start_by domain log t k committed pair.table) ≡ true)) (is_new (seen_by domain log t k committed).written) (λ pair e r. (e, r)) now
+      (each_filter _ (λ pair. (identity_transaction pair.identity ≡ t) ⊎ (holds_identity pair.identity (start_by domain log t k committed pair.table) ≡ true)) (is_new (seen_by domain log t k committed).written) (λ pair e r. (e, r)) now
       (each_of _ now (λ pair e. stepped_own domain t (suc k) (log.statement t (suc k)) (start_by domain log t k committed) pair.table pair.identity e))))
     where
       less : Clean domain log committed written history t k
@@ -133,11 +133,11 @@ module _ {M : Type 0} (domain : Annotations M) (log : Log) (committed : Environm
       now = wrote_by domain t (suc k) (log.statement t (suc k)) (start_by domain log t k committed)
 
       -- a row that was not written before is read as it is in the version
-      there : (pair : Written) → is_new (seen_by domain log t k committed).written pair ≡ true → holds pair.identity (start_by domain log t k committed pair.table) ≡ true → holds pair.identity (committed (log.version t (suc k)) pair.table) ≡ true
+      there : (pair : Written) → is_new (seen_by domain log t k committed).written pair ≡ true → holds_identity pair.identity (start_by domain log t k committed pair.table) ≡ true → holds_identity pair.identity (committed (log.version t (suc k)) pair.table) ≡ true
       there pair new held =
           let p : Identity → Bool = λ id. is_written pair.table id (pairs (seen_by domain log t k committed).written) in
           sym (holds_others p pair.identity (committed (log.version t (suc k)) pair.table) (not-true _ new))
-          ∙ sym (ap (holds pair.identity) (started_kept domain log committed written history t k fit (view_kept domain log committed written history t k less) pair.table).others)
+          ∙ sym (ap (holds_identity pair.identity) (started_kept domain log committed written history t k fit (view_kept domain log committed written history t k less) pair.table).others)
           ∙ holds_others p pair.identity (start_by domain log t k committed pair.table) (not-true _ new) ∙ held
 
   -- no row has two bases
@@ -176,9 +176,9 @@ module _ (log : Log) (committed : Environment (Unit {0})) (written : ℕ → Lis
   wrote_all = active.seen.written
 
   -- each row that it wrote is its own, or is in the version of its base
-  read_each : AllByRecursion (λ (based : Based). (based.base ≤ last) × ((transaction_of based.pair.identity ≡ active.transaction) ⊎ (holds based.pair.identity (committed based.base based.pair.table) ≡ true))) wrote_all
+  read_each : AllByRecursion (λ (based : Based). (based.base ≤ last) × ((identity_transaction based.pair.identity ≡ active.transaction) ⊎ (holds_identity based.pair.identity (committed based.base based.pair.table) ≡ true))) wrote_all
   read_each =
-      subst (λ (seen : Seen (Unit {0})). AllByRecursion (λ (based : Based). (based.base ≤ last) × ((transaction_of based.pair.identity ≡ active.transaction) ⊎ (holds based.pair.identity (committed based.base based.pair.table) ≡ true))) seen.written) (sym over.seen)
+      subst (λ (seen : Seen (Unit {0})). AllByRecursion (λ (based : Based). (based.base ≤ last) × ((identity_transaction based.pair.identity ≡ active.transaction) ⊎ (holds_identity based.pair.identity (committed based.base based.pair.table) ≡ true))) seen.written) (sym over.seen)
       (each_weaker _ _ (λ based b. (let l = over.read b.number b.within in omega (arith, b.base), b.read)) _
       (bases_read unannotated log committed written history active.transaction active.statements (active_clean unannotated log committed written history active over)))
 
@@ -186,19 +186,19 @@ module _ (log : Log) (committed : Environment (Unit {0})) (written : ℕ → Lis
   bases = subst (λ (seen : Seen (Unit {0})). HaveOneBase seen.written) (sym over.seen) (one_base unannotated log committed written history active.transaction active.statements)
 
   -- no span is of a row that the transaction made
-  other_spans : (place : ℕ) → AllByRecursion (λ (span : Span). transaction_of span.id ≢ active.transaction) (kept.spans place)
+  other_spans : (place : ℕ) → AllByRecursion (λ (span : Span). identity_transaction span.id ≢ active.transaction) (kept.spans place)
   other_spans place =
-      subst (AllByRecursion (λ (span : Span). transaction_of span.id ≢ active.transaction)) (sym (represented place))
-      (each_span last committed written place (λ span. transaction_of span.id ≢ active.transaction) (λ row. transaction_of row.identity ≢ active.transaction) (λ from row l n. n)
+      subst (AllByRecursion (λ (span : Span). identity_transaction span.id ≢ active.transaction)) (sym (represented place))
+      (each_span last committed written place (λ span. identity_transaction span.id ≢ active.transaction) (λ row. identity_transaction row.identity ≢ active.transaction) (λ from row l n. n)
       (λ v l. made_by_others unannotated log committed written history active over v l place) last (omega arith))
 
   -- so a row of its own has no next write
-  own_unwritten : (place : ℕ) (id : Identity) (base : ℕ) → transaction_of id ≡ active.transaction → written_after id base (kept.spans place) ≡ None
+  own_unwritten : (place : ℕ) (id : Identity) (base : ℕ) → identity_transaction id ≡ active.transaction → written_after id base (kept.spans place) ≡ None
   own_unwritten place id base own = no_write id base (kept.spans place) (each_weaker _ _ (λ span n. unlike span n) (kept.spans place) (other_spans place))
     where
-      unlike : (span : Span) → transaction_of span.id ≢ active.transaction → same_identity span.id id ≡ false
+      unlike : (span : Span) → identity_transaction span.id ≢ active.transaction → same_identity span.id id ≡ false
       unlike span n = elim (same_identity span.id id) as (λ b. same_identity span.id id ≡ b → b ≡ false) [
-        | true ↦ λ is. absurd (n (ap transaction_of (same_equal span.id id is) ∙ own))
+        | true ↦ λ is. absurd (n (ap identity_transaction (same_equal span.id id is) ∙ own))
         | false ↦ λ is. refl
       ] refl
 
@@ -207,7 +207,7 @@ module _ (log : Log) (committed : Environment (Unit {0})) (written : ℕ → Lis
   held_rows version place l = ap (rows_at unannotated version) (represented place) ∙ plain_spans_rows log committed written history version place l
 
   -- the next write of a row of a version
-  next_is : (place base : ℕ) (id : Identity) → base ≤ last → holds id (committed base place) ≡ true → written_after id base (kept.spans place) ≡ next_written written place id base (last - base)
+  next_is : (place base : ℕ) (id : Identity) → base ≤ last → holds_identity id (committed base place) ≡ true → written_after id base (kept.spans place) ≡ next_written written place id base (last - base)
   next_is place base id within held =
       ap (written_after id base) (represented place)
       ∙ holds_own (λ id. written_after id base (spans_of last committed written place) ≡ next_written written place id base (last - base)) id (rows_at unannotated base (spans_of last committed written place))
@@ -216,10 +216,10 @@ module _ (log : Log) (committed : Environment (Unit {0})) (written : ℕ → Lis
       (held-end base (spans_of last committed written place) (spans_apart unannotated log committed written history place) (spans_whole last committed written place))
       (each_filter _ (λ (span : Span). (v : ℕ) → v ≤ last → holds_at v span ≡ true → span.to ≡ next_written written place span.id v (last - v)) (holds_at base) (λ span there right. right base within there)
       (spans_of last committed written place) (spans_end committed written last place))))
-      (ap (holds id) (sym (ap (rows_at unannotated base) (represented place)) ∙ held_rows base place within) ∙ held)
+      (ap (holds_identity id) (sym (ap (rows_at unannotated base) (represented place)) ∙ held_rows base place within) ∙ held)
 
   -- a row that a version wrote is none of the transaction's own
-  others_wrote : (place v : ℕ) (id : Identity) → 0 < v → v ≤ last → is_written place id (written v) ≡ true → transaction_of id ≢ active.transaction
+  others_wrote : (place v : ℕ) (id : Identity) → 0 < v → v ≤ last → is_written place id (written v) ≡ true → identity_transaction id ≢ active.transaction
   others_wrote place zero id p l there own = absurd (omega arith)
   others_wrote place (suc u) id p l there own =
       let by = committed_own unannotated log committed written history u place id l there in
@@ -253,7 +253,7 @@ module _ (log : Log) (committed : Environment (Unit {0})) (written : ℕ → Lis
       go : (o : Option ℕ) → base_in kept.spans overlay place id ≡ o → option_and_then (λ base. written_after id base (kept.spans place)) o ≡ Some version → IsNext place version id
       go None is shows = absurd (none_some shows)
       go (Some base) is shows =
-          let other : transaction_of id ≢ active.transaction = λ own. some_none version (sym shows ∙ own_unwritten place id base own) in
+          let other : identity_transaction id ≢ active.transaction = λ own. some_none version (sym shows ∙ own_unwritten place id base own) in
           let among = is_based place id wrote_all base (sym (runs.base place id (λ own. other (own ∙ runs.transaction))) ∙ is) in
           let r = of_based _ wrote_all read_each (record { pair = record { table = place; identity = id }; base = base }) among in
           record {

@@ -18,7 +18,7 @@ use Rattle.gp_machine.specs.Committed.{cleared, unmarked}
 use Rattle.gp_machine.specs.Entries.{Began, Committed, Created, Ended, Entry, Ran, committer_of, log_of, statement_count, version_of, versions_in}
 use Rattle.gp_machine.specs.HistorySpans.{state_spans}
 use Rattle.gp_machine.specs.Parameters.{Parameters}
-use Rattle.gp_machine.specs.Points.{at_point, at_version, held_at, run_stop, version_before}
+use Rattle.gp_machine.specs.Points.{at_point, version_or_empty, held_at, run_stop, version_before}
 use Rattle.gp_machine.specs.QuestionForms.{IsAsked, to_commit, to_statement, to_version}
 use Rattle.gp_machine.specs.Runs.{at_commit, run}
 use Rattle.gp_machine.specs.State.{State}
@@ -88,7 +88,7 @@ module _ {M : Type 0} (domain : Annotations M) (parameters : Parameters) (state 
       (same_from _ _ (ap (λ (database : Database M). database table) (sym (unstopped.views i.earlier k i.within has))))) l
 
   pub commit_held : (t v : ℕ) → version_of t state.entries ≡ Some v → (table : ℕ) →
-      SameBag (cleared (at_commit domain (log_of state.entries) t (version_before (version_of t state.entries)) (annotated_versions domain state.entries spans)) table) (at_version (version_of t state.entries) state.committed table)
+      SameBag (cleared (at_commit domain (log_of state.entries) t (version_before (version_of t state.entries)) (annotated_versions domain state.entries spans)) table) (version_or_empty (version_of t state.entries) state.committed table)
   commit_held t v e table =
       let i = version_is t v state.entries e in
       let known : version_of t state.entries ≡ Some (suc i.earlier) = e ∙ ap Some i.is in
@@ -97,7 +97,7 @@ module _ {M : Type 0} (domain : Annotations M) (parameters : Parameters) (state 
       (through
       (cleared_same _ _ (commits_held domain (log_of state.entries) state.committed state.written unstopped.history spans are (versions_in state.entries) i.earlier (let w = i.within in omega arith) (omega arith) i.within) table)
       (same_from _ _ (computed_is domain (log_of state.entries) state.committed state.written unstopped.history i.earlier i.within table))) in
-      subst (λ o. SameBag (cleared (at_commit domain (log_of state.entries) t (version_before o) (annotated_versions domain state.entries spans)) table) (at_version o state.committed table)) (sym known) held
+      subst (λ o. SameBag (cleared (at_commit domain (log_of state.entries) t (version_before o) (annotated_versions domain state.entries spans)) table) (version_or_empty o state.committed table)) (sym known) held
 
   -- the answer at each state that may be asked about is the one that the history held, with identities and annotations
   pub simulated : (point : y.Point) → IsAsked state.entries point → (query : Select) → SameBag (answer domain query (at_point domain state.entries point (annotated_versions domain state.entries spans))) (answer domain query (held_at state point))

@@ -15,8 +15,8 @@ use Rattle.gp_algebra.proofs.Erasure.{Reannotates, answer_reannotated, is_over_n
 use Rattle.gp_machine.specs.Committed.{cleared, unmarked}
 use Rattle.gp_machine.specs.Entries.{Entry, Log, log_of, version_of}
 use Rattle.gp_machine.specs.Parameters.{Parameters}
-use Rattle.gp_machine.specs.Points.{OverRows, OverNodes, at_point, at_version, held_at, run_stop, statement_stop, version_before}
-use Rattle.gp_machine.specs.Publishing.{holds, publish, was_written}
+use Rattle.gp_machine.specs.Points.{OverRows, OverNodes, at_point, version_or_empty, held_at, run_stop, statement_stop, version_before}
+use Rattle.gp_machine.specs.Publishing.{holds_identity, publish, was_written}
 use Rattle.gp_machine.specs.Runs.{at_commit, refreshed, run, run_before, stepped}
 use Rattle.gp_machine.specs.State.{State}
 use Rattle.gp_machine.specs.StateReannotation.{AreEqualButForAnnotations, state_reannotated}
@@ -27,7 +27,7 @@ module _ {M N : Type 0} (h : M → N) where
   abbrev pub VersionsReannotate : Environment M → Environment N → Type 0
   VersionsReannotate a b = (version : ℕ) → Reannotates h (a version) (b version)
 
-  holds_reannotated : (id : Identity) (rows : List (Annotated M)) → holds id (map (reannotated h) rows) ≡ holds id rows
+  holds_reannotated : (id : Identity) (rows : List (Annotated M)) → holds_identity id (map (reannotated h) rows) ≡ holds_identity id rows
   holds_reannotated id rows = any-map (λ row. same_identity row.identity id) (reannotated h) rows
 
   written_reannotated : (base mine : List (Annotated M)) (id : Identity) → was_written (map (reannotated h) base) (map (reannotated h) mine) id ≡ was_written base mine id
@@ -126,6 +126,6 @@ held_reannotated h state (y.as_of version) table = refl
 held_reannotated h state (y.after t k) table = refl
 held_reannotated h state (y.Point.commit t) table = go (version_of t state.entries)
   where
-    go : (version : Option ℕ) → at_version version (state_reannotated h state).committed table ≡ map (reannotated h) (at_version version state.committed table)
+    go : (version : Option ℕ) → version_or_empty version (state_reannotated h state).committed table ≡ map (reannotated h) (version_or_empty version state.committed table)
     go None = refl
     go (Some version) = refl

@@ -22,7 +22,7 @@ use Rattle.gp_machine.specs.Event.{name_at}
 use Rattle.gp_machine.specs.HistorySpans.{as_of, state_spans}
 use Rattle.gp_machine.specs.Parameters.{Parameters}
 use Rattle.gp_machine.specs.Points.{at_point, held_at, version_before}
-use Rattle.gp_machine.specs.Questions.{annotated_answer, annotation_stop, answer_refusal, difference, given, held_answer, log_refusal, needed_version, own_stop, rows_answer, stop_refusal}
+use Rattle.gp_machine.specs.Questions.{annotated_answer, annotation_stop, answer_refusal, difference_refusal, given, held_answer, log_refusal, needed_version, own_stop, rows_answer, stop_refusal}
 use Rattle.gp_machine.specs.State.{State}
 use Rattle.gp_machine.specs.Unstopped.{IsUnstopped}
 use Rattle.gp_versions.specs.declared.span.Span.{Span}
@@ -46,7 +46,7 @@ module _ {M : Type 0} (domain : Annotations M) (parameters : Parameters) (state 
       subst (λ o. version_before o ≤ versions_in state.entries) (sym (e ∙ ap Some i.is)) (omega arith)
 
   module _ (agree : List (Annotated M) → List (Annotated M) → Bool) (agree_same : (rows others : List (Annotated M)) → IsPermutation (identified rows) (identified others) → agree rows others ≡ true) where
-    never_differs : (tables u : ℕ) → u ≤ versions_in state.entries → difference domain parameters agree state.catalogue u tables (computed domain (log_of state.entries) spans u u) (as_of domain spans u) ≡ None
+    never_differs : (tables u : ℕ) → u ≤ versions_in state.entries → difference_refusal domain parameters agree state.catalogue u tables (computed domain (log_of state.entries) spans u u) (as_of domain spans u) ≡ None
     never_differs zero u l = refl
     never_differs (suc table) u l =
         λ i. option_or (never_differs table u l i)

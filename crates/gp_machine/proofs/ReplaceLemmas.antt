@@ -20,8 +20,8 @@ use Rattle.gp_machine.specs.Entries.{log_of, versions_in}
 use Rattle.gp_machine.specs.Event.{conflict_of}
 use Rattle.gp_machine.specs.Histories.{IsFirst}
 use Rattle.gp_machine.specs.Parameters.{Parameters}
-use Rattle.gp_machine.specs.Publishing.{holds, publish}
-use Rattle.gp_machine.specs.Replacing.{AddsNoneOf, Replaces, rows_with}
+use Rattle.gp_machine.specs.Publishing.{holds_identity, publish}
+use Rattle.gp_machine.specs.Replacing.{AddsNoneOf, Replaces, rows_of_identity}
 use Rattle.gp_machine.specs.Reached.{IsReached}
 use Rattle.gp_machine.specs.State.{Active, State}
 use Rattle.gp_machine.specs.SeenRows.{HaveDifferentIdentities, AreSeenRows, IsViewOf, unwritten}
@@ -43,23 +43,23 @@ module _ {M : Type 0} where
   -- ---- the rows with one identity
 
   -- they stay where their identity passes, and are gone where it does not
-  rows_kept : (r : Identity → Bool) (id : Identity) (rows : List (Annotated M)) → r id ≡ true → rows_with id (filter (λ row. r row.identity) rows) ≡ rows_with id rows
+  rows_kept : (r : Identity → Bool) (id : Identity) (rows : List (Annotated M)) → r id ≡ true → rows_of_identity id (filter (λ row. r row.identity) rows) ≡ rows_of_identity id rows
   rows_kept r id rows e = filter-filter (λ row. same_identity row.identity id) (λ row. r row.identity) rows ∙ filter_each _ _ rows (each_all _ (λ row. test_at r id true e row.identity) rows)
 
-  rows_gone : (r : Identity → Bool) (id : Identity) (rows : List (Annotated M)) → r id ≡ false → rows_with id (filter (λ row. r row.identity) rows) ≡ []
+  rows_gone : (r : Identity → Bool) (id : Identity) (rows : List (Annotated M)) → r id ≡ false → rows_of_identity id (filter (λ row. r row.identity) rows) ≡ []
   rows_gone r id rows e = filter-filter (λ row. same_identity row.identity id) (λ row. r row.identity) rows ∙ filter_none _ rows (each_all _ (λ row. test_at r id false e row.identity) rows)
 
-  holds_with : (id : Identity) (rows : List (Annotated M)) → holds id (rows_with id rows) ≡ holds id rows
+  holds_with : (id : Identity) (rows : List (Annotated M)) → holds_identity id (rows_of_identity id rows) ≡ holds_identity id rows
   holds_with id [] = refl
-  holds_with id (row ∷ rows) = elim (same_identity row.identity id) as (λ b. same_identity row.identity id ≡ b → holds id (cond b (row ∷ rows_with id rows) (rows_with id rows)) ≡ (b || holds id rows)) [
-    | true ↦ λ e. ap (λ b. b || holds id (rows_with id rows)) e
+  holds_with id (row ∷ rows) = elim (same_identity row.identity id) as (λ b. same_identity row.identity id ≡ b → holds_identity id (cond b (row ∷ rows_of_identity id rows) (rows_of_identity id rows)) ≡ (b || holds_identity id rows)) [
+    | true ↦ λ e. ap (λ b. b || holds_identity id (rows_of_identity id rows)) e
     | false ↦ λ e. holds_with id rows
   ] refl
 
   -- ---- a table that is published
 
-  pub unchanged_adds_none : (p : Identity → Bool) (base later : List (Annotated M)) → ((id : Identity) → p id ≡ true → rows_with id later ≡ rows_with id base) → AddsNoneOf p base later
-  unchanged_adds_none p base later same id e f = sym (holds_with id base) ∙ ap (holds id) (sym (same id e)) ∙ holds_with id later ∙ f
+  pub unchanged_adds_none : (p : Identity → Bool) (base later : List (Annotated M)) → ((id : Identity) → p id ≡ true → rows_of_identity id later ≡ rows_of_identity id base) → AddsNoneOf p base later
+  unchanged_adds_none p base later same id e f = sym (holds_with id base) ∙ ap (holds_identity id) (sym (same id e)) ∙ holds_with id later ∙ f
 
   module _ (p : Identity → Bool) (base view later : Database M) (table : ℕ) (kept : AreSeenRows p (base table) (view table)) (none : AddsNoneOf p (base table) (later table)) where
     published_is : publish base view later table ≡ unwritten p (later table) ++ filter (λ row. p row.identity) (view table)
@@ -68,15 +68,15 @@ module _ {M : Type 0} where
     pub published_rows : publish base view later table ≡ unwritten p (later table) ++ filter (λ row. row.mark) (view table)
     published_rows = published_is ∙ ap (λ rows. unwritten p (later table) ++ rows) (sym (filter_each _ _ (view table) kept.marks))
 
-    rows_published : (id : Identity) → rows_with id (publish base view later table) ≡ rows_with id (unwritten p (later table)) ++ rows_with id (filter (λ row. p row.identity) (view table))
-    rows_published id = ap (rows_with id) published_is ∙ filter-append (λ row. same_identity row.identity id) (unwritten p (later table)) (filter (λ row. p row.identity) (view table))
+    rows_published : (id : Identity) → rows_of_identity id (publish base view later table) ≡ rows_of_identity id (unwritten p (later table)) ++ rows_of_identity id (filter (λ row. p row.identity) (view table))
+    rows_published id = ap (rows_of_identity id) published_is ∙ filter-append (λ row. same_identity row.identity id) (unwritten p (later table)) (filter (λ row. p row.identity) (view table))
 
     pub published_replaces : Replaces p (later table) (view table) (publish base view later table)
     published_replaces = record {
       rows = published_rows;
-      others = λ id e. rows_published id ∙ ap (λ rows. rows_with id (unwritten p (later table)) ++ rows) (rows_gone p id (view table) e) ∙ append-nil (rows_with id (unwritten p (later table)))
+      others = λ id e. rows_published id ∙ ap (λ rows. rows_of_identity id (unwritten p (later table)) ++ rows) (rows_gone p id (view table) e) ∙ append-nil (rows_of_identity id (unwritten p (later table)))
           ∙ rows_kept (λ id. not (p id)) id (later table) (ap not e);
-      own = λ id e. rows_published id ∙ ap (λ rows. rows ++ rows_with id (filter (λ row. p row.identity) (view table))) (rows_gone (λ id. not (p id)) id (later table) (ap not e)) ∙ rows_kept p id (view table) e;
+      own = λ id e. rows_published id ∙ ap (λ rows. rows ++ rows_of_identity id (filter (λ row. p row.identity) (view table))) (rows_gone (λ id. not (p id)) id (later table) (ap not e)) ∙ rows_kept p id (view table) e;
       different = λ d. subst HaveDifferentIdentities (sym published_is) (unique_merged p (later table) (view table) d kept.different);
     }
 

@@ -8,7 +8,7 @@ use Rattle.std.proofs.lemmas.List.{length-append, length-map}
 use Rattle.gp_algebra.specs.Effects.{Written}
 use Rattle.gp_base.specs.Annotated.{Annotated, Annotations, Database, Environment}
 use Rattle.gp_base.specs.Identities.{Identity}
-use Rattle.gp_base.specs.IdentityParts.{transaction_of}
+use Rattle.gp_base.specs.IdentityParts.{identity_transaction}
 use Rattle.gp_machine.proofs.ActiveLemmas.{IsOver}
 use Rattle.gp_machine.proofs.BaseLemmas.{of_based}
 use Rattle.gp_machine.proofs.CommitLemmas.{Clean, IsMadeBy, all_sound, clean}
@@ -144,7 +144,7 @@ module _ {M : Type 0} (domain : Annotations M) (log : Log) (tables : ℕ) where
             others = λ k l table. each_weaker _ _ (λ row made own. by_another k l row made own) ((made u).committed (log.version t k) table) (sound k l table).makers;
           }
         where
-          by_another : (k : ℕ) → k ≤ n → (row : Annotated M) → IsMadeBy (upto_version u log) (log.version t k) row.identity → transaction_of row.identity ≡ t → ⊥
+          by_another : (k : ℕ) → k ≤ n → (row : Annotated M) → IsMadeBy (upto_version u log) (log.version t k) row.identity → identity_transaction row.identity ≡ t → ⊥
           by_another k l row (v, below, is) own =
               let r = reads k l in
               let same : v ≡ u = order.once v u (omega arith) within (sym is ∙ own) in

@@ -18,7 +18,7 @@ use Rattle.gp_machine.proofs.SpanLaws.{plain_spans_rows}
 use Rattle.gp_machine.specs.Bases.{pairs}
 use Rattle.gp_machine.specs.Committed.{next_version}
 use Rattle.gp_machine.specs.Entries.{Began, Committed, Created, End, Ended, Entry, Lost, Ran, begin_version, log_of, transactions_in, versions_in}
-use Rattle.gp_machine.specs.Event.{accepted, began, conflict_of, created, ended, published, published_rows, seen_next, start_now, version_now}
+use Rattle.gp_machine.specs.Event.{accepted, began, conflict_of, created, ended, published, published_rows, seen_after, start_now, version_now}
 use Rattle.gp_machine.specs.HistorySpans.{as_of, spans_of}
 use Rattle.gp_machine.specs.Parameters.{Parameters}
 use Rattle.gp_machine.specs.Reached.{IsReached}
@@ -150,7 +150,7 @@ module _ (parameters : Parameters) (state : State (Unit {0})) (kept : Kept) (rep
       statements = ap suc represents.statements;
       rows = represents.rows;
       spans = represents.spans;
-      sessions = frame session (Some new) (Some (record active { version = version_now state active; statements = suc active.statements; seen = seen_next unannotated state line session active command statement }))
+      sessions = frame session (Some new) (Some (record active { version = version_now state active; statements = suc active.statements; seen = seen_after unannotated state line session active command statement }))
           kept.spans kept.spans state.entries (Ran line session command active.transaction statement ∷ state.entries) kept.sessions state.active (λ v place l. refl) (λ other b n f. (refl, within other b f))
           (record {
             transaction = applied.transaction ∙ runs.transaction;

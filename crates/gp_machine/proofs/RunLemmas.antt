@@ -6,7 +6,7 @@ use Rattle.std.proofs.lemmas.Bool.{cases_lt}
 use Rattle.gp_algebra.specs.Effects.{Written}
 use Rattle.gp_base.specs.Annotated.{Annotations, Environment}
 use Rattle.gp_base.specs.Identities.{Identity}
-use Rattle.gp_base.specs.IdentityParts.{transaction_of}
+use Rattle.gp_base.specs.IdentityParts.{identity_transaction}
 use Rattle.gp_machine.proofs.BaseLemmas.{found}
 use Rattle.gp_machine.proofs.CommitLemmas.{Clean, IsMadeBy, all_sound, bases_within, clean, holds_since, view_kept}
 use Rattle.gp_machine.proofs.Distinct.{each_both}
@@ -20,7 +20,7 @@ use Rattle.gp_machine.specs.Entries.{Log}
 use Rattle.gp_machine.specs.Histories.{IsHistory}
 use Rattle.gp_machine.specs.Parameters.{Parameters}
 use Rattle.gp_machine.specs.Points.{run_stop, statement_stop}
-use Rattle.gp_machine.specs.Publishing.{holds, publish}
+use Rattle.gp_machine.specs.Publishing.{holds_identity, publish}
 use Rattle.gp_machine.specs.Reading.{Seen, wrote_by}
 use Rattle.gp_machine.specs.ReadBy.{seen_by, start_by}
 use Rattle.gp_machine.specs.Replaying.{run_written}
@@ -61,11 +61,11 @@ module _ {M : Type 0} (domain : Annotations M) (log : Log) (committed : Environm
 
   -- a row that a commit wrote is its transaction's own, or is in the version before
   written_there : (u table : ℕ) (id : Identity) → u < log.versions → is_written table id (written (suc u)) ≡ true
-      → (transaction_of id ≡ log.committer (suc u)) ⊎ (holds id (committed u table) ≡ true)
+      → (identity_transaction id ≡ log.committer (suc u)) ⊎ (holds_identity id (committed u table) ≡ true)
   written_there u table id inside e =
       let t : ℕ = log.committer (suc u) in
       let n : ℕ = log.statement_count t in
-      found (λ table id. (transaction_of id ≡ t) ⊎ (holds id (committed u table) ≡ true)) (seen t n).written table id
+      found (λ table id. (identity_transaction id ≡ t) ⊎ (holds_identity id (committed u table) ≡ true)) (seen t n).written table id
       (each_both _ _ _ (λ based r first. ⊎_elim inl (λ held.
       let o : log.version t r.number ≤ u = history.order u r.number inside r.within in
       inr (holds_since domain log committed written history u based.base based.pair.table based.pair.identity (omega (arith, r.base)) (omega arith) first ∙ held)) r.read) (seen t n).written
@@ -73,34 +73,34 @@ module _ {M : Type 0} (domain : Annotations M) (log : Log) (committed : Environm
       (history.first u inside)) (ap (is_written table id) (sym (history.wrote u inside)) ∙ e)
 
   -- a row of an earlier version and of the next one is in this one: no commit makes a row again
-  there_before : (u b table : ℕ) (id : Identity) → u < log.versions → b ≤ u → holds id (committed b table) ≡ true → holds id (committed (suc u) table) ≡ true → holds id (committed u table) ≡ true
+  there_before : (u b table : ℕ) (id : Identity) → u < log.versions → b ≤ u → holds_identity id (committed b table) ≡ true → holds_identity id (committed (suc u) table) ≡ true → holds_identity id (committed u table) ≡ true
   there_before u b table id inside l old new = by (is_written table id (written (suc u))) refl
     where
-      again : transaction_of id ≡ log.committer (suc u) → ⊥
+      again : identity_transaction id ≡ log.committer (suc u) → ⊥
       again own =
           let made = holds_own (IsMadeBy log b) id (committed b table) (all_sound domain log committed written history b (omega arith) b (omega arith) table).makers old in
           let same : made.0 ≡ u = history.once made.0 u (omega (arith, made.1)) inside (sym made.2 ∙ own) in
           omega (arith, made.1, same)
 
-      by : (w : Bool) → is_written table id (written (suc u)) ≡ w → holds id (committed u table) ≡ true
+      by : (w : Bool) → is_written table id (written (suc u)) ≡ w → holds_identity id (committed u table) ≡ true
       by true e = ⊎_elim (λ own. absurd (again own)) (λ held. held) (written_there u table id inside e)
       by false e =
           sym (holds_since domain log committed written history (suc u) u table id (omega arith) inside (λ w a b. let is : w ≡ suc u = omega arith in ap (λ v. is_written table id (written v)) is ∙ e))
           ∙ new
 
-  there_between : (more b v table : ℕ) (id : Identity) → b ≤ v → more + v ≤ log.versions → holds id (committed b table) ≡ true → holds id (committed (more + v) table) ≡ true → holds id (committed v table) ≡ true
-  there_between zero b v table id l inside old new = let is : zero + v ≡ v = omega arith in ap (λ w. holds id (committed w table)) (sym is) ∙ new
+  there_between : (more b v table : ℕ) (id : Identity) → b ≤ v → more + v ≤ log.versions → holds_identity id (committed b table) ≡ true → holds_identity id (committed (more + v) table) ≡ true → holds_identity id (committed v table) ≡ true
+  there_between zero b v table id l inside old new = let is : zero + v ≡ v = omega arith in ap (λ w. holds_identity id (committed w table)) (sym is) ∙ new
   there_between (suc more) b v table id l inside old new =
       let is : suc more + v ≡ suc (more + v) = omega arith in
       there_between more b v table id l (omega arith) old
-      (there_before (more + v) b table id (omega arith) (omega arith) old (ap (λ w. holds id (committed w table)) (sym is) ∙ new))
+      (there_before (more + v) b table id (omega arith) (omega arith) old (ap (λ w. holds_identity id (committed w table)) (sym is) ∙ new))
 
-  pub there : (b v w table : ℕ) (id : Identity) → b ≤ v → v ≤ w → w ≤ log.versions → holds id (committed b table) ≡ true → holds id (committed w table) ≡ true → holds id (committed v table) ≡ true
-  there b v zero table id l m inside old new = let is : v ≡ zero = omega arith in ap (λ x. holds id (committed x table)) is ∙ new
+  pub there : (b v w table : ℕ) (id : Identity) → b ≤ v → v ≤ w → w ≤ log.versions → holds_identity id (committed b table) ≡ true → holds_identity id (committed w table) ≡ true → holds_identity id (committed v table) ≡ true
+  there b v zero table id l m inside old new = let is : v ≡ zero = omega arith in ap (λ x. holds_identity id (committed x table)) is ∙ new
   there b v (suc w) table id l m inside old new =
       ⊎_elim
       (λ below. there b v w table id l (omega arith) (omega arith) old (there_before w b table id inside (omega arith) old new))
-      (λ above. let is : v ≡ suc w = omega arith in ap (λ x. holds id (committed x table)) is ∙ new)
+      (λ above. let is : v ≡ suc w = omega arith in ap (λ x. holds_identity id (committed x table)) is ∙ new)
       (cases_lt v (suc w))
 
   -- what a transaction reads before each statement, and what it wrote, if it reads versions of the history that do not fall and made none of their rows
@@ -110,9 +110,9 @@ module _ {M : Type 0} (domain : Annotations M) (log : Log) (committed : Environm
 
     -- a row that it wrote and that the next version has is in the one that it read
     known : (k : ℕ) → suc k ≤ n → (table : ℕ)
-        → AllByRecursion (λ row. is_written table row.identity (pairs (seen t k).written) ≡ true → holds row.identity (committed (log.version t k) table) ≡ true) (committed (log.version t (suc k)) table)
+        → AllByRecursion (λ row. is_written table row.identity (pairs (seen t k).written) ≡ true → holds_identity row.identity (committed (log.version t k) table) ≡ true) (committed (log.version t (suc k)) table)
     known k l table =
-        each_both _ _ _ (λ row held other e. found (λ table id. transaction_of id ≢ t → holds id (committed (log.version t (suc k)) table) ≡ true → holds id (committed (log.version t k) table) ≡ true) (seen t k).written table row.identity
+        each_both _ _ _ (λ row held other e. found (λ table id. identity_transaction id ≢ t → holds_identity id (committed (log.version t (suc k)) table) ≡ true → holds_identity id (committed (log.version t k) table) ≡ true) (seen t k).written table row.identity
         (each_both _ _ _ (λ based r within other held. ⊎_elim (λ own. absurd (other own))
         (λ old. there based.base (log.version t k) (log.version t (suc k)) based.pair.table based.pair.identity within.1 (rising k l) (inside (suc k) l) old held) r.read) (seen t k).written
         (bases_read domain log committed written history t k (shorter k (omega arith))) (bases_within domain log committed written history t k (λ j m. rising j (omega arith)))) e other held)

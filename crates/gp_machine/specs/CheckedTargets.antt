@@ -1,4 +1,4 @@
--- Part of the statement: checked statements write tables that are there.
+-- Of the laws `commits_publish_the_spans` and `histories_are_made_again`, as their premise: checked statements write tables that are there.
 use Rattle.std.specs.Prelude.{◌≡◌, ℕ, ◌<◌, List, length, Ok}
 use Rattle.gp_base.specs.declared.table.Table.{Table}
 use Rattle.gp_grammar.specs.Syntax.{Command}

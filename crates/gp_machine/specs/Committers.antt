@@ -1,4 +1,4 @@
--- Part of the statement: what the law on identities says: the transactions that committed by a version.
+-- Of the law `identities_begin_with_their_committers`: the transactions that committed by a version.
 use Rattle.std.specs.Prelude.{◌≡◌, ℕ, ◌≤◌, List, Some}
 use Rattle.gp_machine.specs.Entries.{Entry, version_of}
 

@@ -1,4 +1,4 @@
--- Part of the statement: what the law on conflicts says: the conflict that a commit is lost by, in its own words.
+-- Of the law `conflicts_are_least`: the conflict that a commit is lost by, in its own words.
 use Rattle.std.specs.Prelude.{◌≡◌, ◌⊎◌, ℕ, ◌<◌, ◌≤◌, true, false, List, [], ◌∷◌}
 use Rattle.std.specs.Ordering.{is_gt}
 use Rattle.gp_algebra.specs.Effects.{Written}

@@ -119,8 +119,8 @@ start_now state active = started active.version (version_now state active) (stat
 
 module _ {M : Type 0} (domain : Annotations M) (state : State M) (line session : ℕ) (active : Active M) (command : Command) where
   -- what the transaction has read and written after the statement
-  abbrev pub seen_next : Statement → Seen M
-  seen_next statement =
+  abbrev pub seen_after : Statement → Seen M
+  seen_after statement =
       let now = version_now state active in
       next_seen domain active.transaction (suc active.statements) active.version now (state.committed now) (Some statement) active.seen
 
@@ -129,7 +129,7 @@ module _ {M : Type 0} (domain : Annotations M) (state : State M) (line session :
   accepted statement =
       let t = active.transaction in
       let k = suc active.statements in
-      let seen = seen_next statement in
+      let seen = seen_after statement in
       record state {
         entries = Ran line session command t statement ∷ state.entries;
         views = with_value t (with_value k seen.view (state.views t)) state.views;

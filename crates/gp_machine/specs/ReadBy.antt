@@ -1,5 +1,5 @@
--- Machinery: what a transaction reads and has written after its first statements, and before the next one, by the log. The history machine keeps it
--- statement by statement (`Reading`), and the run of the transaction gives it again (`Runs`).
+-- Part of the statement: what a transaction reads and has written after its first statements, and before the next one, by the log: by the rule of the history
+-- machine (`Reading`), statement by statement, over the versions that the log says.
 use Rattle.std.specs.Prelude.{ℕ, zero, suc, []}
 use Rattle.gp_base.specs.Annotated.{Annotations, Database, Environment}
 use Rattle.gp_machine.specs.Entries.{Log}

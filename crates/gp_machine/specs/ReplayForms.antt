@@ -1,4 +1,4 @@
--- Part of the statement: what the laws on commits made again say: the row versions of what was made, and logs whose commits come in order.
+-- Of the laws `histories_are_made_again` and `histories_do_not_stop`: the row versions of what was made, and logs whose commits come in order.
 use Rattle.std.specs.Prelude.{◌≡◌, ℕ, suc, ◌<◌, ◌≤◌, List}
 use Rattle.gp_base.specs.Annotated.{Annotations}
 use Rattle.gp_versions.specs.declared.span.Span.{Span}

@@ -5,7 +5,7 @@ use Rattle.std.specs.Option.{is_none, is_some}
 use Rattle.gp_base.specs.declared.table.Table.{Table}
 use Rattle.gp_base.specs.Annotated.{Database, unannotated}
 use Rattle.gp_base.specs.Identities.{Identity, same_identity}
-use Rattle.gp_base.specs.IdentityParts.{transaction_of}
+use Rattle.gp_base.specs.IdentityParts.{identity_transaction}
 use Rattle.gp_versions.specs.declared.span.Span.{Span}
 use Rattle.gp_versions.specs.declared.span.Write.{Write}
 use Rattle.gp_versions.specs.Commits as versions
@@ -84,7 +84,7 @@ pub record RepresentsActive (spans : ℕ → List Span) (begun : ℕ) (overlay :
   pub statements : overlay.statements ≡ active.statements
   pub version : (place : ℕ) → overlay.version place ≤ active.version
   pub view : (place : ℕ) → view_at spans overlay active.version place ≡ active.seen.view place
-  pub base : (place : ℕ) (id : Identity) → transaction_of id ≢ overlay.transaction
+  pub base : (place : ℕ) (id : Identity) → identity_transaction id ≢ overlay.transaction
       → base_in spans overlay place id ≡ base_among place id active.seen.written
 
 -- both have a transaction, or neither has
@@ -124,7 +124,7 @@ pub record IsNew (spans : ℕ → List Span) (overlay : Overlay) : Type 0 where
   pub version : (place : ℕ) → overlay.version place ≤ overlay.begin
   pub statements : overlay.statements ≡ 0
   pub view : (place : ℕ) → view_at spans overlay overlay.begin place ≡ as_of unannotated spans overlay.begin place
-  pub base : (place : ℕ) (id : Identity) → transaction_of id ≢ overlay.transaction → base_in spans overlay place id ≡ None
+  pub base : (place : ℕ) (id : Identity) → identity_transaction id ≢ overlay.transaction → base_in spans overlay place id ≡ None
 
 -- the base of a row after a statement that wrote these rows
 abbrev pub base_after : ℕ → ℕ → Identity → List Written → Option ℕ → Option ℕ
@@ -139,12 +139,12 @@ pub record Applied (statement : Statement) (spans : ℕ → List Span) (now : �
   pub version : (place : ℕ) → new.version place ≤ now
   pub statements : new.statements ≡ suc old.statements
   pub view : (place : ℕ) → view_at spans new now place ≡ step unannotated old.transaction (suc old.statements) statement (view_at spans old now) place
-  pub base : (place : ℕ) (id : Identity) → transaction_of id ≢ old.transaction
+  pub base : (place : ℕ) (id : Identity) → identity_transaction id ≢ old.transaction
       → base_in spans new place id
       ≡ base_after now place id (wrote unannotated old.transaction (suc old.statements) statement (view_at spans old now)) (base_in spans old place id)
 
 -- The writes of a commit to a table. Of the rows that other transactions made, they are those that the transaction has written, and they leave the
 -- marked rows of what it reads, in the same order.
 pub record AreWritesOf (spans : ℕ → List Span) (overlay : Overlay) (place : ℕ) (writes : List Write) : Type 0 where
-  pub names : (id : Identity) → transaction_of id ≢ overlay.transaction → versions.is_written writes id ≡ is_some (base_in spans overlay place id)
+  pub names : (id : Identity) → identity_transaction id ≢ overlay.transaction → versions.is_written writes id ≡ is_some (base_in spans overlay place id)
   pub rows : live_rows unannotated writes ≡ map unmarked (filter (λ row. row.mark) (view_of spans overlay place))

@@ -1,8 +1,9 @@
--- Part of the statement: the invariant of a running transaction: what it reads, against the version that it read last and the rows that it wrote.
+-- Of the law `transactions_keep_their_invariant`: the invariant of a running transaction: what it reads, against the version that it read last and the rows
+-- that it wrote.
 use Rattle.std.specs.Prelude.{◌≡◌, ℕ, ◌≤◌, Bool, false, not, List, [], ◌∷◌, filter}
 use Rattle.std.specs.List.{list_any, AllByRecursion}
 use Rattle.gp_base.specs.Identities.{Identity, same_identity}
-use Rattle.gp_base.specs.IdentityParts.{transaction_of, statement_of}
+use Rattle.gp_base.specs.IdentityParts.{identity_transaction, identity_statement}
 use Rattle.gp_base.specs.Annotated.{Annotated, Database}
 use Rattle.gp_algebra.specs.Effects.{Written}
 use Rattle.gp_machine.specs.Committed.{is_written}
@@ -32,4 +33,4 @@ pub record AreSeenRows {M : Type 0} (was_written : Identity → Bool) (base view
 -- what transaction t reads after k statements: a view of each table, where its own identities are of these statements
 pub record IsViewOf {M : Type 0} (t k : ℕ) (base view : Database M) (written : List Written) : Type 0 where
   pub tables : (table : ℕ) → AreSeenRows (λ id. is_written table id written) (base table) (view table)
-  pub own : (table : ℕ) → AllByRecursion (λ row. transaction_of row.identity ≡ t → statement_of row.identity ≤ k) (view table)
+  pub own : (table : ℕ) → AllByRecursion (λ row. identity_transaction row.identity ≡ t → identity_statement row.identity ≤ k) (view table)

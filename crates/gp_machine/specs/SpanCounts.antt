@@ -1,4 +1,4 @@
--- Part of the statement: the spans of a state after a version, and how many there are.
+-- Of the laws `spans_hold_the_versions` and `commits_publish_the_spans`: the spans of a state after a version, and how many there are.
 use Rattle.std.specs.Prelude.{◌+◌, length, Bool, true, false, ℕ, zero, suc, Option, Some, None}
 use Rattle.gp_base.specs.Identities.{Identity}
 use Rattle.gp_versions.specs.declared.span.Span.{Span}

@@ -1,4 +1,5 @@
--- Part of the statement: a state with other annotations, by a map of them, and versions that differ in their annotations.
+-- Of the laws `annotations_change_no_reply` and `annotations_change_no_row`: a state with other annotations, by a map of them, and versions that differ in
+-- their annotations.
 use Rattle.std.specs.Prelude.{◌≡◌, ℕ, Option, Some, None, map}
 use Rattle.gp_base.specs.Annotated.{Database, Environment}
 use Rattle.gp_algebra.specs.Reannotation.{database_reannotated, forgotten, reannotated}

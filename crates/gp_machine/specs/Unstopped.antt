@@ -1,5 +1,5 @@
--- Part of the statement: a state whose versions are a history in which no transaction that made a version passes a limit. Every state that the history
--- machine reaches is such, and so is what commits made again lead to, if none stops.
+-- Of the law `unstopped_histories_answer_their_questions`, as its premise: a state whose versions are a history in which no transaction that made a version
+-- passes a limit. Every state that the history machine reaches is such, and so is what commits made again lead to, if none stops.
 use Rattle.std.specs.Prelude.{◌≡◌, ℕ, suc, ◌≤◌, ◌<◌, None}
 use Rattle.gp_base.specs.Annotated.{Annotations}
 use Rattle.gp_machine.specs.Entries.{committer_of, log_of, statement_count, versions_in}

@@ -7,7 +7,7 @@ ghost use Rattle.std.specs.List.Sorted.{IsPermutation};
 ghost use Rattle.gp_base.specs.declared.table.Table.{Table};
 ghost use Rattle.gp_base.specs.Annotated.{Annotated, Annotations, Database, Environment, unannotated};
 ghost use Rattle.gp_base.specs.Identities.{Identity};
-ghost use Rattle.gp_base.specs.IdentityParts.{transaction_of};
+ghost use Rattle.gp_base.specs.IdentityParts.{identity_transaction};
 ghost use Rattle.gp_grammar.specs.Syntax as y;
 ghost use Rattle.gp_versions.specs.declared.span.Span.{Span};
 ghost use Rattle.gp_versions.specs.Commits.{AreBelow};
@@ -36,7 +36,7 @@ ghost use Rattle.gp_machine.specs.Parameters.{Parameters};
 ghost use Rattle.gp_machine.specs.CheckedTargets.{ChecksTargets};
 ghost use Rattle.gp_machine.specs.Points.{at_point, held_at, run_stop};
 ghost use Rattle.gp_machine.specs.Publishing.{publish};
-ghost use Rattle.gp_machine.specs.Replacing.{AddsNoneOf, Replaces, rows_with};
+ghost use Rattle.gp_machine.specs.Replacing.{AddsNoneOf, Replaces, rows_of_identity};
 ghost use Rattle.gp_machine.specs.Questions.{annotated_answer, held_answer, rows_answer};
 ghost use Rattle.gp_machine.specs.Reached.{CountsAreWithin, IsReached};
 ghost use Rattle.gp_machine.specs.Recorded.{is_recorded};
@@ -72,7 +72,8 @@ pub fn transactions_keep_their_invariant<M>()
     ensures begin { (t : ℕ) (base : Database M)
         → ((table : ℕ) → HaveDifferentIdentities (base table))
         → ((table : ℕ) → AllByRecursion (λ row. row.mark ≡ false) (base table))
-        → ((table : ℕ) → AllByRecursion (λ row. transaction_of row.identity ≢ t) (base table))
+        → ((table : ℕ)
+        → AllByRecursion (λ row. identity_transaction row.identity ≢ t) (base table))
         → IsViewOf t zero base base [] }
     ensures statement { (domain : Annotations M) (t k : ℕ) (statement : Statement)
         (base view : Database M) (written : List Written) → IsViewOf t k base view written
@@ -82,7 +83,8 @@ pub fn transactions_keep_their_invariant<M>()
         → IsViewOf t k base view written
         → ((table : ℕ) → HaveDifferentIdentities (later table))
         → ((table : ℕ) → AllByRecursion (λ row. row.mark ≡ false) (later table))
-        → ((table : ℕ) → AllByRecursion (λ row. transaction_of row.identity ≢ t) (later table))
+        → ((table : ℕ)
+        → AllByRecursion (λ row. identity_transaction row.identity ≢ t) (later table))
         → IsViewOf t k later (merged later view written) written }
     ensures reached { (domain : Annotations M) (parameters : Parameters) (state : State M)
         → IsReached domain parameters state → (session : ℕ) (active : Active M)
@@ -122,7 +124,8 @@ pub fn publishing_replaces_the_written_rows<M>()
         → (table : ℕ) → AddsNoneOf (λ id. is_written table id written) (base table) (later table)
         → cleared (publish base view later) table ≡ next_version later view written table }
     ensures unchanged { (among : Identity → Bool) (base later : List (Annotated M))
-        → ((id : Identity) → among id ≡ true → rows_with id later ≡ rows_with id base)
+        → ((id : Identity) → among id ≡ true
+        → rows_of_identity id later ≡ rows_of_identity id base)
         → AddsNoneOf among base later }
     ensures won { (domain : Annotations M) (parameters : Parameters) (state : State M)
         → IsReached domain parameters state
@@ -141,7 +144,7 @@ pub fn identities_begin_with_their_committers<M>()
         (version table : ℕ) → version ≤ versions_in (after domain parameters start lines).entries
         → AllByRecursion
         (λ row. CommittedBy (after domain parameters start lines).entries version
-        (transaction_of row.identity))
+        (identity_transaction row.identity))
         ((after domain parameters start lines).committed version table) }
     ensures once { (domain : Annotations M) (parameters : Parameters) (lines : List Line) (u : ℕ)
         → u < versions_in (after domain parameters start lines).entries

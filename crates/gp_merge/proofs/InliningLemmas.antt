@@ -5,7 +5,7 @@ use Rattle.std.specs.List.{flat_map, filter}
 use Rattle.gp_base.specs.declared.cell.Cell.{Cell}
 use Rattle.gp_expr.specs.Values.{passes}
 use Rattle.gp_algebra.specs.Answers.{values}
-use Rattle.gp_algebra.specs.Plain.{Plain, scan, step, select, project, product, union, given, publish, PlainStep, PlainProgram, PlainEnvironment, StepRows, meaning, steps_meaning, program_meaning, with_step, no_steps, published}
+use Rattle.gp_algebra.specs.Plain.{Plain, scan, step, select, project, product, union, given, publish, PlainStep, PlainProgram, PlainEnvironment, StepRows, meaning, steps_meaning, program_meaning, with_step, no_steps, published_onto}
 use Rattle.gp_merge.specs.Merging.{inlined, stays, settled_before, settled}
 use Rattle.gp_merge.specs.MergingForms.{step_inlined, program_inlined}
 use Rattle.gp_merge.proofs.Orders.{unequal_back, IsBelow, AreAbove, AreOrdered}
@@ -26,7 +26,7 @@ module _ (env : PlainEnvironment) where
   inlined_is steps j own (product l r) = λ i. flat_map (λ row. map (λ other. row ++ other) (inlined_is steps j own r i)) (inlined_is steps j own l i)
   inlined_is steps j own (union l r) = λ i. inlined_is steps j own l i ++ inlined_is steps j own r i
   inlined_is steps j own (given rows) = refl
-  inlined_is steps j own (publish at b m l) = λ i. published at (inlined_is steps j own b i) (inlined_is steps j own m i) (inlined_is steps j own l i)
+  inlined_is steps j own (publish at b m l) = λ i. published_onto at (inlined_is steps j own b i) (inlined_is steps j own m i) (inlined_is steps j own l i)
 
   -- only the rows of the steps that it reads matter
   pub below_is : (n : ℕ) (f g : ℕ → List (List Cell)) → ((i : ℕ) → i < n → f i ≡ g i) → (query : Plain) → IsBelow n query → meaning f env query ≡ meaning g env query
@@ -37,7 +37,7 @@ module _ (env : PlainEnvironment) where
   below_is n f g e (product a b) l = λ i. flat_map (λ row. map (λ other. row ++ other) (below_is n f g e b l.1 i)) (below_is n f g e a l.0 i)
   below_is n f g e (union a b) l = λ i. below_is n f g e a l.0 i ++ below_is n f g e b l.1 i
   below_is n f g e (given rows) l = refl
-  below_is n f g e (publish at b m a) l = λ i. published at (below_is n f g e b l.0 i) (below_is n f g e m l.1 i) (below_is n f g e a l.2 i)
+  below_is n f g e (publish at b m a) l = λ i. published_onto at (below_is n f g e b l.0 i) (below_is n f g e m l.1 i) (below_is n f g e a l.2 i)
 
   pub other_value : (j i : ℕ) (x : List (List Cell)) (f : ℕ → List (List Cell)) → i < j → with_step j x f i ≡ f i
   other_value j i x f l = ap (λ b. cond b x (f i)) (not_eq i j l)

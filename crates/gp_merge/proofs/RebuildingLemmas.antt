@@ -12,7 +12,7 @@ use Rattle.gp_expr.proofs.SubstitutionLemmas.{values_substituted}
 use Rattle.gp_base.specs.declared.cell.Cell.{Cell}
 use Rattle.gp_expr.specs.Values.{passes}
 use Rattle.gp_algebra.specs.Answers.{values}
-use Rattle.gp_algebra.specs.Plain.{Plain, scan, step, select, project, product, union, given, publish, PlainStep, PlainProgram, PlainEnvironment, StepRows, meaning, steps_meaning, program_meaning, with_step, no_steps, published}
+use Rattle.gp_algebra.specs.Plain.{Plain, scan, step, select, project, product, union, given, publish, PlainStep, PlainProgram, PlainEnvironment, StepRows, meaning, steps_meaning, program_meaning, with_step, no_steps, published_onto}
 use Rattle.gp_merge.specs.Merging.{is_small, selected, projected, rebuilt, merged, settled}
 use Rattle.gp_merge.specs.MergingForms.{step_rebuilt}
 use Rattle.gp_merge.proofs.Orders.{AreOrdered}
@@ -63,7 +63,7 @@ module _ (env : PlainEnvironment) where
   rebuilt_is steps (product a b) = λ i. flat_map (λ row. map (λ other. row ++ other) (rebuilt_is steps b i)) (rebuilt_is steps a i)
   rebuilt_is steps (union a b) = λ i. rebuilt_is steps a i ++ rebuilt_is steps b i
   rebuilt_is steps (given rows) = refl
-  rebuilt_is steps (publish at b m a) = λ i. published at (rebuilt_is steps b i) (rebuilt_is steps m i) (rebuilt_is steps a i)
+  rebuilt_is steps (publish at b m a) = λ i. published_onto at (rebuilt_is steps b i) (rebuilt_is steps m i) (rebuilt_is steps a i)
 
   pub rebuilt_steps : (steps : List PlainStep) (held : ℕ → List (List Cell)) → steps_meaning env (map step_rebuilt steps) held ≡ steps_meaning env steps held
   rebuilt_steps [] held = refl

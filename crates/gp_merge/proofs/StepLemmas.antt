@@ -6,7 +6,7 @@ use Rattle.gp_expr.specs.LargeValues.{is_large}
 use Rattle.gp_base.specs.declared.cell.Cell.{Cell}
 use Rattle.gp_expr.specs.Values.{passes}
 use Rattle.gp_algebra.specs.Answers.{values}
-use Rattle.gp_algebra.specs.Plain.{Plain, scan, step, select, project, product, union, given, publish, PlainStep, PlainProgram, PlainEnvironment, StepRows, meaning, steps_meaning, program_meaning, with_step, no_steps, published}
+use Rattle.gp_algebra.specs.Plain.{Plain, scan, step, select, project, product, union, given, publish, PlainStep, PlainProgram, PlainEnvironment, StepRows, meaning, steps_meaning, program_meaning, with_step, no_steps, published_onto}
 use Rattle.gp_algebra.specs.Stops as stops
 use Rattle.gp_algebra.specs.Stops.{Stop, first_stop, steps_stop, program_stop}
 use Rattle.gp_algebra.specs.Plain.{is_insert}

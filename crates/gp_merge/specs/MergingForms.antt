@@ -37,7 +37,6 @@ step_rebuilt s = record s { query = rebuilt s.query }
 abbrev pub program_rebuilt : PlainProgram → PlainProgram
 program_rebuilt = with_queries rebuilt
 
--- the numbers of the INSERT steps
 abbrev pub insert_numbers : List PlainStep → List ℕ
 insert_numbers [] = []
 insert_numbers (first ∷ others) = if is_insert first.query then first.j ∷ insert_numbers others else insert_numbers others

@@ -13,9 +13,9 @@ use Rattle.gp_expr.specs.Expressions.{Expr, Cond, col, constant, case, new_id, t
 use Rattle.gp_expr.specs.Substitution.{substituted_each, substituted_cond}
 use Rattle.gp_expr.specs.Values.{value, column, passes, multiplied, made_identity}
 use Rattle.gp_algebra.specs.Answers.{values}
-use Rattle.gp_algebra.specs.Plain.{is_same_id, is_marked, has_id, is_written, published}
+use Rattle.gp_algebra.specs.Plain.{is_same_id, is_marked, has_id, is_written, published_onto}
 use Rattle.gp_algebra.specs.AnnotatedQueries.{Change}
-use Rattle.gp_algebra.specs.AnnotatedMeaning.{scanned, projected, renewed, stands, was_replaced, published as rows_published}
+use Rattle.gp_algebra.specs.AnnotatedMeaning.{scanned, projected, renewed, stands, was_replaced, published_onto as rows_published}
 use Rattle.gp_prov.specs.Encoding.{noted, encoded_row}
 use Rattle.gp_prov.specs.ToPlain.{users_from, identities_from, times_from, product_of, changed_columns, new_columns, answer_columns}
 use Rattle.gp_prov.proofs.Pairs.{Pairwise, pair_append, pair_filter, pair_any}
@@ -95,7 +95,7 @@ module _ (prov : Bool) (width at : ℕ) (same : width ≡ at) where
         ∙ (λ i. has_marked id mines i || (has_there id bases i && not (has_there id mines i)))
         ∙ ap (λ (r : Row). was_replaced monomials base mine r.sources) (sym code.annotated)
 
-    pub published_there : Codes (published (suc at) plain_base plain_mine plain_later) (rows_published monomials base mine later)
+    pub published_there : Codes (published_onto (suc at) plain_base plain_mine plain_later) (rows_published monomials base mine later)
     published_there =
         pair_append
         (pair_filter (Coded prov width) _ _ (λ p r code. ap not (written_there p r code)) laters)

@@ -86,7 +86,7 @@ module _ (program : PlainProgram) (past : PlainEnvironment) where
 module _ {X : Type 0} (view : X → List (List Cell)) (entries : List Entry) (versions : List Versions) (point : y.Point) (select : Select) (program : PlainProgram)
     (replays : log_refusal entries point ≡ None → Replays entries versions point select program) where
   abbrev past : PlainEnvironment
-  past = travel.encoded (travels.as_of unannotated versions)
+  past = travel.encoded (travels.past_environment unannotated versions)
 
   abbrev answer_is : Result X ReenactStop → Type 0
   answer_is result = Reenacts view result (rows_answer parameters entries (spans_of versions) point select)

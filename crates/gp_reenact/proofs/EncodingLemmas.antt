@@ -9,7 +9,7 @@ use Rattle.gp_exec.specs.Running.{scanned_rows}
 use Rattle.gp_versions.specs.declared.span.Span.{Span}
 use Rattle.gp_versions.specs.Spans.{Versions, row_of}
 use Rattle.gp_reenact.specs.Encoding.{encoded, encoded_row}
-use Rattle.gp_reenact.specs.Travel.{as_of, scans_at}
+use Rattle.gp_reenact.specs.Travel.{past_environment, scans_at}
 
 pub rows-plain : {M : Type 0} → (domain : Annotations M) (spans : List Span) → map encoded_row (map (row_of domain) spans) ≡ map encoded_row (map (row_of unannotated) spans)
 rows-plain domain [] = refl
@@ -17,7 +17,7 @@ rows-plain domain (span ∷ spans) = ap (λ (rows : List (List Cell)). encoded_r
 
 module _ (versions : List Versions) where
   abbrev rows_in : ℕ → ℕ → List (List Cell)
-  rows_in = encoded (as_of unannotated versions)
+  rows_in = encoded (past_environment unannotated versions)
 
   found-first : (at : ScanAt) (others : List ScanAt) → scanned_rows (scans_at versions (at ∷ others)) at.version at.table ≡ rows_in at.version at.table
   found-first at others = rw (eq-eqb at.version at.version refl, eq-eqb at.table at.table refl) refl

@@ -31,7 +31,7 @@ use Rattle.gp_algebra.specs.WellBuilt.{is_well_built}
 use Rattle.gp_algebra.proofs.Erasure.{Reannotates, step_reannotated}
 use Rattle.gp_base.specs.declared.limit.TheConstants.{MAX_ANSWER_ROWS, MAX_TABLE_ROWS}
 use Rattle.gp_compose.specs.Composed.{program_at}
-use Rattle.gp_compose.specs.Seen.{count_refusal, looked_at, saw_refusal, writes}
+use Rattle.gp_compose.specs.Seen.{missing_statement_refusal, looked_at, saw_refusal, writes}
 use Rattle.gp_compose.specs.Composing.{looking_program}
 use Rattle.gp_compose.proofs.ProgramLemmas.{looking_program_is, looking_program_is_built, seen_program_is_built}
 use Rattle.gp_exec.specs.Backends.{Executes}
@@ -75,8 +75,8 @@ use Rattle.gp_reenact.proofs.StepStops.{env_is, forgets, forgetting, monoid, non
 
 -- a program that gives these rows over the row versions, and stops, in the run of transaction t, where this says
 pub record Gives (versions : List Versions) (t : ℕ) (own : Option Refusal) (rows : List (List Cell)) (program : p.PlainProgram) : Type 0 where
-  pub gives : p.program_meaning (travel.encoded (travels.as_of unannotated versions)) program ≡ rows
-  pub stops : own ≡ option_map (refusal_at t) (program_stop MAX_TABLE_ROWS MAX_NODES (travel.encoded (travels.as_of unannotated versions)) program)
+  pub gives : p.program_meaning (travel.encoded (travels.past_environment unannotated versions)) program ≡ rows
+  pub stops : own ≡ option_map (refusal_at t) (program_stop MAX_TABLE_ROWS MAX_NODES (travel.encoded (travels.past_environment unannotated versions)) program)
 
 -- what is found: the rows, in any order, or the refusal that is due
 abbrev Finds : {X : Type 0} → (X → List (List Cell)) → Result X ReenactStop → Result (List (List Cell)) Refusal → Type 0
@@ -89,7 +89,7 @@ Finds view (Err NoMemory) expected = Unit {0}
 module _ {X : Type 0} (view : X → List (List Cell)) (versions : List Versions) (t : ℕ) (refusal own : Option Refusal) (list : List (List Cell)) (program : p.PlainProgram)
     (is_given : refusal ≡ None → Gives versions t own list program) where
   abbrev env : p.PlainEnvironment
-  env = travel.encoded (travels.as_of unannotated versions)
+  env = travel.encoded (travels.past_environment unannotated versions)
 
   abbrev expected : Result (List (List Cell)) Refusal
   expected = given (option_or refusal (option_or own (cond (nat_lt MAX_ANSWER_ROWS (length list)) (Some E27) None))) list
@@ -147,7 +147,7 @@ module _ {X : Type 0} (view : X → List (List Cell)) (elements : List (Element 
 pub known_of : (t k : ℕ) (entries : List Entry) → saw_refusal t k entries ≡ None → is_known t entries ≡ true
 known_of t k entries e = go (is_known t entries) refl e
   where
-    go : (b : Bool) → is_known t entries ≡ b → option_or (cond b None (Some (E20 t))) (count_refusal t k entries) ≡ None → is_known t entries ≡ true
+    go : (b : Bool) → is_known t entries ≡ b → option_or (cond b None (Some (E20 t))) (missing_statement_refusal t k entries) ≡ None → is_known t entries ≡ true
     go true is e = is
     go false is e = absurd (some_none (E20 t) e)
 
@@ -208,7 +208,7 @@ module _ (entries : List Entry) (versions : List Versions) (fit : statements_fit
     saw_gives known =
         let whole = plain_program (width_of (tables_in entries)) false (program_at (width_of (tables_in entries)) entries (y.after t k) select) in
         let ordered = program_ordered whole (plain_saw_built entries fit select fits t k known) in
-        let past = travel.encoded (travels.as_of unannotated versions) in
+        let past = travel.encoded (travels.past_environment unannotated versions) in
         let built = seen_built entries fit select fits t k (known_of t k entries known) in
         record {
           gives = merged_is past whole ordered ∙ gives entries versions select fit spans_fit fits (y.after t k) built;
@@ -220,7 +220,7 @@ module _ (entries : List Entry) (versions : List Versions) (fit : statements_fit
         }
 
     pub saw_executes : {X : Type 0} (view : X → List (List Cell)) (result : Result X ReenactStop)
-        → ReenactsBy view Executes result (saw_refusal t k entries) t (saw_program entries t k select) (travel.encoded (travels.as_of unannotated versions))
+        → ReenactsBy view Executes result (saw_refusal t k entries) t (saw_program entries t k select) (travel.encoded (travels.past_environment unannotated versions))
         → Reenacts view result (saw_answer parameters entries (spans_of versions) t k select)
     saw_executes view result by =
         let elements = answer unannotated select (run unannotated (log_of entries) t k (machine.as_of unannotated (spans_of versions))) in
@@ -263,7 +263,7 @@ module _ (entries : List Entry) (versions : List Versions) (fit : statements_fit
     look_built : IsTableProgram (width_of (tables_in entries)) table whole_look
     look_built = looking_built entries fit t k table statement known here is
 
-    looking_gives : p.program_meaning (travel.encoded (travels.as_of unannotated versions)) (plain_program (width_of (tables_in entries)) false whole_look)
+    looking_gives : p.program_meaning (travel.encoded (travels.past_environment unannotated versions)) (plain_program (width_of (tables_in entries)) false whole_look)
         ≡ map system_row (looked_rows parameters entries (spans_of versions) t k statement)
     looking_gives =
         let past = machine.as_of monomials (spans_of versions) in
@@ -286,7 +286,7 @@ module _ (entries : List Entry) (versions : List Versions) (fit : statements_fit
     looked_gives =
         let whole = plain_program (width_of (tables_in entries)) false whole_look in
         let ordered = program_ordered whole (plain_looking_built entries fit t k table statement known here is) in
-        let past = travel.encoded (travels.as_of unannotated versions) in
+        let past = travel.encoded (travels.past_environment unannotated versions) in
         record {
           gives = merged_is past whole ordered ∙ looking_gives;
           stops =
@@ -297,7 +297,7 @@ module _ (entries : List Entry) (versions : List Versions) (fit : statements_fit
         }
 
     abbrev past_rows : p.PlainEnvironment
-    past_rows = travel.encoded (travels.as_of unannotated versions)
+    past_rows = travel.encoded (travels.past_environment unannotated versions)
 
     abbrev own_refusal : Option Refusal
     own_refusal = looked_refusal parameters entries (spans_of versions) t k statement
@@ -321,11 +321,11 @@ module _ (entries : List Entry) (versions : List Versions) (fit : statements_fit
     look_stopped view exec.NoMemory runs = tt
 
   module _ (t k : ℕ) (statement : Statement) (known : is_known t entries ≡ true) (here : statement_at t (suc k) entries ≡ Some statement) (does : writes statement ≡ true) where
-    pub looked_found : {X : Type 0} (view : X → List (List Cell)) (found : X) → EndsInTable view (Ok found) (looked_program entries t k statement) (travel.encoded (travels.as_of unannotated versions))
+    pub looked_found : {X : Type 0} (view : X → List (List Cell)) (found : X) → EndsInTable view (Ok found) (looked_program entries t k statement) (travel.encoded (travels.past_environment unannotated versions))
         → Looks view (Ok found) (looked_answer parameters entries (spans_of versions) t k statement)
     looked_found view found runs = let own = table_of entries fit statement does in look_found t k own.0 statement known here own.1 view found runs
 
-    pub looked_stopped : {X : Type 0} (view : X → List (List Cell)) (stop : ExecStop) → EndsInTable view (Err stop) (looked_program entries t k statement) (travel.encoded (travels.as_of unannotated versions))
+    pub looked_stopped : {X : Type 0} (view : X → List (List Cell)) (stop : ExecStop) → EndsInTable view (Err stop) (looked_program entries t k statement) (travel.encoded (travels.past_environment unannotated versions))
         → Looks view (Err (stopped t stop)) (looked_answer parameters entries (spans_of versions) t k statement)
     looked_stopped view stop runs = let own = table_of entries fit statement does in look_stopped t k own.0 statement known here own.1 view stop runs
 
@@ -351,10 +351,10 @@ refusals_same t k version entries made some =
     above : nat_lt 0 k ≡ true
     above = grind (arith, nat_tests)
 
-    counts : count_refusal t k entries ≡ statement_refusal t k entries
+    counts : missing_statement_refusal t k entries ≡ statement_refusal t k entries
     counts = ap (λ b. cond (b && nat_le k (statement_count t entries)) None (Some (E22 t (statement_count t entries)))) (sym above)
 
-    by : (b : Bool) → option_or (cond b None (Some (E20 t))) (count_refusal t k entries) ≡ option_or (cond (not b) (Some (E20 t)) None) (statement_refusal t k entries)
+    by : (b : Bool) → option_or (cond b None (Some (E20 t))) (missing_statement_refusal t k entries) ≡ option_or (cond (not b) (Some (E20 t)) None) (statement_refusal t k entries)
     by true = counts
     by false = refl
 

@@ -40,7 +40,7 @@ use Rattle.gp_log.specs.Parameters.{parameters}
 use Rattle.gp_log.specs.LogFacts.{tables_in}
 use Rattle.gp_log.specs.LogFitting.{SpansFit, statements_fit}
 use Rattle.gp_versions.specs.Spans.{Versions}
-use Rattle.gp_rewrite.specs.Meaning.{AreAsWide, of_element, unmarked}
+use Rattle.gp_rewrite.specs.Meaning.{AreAsWide, row_of_element, unmarked}
 use Rattle.gp_compose.specs.Composed.{program_at}
 use Rattle.gp_compose.proofs.ProgramLemmas.{asked_program_is_built, program_is}
 use Rattle.gp_prov.specs.ToPlain.{plain_program}
@@ -98,15 +98,15 @@ module _ {M : Type 0} (domain : Annotations M) (bounds : Parameters) (log : Log)
 -- a program that gives the rows of a state, and stops where its run does
 pub record Replays (entries : List Entry) (versions : List Versions) (point : y.Point) (select : Select) (program : p.PlainProgram) : Type 0 where
   pub known : log_refusal entries point ≡ None
-  pub gives : p.program_meaning (travel.encoded (travels.as_of unannotated versions)) program
+  pub gives : p.program_meaning (travel.encoded (travels.past_environment unannotated versions)) program
       ≡ cells_of (answer unannotated select (at_point unannotated entries point (machine.as_of unannotated (spans_of versions))))
   pub stops : own_stop unannotated parameters entries point (machine.as_of unannotated (spans_of versions))
-      ≡ option_map (refusal_at (transaction_at point)) (program_stop MAX_TABLE_ROWS MAX_NODES (travel.encoded (travels.as_of unannotated versions)) program)
+      ≡ option_map (refusal_at (transaction_at point)) (program_stop MAX_TABLE_ROWS MAX_NODES (travel.encoded (travels.past_environment unannotated versions)) program)
 
 module _ {X : Type 0} (view : X → List (List Cell)) (entries : List Entry) (versions : List Versions) (point : y.Point) (select : Select) (program : p.PlainProgram)
     (replays : Replays entries versions point select program) where
   abbrev env : p.PlainEnvironment
-  env = travel.encoded (travels.as_of unannotated versions)
+  env = travel.encoded (travels.past_environment unannotated versions)
 
   abbrev elements : List (Element (Unit {0}))
   elements = answer unannotated select (at_point unannotated entries point (machine.as_of unannotated (spans_of versions)))
@@ -142,9 +142,9 @@ module _ {X : Type 0} (view : X → List (List Cell)) (entries : List Entry) (ve
 
 -- the run of a program that has asked for all that it scans
 pub runs_over : {X : Type 0} (view : X → List (List Cell)) (result : Result X ExecStop) (scanned : Env) (versions : List Versions) (program : p.PlainProgram)
-    → p.program_meaning (environment_view scanned) program ≡ p.program_meaning (travel.encoded (travels.as_of unannotated versions)) program
-    → program_stop MAX_TABLE_ROWS MAX_NODES (environment_view scanned) program ≡ program_stop MAX_TABLE_ROWS MAX_NODES (travel.encoded (travels.as_of unannotated versions)) program
-    → Runs view result scanned program → RunsOver view result (travel.encoded (travels.as_of unannotated versions)) program
+    → p.program_meaning (environment_view scanned) program ≡ p.program_meaning (travel.encoded (travels.past_environment unannotated versions)) program
+    → program_stop MAX_TABLE_ROWS MAX_NODES (environment_view scanned) program ≡ program_stop MAX_TABLE_ROWS MAX_NODES (travel.encoded (travels.past_environment unannotated versions)) program
+    → Runs view result scanned program → RunsOver view result (travel.encoded (travels.past_environment unannotated versions)) program
 runs_over view (Ok found) scanned versions program same_rows same_stop runs =
     (sym same_stop ∙ runs.0, (subst (λ rows. IsPermutation (view found) rows) same_rows runs.1.0, subst (λ rows. length rows ≤ MAX_ANSWER_ROWS) same_rows runs.1.1))
 runs_over view (Err (exec.Rows j)) scanned versions program same_rows same_stop runs = sym same_stop ∙ runs
@@ -155,10 +155,10 @@ runs_over view (Err exec.NoMemory) scanned versions program same_rows same_stop 
 -- ---- rows of queries
 
 -- the cells of the rows of a query are those of an answer, if the rows are its elements but for marks
-cells_out : {M : Type 0} (made : List (Derived M)) (chosen : List (Element M)) → map unmarked made ≡ map of_element chosen
+cells_out : {M : Type 0} (made : List (Derived M)) (chosen : List (Element M)) → map unmarked made ≡ map row_of_element chosen
     → map (λ (row : Derived M). row.cells ++ []) made ≡ cells_of chosen
 cells_out {M = M} made chosen same =
-    whole made ∙ sym (map-map (λ row. row.cells) unmarked made) ∙ ap (map (λ row. row.cells)) same ∙ map-map (λ row. row.cells) of_element chosen
+    whole made ∙ sym (map-map (λ row. row.cells) unmarked made) ∙ ap (map (λ row. row.cells)) same ∙ map-map (λ row. row.cells) row_of_element chosen
   where
     whole : (each : List (Derived M)) → map (λ (row : Derived M). row.cells ++ []) each ≡ map (λ (row : Derived M). row.cells) each
     whole [] = refl
@@ -202,7 +202,7 @@ module _ (entries : List Entry) (versions : List Versions) (select : Select) (fi
   built point known = asked_program_is_built (tables_in entries) entries fit point known select fits
 
   pub gives : (point : y.Point) → IsWellBuilt columns (program point)
-      → p.program_meaning (travel.encoded (travels.as_of unannotated versions)) (plain_program columns false (program point)) ≡ cells_of (answer unannotated select (at_point unannotated entries point plain_past))
+      → p.program_meaning (travel.encoded (travels.past_environment unannotated versions)) (plain_program columns false (program point)) ≡ cells_of (answer unannotated select (at_point unannotated entries point plain_past))
   gives point is_built =
       ap (λ env. p.program_meaning env (plain_program columns false (program point))) (env_is versions)
       ∙ answers_are columns false past widths (program point) is_built
@@ -212,7 +212,7 @@ module _ (entries : List Entry) (versions : List Versions) (select : Select) (fi
 
   stops : (point : y.Point) → log_refusal entries point ≡ None
       → own_stop unannotated parameters entries point plain_past
-      ≡ option_map (refusal_at (transaction_at point)) (program_stop MAX_TABLE_ROWS MAX_NODES (travel.encoded (travels.as_of unannotated versions)) (plain_program columns false (program point)))
+      ≡ option_map (refusal_at (transaction_at point)) (program_stop MAX_TABLE_ROWS MAX_NODES (travel.encoded (travels.past_environment unannotated versions)) (plain_program columns false (program point)))
   stops (y.as_of version) known = refl
   stops (y.after t k) known =
       run_refused unannotated parameters (log_of entries) t plain_past k
@@ -227,7 +227,7 @@ module _ (entries : List Entry) (versions : List Versions) (select : Select) (fi
   planned_replays point planned is known =
       let whole = plain_program columns false (program point) in
       let is_built = plain_is_built entries select fit fits point known false in
-      let past = travel.encoded (travels.as_of unannotated versions) in
+      let past = travel.encoded (travels.past_environment unannotated versions) in
       subst (λ (planned : p.PlainProgram). Replays entries versions point select planned) (sym is)
       (record {
         known = known;

@@ -40,7 +40,7 @@ use Rattle.gp_base.proofs.SmallLemmas.{map-map}
 
 module _ (versions : List Versions) where
   -- the two encodings agree where there is no provenance
-  pub env_is : travel.encoded (travels.as_of unannotated versions) ≡ enc.encoded false (machine.as_of monomials (spans_of versions))
+  pub env_is : travel.encoded (travels.past_environment unannotated versions) ≡ enc.encoded false (machine.as_of monomials (spans_of versions))
   env_is = λ i. λ version table. sym (rows-plain monomials (spans_at version (spans_of versions table))) i
 
   pub forgets : VersionsReannotate forgotten (machine.as_of monomials (spans_of versions)) (machine.as_of unannotated (spans_of versions))
@@ -69,7 +69,7 @@ module _ (entries : List Entry) (versions : List Versions) (fit : statements_fit
 
   -- the steps of a transaction stop where its run does
   pub steps_stop_is : (t k : ℕ) (last : q.Query) → HasSteps (width_of (tables_in entries)) (record { steps = composed (width_of (tables_in entries)) (log_of entries) t k; last = last })
-      → program_stop MAX_TABLE_ROWS MAX_NODES (travel.encoded (travels.as_of unannotated versions)) (plain_program (width_of (tables_in entries)) false (record { steps = composed (width_of (tables_in entries)) (log_of entries) t k; last = last }))
+      → program_stop MAX_TABLE_ROWS MAX_NODES (travel.encoded (travels.past_environment unannotated versions)) (plain_program (width_of (tables_in entries)) false (record { steps = composed (width_of (tables_in entries)) (log_of entries) t k; last = last }))
       ≡ option_map step_stop (run_stop unannotated parameters (log_of entries) t k (machine.as_of unannotated (spans_of versions)))
   steps_stop_is t k last has =
       let columns : ℕ → ℕ = width_of (tables_in entries) in

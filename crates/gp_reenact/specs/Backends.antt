@@ -1,5 +1,5 @@
--- Part of the statement: what reenactment over a backend answers. The backend's answer for the program decides, on an environment that has the rows of the
--- past versions, in any order, in the tables and versions that the program scans.
+-- Of the contract of `reenact_by`: what reenactment over a backend answers. The backend's answer for the program decides, on an environment that has the rows
+-- of the past versions, in any order, in the tables and versions that the program scans.
 use Rattle.std.specs.Prelude.{◌≡◌, ℕ, List, Option, Some, None, Result, Ok, Err}
 use Rattle.gp_base.specs.declared.cell.Cell.{Cell}
 use Rattle.gp_base.specs.declared.refusal.Refusal.{Refusal}

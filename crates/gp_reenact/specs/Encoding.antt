@@ -1,4 +1,4 @@
--- Part of the statement: annotated rows as rows of the plain algebra, without their annotations.
+-- Of the contract of `env_at` and of the law `annotations_are_left_out`: annotated rows as rows of the plain algebra, without their annotations.
 use Rattle.std.specs.Prelude.{List, []}
 use Rattle.gp_base.specs.declared.cell.Cell.{Cell}
 use Rattle.gp_base.specs.Annotated.{Annotated, Environment}

@@ -1,4 +1,4 @@
--- Part of the statement: the programs of what any transaction saw and of the rows by which one looks at a statement, and what running them answers.
+-- Of the contract of `looked`: the programs of what any transaction saw and of the rows by which one looks at a statement, and what running them answers.
 use Rattle.std.specs.Prelude.{◌≡◌, ℕ, suc, List, [], ◌∷◌, ◌++◌, map, false, Some, None, Result, Ok, Err}
 use Rattle.gp_base.specs.declared.cell.Cell.{Cell}
 use Rattle.gp_base.specs.declared.cell.Cell.TheVariants as cell
@@ -9,7 +9,7 @@ use Rattle.gp_base.specs.Annotated.{Annotated, unannotated}
 use Rattle.gp_algebra.specs.Plain.{PlainEnvironment, PlainProgram, program_meaning}
 use Rattle.gp_algebra.specs.Statements.{Select, Statement, width_of}
 use Rattle.gp_algebra.specs.Stops.{ancestry, program_stop, rows}
-use Rattle.gp_compose.specs.Composed.{after}
+use Rattle.gp_compose.specs.Composed.{program_after}
 use Rattle.gp_compose.specs.Composing.{looking_program}
 use Rattle.gp_compose.specs.Seen.{looked_at}
 use Rattle.gp_exec.specs.declared.error.ExecStop.{ExecStop}
@@ -29,7 +29,7 @@ use Rattle.gp_reenact.specs.declared.error.ReenactStop.TheVariants.{Refused, NoM
 
 -- the program of a query over what the transaction saw after its first statements
 abbrev pub saw_program : List Entry → ℕ → ℕ → Select → PlainProgram
-saw_program entries t k select = merged (plain_program (width_of (tables_in entries)) false (after (width_of (tables_in entries)) (log_of entries) t k select))
+saw_program entries t k select = merged (plain_program (width_of (tables_in entries)) false (program_after (width_of (tables_in entries)) (log_of entries) t k select))
 
 -- a row with its identity and its mark behind its cells
 abbrev pub system_row : Annotated (Unit {0}) → List Cell

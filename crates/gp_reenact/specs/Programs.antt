@@ -1,4 +1,4 @@
--- Part of the statement: the program of a state.
+-- Of the contract of `explain` (gp_explain) and of the law `texts_explain_states` (gp_explain): the program of a state.
 use Rattle.std.specs.Prelude.{Bool, List}
 use Rattle.gp_grammar.specs.Syntax as y
 use Rattle.gp_algebra.specs.Statements.{width_of, Select}

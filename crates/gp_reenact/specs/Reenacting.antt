@@ -1,5 +1,5 @@
--- Part of the statement: what reenactment answers: the rows of the database of a state, in any order, or the refusal that is due. Running out of memory
--- says nothing.
+-- Of the contracts of `reenact` and `saw`: what reenactment answers: the rows of the database of a state, in any order, or the refusal that is due. Running out
+-- of memory says nothing.
 use Rattle.std.specs.Prelude.{◌≡◌, ◌<◌, ◌≤◌, ℕ, zero, List, length, Option, Some, None, Result, Ok, Err, slice_index_or}
 use Rattle.std.specs.List.Sorted.{IsPermutation}
 use Rattle.gp_base.specs.declared.cell.Cell.{Cell}

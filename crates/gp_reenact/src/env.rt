@@ -5,7 +5,7 @@ ghost use Rattle.gp_base.specs.Annotated.{unannotated};
 ghost use Rattle.gp_algebra.specs.Scans.{AgreeOn};
 ghost use Rattle.gp_exec.specs.Running.{environment_view};
 ghost use Rattle.gp_reenact.specs.Encoding.{encoded};
-ghost use Rattle.gp_reenact.specs.Travel.{as_of, scanned, scans_at};
+ghost use Rattle.gp_reenact.specs.Travel.{past_environment, scanned, scans_at};
 
 use crate::encoding::encoded_rows;
 use gp_algebra::ScanAt;
@@ -32,7 +32,7 @@ fn scanned(alloc: Global, versions: &[VersionTable], at: ScanAt) -> Result<Scann
 pub fn env_at(alloc: Global, versions: &[VersionTable], scans: &[ScanAt]) -> Result<Env, NoMemory>
     ensures scans { IfOk result (λ env. env.scans ≡ scans_at versions.now scans.now) }
     ensures agree { IfOk result (λ env. AgreeOn scans.now
-        (environment_view env) (encoded (as_of unannotated versions.now))) }
+        (environment_view env) (encoded (past_environment unannotated versions.now))) }
 {
     let mut found = Sequence::new(alloc);
     for at in scans {

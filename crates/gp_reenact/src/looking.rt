@@ -12,7 +12,7 @@ ghost use Rattle.gp_log.specs.Parameters.{parameters};
 ghost use Rattle.gp_machine.specs.Questions.{is_known};
 ghost use Rattle.gp_base.specs.Annotated.{unannotated};
 ghost use Rattle.gp_reenact.specs.Encoding.{encoded};
-ghost use Rattle.gp_reenact.specs.Travel.{as_of};
+ghost use Rattle.gp_reenact.specs.Travel.{past_environment};
 ghost use Rattle.gp_reenact.specs.Backends.{ReenactsBy};
 ghost use Rattle.gp_reenact.specs.Looking.{saw_answer};
 ghost use Rattle.gp_reenact.specs.LookingForms.{EndsInTable, Looks, looked_answer, looked_program, saw_program};
@@ -93,7 +93,7 @@ fn saw_by<B: Backend>(
     ensures { ReenactsBy (λ rows. rows.items) (B.gives backend.now) result
         (s.saw_refusal t k (entries log.now)) t
         (saw_program (entries log.now) t k (select_view select.now))
-        (encoded (as_of unannotated versions.now)) }
+        (encoded (past_environment unannotated versions.now)) }
 {
     let planned = planned_saw(alloc, log, t, k, select)?;
     match rows_over(alloc, versions, &planned, backend) {
@@ -149,7 +149,7 @@ fn table_over(
 ) -> Result<Vec<Row>, ExecStop>
     requires { is_well_built (program_view program.now) ≡ true }
     ensures { EndsInTable (λ found. found.items) result (program_view program.now)
-        (encoded (as_of unannotated versions.now)) }
+        (encoded (past_environment unannotated versions.now)) }
 {
     // The scans that are asked for suffice. The call does nothing.
     asked_scans_suffice();

@@ -17,7 +17,7 @@ ghost use Rattle.gp_machine.specs.Questions.{rows_answer};
 ghost use Rattle.gp_merge.specs.Merging.{merged};
 ghost use Rattle.gp_prov.specs.ToPlain as to;
 ghost use Rattle.gp_reenact.specs.Encoding.{encoded};
-ghost use Rattle.gp_reenact.specs.Travel.{as_of};
+ghost use Rattle.gp_reenact.specs.Travel.{past_environment};
 ghost use Rattle.gp_reenact.specs.Backends.{GivesOver, ReenactsBy};
 ghost use Rattle.gp_reenact.specs.Reenacting as r;
 ghost use Rattle.gp_reenact.specs.Reenacting.{Plans, Reenacts, spans_of};
@@ -56,7 +56,7 @@ pub(crate) fn rows_over<B: Backend>(
 ) -> Result<Vec<Row>, ExecStop>
     requires { is_well_built (program_view program.now) ≡ true }
     ensures { GivesOver (λ found. found.items) (B.gives backend.now) result
-        (program_view program.now) (encoded (as_of unannotated versions.now)) }
+        (program_view program.now) (encoded (past_environment unannotated versions.now)) }
 {
     let asked = scans(alloc, program)?;
     let env = env_at(alloc, versions, &asked)?;
@@ -138,7 +138,7 @@ pub fn reenact_by<B: Backend>(
     ensures { ReenactsBy (λ rows. rows.items) (B.gives backend.now) result
         (m.log_refusal (entries log.now) (point_view state)) (r.transaction_at (point_view state))
         (merged_at false (entries log.now) (point_view state) (select_view select.now))
-        (encoded (as_of unannotated versions.now)) }
+        (encoded (past_environment unannotated versions.now)) }
 {
     let plain = planned(alloc, log, state, select, false)?;
     match rows_over(alloc, versions, &plain, backend) {

@@ -10,13 +10,13 @@ ghost use Rattle.gp_exec.specs.declared.env.Env.{Env};
 ghost use Rattle.gp_exec.specs.Running.{environment_view};
 ghost use Rattle.gp_versions.specs.Spans.{Versions};
 ghost use Rattle.gp_reenact.specs.Encoding.{encoded};
-ghost use Rattle.gp_reenact.specs.Travel.{as_of, scans_at};
+ghost use Rattle.gp_reenact.specs.Travel.{past_environment, scans_at};
 
 /// The encoding does not depend on annotations.
 pub fn annotations_are_left_out<M>()
     ensures left_out { (domain : Annotations M) (versions : List Versions) (version table : ℕ)
-        → encoded (as_of domain versions) version table
-        ≡ encoded (as_of unannotated versions) version table }
+        → encoded (past_environment domain versions) version table
+        ≡ encoded (past_environment unannotated versions) version table }
 {}
 
 /// If all scans of a program are asked, its rows and its stop are those over all past versions.
@@ -25,10 +25,11 @@ pub fn asked_scans_suffice()
         (program : PlainProgram) → env.scans ≡ scans_at versions scans
         → ((scan : ScanAt) → Contains (program_scans program) scan → Contains scans scan)
         → program_meaning (environment_view env) program
-        ≡ program_meaning (encoded (as_of unannotated versions)) program }
+        ≡ program_meaning (encoded (past_environment unannotated versions)) program }
     ensures stop { (most_rows most_nodes : ℕ) (versions : List Versions) (scans : List ScanAt)
         (env : Env) (program : PlainProgram) → env.scans ≡ scans_at versions scans
         → ((scan : ScanAt) → Contains (program_scans program) scan → Contains scans scan)
         → program_stop most_rows most_nodes (environment_view env) program
-        ≡ program_stop most_rows most_nodes (encoded (as_of unannotated versions)) program }
+        ≡ program_stop most_rows most_nodes
+        (encoded (past_environment unannotated versions)) program }
 {}

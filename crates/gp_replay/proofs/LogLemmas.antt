@@ -21,7 +21,7 @@ use Rattle.gp_machine.specs.Event.{Line}
 use Rattle.gp_log.specs.Discipline.{Said, Does, Loses, IsLog, last_line, said_by}
 use Rattle.gp_log.specs.Logs.{entry_view, log_view}
 use Rattle.gp_log.specs.Parameters.{parameters}
-use Rattle.gp_log.specs.ScriptLines.{AreLinesAfter, AreScriptLines, IsScriptLine}
+use Rattle.gp_log.specs.ScriptLines.{AreLinesAfter, AreScriptLines, IsLineAfter}
 use Rattle.gp_log.specs.declared.entry.Entry.{Entry}
 use Rattle.gp_log.proofs.LineCommands.{parsed-reads}
 use Rattle.gp_dumpline.specs.Said.{IsSaid}
@@ -49,7 +49,7 @@ newest-line : (entries : List m.Entry) → newest zero (lines_in entries) ≡ la
 newest-line [] = refl
 newest-line (entry ∷ older) = newest-last zero (lines_in older) (line_in entry)
 
-one-more : (last : ℕ) (lines : List Line) (line : Line) → AreLinesAfter last lines → IsScriptLine (newest last lines) line → AreLinesAfter last (lines ++ line ∷ [])
+one-more : (last : ℕ) (lines : List Line) (line : Line) → AreLinesAfter last lines → IsLineAfter (newest last lines) line → AreLinesAfter last (lines ++ line ∷ [])
 one-more last [] line are is = (is, tt)
 one-more last (first ∷ lines) line are is = (are.0, one-more first.number lines line are.1 is)
 
@@ -57,7 +57,7 @@ pub log-lines : (entries : List m.Entry) → IsLog parameters entries → AreRea
 log-lines [] log readable = tt
 log-lines (entry ∷ older) log readable =
     one-more zero (lines_in older) (line_in entry) (log-lines older log.1 readable.1)
-    (subst (λ (last : ℕ). IsScriptLine last (line_in entry)) (sym (newest-line older)) (record {
+    (subst (λ (last : ℕ). IsLineAfter last (line_in entry)) (sym (newest-line older)) (record {
       rises = log.0.rises;
       number = log.0.line;
       first = log.0.first;

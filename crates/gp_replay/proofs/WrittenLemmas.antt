@@ -42,9 +42,9 @@ use Rattle.gp_grammar.proofs.ParserLaws.{lawful-command, lawful-line}
 use Rattle.gp_grammar.proofs.ShapeLemmas.{commands-fair, lines-fair}
 use Rattle.gp_syntax.specs.Lines.{answered_from, is_answered, script_lines}
 use Rattle.gp_machine.specs.Event.{Line}
-use Rattle.gp_log.specs.ScriptLines.{AreLinesAfter, AreScriptLines, IsScriptLine as IsLine}
+use Rattle.gp_log.specs.ScriptLines.{AreLinesAfter, AreScriptLines, IsLineAfter as IsLine}
 use Rattle.gp_log.proofs.LineCommands.{reads-parsed}
-use Rattle.gp_script.specs.Scripts.{line_read, lines_read}
+use Rattle.gp_script.specs.Scripts.{line_if_read, lines_if_read}
 use Rattle.gp_replay.specs.Written.{AreShort, line_bytes, line_lexemes, script_from, script_of, session_name}
 
 -- ---- the sessions, each of the few
@@ -245,17 +245,17 @@ blanks number (suc count) rest =
     one-blank number (replicate count 10 ++ rest) ∙ blanks (number + 1) count rest ∙ ap (λ (n : ℕ). answered_from n rest) (omega arith)
 
 read-more : (line : Line) (others : List (ℕ × List ℕ)) → script_line_of (line_bytes line) ≡ Ok (record { session = line.session; command = line.command })
-    → lines_read ((line.number, line_bytes line) ∷ others) ≡ line ∷ lines_read others
-read-more line others read = ap (λ (r : Result ScriptLine Fault). line_read line.number r ++ lines_read others) read
+    → lines_if_read ((line.number, line_bytes line) ∷ others) ≡ line ∷ lines_if_read others
+read-more line others read = ap (λ (r : Result ScriptLine Fault). line_if_read line.number r ++ lines_if_read others) read
 
-written : (next last : ℕ) (all : List Line) → next ≡ suc last → AreLinesAfter last all → AreShort all → lines_read (answered_from next (script_from next all)) ≡ all
+written : (next last : ℕ) (all : List Line) → next ≡ suc last → AreLinesAfter last all → AreShort all → lines_if_read (answered_from next (script_from next all)) ≡ all
 written next last [] follows are short = refl
 written next last (line ∷ others) follows are short =
     let rises = are.0.rises in
     let rest : List ℕ = script_from (suc line.number) others in
     let here : next + (line.number - next) ≡ line.number = omega (arith, rises, follows) in
     let more : line.number + 1 ≡ suc line.number = omega arith in
-    ap lines_read (
+    ap lines_if_read (
     blanks next (line.number - next) (line_bytes line ++ (10 ∷ rest))
     ∙ ap (λ (n : ℕ). answered_from n (line_bytes line ++ (10 ∷ rest))) here
     ∙ one-line line.number (line_bytes line) rest (line-plain line last are.0) (line-answered line)
@@ -263,5 +263,5 @@ written next last (line ∷ others) follows are short =
     ∙ read-more line (answered_from (suc line.number) rest) (line-reads line last are.0 short.0)
     ∙ ap (λ (ls : List Line). line ∷ ls) (written (suc line.number) line.number others refl are.1 short.1)
 
-pub script-written : (all : List Line) → AreScriptLines all → AreShort all → lines_read (script_lines (script_of all)) ≡ all
+pub script-written : (all : List Line) → AreScriptLines all → AreShort all → lines_if_read (script_lines (script_of all)) ≡ all
 script-written all are short = written 1 0 all (omega arith) are short

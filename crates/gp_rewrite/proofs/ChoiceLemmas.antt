@@ -9,7 +9,7 @@ use Rattle.gp_algebra.specs.Statements.{Branch}
 use Rattle.gp_algebra.specs.Answers.{Element, choices, chosen, joined, passes_where, values}
 use Rattle.gp_algebra.specs.AnnotatedQueries.{Query, product}
 use Rattle.gp_algebra.specs.AnnotatedMeaning.{Derived, crossed, joined_sources, meaning, projected, scanned}
-use Rattle.gp_rewrite.specs.Meaning.{IsMonoid, StandFor, of_element, unmarked}
+use Rattle.gp_rewrite.specs.Meaning.{IsMonoid, StandFor, row_of_element, unmarked}
 use Rattle.gp_rewrite.specs.Rewriting.{branch_of, product_of, selected_by}
 use Rattle.gp_rewrite.specs.RewritingForms.{product_onto}
 use Rattle.gp_rewrite.proofs.Each.{each_filter, each_made}
@@ -83,21 +83,21 @@ module _ {M : Type 0} (domain : Annotations M) (monoid : IsMonoid domain) (steps
           ∙ flat_map_agree _ _ (λ r. map_agree _ _ (assoc row r) (choices domain number others db) ∙ sym (map-map (before row) (joined domain number r) (choices domain number others db))) (db table)
           ∙ sym (map-flat_map (before row) _ (db table))
 
-  product_is : (number table : ℕ) (others : List ℕ) → map unmarked (meaning domain steps env (product_of tables (table ∷ others))) ≡ map of_element (choices domain number (table ∷ others) db)
+  product_is : (number table : ℕ) (others : List ℕ) → map unmarked (meaning domain steps env (product_of tables (table ∷ others))) ≡ map row_of_element (choices domain number (table ∷ others) db)
   product_is number table others =
       onto_is number others (tables table) ∙ ap (flat_map (λ row. map (before row) (choices domain number others db))) (are table) ∙ flat_map-map _ (scanned domain) (db table)
-      ∙ flat_map_agree _ _ (λ r. sym (map-map of_element (joined domain number r) (choices domain number others db))) (db table) ∙ sym (map-flat_map of_element _ (db table))
+      ∙ flat_map_agree _ _ (λ r. sym (map-map row_of_element (joined domain number r) (choices domain number others db))) (db table) ∙ sym (map-flat_map row_of_element _ (db table))
 
-  pub branch_is : (number width : ℕ) (branch : Branch) → IsFit width branch → map unmarked (meaning domain steps env (branch_of tables branch)) ≡ map of_element (chosen domain number branch db)
+  pub branch_is : (number width : ℕ) (branch : Branch) → IsFit width branch → map unmarked (meaning domain steps env (branch_of tables branch)) ≡ map row_of_element (chosen domain number branch db)
   branch_is number width branch fit =
       ap (λ rows. map unmarked (map (projected domain branch.items None) rows)) (selected_rows branch.cond)
       ∙ map-map unmarked (projected domain branch.items None) (filter test rows)
       ∙ sym (map-map valued unmarked (filter test rows))
       ∙ ap (map valued) (sym (filter-map test unmarked rows))
       ∙ ap (λ rows. map valued (filter test rows)) items
-      ∙ ap (map valued) (filter-map test of_element (choices domain number branch.from db))
-      ∙ map-map valued of_element (filter (λ (e : Element M). passes_where branch.cond e.cells) (choices domain number branch.from db))
-      ∙ sym (map-map of_element _ (filter (λ (e : Element M). passes_where branch.cond e.cells) (choices domain number branch.from db)))
+      ∙ ap (map valued) (filter-map test row_of_element (choices domain number branch.from db))
+      ∙ map-map valued row_of_element (filter (λ (e : Element M). passes_where branch.cond e.cells) (choices domain number branch.from db))
+      ∙ sym (map-map row_of_element _ (filter (λ (e : Element M). passes_where branch.cond e.cells) (choices domain number branch.from db)))
     where
       test : Derived M → Bool
       test row = passes_where branch.cond row.cells
@@ -112,5 +112,5 @@ module _ {M : Type 0} (domain : Annotations M) (monoid : IsMonoid domain) (steps
       valued : Derived M → Derived M
       valued row = record row { cells = values branch.items row.cells }
 
-      items : map unmarked rows ≡ map of_element (choices domain number branch.from db)
-      items = subst (λ from. map unmarked (meaning domain steps env (product_of tables from)) ≡ map of_element (choices domain number from db)) (sym fit.from) (product_is number fit.first fit.others)
+      items : map unmarked rows ≡ map row_of_element (choices domain number branch.from db)
+      items = subst (λ from. map unmarked (meaning domain steps env (product_of tables from)) ≡ map row_of_element (choices domain number from db)) (sym fit.from) (product_is number fit.first fit.others)

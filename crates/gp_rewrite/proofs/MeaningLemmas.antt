@@ -14,7 +14,7 @@ use Rattle.gp_algebra.specs.Answers.{Element, answer, answer_from, chosen}
 use Rattle.gp_algebra.specs.Effects.{changed, given_from, made, step, with_rows}
 use Rattle.gp_algebra.specs.AnnotatedQueries.{Query, new_rows, union}
 use Rattle.gp_algebra.specs.AnnotatedMeaning.{Derived, meaning, renewed, scanned}
-use Rattle.gp_rewrite.specs.Meaning.{AreAsWide, IsMonoid, StandFor, of_element, unmarked}
+use Rattle.gp_rewrite.specs.Meaning.{AreAsWide, IsMonoid, StandFor, row_of_element, unmarked}
 use Rattle.gp_rewrite.specs.Rewriting.{branch_of, made_of, made_onto, query_of, rewritten}
 use Rattle.gp_rewrite.specs.RewritingForms.{union_onto}
 use Rattle.gp_rewrite.proofs.ChoiceLemmas.{branch_is, chosen_number}
@@ -30,11 +30,11 @@ module _ {M : Type 0} (domain : Annotations M) (monoid : IsMonoid domain) (steps
       map (renewed domain t k b) (meaning domain steps env (branch_of tables branch)) ≡ map (scanned domain) (map (made domain t k) (chosen domain b branch db))
   branch_makes t k b width branch fit =
       sym (map-map (renewed domain t k b) unmarked (meaning domain steps env (branch_of tables branch))) ∙ ap (map (renewed domain t k b)) (branch_is domain monoid steps env tables db are b width branch fit)
-      ∙ map-map (renewed domain t k b) of_element (chosen domain b branch db)
+      ∙ map-map (renewed domain t k b) row_of_element (chosen domain b branch db)
       ∙ go (chosen domain b branch db) (chosen_number domain b branch db)
       ∙ sym (map-map (scanned domain) (made domain t k) (chosen domain b branch db))
     where
-      go : (es : List (Element M)) → AllByRecursion (λ e. e.branch ≡ b) es → map (λ e. renewed domain t k b (of_element e)) es ≡ map (λ e. scanned domain (made domain t k e)) es
+      go : (es : List (Element M)) → AllByRecursion (λ e. e.branch ≡ b) es → map (λ e. renewed domain t k b (row_of_element e)) es ≡ map (λ e. scanned domain (made domain t k e)) es
       go [] a = refl
       go (e ∷ es) a = λ i. record { sources = source (identity t k (sym a.0 i) e.sources) no_sources; cells = e.cells; mark = true; annotation = domain.times (domain.token (Queried t k)) e.annotation } ∷ go es a.1 i
 
@@ -88,22 +88,22 @@ module _ {M : Type 0} (domain : Annotations M) (monoid : IsMonoid domain) (steps
   -- ---- queries
 
   branches_answer : (b width : ℕ) (branches : List Branch) (query : Query) → AllByRecursion (IsFit width) branches →
-      map unmarked (meaning domain steps env (union_onto tables query branches)) ≡ map unmarked (meaning domain steps env query) ++ map of_element (answer_from domain b branches db)
+      map unmarked (meaning domain steps env (union_onto tables query branches)) ≡ map unmarked (meaning domain steps env query) ++ map row_of_element (answer_from domain b branches db)
   branches_answer b width [] query fit = sym (append-nil (map unmarked (meaning domain steps env query)))
   branches_answer b width (branch ∷ branches) query fit =
       branches_answer (suc b) width branches (union query (branch_of tables branch)) fit.1
-      ∙ ap (λ xs. xs ++ map of_element (answer_from domain (suc b) branches db))
+      ∙ ap (λ xs. xs ++ map row_of_element (answer_from domain (suc b) branches db))
       (map-append unmarked (meaning domain steps env query) (meaning domain steps env (branch_of tables branch))
       ∙ ap (λ xs. map unmarked (meaning domain steps env query) ++ xs) (branch_is domain monoid steps env tables db are b width branch fit.0))
-      ∙ append_assoc (map unmarked (meaning domain steps env query)) (map of_element (chosen domain b branch db)) (map of_element (answer_from domain (suc b) branches db))
-      ∙ ap (λ xs. map unmarked (meaning domain steps env query) ++ xs) (sym (map-append of_element (chosen domain b branch db) (answer_from domain (suc b) branches db)))
+      ∙ append_assoc (map unmarked (meaning domain steps env query)) (map row_of_element (chosen domain b branch db)) (map row_of_element (answer_from domain (suc b) branches db))
+      ∙ ap (λ xs. map unmarked (meaning domain steps env query) ++ xs) (sym (map-append row_of_element (chosen domain b branch db) (answer_from domain (suc b) branches db)))
 
-  answer_is : (width : ℕ) (select : Select) → AreFit width select → map unmarked (meaning domain steps env (query_of tables select)) ≡ map of_element (answer domain select db)
+  answer_is : (width : ℕ) (select : Select) → AreFit width select → map unmarked (meaning domain steps env (query_of tables select)) ≡ map row_of_element (answer domain select db)
   answer_is width [] fit = absurd fit
   answer_is width (branch ∷ branches) fit =
       branches_answer 2 width branches (branch_of tables branch) fit.1
-      ∙ ap (λ xs. xs ++ map of_element (answer_from domain 2 branches db)) (branch_is domain monoid steps env tables db are 1 width branch fit.0)
-      ∙ sym (map-append of_element (chosen domain 1 branch db) (answer_from domain 2 branches db))
+      ∙ ap (λ xs. xs ++ map row_of_element (answer_from domain 2 branches db)) (branch_is domain monoid steps env tables db are 1 width branch fit.0)
+      ∙ sym (map-append row_of_element (chosen domain 1 branch db) (answer_from domain 2 branches db))
 
-  pub query_is : (catalogue : List Table) (select : Select) → select_fits catalogue select ≡ true → map unmarked (meaning domain steps env (query_of tables select)) ≡ map of_element (answer domain select db)
+  pub query_is : (catalogue : List Table) (select : Select) → select_fits catalogue select ≡ true → map unmarked (meaning domain steps env (query_of tables select)) ≡ map row_of_element (answer domain select db)
   query_is catalogue select fits = answer_is (select_width select) select (select_is_fit catalogue select fits)

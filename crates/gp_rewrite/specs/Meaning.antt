@@ -1,4 +1,4 @@
--- Part of the statement: what the laws of rewriting speak of: when queries stand for the tables of a database, and elements of an answer as rows of a query.
+-- Of the law `rewritten_statements_mean_the_statements`: when queries stand for the tables of a database, and elements of an answer as rows of a query.
 use Rattle.std.specs.Prelude.{◌≡◌, ℕ, Bool, false, List, length, map, nat_lt, ◌&&◌}
 use Rattle.std.specs.List.{AllByRecursion, list_all}
 use Rattle.gp_base.specs.Annotated.{Annotations, Database, Environment}
@@ -25,8 +25,8 @@ abbrev pub unmarked : {M : Type 0} → Derived M → Derived M
 unmarked row = record row { mark = false }
 
 -- an element of an answer as a row of a query
-abbrev pub of_element : {M : Type 0} → Element M → Derived M
-of_element element = record { sources = element.sources; cells = element.cells; mark = false; annotation = element.annotation }
+abbrev pub row_of_element : {M : Type 0} → Element M → Derived M
+row_of_element element = record { sources = element.sources; cells = element.cells; mark = false; annotation = element.annotation }
 
 -- a query that has a branch, and each branch a table, all of them among the first tables, this many
 abbrev pub branch_is_there : ℕ → Branch → Bool

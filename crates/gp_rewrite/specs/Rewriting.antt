@@ -1,6 +1,6 @@
--- Part of the statement: a statement as a query of the annotated algebra, which gives the new contents of the table that it writes. An UPDATE is a
--- projection with CASE, a DELETE a selection, an INSERT a union: reenactment (Arab, Gawlick, Krishnaswamy, Radhakrishnan and Glavic, Reenactment for
--- Read-Committed Snapshot Isolation, 2016). The queries of the tables that it reads are a parameter.
+-- Of the law `rewritten_statements_mean_the_statements` and of the contract of `query`: a statement as a query of the annotated algebra, which gives the new
+-- contents of the table that it writes. An UPDATE is a projection with CASE, a DELETE a selection, an INSERT a union: reenactment (Arab, Gawlick, Krishnaswamy,
+-- Radhakrishnan and Glavic, Reenactment for Read-Committed Snapshot Isolation, 2016). The queries of the tables that it reads are a parameter.
 use Rattle.std.specs.Prelude.{ℕ, zero, suc, false, List, [], ◌∷◌, Option, Some, None}
 use Rattle.std.specs.List.{fold}
 use Rattle.gp_base.specs.declared.token.Token.TheVariants.{Updated}

@@ -12,7 +12,7 @@ ghost use Rattle.gp_algebra.specs.Fitting.{select_fits, statement_fits};
 ghost use Rattle.gp_algebra.specs.Statements.{width_of};
 ghost use Rattle.gp_algebra.specs.QueryForms.{IsAnswer, IsStep, IsTable, is_sound, reads_only};
 ghost use Rattle.gp_algebra.specs.Statements.{Select, Statement, target};
-ghost use Rattle.gp_rewrite.specs.Meaning.{AreAsWide, IsMonoid, StandFor, of_element, unmarked};
+ghost use Rattle.gp_rewrite.specs.Meaning.{AreAsWide, IsMonoid, StandFor, row_of_element, unmarked};
 ghost use Rattle.gp_rewrite.specs.Rewriting.{query_of, rewritten};
 
 /// Reenactment of one statement, for the annotations of any monoid. Where the queries of the tables give the rows of a
@@ -36,7 +36,7 @@ pub fn rewritten_statements_mean_the_statements<M>()
         → (steps : ℕ → List (Derived M)) (env : Environment M) (tables : ℕ → Query)
         (db : Database M) → StandFor domain steps env tables db
         → map unmarked (meaning domain steps env (query_of tables select))
-        ≡ map of_element (answer domain select db) }
+        ≡ map row_of_element (answer domain select db) }
 {}
 
 /// Queries of statements and of SELECTs have the forms that a program needs, if the queries of the tables have theirs, and

@@ -18,7 +18,7 @@ use Rattle.gp_machine.specs.declared.reply.Reply.{Reply}
 use Rattle.gp_machine.specs.declared.reply.Reply.TheVariants as reply
 use Rattle.gp_log.specs.Parameters.{parameters}
 use Rattle.gp_script.specs.History.{NumberedReply, outcome_of}
-use Rattle.gp_script.specs.Scripts.{final_state, line_outcome, line_read, lines_read, replies_from, state_after}
+use Rattle.gp_script.specs.Scripts.{final_state, line_outcome, line_if_read, lines_if_read, replies_from, state_after}
 
 refused-unrecorded : (action : Action) (refusal : Refusal) → is_lost refusal ≡ false → is_recorded action (reply.Refused refusal) ≡ false
 refused-unrecorded (Create table) refusal kept = refl
@@ -43,13 +43,13 @@ module _ {M : Type 0} (domain : Annotations M) where
   refused-unchanged leaves state number (Ok line) refusal is kept =
       leaves state (record { number = number; session = line.session; command = line.command }) (ap (is_recorded (action_of line.command)) is ∙ refused-unrecorded (action_of line.command) refusal kept)
 
-  after-read : (lines : List (ℕ × List ℕ)) → ((state : State M) → state_after domain state lines ≡ after domain parameters state (lines_read lines)) → (state : State M) (number : ℕ) (read : Result ScriptLine Fault)
-      → state_after domain (outcome_of domain state number read).0 lines ≡ after domain parameters state (line_read number read ++ lines_read lines)
+  after-read : (lines : List (ℕ × List ℕ)) → ((state : State M) → state_after domain state lines ≡ after domain parameters state (lines_if_read lines)) → (state : State M) (number : ℕ) (read : Result ScriptLine Fault)
+      → state_after domain (outcome_of domain state number read).0 lines ≡ after domain parameters state (line_if_read number read ++ lines_if_read lines)
   after-read lines rest state number (Err fault) = rest state
   after-read lines rest state number (Ok line) = rest (event domain parameters state number line.session line.command).0
 
   -- the lines of a script are lines of the history machine
-  pub after-lines : (lines : List (ℕ × List ℕ)) (state : State M) → state_after domain state lines ≡ after domain parameters state (lines_read lines)
+  pub after-lines : (lines : List (ℕ × List ℕ)) (state : State M) → state_after domain state lines ≡ after domain parameters state (lines_if_read lines)
   after-lines [] state = refl
   after-lines (line ∷ lines) state = after-read lines (after-lines lines) state line.0 (script_line_of line.1)
 
@@ -74,6 +74,6 @@ module _ {M : Type 0} (domain : Annotations M) where
       (sym (outcome-same forgets state line.0 (script_line_of line.1)))
 
 pub states-same : {M : Type 0} (domain : Annotations M) (script : List ℕ)
-    → after unannotated parameters start (lines_read (script_lines script)) ≡ state_reannotated forgotten (after domain parameters start (lines_read (script_lines script)))
+    → after unannotated parameters start (lines_if_read (script_lines script)) ≡ state_reannotated forgotten (after domain parameters start (lines_if_read (script_lines script)))
     → final_state unannotated script ≡ state_reannotated forgotten (final_state domain script)
 states-same domain script same = after-lines unannotated (script_lines script) start ∙ same ∙ ap (state_reannotated forgotten) (sym (after-lines domain (script_lines script) start))

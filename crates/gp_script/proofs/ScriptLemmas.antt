@@ -9,7 +9,7 @@ use Rattle.gp_base.specs.declared.table.Table.{Table}
 use Rattle.gp_grammar.specs.Syntax.{ScriptLine}
 use Rattle.gp_grammar.specs.LineReading.{Fault}
 use Rattle.gp_syntax.specs.Lines.{script_lines}
-use Rattle.gp_syntax.specs.Refusals.{refusal_of}
+use Rattle.gp_syntax.specs.Refusals.{refusal_of_fault}
 use Rattle.gp_syntax.specs.ReadResults.{refusal_in}
 use Rattle.gp_machine.specs.Replies.{is_refusal}
 use Rattle.gp_machine.specs.State.{State, start}
@@ -36,7 +36,7 @@ pub refused-read : (read : Result ScriptLine Fault) (refusal : Refusal) (engine 
     → FollowsRead engine engine number read (reply.Refused refusal)
 refused-read (Ok line) refusal engine number fault = absurd cc
 refused-read (Err fault) refusal engine number is =
-    let same : refusal_of fault ≡ refusal = cc in
+    let same : refusal_of_fault fault ≡ refusal = cc in
     record { reply = λ state represented. ap reply.Refused (sym same); state = λ state represented. represented }
 
 -- a line that is read is answered by the engine

@@ -11,7 +11,7 @@ use Rattle.gp_syntax.specs.Lines.{is_answered, script_lines}
 use Rattle.gp_log.specs.declared.limit.TheConstants.{MAX_LINE}
 use Rattle.gp_log.specs.ScriptLines.{AreLinesAfter, AreScriptLines}
 use Rattle.gp_log.proofs.LineCommands.{line-command, parsed-reads}
-use Rattle.gp_script.specs.Scripts.{line_read, lines_read}
+use Rattle.gp_script.specs.Scripts.{line_if_read, lines_if_read}
 use Rattle.gp_script.proofs.ReadingLemmas.{read-range}
 
 -- ---- how many lines there are
@@ -43,22 +43,22 @@ lines-few script =
 -- ---- their numbers
 
 module _ (last number : ℕ) (line : List ℕ) (others : List (ℕ × List ℕ)) (below : last < number) (within : number ≤ MAX_LINE)
-    (after : AreLinesAfter number (lines_read others)) (same : AreLinesAfter last (lines_read others)) where
-  one-read : (read : Result ScriptLine Fault) → script_line_of line ≡ read → AreLinesAfter last (line_read number read ++ lines_read others)
+    (after : AreLinesAfter number (lines_if_read others)) (same : AreLinesAfter last (lines_if_read others)) where
+  one-read : (read : Result ScriptLine Fault) → script_line_of line ≡ read → AreLinesAfter last (line_if_read number read ++ lines_if_read others)
   one-read (Err fault) is = same
   one-read (Ok x) is =
       let range = read-range line x is in
       (record { rises = below; number = within; first = range.0; session = range.1; command = parsed-reads (command_text x.command) x.command (line-command line x is) }, after)
 
-  one-line : (answered : Bool) → AreLinesAfter last (lines_read (cond answered ((number, line) ∷ others) others))
+  one-line : (answered : Bool) → AreLinesAfter last (lines_if_read (cond answered ((number, line) ∷ others) others))
   one-line true = one-read (script_line_of line) refl
   one-line false = same
 
-lines-after : (last number : ℕ) (all : List (List ℕ)) → last < number → number + length all ≤ suc MAX_LINE → AreLinesAfter last (lines_read (filter (λ (line : ℕ × List ℕ). is_answered line.1) (enumerate_from number all)))
+lines-after : (last number : ℕ) (all : List (List ℕ)) → last < number → number + length all ≤ suc MAX_LINE → AreLinesAfter last (lines_if_read (filter (λ (line : ℕ × List ℕ). is_answered line.1) (enumerate_from number all)))
 lines-after last number [] below within = tt
 lines-after last number (line ∷ all) below within =
     one-line last number line (filter (λ (line : ℕ × List ℕ). is_answered line.1) (enumerate_from (number + 1) all)) below (omega (arith, within))
     (lines-after number (number + 1) all (omega arith) (omega (arith, within))) (lines-after last (number + 1) all (omega arith) (omega (arith, within))) (is_answered line)
 
-pub script-lines : (script : List ℕ) → length script < MAX_LINE → AreScriptLines (lines_read (script_lines script))
+pub script-lines : (script : List ℕ) → length script < MAX_LINE → AreScriptLines (lines_if_read (script_lines script))
 script-lines script short = let few = lines-few script in lines-after 0 1 (lines script) (omega arith) (omega (arith, few, short))

@@ -15,6 +15,6 @@ pub record FollowsRead (old new : Engine) (number : ℕ) (read : Result ScriptLi
   pub reply : (state : State (Unit {0})) → IsEngineOf old state → answer ≡ (outcome_of unannotated state number read).1
   pub state : (state : State (Unit {0})) → IsEngineOf old state → IsEngineOf new (outcome_of unannotated state number read).0
 
--- the same of the bytes of the line
+-- by the bytes of the line
 abbrev pub FollowsLine : Engine → Engine → ℕ → List ℕ → Reply → Type 0
 FollowsLine old new number bytes answer = FollowsRead old new number (script_line_of bytes) answer

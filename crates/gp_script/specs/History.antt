@@ -10,7 +10,7 @@ use Rattle.gp_grammar.specs.Limits.{line_shape}
 use Rattle.gp_grammar.specs.LineReading.{Fault, AreReadAs}
 use Rattle.gp_grammar.specs.Syntax.{ScriptLine}
 use Rattle.gp_syntax.specs.Lines.{script_lines}
-use Rattle.gp_syntax.specs.Refusals.{refusal_of}
+use Rattle.gp_syntax.specs.Refusals.{refusal_of_fault}
 use Rattle.gp_machine.specs.declared.reply.Reply.{Reply}
 use Rattle.gp_machine.specs.declared.reply.Reply.TheVariants as reply
 use Rattle.gp_machine.specs.Event.{event}
@@ -36,7 +36,7 @@ pub record NumberedReply : Type 0 where
 module _ {M : Type 0} (domain : Annotations M) where
   -- the outcome of a line; a fault in its text leaves the state unchanged
   abbrev pub outcome_of : State M → ℕ → Result ScriptLine Fault → State M × Reply
-  outcome_of state number (Err fault) = (state, reply.Refused (refusal_of fault))
+  outcome_of state number (Err fault) = (state, reply.Refused (refusal_of_fault fault))
   outcome_of state number (Ok line) = event domain parameters state number line.session line.command
 
   -- the replies to these lines, and the state that they leave

@@ -31,14 +31,12 @@ module _ {M : Type 0} (domain : Annotations M) where
   abbrev pub final_state : List ℕ → State M
   final_state script = last_state domain (lines_as_read script)
 
--- the line that is read as this, if it is read
-abbrev pub line_read : ℕ → Result ScriptLine Fault → List Line
-line_read number (Err fault) = []
-line_read number (Ok line) = record { number = number; session = line.session; command = line.command } ∷ []
+abbrev pub line_if_read : ℕ → Result ScriptLine Fault → List Line
+line_if_read number (Err fault) = []
+line_if_read number (Ok line) = record { number = number; session = line.session; command = line.command } ∷ []
 
--- those of the lines that are read
-abbrev pub lines_read : List (ℕ × List ℕ) → List Line
-lines_read lines = flat_map (λ (line : ℕ × List ℕ). line_read line.0 (script_line_of line.1)) lines
+abbrev pub lines_if_read : List (ℕ × List ℕ) → List Line
+lines_if_read lines = flat_map (λ (line : ℕ × List ℕ). line_if_read line.0 (script_line_of line.1)) lines
 
 -- the replies to the lines of a script, in order
 abbrev pub replies_of : List ℕ → List NumberedReply

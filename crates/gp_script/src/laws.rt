@@ -14,7 +14,7 @@ ghost use Rattle.gp_machine.specs.declared.reply.Reply.TheVariants as reply;
 ghost use Rattle.gp_log.specs.Parameters.{parameters};
 ghost use Rattle.gp_log.specs.ScriptLines.{AreScriptLines};
 ghost use Rattle.gp_script.specs.History.{NumberedReply};
-ghost use Rattle.gp_script.specs.Scripts.{final_state, line_outcome, lines_read, replies_from, replies_of};
+ghost use Rattle.gp_script.specs.Scripts.{final_state, line_outcome, lines_if_read, replies_from, replies_of};
 
 use crate::script::MAX_SCRIPT_LENGTH;
 use gp_machine::{accepted_lines_are_recorded, annotations_change_no_reply};
@@ -39,14 +39,15 @@ pub fn refused_lines_change_nothing<M>()
 /// machine hold of it.
 pub fn scripts_lead_to_histories<M>()
     ensures reached { (domain : Annotations M) (script : List ℕ)
-        → final_state domain script ≡ after domain parameters start (lines_read (script_lines script)) }
+        → final_state domain script
+        ≡ after domain parameters start (lines_if_read (script_lines script)) }
 {}
 
 /// The lines of a script that were read are lines of a script for the history machine: their numbers rise from 1 at the least,
 /// and their commands are read again from their canonical texts. So the laws of logs and dumps hold of the state that it leaves.
 pub fn lines_of_scripts_are_script_lines()
     ensures lines { (script : List ℕ) → length script ≤ MAX_SCRIPT_LENGTH
-        → AreScriptLines (lines_read (script_lines script)) }
+        → AreScriptLines (lines_if_read (script_lines script)) }
 {}
 
 /// The replies do not depend on annotations, and the state without annotations is the one with them, when they are forgotten.

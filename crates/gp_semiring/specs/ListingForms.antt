@@ -1,4 +1,4 @@
--- Part of the statement: the rows of a listing, and the occurrences that were listed.
+-- Of the law `listings_hold_each_occurrence`: the rows of a listing, and the occurrences that were listed.
 use Rattle.std.specs.Prelude.{◌≡◌, List, [], ◌∷◌, ◌++◌, map}
 use Rattle.std.specs.List.{flat_map}
 use Rattle.gp_base.specs.declared.cell.Cell.{Cell}

@@ -1,4 +1,4 @@
--- Part of the statement: sums in their order.
+-- Of the laws `sums_need_no_order` and `groups_hold_totals`: sums in their order.
 use Rattle.std.specs.Prelude.{ℕ, ◌≤◌, List, [], ◌∷◌, IsTrue}
 use Rattle.std.specs.declared.cmp.Ordering.{Ordering}
 use Rattle.std.specs.FinMap.{is_sorted}

@@ -1,4 +1,4 @@
--- Part of the statement: sets of witnesses in their order.
+-- Of the contract of `sets` and of the law `witnesses_are_minimal`: sets of witnesses in their order.
 use Rattle.std.specs.Prelude.{◌≡◌, true, ◌⊎◌, List, [], ◌∷◌, map, IsTrue}
 use Rattle.std.specs.Cmp.Lexicographic.{slice_cmp}
 use Rattle.std.specs.declared.cmp.Ordering.{Ordering}

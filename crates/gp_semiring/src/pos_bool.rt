@@ -36,7 +36,6 @@ impl Model for PosBool {
     ghost invariant = { λ a. IsWitness token_cmp a.sets.items };
 }
 
-/// The text of sets.
 fn sets_text(alloc: Global, sets: &[TokenSet]) -> Result<Vec<u8>, NoMemory>
     ensures { IfOk result (λ text. text.items ≡ w.sets_text sets.now) }
 {

@@ -10,7 +10,7 @@ use Rattle.gp_grammar.specs.declared.limits.TheConstants.{MAX_BRANCHES, MAX_COLU
 use Rattle.gp_grammar.specs.Syntax as y
 use Rattle.gp_grammar.specs.Syntax.{Term}
 use Rattle.gp_grammar.specs.Limits as g
-use Rattle.gp_grammar.specs.Limits.{Shape, nodes, levels, listed, some_above, passed_limit, both, query_shape, terms_of_query}
+use Rattle.gp_grammar.specs.Limits.{Shape, nodes, levels, select_terms, some_above, passed_limit, both, query_shape, terms_of_query}
 use Rattle.gp_grammar.proofs.BothLemmas as parts
 use Rattle.gp_grammar.proofs.BothLemmas.{both-limit}
 use Rattle.gp_syntax.specs.declared.term.Term as r
@@ -84,8 +84,8 @@ blocks-above measure blocks = list_any-flat_map (is_above measure) terms_of_bloc
 pub sets-above : (measure : Measure) (sets : List SetTerm) → are_above measure (terms_of_sets (map set_view sets)) ≡ list_any (λ set. is_above measure (term_view set.term)) sets
 sets-above measure sets = any-map (is_above measure) set_term_of (map set_view sets) ∙ any-map (λ (set : y.SetTerm). is_above measure set.term) set_view sets
 
-pub columns-above : (most : ℕ) (blocks : List Block) → some_above most (query_shape (map block_view blocks)).columns ≡ list_any (λ block. nat_lt most (length (listed (items_view block.items)))) blocks
-columns-above most blocks = any-map (λ n. nat_lt most n) (λ (b : y.Block). length (listed b.items)) (map block_view blocks) ∙ any-map (λ (b : y.Block). nat_lt most (length (listed b.items))) block_view blocks
+pub columns-above : (most : ℕ) (blocks : List Block) → some_above most (query_shape (map block_view blocks)).columns ≡ list_any (λ block. nat_lt most (length (select_terms (items_view block.items)))) blocks
+columns-above most blocks = any-map (λ n. nat_lt most n) (λ (b : y.Block). length (select_terms b.items)) (map block_view blocks) ∙ any-map (λ (b : y.Block). nat_lt most (length (select_terms b.items))) block_view blocks
 
 pub tables-above : (most : ℕ) (blocks : List Block) → some_above most (query_shape (map block_view blocks)).from ≡ list_any (λ block. nat_lt most (length block.from)) blocks
 tables-above most [] = refl

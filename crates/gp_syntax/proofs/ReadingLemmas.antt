@@ -13,7 +13,7 @@ use Rattle.gp_grammar.specs.declared.limits.TheConstants.{MAX_OPEN}
 use Rattle.gp_grammar.specs.Syntax.{Lexemes, Bytes}
 use Rattle.gp_grammar.specs.Depth.{is_too_deep}
 use Rattle.gp_grammar.specs.Limits.{Shape, depth, passed_limit}
-use Rattle.gp_grammar.specs.LineReading.{Fault, not_utf8, over, syntax, column_of}
+use Rattle.gp_grammar.specs.LineReading.{Fault, not_utf8, over, syntax, lexeme_column}
 use Rattle.gp_grammar.specs.Reading.{placed, read_lexed, read_text, within_shape}
 use Rattle.gp_grammar.specs.Parsing.{Parser, whole}
 use Rattle.gp_syntax.specs.declared.error.ReadStop.{ReadStop}
@@ -73,7 +73,7 @@ module _ {A : Type 0} (parser : Parser A) (shape : A → Shape) where
       subst P (sym (read-parsed bytes l x h (ap (whole parser) (sym same) ∙ e))) returned
 
   pub read-stopped : (bytes : Bytes) (l : Lexemes × List ℕ) (rest : Lexemes) → tested_lexemes bytes ≡ Ok l → whole parser l.0 ≡ Err rest
-      → read_text parser shape bytes ≡ Err (syntax (column_of l.0 l.1 (length bytes + 1) rest))
+      → read_text parser shape bytes ≡ Err (syntax (lexeme_column l.0 l.1 (length bytes + 1) rest))
   read-stopped bytes l rest h e = read-tested bytes l h ∙ ap (placed shape l.0 l.1 (length bytes + 1)) e
 
 -- a command, a line or a question with the first limit that it passes

@@ -6,7 +6,7 @@ use Rattle.gp_base.specs.declared.limit.Limit.{Limit}
 use Rattle.gp_base.specs.declared.limit.Limit.TheVariants as limit
 use Rattle.gp_grammar.specs.declared.limits.TheConstants.{MAX_NODES, MAX_LEVELS}
 use Rattle.gp_grammar.specs.Syntax as y
-use Rattle.gp_grammar.specs.Limits.{nodes, levels, listed, terms_of_condition, shape_of_terms, passed_limit}
+use Rattle.gp_grammar.specs.Limits.{nodes, levels, select_terms, terms_of_condition, shape_of_terms, passed_limit}
 use Rattle.gp_syntax.specs.declared.limits.Measure.{Measure}
 use Rattle.gp_syntax.specs.declared.limits.Measure.TheVariants.{Nodes, Levels}
 use Rattle.gp_syntax.specs.Refusals.{limit_of}
@@ -20,7 +20,7 @@ abbrev pub are_above : Measure → List y.Term → Bool
 are_above measure = list_any (is_above measure)
 
 abbrev pub terms_of_block : y.Block → List y.Term
-terms_of_block block = listed block.items ++ terms_of_condition block.cond
+terms_of_block block = select_terms block.items ++ terms_of_condition block.cond
 
 abbrev pub set_term_of : y.SetTerm → y.Term
 set_term_of set = set.term

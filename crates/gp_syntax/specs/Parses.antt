@@ -19,7 +19,7 @@ Parses view (Ok r) parsed = parsed ≡ Ok (view r.0, r.1.now)
 Parses view (Err (At rest)) parsed = parsed ≡ Err rest.now
 Parses view (Err NoMemory) parsed = Unit {0}
 
--- the same for a parser that gives no value
+-- of a parser that gives the rest alone
 abbrev pub Expects : Result (Bor (List Lexeme)) ParseStop → Outcome Lexemes → Type 0
 Expects (Ok rest) parsed = parsed ≡ Ok rest.now
 Expects (Err (At rest)) parsed = parsed ≡ Err rest.now
@@ -34,7 +34,7 @@ Shortens (Err e) lexemes = Unit {0}
 abbrev pub built_view : Built → y.Term
 built_view built = term_view built.term
 
--- the same for a parser of a whole line
+-- of a parser of a whole line, which leaves no rest
 abbrev pub ParsesAll : {X A : Type 0} → (X → A) → Result X ParseStop → Outcome A → Type 0
 ParsesAll view (Ok x) parsed = parsed ≡ Ok (view x)
 ParsesAll view (Err (At rest)) parsed = parsed ≡ Err rest.now
@@ -58,7 +58,7 @@ Strips (Err NoMemory) lexemes stripped = Unit {0}
 abbrev pub pushed : {A : Type 0} → List A → Outcome (A × Lexemes) → Outcome (List A × Lexemes)
 pushed found parsed = parsed >>= (λ r. Ok (push found r.0, r.1))
 
--- the same as Parses for a parser that adds what it parses to a list
+-- of a parser that adds what it parses to a list
 abbrev pub Extends : {A : Type 0} → List A → Result (Bor (List Lexeme)) ParseStop → Outcome (List A × Lexemes) → Type 0
 Extends list (Ok rest) parsed = parsed ≡ Ok (list, rest.now)
 Extends list (Err (At rest)) parsed = parsed ≡ Err rest.now

@@ -14,9 +14,9 @@ limit_of g.values = limit.Values
 limit_of g.node_count = limit.Nodes
 limit_of g.depth = limit.Depth
 
-abbrev pub refusal_of : Fault → Refusal
-refusal_of too_long = E16
-refusal_of not_utf8 = E01
-refusal_of (lexical column) = E02 column
-refusal_of (syntax column) = E03 column
-refusal_of (over limit) = E14 (limit_of limit)
+abbrev pub refusal_of_fault : Fault → Refusal
+refusal_of_fault too_long = E16
+refusal_of_fault not_utf8 = E01
+refusal_of_fault (lexical column) = E02 column
+refusal_of_fault (syntax column) = E03 column
+refusal_of_fault (over limit) = E14 (limit_of limit)

@@ -1,4 +1,4 @@
--- Part of the statement: the abstract syntax of the parsed values, without the pointers in their boxes.
+-- Of the contracts of `read_command`, `read_line` and `read_question`: the abstract syntax of the parsed values, without the pointers in their boxes.
 use Rattle.std.specs.Prelude.{map, Option}
 use Rattle.std.specs.Option.{option_map}
 use Rattle.gp_grammar.specs.Syntax as y

@@ -26,7 +26,6 @@ use gp_base::{Cell, Column, Kind, Name, NoMemory, Row, Sequence, Table};
 use gp_lexer::{Lexeme, Number, Symbol};
 use std::alloc::Global;
 
-/// A term.
 fn term(alloc: Global, lexemes: &[Lexeme]) -> Result<(Term, &[Lexeme]), ParseStop<'_>>
     ensures { Parses term_view result (term lexemes.now) }
 {
@@ -407,7 +406,6 @@ fn blocks(alloc: Global, lexemes: &[Lexeme]) -> Result<(Sequence<Block>, &[Lexem
     Ok((found, rest))
 }
 
-/// A query.
 pub(crate) fn query(alloc: Global, lexemes: &[Lexeme]) -> Result<(Query, &[Lexeme]), ParseStop<'_>>
     ensures { Parses query_view result (spec.query lexemes.now) }
 {
@@ -558,7 +556,6 @@ fn statement_by<'a>(
     }
 }
 
-/// A statement.
 fn statement(alloc: Global, lexemes: &[Lexeme]) -> Result<(Command, &[Lexeme]), ParseStop<'_>>
     ensures { Parses command_view result (spec.statement lexemes.now) }
 {
@@ -568,7 +565,6 @@ fn statement(alloc: Global, lexemes: &[Lexeme]) -> Result<(Command, &[Lexeme]), 
     }
 }
 
-/// A statement in brackets.
 pub(crate) fn bracketed_statement(
     alloc: Global,
     lexemes: &[Lexeme],
@@ -598,7 +594,6 @@ fn command_by<'a>(
     }
 }
 
-/// A command.
 fn command(alloc: Global, lexemes: &[Lexeme]) -> Result<(Command, &[Lexeme]), ParseStop<'_>>
     ensures { Parses command_view result (spec.command lexemes.now) }
 {
@@ -621,7 +616,6 @@ fn in_session(
     Ok((ScriptLine { session, command }, rest))
 }
 
-/// A command with its session.
 fn session_command(
     alloc: Global,
     lexemes: &[Lexeme],

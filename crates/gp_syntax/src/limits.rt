@@ -4,7 +4,7 @@ ghost use Rattle.std.specs.Prelude.{◌≡◌, ◌-◌, ◌^◌, ◌++◌, lengt
 ghost use Rattle.std.specs.List.{list_any};
 ghost use Rattle.std.specs.Option.{option_map};
 ghost use Rattle.gp_grammar.specs.Depth as spec;
-ghost use Rattle.gp_grammar.specs.Limits.{nodes, levels, listed, terms_of_condition, terms_of_query, query_shape, command_shape, change_shape, side_shape, both, question_shape, passed_limit, some_above};
+ghost use Rattle.gp_grammar.specs.Limits.{nodes, levels, select_terms, terms_of_condition, terms_of_query, query_shape, command_shape, change_shape, side_shape, both, question_shape, passed_limit, some_above};
 ghost use Rattle.gp_syntax.specs.Refusals.{limit_of};
 ghost use Rattle.gp_syntax.specs.Measures.{is_above, are_above, earlier, rank, set_term_of, term_limit, terms_limit, terms_of_block, terms_of_sets};
 ghost use Rattle.gp_syntax.specs.Views.{term_view, set_view, items_view, block_view, query_view, condition_view, command_view, change_view, side_view, question_view};
@@ -152,7 +152,7 @@ fn are_terms_above(terms: &[Term], measure: Measure) -> bool
 }
 
 fn are_items_above(items: &Items, measure: Measure) -> bool
-    ensures { result ≡ are_above measure (listed (items_view items.now)) }
+    ensures { result ≡ are_above measure (select_terms (items_view items.now)) }
 {
     match items {
         Items::Star => false,
@@ -194,7 +194,7 @@ fn are_sets_above(sets: &[SetTerm], measure: Measure) -> bool
 
 /// The number of terms that a SELECT lists; `*` lists none.
 fn listed_len(items: &Items) -> usize
-    ensures { result ≡ length (listed (items_view items.now)) }
+    ensures { result ≡ length (select_terms (items_view items.now)) }
 {
     match items {
         Items::Star => 0,
@@ -204,7 +204,7 @@ fn listed_len(items: &Items) -> usize
 
 fn any_lists_many(blocks: &[Block]) -> bool
     ensures { result ≡ list_any
-        (λ block. nat_lt MAX_COLUMNS (length (listed (items_view block.items)))) blocks.now }
+        (λ block. nat_lt MAX_COLUMNS (length (select_terms (items_view block.items)))) blocks.now }
 {
     blocks
         .iter()

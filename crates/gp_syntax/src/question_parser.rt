@@ -60,7 +60,6 @@ pub(crate) struct Pattern {
     pub n: Option<u32>,
 }
 
-/// A number.
 pub(crate) fn number(lexemes: &[Lexeme]) -> Result<(u64, &[Lexeme]), ParseStop<'_>>
     ensures { Parses (λ number. number) result (spec.number lexemes.now) }
 {
@@ -103,7 +102,6 @@ pub(crate) fn state(lexemes: &[Lexeme]) -> Result<(Point, &[Lexeme]), ParseStop<
     }
 }
 
-/// The name of a semiring.
 #[tactic(auto, unfolding(gp_grammar::specs::QuestionParsing::semiring_name))]
 fn semiring_name(lexemes: &[Lexeme]) -> Result<(SemiringName, &[Lexeme]), ParseStop<'_>>
     ensures { Parses (λ semiring. semiring) result (spec.semiring_name lexemes.now) }
@@ -194,7 +192,6 @@ fn pattern_parts(
     }
 }
 
-/// A pattern.
 fn rule_pattern(lexemes: &[Lexeme]) -> Result<(Pattern, &[Lexeme]), ParseStop<'_>>
     ensures { Parses pattern_view result (spec.pattern lexemes.now) }
 {

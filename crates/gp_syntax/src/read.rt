@@ -7,7 +7,7 @@ ghost use Rattle.gp_base.specs.declared.refusal.Refusal.TheVariants.{E03 as Synt
 ghost use Rattle.gp_lexer.specs.Lexing.{lexed};
 ghost use Rattle.gp_grammar.specs.CommandParsing.{command, script_line};
 ghost use Rattle.gp_grammar.specs.Limits.{Shape, passed_limit, command_shape, line_shape, question_shape};
-ghost use Rattle.gp_grammar.specs.LineReading.{column_of};
+ghost use Rattle.gp_grammar.specs.LineReading.{lexeme_column};
 ghost use Rattle.gp_grammar.specs.Reading.{command_of, question_of, read_text, script_line_of, within_shape};
 ghost use Rattle.gp_grammar.specs.Parsing.{Parser, whole};
 ghost use Rattle.gp_grammar.specs.QuestionParsing.{question};
@@ -74,7 +74,7 @@ fn tested_lexemes(alloc: Global, text: &[u8]) -> Result<Lexemes, ReadStop>
 /// The refusal of a line, of which these lexemes are left from the fault on.
 fn syntax_refusal(lexemes: &Lexemes, rest: &[Lexeme], len: usize) -> Refusal
     requires { len < 2 ^ 32 - 1 }
-    ensures { result ≡ SyntaxFault (column_of lexemes.now.0 lexemes.now.1 (len + 1) rest.now) }
+    ensures { result ≡ SyntaxFault (lexeme_column lexemes.now.0 lexemes.now.1 (len + 1) rest.now) }
 {
     let place = lexemes.lexemes().len().saturating_sub(rest.len());
     let columns = lexemes.columns();

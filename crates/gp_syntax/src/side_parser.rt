@@ -71,7 +71,6 @@ fn changed_side(alloc: Global, lexemes: &[Lexeme]) -> Result<(Side, &[Lexeme]), 
     Ok((Side::Changed { change, kept }, rest))
 }
 
-/// A side.
 #[tactic(auto, unfolding(gp_grammar::specs::QuestionParsing::side))]
 fn side(alloc: Global, lexemes: &[Lexeme]) -> Result<(Side, &[Lexeme]), ParseStop<'_>>
     ensures { Parses side_view result (spec.side lexemes.now) }

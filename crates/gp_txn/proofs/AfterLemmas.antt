@@ -9,7 +9,7 @@ use Rattle.gp_base.specs.declared.cell.Cell.{Cell}
 use Rattle.gp_base.specs.declared.stored.Stored.{Stored}
 use Rattle.gp_base.specs.Annotated.{unannotated}
 use Rattle.gp_base.specs.Identities.{Identity, same_identity}
-use Rattle.gp_base.specs.IdentityParts.{transaction_of}
+use Rattle.gp_base.specs.IdentityParts.{identity_transaction}
 use Rattle.gp_versions.specs.declared.span.Span.{Span}
 use Rattle.gp_versions.specs.declared.span.Write.{Write}
 use Rattle.gp_versions.specs.Commits.{after_commit, begun, ended, is_written, live_rows}
@@ -62,7 +62,7 @@ module _ (writes : Writes) (versions : List Versions) where
   not-not false = refl
 
   -- of the rows of others, those that it has written
-  pub commit-bases : HoldsOwn writes → (place : ℕ) (id : Identity) → transaction_of id ≢ writes.t
+  pub commit-bases : HoldsOwn writes → (place : ℕ) (id : Identity) → identity_transaction id ≢ writes.t
       → is_written (commit_of writes.tables versions place) id ≡ is_some (base_at writes.tables versions place id)
   commit-bases own place id other =
       let table = overlay_at place writes.tables versions in
@@ -115,12 +115,12 @@ module _ (version : ℕ) (writes : Writes) (old new : List Versions) (same : len
 module _ (u : ℕ) where
   others-ended : (version : ℕ) (writes : List Write) (spans : List Span) → AreOthers u spans → AreOthers u (map (ended version writes) spans)
   others-ended version writes [] all = tt
-  others-ended version writes (span ∷ spans) all = ((λ is. all.0 (ap transaction_of (sym (ended_id version writes span)) ∙ is)), others-ended version writes spans all.1)
+  others-ended version writes (span ∷ spans) all = ((λ is. all.0 (ap identity_transaction (sym (ended_id version writes span)) ∙ is)), others-ended version writes spans all.1)
 
   abbrev AreWritesOfOthers : List Write → Type 0
-  AreWritesOfOthers writes = AllByRecursion (λ (write : Write). transaction_of write.id ≢ u) writes
+  AreWritesOfOthers writes = AllByRecursion (λ (write : Write). identity_transaction write.id ≢ u) writes
 
-  begun-cons : (version : ℕ) (id : Identity) (row : Option (List Cell)) (rest : List Span) → transaction_of id ≢ u → AreOthers u rest
+  begun-cons : (version : ℕ) (id : Identity) (row : Option (List Cell)) (rest : List Span) → identity_transaction id ≢ u → AreOthers u rest
       → AreOthers u (cons_option (option_map (λ cells. record { id = id; from = version; to = None; row = cells }) row) rest)
   begun-cons version id None rest other all = all
   begun-cons version id (Some cells) rest other all = (other, all)
@@ -137,7 +137,7 @@ module _ (u : ℕ) where
   writes-both [] ys left right = right
   writes-both (x ∷ xs) ys left right = (left.0, writes-both xs ys left.1 right)
 
-  others-carried : (carried : List Carried) → AllByRecursion (λ (row : Carried). transaction_of row.id ≢ u) carried → AreWritesOfOthers (map carried_write carried)
+  others-carried : (carried : List Carried) → AllByRecursion (λ (row : Carried). identity_transaction row.id ≢ u) carried → AreWritesOfOthers (map carried_write carried)
   others-carried [] all = tt
   others-carried (row ∷ rows) all = (all.0, others-carried rows all.1)
 
@@ -145,20 +145,20 @@ module _ (u : ℕ) where
   others-own t [] differ all = tt
   others-own t (stored ∷ own) differ all = ((λ is. differ (sym is ∙ all.0)), others-own t own differ all.1)
 
-  there-other : (spans : List Span) (id : Identity) → AreOthers u spans → has_span spans id ≡ true → transaction_of id ≢ u
+  there-other : (spans : List Span) (id : Identity) → AreOthers u spans → has_span spans id ≡ true → identity_transaction id ≢ u
   there-other [] id others is = absurd (false≢true is)
   there-other (span ∷ spans) id others is =
-      elim (same_identity span.id id) as (λ b. same_identity span.id id ≡ b → (b || has_span spans id) ≡ true → transaction_of id ≢ u) [
-        | true ↦ λ same is. subst (λ other. transaction_of other ≢ u) (same-exact span.id id same) others.0
+      elim (same_identity span.id id) as (λ b. same_identity span.id id ≡ b → (b || has_span spans id) ≡ true → identity_transaction id ≢ u) [
+        | true ↦ λ same is. subst (λ other. identity_transaction other ≢ u) (same-exact span.id id same) others.0
         | false ↦ λ other is. there-other spans id others.1 is
       ] refl is
 
-  carried-others : (spans : List Span) (carried : List Carried) → AreOthers u spans → AreThere spans carried → AllByRecursion (λ (row : Carried). transaction_of row.id ≢ u) carried
-  carried-others spans carried others there = all-weaker (λ (row : Carried). has_span spans row.id ≡ true) (λ (row : Carried). transaction_of row.id ≢ u) (λ row is. there-other spans row.id others is) carried there
+  carried-others : (spans : List Span) (carried : List Carried) → AreOthers u spans → AreThere spans carried → AllByRecursion (λ (row : Carried). identity_transaction row.id ≢ u) carried
+  carried-others spans carried others there = all-weaker (λ (row : Carried). has_span spans row.id ≡ true) (λ (row : Carried). identity_transaction row.id ≢ u) (λ row is. there-other spans row.id others is) carried there
 
   others-table : (t : ℕ) (table : TableWrites) (spans : List Span) → u ≢ t → AreOthers u spans → AreThere spans table.carried → AreWritesOf t table → AreWritesOfOthers (table_writes (overlay_of spans table) (rows_below (overlay_of spans table) spans))
   others-table t table spans differ others there mine =
-      writes-both (slot_writes (overlay_of spans table) (rows_below (overlay_of spans table) spans)) (map carried_write table.carried ++ map own_write table.own) (slots-all (λ id. transaction_of id ≢ u) (overlay_of spans table) spans others)
+      writes-both (slot_writes (overlay_of spans table) (rows_below (overlay_of spans table) spans)) (map carried_write table.carried ++ map own_write table.own) (slots-all (λ id. identity_transaction id ≢ u) (overlay_of spans table) spans others)
       (writes-both (map carried_write table.carried) (map own_write table.own) (others-carried table.carried (carried-others spans table.carried others there)) (others-own t table.own differ mine.inserted.0))
 
 -- no span is of a row of another transaction that had none

@@ -7,7 +7,7 @@ use Rattle.gp_base.specs.declared.cell.Cell.{Cell}
 use Rattle.gp_base.specs.declared.stored.Stored.{Stored}
 use Rattle.gp_base.specs.Annotated.{unannotated, Database}
 use Rattle.gp_base.specs.Identities.{Identity}
-use Rattle.gp_base.specs.IdentityParts.{transaction_of}
+use Rattle.gp_base.specs.IdentityParts.{identity_transaction}
 use Rattle.gp_algebra.specs.Answers.{answer}
 use Rattle.gp_algebra.specs.Statements.{Select, Statement, insert, insert_select}
 use Rattle.gp_algebra.specs.Effects.{Written, given_from, made, step, wrote, with_rows, written_in}
@@ -111,7 +111,7 @@ module _ (k version place : ℕ) (statement : Statement) (versions : List Versio
     same-base id = ap (λ v. base_of over (rows_at unannotated v (spans place)) id) same
 
     pub applied-put : view_rows over base ≡ next place → ((p : ℕ) → p ≢ place → next p ≡ view_at old.tables versions version p)
-        → ((id : Identity) → transaction_of id ≢ old.t → base_of over base id ≡ base_after version (has_written pairs place id) (base_of (overlay_of (spans place) writes) base id))
+        → ((id : Identity) → identity_transaction id ≢ old.t → base_of over base id ≡ base_after version (has_written pairs place id) (base_of (overlay_of (spans place) writes) base id))
         → ((p : ℕ) (id : Identity) → p ≢ place → has_written pairs p id ≡ false)
         → (AreThere (spans place) writes.carried → AreThere (spans place) new.carried)
         → Applied k version statement versions old (put_table k place new old)
@@ -197,7 +197,7 @@ applied-insert k version place statement rows new versions old within are made s
     (λ id other.
     sym (ap (λ b. base_after version b (base_of (overlay_of spans writes) base id))
     (ap (λ pairs. has_written pairs place id) writes_are ∙ written-here place rows id
-    ∙ own-identity old.t rows id other (all-weaker (IsMade unannotated old.t k) (λ (row : PlainRow). transaction_of row.identity ≡ old.t) (λ row is. is.0) rows made))
+    ∙ own-identity old.t rows id other (all-weaker (IsMade unannotated old.t k) (λ (row : PlainRow). identity_transaction row.identity ≡ old.t) (λ row is. is.0) rows made))
     ∙ after-none version (base_of (overlay_of spans writes) base id)))
     (λ p id apart. ap (λ pairs. has_written pairs p id) writes_are ∙ written-elsewhere place p rows id apart)
     (λ there. there)

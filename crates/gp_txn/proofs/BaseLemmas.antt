@@ -6,7 +6,7 @@ use Rattle.std.proofs.lemmas.Bool.{false≢true, or_from, or_parts, not-true}
 use Rattle.std.proofs.lemmas.List.Folds.{list_any-append}
 use Rattle.gp_base.specs.declared.cell.Cell.{Cell}
 use Rattle.gp_base.specs.Identities.{Identity, same_identity}
-use Rattle.gp_base.specs.IdentityParts.{transaction_of}
+use Rattle.gp_base.specs.IdentityParts.{identity_transaction}
 use Rattle.gp_expr.specs.Values.{passes}
 use Rattle.gp_versions.specs.declared.span.Write.{Write}
 use Rattle.gp_versions.specs.Commits.{is_written}
@@ -86,7 +86,7 @@ base-none writes base id =
     ∙ ap (λ b. not (is_written (slot_writes writes base) id || b)) (ap not (carried-some writes.carried id) ∙ not-not (is_carried writes.carried id))
 
 -- the rows of others that a commit writes
-pub table-written : (writes : Overlay) (base : List PlainRow) (t : ℕ) (id : Identity) → transaction_of id ≢ t → AreMadeBy t writes.own
+pub table-written : (writes : Overlay) (base : List PlainRow) (t : ℕ) (id : Identity) → identity_transaction id ≢ t → AreMadeBy t writes.own
     → is_written (table_writes writes base) id ≡ (is_written (slot_writes writes base) id || is_carried writes.carried id)
 table-written writes base t id other made =
     let list = slot_writes writes base in
@@ -127,7 +127,7 @@ none-touched change (row ∷ rows) id none =
     touched-one (passes (cond_of change) row.cells) row (touched change rows) id parts.0 (none-touched change rows id parts.1)
 
 -- the identities that an UPDATE or a DELETE writes of others
-pub view-touched : (t : ℕ) (change : Change) (writes : Overlay) (base : List PlainRow) (id : Identity) → transaction_of id ≢ t → AreMadeBy t writes.own
+pub view-touched : (t : ℕ) (change : Change) (writes : Overlay) (base : List PlainRow) (id : Identity) → identity_transaction id ≢ t → AreMadeBy t writes.own
     → has_identity (touched change (view_rows writes base)) id
     ≡ (has_identity (touched change (overlaid writes.slots (slotted writes.carried base))) id || has_identity (touched change (filter_map carried_row writes.carried)) id)
 view-touched t change writes base id other made =
@@ -137,7 +137,7 @@ view-touched t change writes base id other made =
     touched-append change slots (rows ++ own) id
     ∙ ap (λ b. has_identity (touched change slots) id || b)
     (touched-append change rows own id
-    ∙ ap (λ b. has_identity (touched change rows) id || b) (own-identity t (touched change own) id other (all-touched (λ (row : PlainRow). transaction_of row.identity ≡ t) change own (own-rows t writes.own made)))
+    ∙ ap (λ b. has_identity (touched change rows) id || b) (own-identity t (touched change own) id other (all-touched (λ (row : PlainRow). identity_transaction row.identity ≡ t) change own (own-rows t writes.own made)))
     ∙ or_nothing (has_identity (touched change rows) id))
 
 base-new : (version : ℕ) (old new rows : Bool) → rows ≡ false → base_after version (old || new) None ≡ base_after version (new || rows) (base_after version old None)
@@ -153,7 +153,7 @@ base-kept version old new rows carried id uncarried (Some base) is = refl
 base-kept version old new rows carried id uncarried None is =
     base-new version old new rows (uncarried (not-true (is_carried carried id) (sym (carried-some carried id) ∙ ap is_none is)))
 
-pub base-changed : (t : ℕ) (change : Change) (writes : Overlay) (base : List PlainRow) (id : Identity) → transaction_of id ≢ t → AreMadeBy t writes.own
+pub base-changed : (t : ℕ) (change : Change) (writes : Overlay) (base : List PlainRow) (id : Identity) → identity_transaction id ≢ t → AreMadeBy t writes.own
     → base_of (changed_overlay change writes base) base id ≡ base_after writes.version (has_identity (touched change (view_rows writes base)) id) (base_of writes base id)
 base-changed t change writes base id other made =
     let slots = slotted writes.carried base in

@@ -6,7 +6,7 @@ use Rattle.std.proofs.lemmas.List.{map-append}
 use Rattle.gp_base.specs.declared.stored.Stored.{Stored}
 use Rattle.gp_base.specs.Annotated.{Annotated, unannotated}
 use Rattle.gp_base.specs.Identities.{Identity, same_identity}
-use Rattle.gp_base.specs.IdentityParts.{transaction_of}
+use Rattle.gp_base.specs.IdentityParts.{identity_transaction}
 use Rattle.gp_versions.specs.declared.span.Span.{Span}
 use Rattle.gp_versions.specs.declared.span.Write.{Write}
 use Rattle.gp_versions.specs.Commits.{AreDistinct, is_written}
@@ -56,14 +56,14 @@ distinct-base slots (span ∷ spans) all =
     distinct-cons (head_slot slots) span (base_writes (drop 1 slots) (map (row_of unannotated) spans)) (unwritten span.id (drop 1 slots) spans all.0) (distinct-base (drop 1 slots) spans all.1)
 
 abbrev pub AreMadeBy : ℕ → List Stored → Type 0
-AreMadeBy t own = AllByRecursion (λ (stored : Stored). transaction_of stored.id ≡ t) own
+AreMadeBy t own = AllByRecursion (λ (stored : Stored). identity_transaction stored.id ≡ t) own
 
 -- no inserted row has an identity of another transaction
-pub own-unwritten : (t : ℕ) (id : Identity) (own : List Stored) → transaction_of id ≢ t → AreMadeBy t own → is_written (map own_write own) id ≡ false
+pub own-unwritten : (t : ℕ) (id : Identity) (own : List Stored) → identity_transaction id ≢ t → AreMadeBy t own → is_written (map own_write own) id ≡ false
 own-unwritten t id [] other all = refl
 own-unwritten t id (stored ∷ own) other all =
     or_from (same_identity stored.id id) (is_written (map own_write own) id)
-    (false_from_ne_true (same_identity stored.id id) (λ same. other (ap transaction_of (sym (same-exact stored.id id same)) ∙ all.0)))
+    (false_from_ne_true (same_identity stored.id id) (λ same. other (ap identity_transaction (sym (same-exact stored.id id same)) ∙ all.0)))
     (own-unwritten t id own other all.1)
 
 unwritten-append : (id : Identity) (xs ys : List Write) → is_written xs id ≡ false → is_written ys id ≡ false → is_written (xs ++ ys) id ≡ false
@@ -127,7 +127,7 @@ module _ (carried : List Carried) where
       elim (is_carried carried span.id) as (λ b. AreOfDifferentRows (cond (not b) (span ∷ unslotted spans) (unslotted spans))) [ true ↦ differ-unslotted spans all.1 | false ↦ (differ-all span spans all.0, differ-unslotted spans all.1) ]
 
   pub others-slotted : (t v : ℕ) (spans : List Span) → AreOthers t spans → AreOthers t (slotted_spans carried v spans)
-  others-slotted t v spans all = all-filter (λ (span : Span). transaction_of span.id ≢ t) (λ (span : Span). not (is_carried carried span.id)) (spans_at v spans) (others-held t v spans all)
+  others-slotted t v spans all = all-filter (λ (span : Span). identity_transaction span.id ≢ t) (λ (span : Span). not (is_carried carried span.id)) (spans_at v spans) (others-held t v spans all)
 
 -- what holds of the identities of rows holds of each one that was written
 slot-all : (P : Identity → Type 0) (slot : Slot) (span : Span) (rest : List Write) → P span.id → AllByRecursion (λ (write : Write). P write.id) rest → AllByRecursion (λ (write : Write). P write.id) (cons_option (slot_write slot (row_of unannotated span)) rest)
@@ -154,7 +154,7 @@ over-all P writes spans all mine =
     (all-map (carried_of writes.version) (λ (write : Write). P write.id) (λ (row : Carried). P row.id) (λ write this. this) (slot_writes writes (rows_below writes spans)) (slots-all P writes spans all)) mine
 
 -- a row that is carried over is not the transaction's own
-own-uncarried : (t : ℕ) (own : List Stored) (carried : List Carried) → AreMadeBy t own → AllByRecursion (λ (row : Carried). transaction_of row.id ≢ t) carried → AreUnwritten (map own_write own) (map carried_write carried)
+own-uncarried : (t : ℕ) (own : List Stored) (carried : List Carried) → AreMadeBy t own → AllByRecursion (λ (row : Carried). identity_transaction row.id ≢ t) carried → AreUnwritten (map own_write own) (map carried_write carried)
 own-uncarried t own [] made all = tt
 own-uncarried t own (row ∷ rows) made all = (own-unwritten t row.id own all.0 made, own-uncarried t own rows made all.1)
 
@@ -197,7 +197,7 @@ module _ (stored : TableWrites) (spans : List Span) (t : ℕ) (apart : NoOverlap
   carried-keeps mine =
       let list = slot_writes writes (rows_below writes spans) in
       let new = map (carried_of writes.version) list in (
-        over-all (λ id. transaction_of id ≢ t) writes spans others mine.0,
+        over-all (λ id. identity_transaction id ≢ t) writes spans others mine.0,
         rw (map-append carried_write new writes.carried, back list) (distinct-append list (map carried_write writes.carried) distinct-slots mine.1 across-slots),
       )
 

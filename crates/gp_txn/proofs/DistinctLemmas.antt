@@ -4,7 +4,7 @@ use Rattle.std.proofs.Common.{◌≡◌, ◌≢◌, ℕ, suc, ◌<◌, ◌≤◌
 use Rattle.std.specs.List.{filter, flat_map, AllByRecursion}
 use Rattle.gp_base.specs.declared.cell.Cell.{Cell}
 use Rattle.gp_base.specs.Identities.{identity, no_sources}
-use Rattle.gp_base.specs.IdentityParts.{transaction_of, statement_of}
+use Rattle.gp_base.specs.IdentityParts.{identity_transaction, identity_statement}
 use Rattle.gp_base.specs.IdentityForms.{number_of}
 use Rattle.gp_base.specs.declared.token.Token.TheVariants.{Inserted}
 use Rattle.gp_base.specs.Annotated.{Annotations, Annotated, Database}
@@ -138,11 +138,11 @@ module _ {M : Type 0} (domain : Annotations M) where
 
     -- made by the statement
     abbrev pub IsMade : Annotated M → Type 0
-    IsMade row = (transaction_of row.identity ≡ t) × (statement_of row.identity ≡ k)
+    IsMade row = (identity_transaction row.identity ≡ t) × (identity_statement row.identity ≡ k)
 
     -- not made by the statement or a later one of the transaction
     abbrev pub IsEarlier : Annotated M → Type 0
-    IsEarlier row = transaction_of row.identity ≡ t → statement_of row.identity < k
+    IsEarlier row = identity_transaction row.identity ≡ t → identity_statement row.identity < k
 
     pub given_rows-made : (n : ℕ) (rows : List (List Cell)) → AllByRecursion IsMade (given_from domain t k n rows)
     given_rows-made n [] = tt
@@ -154,8 +154,8 @@ module _ {M : Type 0} (domain : Annotations M) where
     made-fresh : (row : Annotated M) (new : List (Annotated M)) → IsEarlier row → AllByRecursion IsMade new → AllByRecursion (RowsDiffer row) new
     made-fresh row [] earlier all = tt
     made-fresh row (other ∷ new) earlier all = (
-      λ same. let numbers : statement_of row.identity ≡ statement_of other.identity = ap statement_of same in
-          let lower : statement_of row.identity < k = earlier (ap transaction_of same ∙ all.0.0) in
+      λ same. let numbers : identity_statement row.identity ≡ identity_statement other.identity = ap identity_statement same in
+          let lower : identity_statement row.identity < k = earlier (ap identity_transaction same ∙ all.0.0) in
           absurd (omega (arith, numbers, lower, all.0.1)),
       made-fresh row new earlier all.1,
     )

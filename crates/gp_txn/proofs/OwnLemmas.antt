@@ -7,7 +7,7 @@ use Rattle.gp_base.specs.declared.cell.Cell.{Cell}
 use Rattle.gp_base.specs.declared.stored.Stored.{Stored}
 use Rattle.gp_base.specs.Annotated.{unannotated}
 use Rattle.gp_base.specs.Identities.{Identity, same_identity}
-use Rattle.gp_base.specs.IdentityParts.{transaction_of, statement_of}
+use Rattle.gp_base.specs.IdentityParts.{identity_transaction, identity_statement}
 use Rattle.gp_versions.specs.declared.span.Span.{Span}
 use Rattle.gp_versions.specs.Commits.{AreDistinct, is_written}
 use Rattle.gp_versions.specs.Spans.{holds_at, row_of, rows_at, spans_at}
@@ -40,7 +40,7 @@ all-one P same (Put cells) stored rest mine all = (same stored (record { id = st
 all-one P same Dropped stored rest mine all = all
 
 own-moves : (t last : ℕ) (stored other : Stored) → stored.id ≡ other.id → IsOwn t last stored → IsOwn t last other
-own-moves t last stored other same mine = (ap transaction_of (sym same) ∙ mine.0, subst (λ id. statement_of id ≤ last) same mine.1)
+own-moves t last stored other same mine = (ap identity_transaction (sym same) ∙ mine.0, subst (λ id. identity_statement id ≤ last) same mine.1)
 
 all-own : (t last : ℕ) (change : Change) (own : List Stored) → AllByRecursion (IsOwn t last) own → AllByRecursion (IsOwn t last) (changed_own change own)
 all-own t last change [] all = tt
@@ -68,7 +68,7 @@ distinct-own change (stored ∷ own) distinct = distinct-one (effect change stor
 
 -- ---- the rows that are carried over
 
-all-after : (t : ℕ) (change : Change) (carried : List Carried) → AllByRecursion (λ (row : Carried). transaction_of row.id ≢ t) carried → AllByRecursion (λ (row : Carried). transaction_of row.id ≢ t) (changed_carried change carried)
+all-after : (t : ℕ) (change : Change) (carried : List Carried) → AllByRecursion (λ (row : Carried). identity_transaction row.id ≢ t) carried → AllByRecursion (λ (row : Carried). identity_transaction row.id ≢ t) (changed_carried change carried)
 all-after t change [] all = tt
 all-after t change (row ∷ rows) all = (all.0, all-after t change rows all.1)
 
@@ -117,7 +117,7 @@ rows-distinct (stored ∷ own) differ = (none-written stored.id own differ.0, ro
 
 -- ---- INSERT
 
-own-made : (t k : ℕ) (new : List Stored) → AllByRecursion (IsMade unannotated t k) (map own_row new) → AllByRecursion (λ (stored : Stored). (transaction_of stored.id ≡ t) × (statement_of stored.id ≡ k)) new
+own-made : (t k : ℕ) (new : List Stored) → AllByRecursion (IsMade unannotated t k) (map own_row new) → AllByRecursion (λ (stored : Stored). (identity_transaction stored.id ≡ t) × (identity_statement stored.id ≡ k)) new
 own-made t k [] all = tt
 own-made t k (stored ∷ new) all = (all.0, own-made t k new all.1)
 
@@ -131,10 +131,10 @@ own-earlier t last k own later all = all-map own_row (IsOwn t last) (IsEarlier u
 pub own-inserted : (t last k : ℕ) (own new : List Stored) → last < k → AreOwn t last own → AreNew t k new → AreOwn t k (own ++ new)
 own-inserted t last k own new later mine made = (
   each_append (IsOwn t k) own new (all-weaker (IsOwn t last) (IsOwn t k) (λ stored is. (is.0, omega (arith, later, is.1))) own mine.0)
-      (all-weaker (λ (stored : Stored). (transaction_of stored.id ≡ t) × (statement_of stored.id ≡ k)) (IsOwn t k) (λ stored is. (is.0, omega (arith, is.1))) new made.0),
+      (all-weaker (λ (stored : Stored). (identity_transaction stored.id ≡ t) × (identity_statement stored.id ≡ k)) (IsOwn t k) (λ stored is. (is.0, omega (arith, is.1))) new made.0),
   rows-distinct (own ++ new)
       (rw (map-append own_row own new) (inserted-differ unannotated t k (map own_row own) (map own_row new) (distinct-rows own mine.1) (own-earlier t last k own later mine.0) (distinct-rows new made.1)
-      (all-map own_row (λ (stored : Stored). (transaction_of stored.id ≡ t) × (statement_of stored.id ≡ k)) (IsMade unannotated t k) (λ stored is. is) new made.0))),
+      (all-map own_row (λ (stored : Stored). (identity_transaction stored.id ≡ t) × (identity_statement stored.id ≡ k)) (IsMade unannotated t k) (λ stored is. is) new made.0))),
 )
 
 -- ---- all rows that a transaction sees
@@ -170,13 +170,13 @@ spans-differ : (spans : List Span) → AreOfDifferentRows spans → Pairwise Row
 spans-differ [] differ = tt
 spans-differ (span ∷ spans) differ = (apart-spans span.id spans differ.0, spans-differ spans differ.1)
 
-others-rows : (t v : ℕ) (spans : List Span) → AreOthers t spans → AllByRecursion (λ (row : PlainRow). transaction_of row.identity ≢ t) (rows_at unannotated v spans)
+others-rows : (t v : ℕ) (spans : List Span) → AreOthers t spans → AllByRecursion (λ (row : PlainRow). identity_transaction row.identity ≢ t) (rows_at unannotated v spans)
 others-rows t v spans others =
-    all-map (row_of unannotated) (λ (span : Span). transaction_of span.id ≢ t) (λ (row : PlainRow). transaction_of row.identity ≢ t) (λ span is. is) (spans_at v spans)
-    (all-filter (λ (span : Span). transaction_of span.id ≢ t) (holds_at v) spans others)
+    all-map (row_of unannotated) (λ (span : Span). identity_transaction span.id ≢ t) (λ (row : PlainRow). identity_transaction row.identity ≢ t) (λ span is. is) (spans_at v spans)
+    (all-filter (λ (span : Span). identity_transaction span.id ≢ t) (holds_at v) spans others)
 
-other-apart : (t last : ℕ) (row : PlainRow) (own : List Stored) → transaction_of row.identity ≢ t → AllByRecursion (IsOwn t last) own → AllByRecursion (RowsDiffer row) (map own_row own)
-other-apart t last row own other all = all-map own_row (IsOwn t last) (RowsDiffer row) (λ stored is same. other (ap transaction_of same ∙ is.0)) own all
+other-apart : (t last : ℕ) (row : PlainRow) (own : List Stored) → identity_transaction row.identity ≢ t → AllByRecursion (IsOwn t last) own → AllByRecursion (RowsDiffer row) (map own_row own)
+other-apart t last row own other all = all-map own_row (IsOwn t last) (RowsDiffer row) (λ stored is same. other (ap identity_transaction same ∙ is.0)) own all
 
 carried-apart-one : (P : Identity → Type 0) (row : Carried) (cells : Option (List Cell)) (others : List PlainRow) → row.row ≡ cells → P row.id → AllByRecursion (λ (other : PlainRow). P other.identity) others
     → AllByRecursion (λ (other : PlainRow). P other.identity) (cons_option (carried_row row) others)
@@ -221,13 +221,13 @@ view-differ t last writes v spans apart others keeps =
     let rows = filter_map carried_row writes.carried in
     let own = map own_row writes.own in
     let differ = pairwise-filter RowsDiffer (λ (row : PlainRow). not (is_carried writes.carried row.identity)) (rows_at unannotated v spans) (spans-differ (spans_at v spans) (held-differ v spans apart)) in
-    let other = all-filter (λ (row : PlainRow). transaction_of row.identity ≢ t) (λ (row : PlainRow). not (is_carried writes.carried row.identity)) (rows_at unannotated v spans) (others-rows t v spans others) in
+    let other = all-filter (λ (row : PlainRow). identity_transaction row.identity ≢ t) (λ (row : PlainRow). not (is_carried writes.carried row.identity)) (rows_at unannotated v spans) (others-rows t v spans others) in
     let uncarried = all-overlaid (λ id. is_carried writes.carried id ≡ false) (overlay_of spans writes).slots base (all-slotted writes.carried (rows_at unannotated v spans)) in
     let behind = pairwise-append RowsDiffer rows own (carried-differ writes.carried keeps.carried.1) (distinct-rows writes.own keeps.own.1)
-    (all-weaker (λ (row : PlainRow). transaction_of row.identity ≢ t) (λ row. AllByRecursion (RowsDiffer row) own) (λ row is. other-apart t last row writes.own is keeps.own.0) rows
-    (all-carried (λ id. transaction_of id ≢ t) writes.carried keeps.carried.0)) in
+    (all-weaker (λ (row : PlainRow). identity_transaction row.identity ≢ t) (λ row. AllByRecursion (RowsDiffer row) own) (λ row is. other-apart t last row writes.own is keeps.own.0) rows
+    (all-carried (λ id. identity_transaction id ≢ t) writes.carried keeps.carried.0)) in
     let across = all-weaker (λ (row : PlainRow). is_carried writes.carried row.identity ≡ false) (λ row. AllByRecursion (RowsDiffer row) rows)
     (λ row none. all-carried (λ id. row.identity ≢ id) writes.carried (slot-apart writes.carried row.identity none)) slots uncarried in
-    let across_own = all-weaker (λ (row : PlainRow). transaction_of row.identity ≢ t) (λ row. AllByRecursion (RowsDiffer row) own) (λ row is. other-apart t last row writes.own is keeps.own.0) slots
-    (all-overlaid (λ id. transaction_of id ≢ t) (overlay_of spans writes).slots base other) in
+    let across_own = all-weaker (λ (row : PlainRow). identity_transaction row.identity ≢ t) (λ row. AllByRecursion (RowsDiffer row) own) (λ row is. other-apart t last row writes.own is keeps.own.0) slots
+    (all-overlaid (λ id. identity_transaction id ≢ t) (overlay_of spans writes).slots base other) in
     pairwise-append RowsDiffer slots (rows ++ own) (overlaid-differ (overlay_of spans writes).slots base differ) behind (all-both slots rows own across across_own)

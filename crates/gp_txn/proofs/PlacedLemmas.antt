@@ -21,7 +21,7 @@ use Rattle.gp_txn.specs.Ascending.{IsAscending, place_of}
 use Rattle.gp_txn.specs.Conflicts.{late_of, slot_lates}
 use Rattle.gp_txn.specs.Enough.{IsEnough, first_at, if_slotted, is_among, seek, slotted_at}
 use Rattle.gp_txn.specs.Overlay.{PlainRow, base_writes, has_slot, head_slot, is_carried, overlaid, overlay_of, shown, slot_at, slot_write, slots_from, slotted_spans}
-use Rattle.gp_txn.specs.Passes.{of_entry, of_place, of_row}
+use Rattle.gp_txn.specs.Passes.{of_entry, made_of_place, made_of_slot}
 use Rattle.gp_txn.proofs.PairLemmas.{all-weaker}
 
 -- ---- rows that are as they were
@@ -119,11 +119,11 @@ module _ {X : Type 0} (make : ℕ → Slot → Span → List X) (carried : List 
   made_from placed place [] = []
   made_from placed place (span ∷ spans) = cond (has_slot carried version span) (make place (slot_at place placed) span) [] ++ made_from placed (suc place) spans
 
-  at-first : (b : Bool) (place : ℕ) (slot : Slot) (span : Span) → of_row (make place) slot (cond b (Some span) None) ≡ cond b (make place slot span) []
+  at-first : (b : Bool) (place : ℕ) (slot : Slot) (span : Span) → made_of_slot (make place) slot (cond b (Some span) None) ≡ cond b (make place slot span) []
   at-first true place slot span = refl
   at-first false place slot span = refl
 
-  made-each : (H : ℕ → List X) (placed : List Placed) (n : ℕ) (spans : List Span) → ((i p : ℕ) → p ≡ n + i → H p ≡ of_row (make p) (slot_at p placed) (slotted_at carried version spans i)) → each_from H n (length spans) ≡ made_from placed n spans
+  made-each : (H : ℕ → List X) (placed : List Placed) (n : ℕ) (spans : List Span) → ((i p : ℕ) → p ≡ n + i → H p ≡ made_of_slot (make p) (slot_at p placed) (slotted_at carried version spans i)) → each_from H n (length spans) ≡ made_from placed n spans
   made-each H placed n [] is = refl
   made-each H placed n (span ∷ spans) is =
       let here = is zero n (omega arith) ∙ at-first (has_slot carried version span) n (slot_at n placed) span in
@@ -132,13 +132,13 @@ module _ {X : Type 0} (make : ℕ → Slot → Span → List X) (carried : List 
 
   module _ (placed : List Placed) (spans : List Span) where
     abbrev here_at : ℕ → List X
-    here_at place = of_place make carried version placed spans place
+    here_at place = made_of_place make carried version placed spans place
 
     beyond : (place : ℕ) → length spans ≤ place → here_at place ≡ []
-    beyond place high = ap (λ span. of_row (make place) (slot_at place placed) (option_and_then (if_slotted carried version) span)) (slice_get_past spans place high)
+    beyond place high = ap (λ span. made_of_slot (make place) (slot_at place placed) (option_and_then (if_slotted carried version) span)) (slice_get_past spans place high)
 
     made-all : each_from here_at 0 (length spans) ≡ made_from placed 0 spans
-    made-all = made-each here_at placed 0 spans (λ i p same. let is : p ≡ i = omega (arith, same) in ap (λ q. of_row (make p) (slot_at p placed) (slotted_at carried version spans q)) is)
+    made-all = made-each here_at placed 0 spans (λ i p same. let is : p ≡ i = omega (arith, same) in ap (λ q. made_of_slot (make p) (slot_at p placed) (slotted_at carried version spans q)) is)
 
     -- at places that are enough
     made-enough : (places : List ℕ) → IsAscending places → ((p : ℕ) → is_among places p ≡ false → here_at p ≡ []) → flat_map here_at places ≡ made_from placed 0 spans
@@ -150,7 +150,7 @@ module _ {X : Type 0} (make : ℕ → Slot → Span → List X) (carried : List 
         all-weaker-none (place ∷ some) = (omega arith, all-weaker-none some)
 
     made-slotted : (test : List Cell → Bool) (p : ℕ) (span : Span) → ((p : ℕ) (span : Span) → test span.row ≡ false → make p Same span ≡ [])
-        → (holds_at version span ≡ true → (slot_at p placed ≡ Same) × (test span.row ≡ false)) → (b : Bool) → has_slot carried version span ≡ b → of_row (make p) (slot_at p placed) (cond b (Some span) None) ≡ []
+        → (holds_at version span ≡ true → (slot_at p placed ≡ Same) × (test span.row ≡ false)) → (b : Bool) → has_slot carried version span ≡ b → made_of_slot (make p) (slot_at p placed) (cond b (Some span) None) ≡ []
     made-slotted test p span nothing is true has =
         let parts = is (left_true (holds_at version span) (not (is_carried carried span.id)) has) in
         ap (λ slot. make p slot span) parts.0 ∙ nothing p span parts.1
@@ -161,7 +161,7 @@ module _ {X : Type 0} (make : ℕ → Slot → Span → List X) (carried : List 
         → flat_map here_at places ≡ made_from placed 0 spans
     made-places test places nothing enough =
         made-enough places enough.ascending
-        (λ p none. elim (slice_get spans p) as (λ found. slice_get spans p ≡ found → of_row (make p) (slot_at p placed) (option_and_then (if_slotted carried version) found) ≡ []) [
+        (λ p none. elim (slice_get spans p) as (λ found. slice_get spans p ≡ found → made_of_slot (make p) (slot_at p placed) (option_and_then (if_slotted carried version) found) ≡ []) [
           | None ↦ λ is. refl
           | Some span ↦ λ is. made-slotted test p span nothing (λ holds. enough.others p span is holds none) (has_slot carried version span) refl
         ] refl)
@@ -182,13 +182,13 @@ entries-found [] ascend = tt
 entries-found (one ∷ others) ascend = (ap (λ b. cond b one.slot (slot_at one.place others)) (eq_itself one.place), found-behind one others others ascend.0 (entries-found others ascend.1))
 
 module _ {X : Type 0} (make : Slot → Span → List X) (carried : List Carried) (version : ℕ) (spans : List Span) where
-  entries-are : (placed xs : List Placed) → AllByRecursion (λ (x : Placed). slot_at x.place placed ≡ x.slot) xs → flat_map (of_entry make carried version spans) xs ≡ flat_map (of_place (anywhere make) carried version placed spans) (map place_of xs)
+  entries-are : (placed xs : List Placed) → AllByRecursion (λ (x : Placed). slot_at x.place placed ≡ x.slot) xs → flat_map (of_entry make carried version spans) xs ≡ flat_map (made_of_place (anywhere make) carried version placed spans) (map place_of xs)
   entries-are placed [] found = refl
   entries-are placed (x ∷ xs) found =
       let rest = entries-are placed xs found.1 in
-      λ i. of_row make (sym found.0 i) (slotted_at carried version spans x.place) ++ rest i
+      λ i. made_of_slot make (sym found.0 i) (slotted_at carried version spans x.place) ++ rest i
 
-  nothing-at : (same : (span : Span) → make Same span ≡ []) (slot : Slot) (span : Option Span) → slot ≡ Same → of_row make slot span ≡ []
+  nothing-at : (same : (span : Span) → make Same span ≡ []) (slot : Slot) (span : Option Span) → slot ≡ Same → made_of_slot make slot span ≡ []
   nothing-at same slot None is = refl
   nothing-at same slot (Some span) is = ap (λ s. make s span) is ∙ same span
 
@@ -231,7 +231,7 @@ module _ {X : Type 0} (make : Slot → Span → List X) (carried : List Carried)
 
   -- and so does one over places that are enough
   pub places-made : (test : List Cell → Bool) (places : List ℕ) → ((span : Span) → test span.row ≡ false → make Same span ≡ []) → IsEnough test placed version spans places
-      → flat_map (of_place (anywhere make) carried version placed spans) places ≡ made_of make (slots_from carried version placed 0 spans) (slotted_spans carried version spans)
+      → flat_map (made_of_place (anywhere make) carried version placed spans) places ≡ made_of make (slots_from carried version placed 0 spans) (slotted_spans carried version spans)
   places-made test places nothing enough = made-places (anywhere make) carried version placed spans test places (λ p span none. nothing span none) enough ∙ made-dense make carried version placed 0 spans
 
 -- ---- after a commit

@@ -3,7 +3,7 @@ use Rattle.std.proofs.Common.{◌≡◌, ℕ, suc, ◌<◌, true, false, not, co
 use Rattle.std.specs.List.{filter, AllByRecursion}
 use Rattle.gp_base.specs.declared.cell.Cell.{Cell}
 use Rattle.gp_base.specs.declared.token.Token.TheVariants.{Updated}
-use Rattle.gp_base.specs.IdentityParts.{transaction_of, statement_of}
+use Rattle.gp_base.specs.IdentityParts.{identity_transaction, identity_statement}
 use Rattle.gp_base.specs.Annotated.{Annotations, Annotated, Database}
 use Rattle.gp_expr.specs.Expressions.{Cond}
 use Rattle.gp_expr.specs.Values.{passes}
@@ -82,8 +82,8 @@ module _ {M : Type 0} (domain : Annotations M) (t k : ℕ) where
   step-earlier (update table sets c) db earlier p =
       in-table (AllByRecursion (IsEarlier domain t (suc k))) table (map (changed domain t k sets c) (db table)) db
       (all-map (changed domain t k sets c) (IsEarlier domain t k) (IsEarlier domain t (suc k))
-      (λ row early own. let before : statement_of row.identity < k = early (ap transaction_of (sym (changed-identity sets c row)) ∙ own) in
-      subst (λ id. statement_of id < suc k) (sym (changed-identity sets c row)) (omega (arith, before))) (db table) (earlier table))
+      (λ row early own. let before : identity_statement row.identity < k = early (ap identity_transaction (sym (changed-identity sets c row)) ∙ own) in
+      subst (λ id. identity_statement id < suc k) (sym (changed-identity sets c row)) (omega (arith, before))) (db table) (earlier table))
       (λ q. all-weaker (IsEarlier domain t k) (IsEarlier domain t (suc k)) later (db q) (earlier q)) p
   step-earlier (delete table c) db earlier p =
       in-table (AllByRecursion (IsEarlier domain t (suc k))) table (filter (λ (row : Annotated M). not (passes c row.cells)) (db table)) db

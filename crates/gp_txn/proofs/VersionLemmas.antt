@@ -10,7 +10,7 @@ use Rattle.gp_base.specs.declared.cell.Cell.{Cell}
 use Rattle.gp_base.specs.declared.stored.Stored.{Stored}
 use Rattle.gp_base.specs.Annotated.{unannotated}
 use Rattle.gp_base.specs.Identities.{Identity}
-use Rattle.gp_base.specs.IdentityParts.{transaction_of}
+use Rattle.gp_base.specs.IdentityParts.{identity_transaction}
 use Rattle.gp_versions.specs.declared.span.Span.{Span}
 use Rattle.gp_versions.specs.declared.span.Write.{Write}
 use Rattle.gp_versions.specs.Commits.{AreBelow, after_commit, is_written, live_row, live_rows, unwritten_rows}
@@ -80,7 +80,7 @@ live-view writes spans =
 -- ---- the rows that are left are those that have no base
 
 module _ (writes : Overlay) (base : List PlainRow) (t : ℕ) (made : AreMadeBy t writes.own) where
-  pub unwritten-none : (id : Identity) → transaction_of id ≢ t → not (is_written (table_writes writes base) id) ≡ is_none (base_of writes base id)
+  pub unwritten-none : (id : Identity) → identity_transaction id ≢ t → not (is_written (table_writes writes base) id) ≡ is_none (base_of writes base id)
   unwritten-none id other = ap not (table-written writes base t id other made) ∙ sym (base-none writes base id)
 
   left-one : (b c : Bool) (span : Span) (rest others : List PlainRow) → b ≡ c → rest ≡ map unmarked others → cond b (row_of unannotated span ∷ rest) rest ≡ map unmarked (cond c (row_of unannotated span ∷ others) others)

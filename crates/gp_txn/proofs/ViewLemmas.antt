@@ -18,7 +18,7 @@ use Rattle.gp_txn.specs.Slots.{dropped_count}
 use Rattle.gp_txn.specs.declared.overlay.Placed.{Placed}
 use Rattle.gp_txn.specs.Ascending.{IsAscending, place_of}
 use Rattle.gp_txn.specs.Enough.{IsEnough}
-use Rattle.gp_txn.specs.Passes.{of_entry, of_place, row_dropped, row_wanted}
+use Rattle.gp_txn.specs.Passes.{of_entry, made_of_place, row_dropped, row_wanted}
 use Rattle.gp_txn.specs.Wanted.{wanted, wanted_own}
 use Rattle.gp_txn.proofs.OverlayLemmas.{filter_map-one}
 use Rattle.gp_txn.proofs.PlacedLemmas.{anywhere, entries-made, made_of, places-made}
@@ -102,7 +102,7 @@ dropped-entries carried v spans placed ascend =
     ∙ dropped-made (slots_from carried v placed 0 spans) (slotted_spans carried v spans)
 
 pub wanted-places : (c : Option Cond) (carried : List Carried) (v : ℕ) (spans : List Span) (placed : List Placed) (places : List ℕ) → IsEnough (passes_where c) placed v spans places
-    → flat_map (of_place (anywhere (row_wanted c)) carried v placed spans) places ≡ map stored_of (wanted c (overlaid (slots_from carried v placed 0 spans) (slotted carried (rows_at unannotated v spans))))
+    → flat_map (made_of_place (anywhere (row_wanted c)) carried v placed spans) places ≡ map stored_of (wanted c (overlaid (slots_from carried v placed 0 spans) (slotted carried (rows_at unannotated v spans))))
 wanted-places c carried v spans placed places enough =
     places-made (row_wanted c) carried v spans placed (passes_where c) places (λ span none. ap (λ b. map stored_of (cond b (row_of unannotated span ∷ []) [])) none) enough
     ∙ wanted-made c (slots_from carried v placed 0 spans) (slotted_spans carried v spans)

@@ -7,7 +7,7 @@ use Rattle.std.proofs.lemmas.List.Folds.{list_any-append}
 use Rattle.std.proofs.lemmas.List.Elements.{filter-append}
 use Rattle.gp_base.specs.declared.stored.Stored.{Stored}
 use Rattle.gp_base.specs.Identities.{Identity, same_identity}
-use Rattle.gp_base.specs.IdentityParts.{transaction_of}
+use Rattle.gp_base.specs.IdentityParts.{identity_transaction}
 use Rattle.gp_expr.specs.Values.{passes}
 use Rattle.gp_algebra.specs.Effects.{assigned, written_in}
 use Rattle.gp_versions.specs.declared.span.Write.{Write}
@@ -39,11 +39,11 @@ written-elsewhere place other (row ∷ rows) id apart =
     ∙ written-elsewhere place other rows id apart
 
 -- rows of the transaction's own have no other identity
-pub own-identity : (t : ℕ) (rows : List PlainRow) (id : Identity) → transaction_of id ≢ t → AllByRecursion (λ (row : PlainRow). transaction_of row.identity ≡ t) rows → has_identity rows id ≡ false
+pub own-identity : (t : ℕ) (rows : List PlainRow) (id : Identity) → identity_transaction id ≢ t → AllByRecursion (λ (row : PlainRow). identity_transaction row.identity ≡ t) rows → has_identity rows id ≡ false
 own-identity t [] id other all = refl
 own-identity t (row ∷ rows) id other all =
     or_from (same_identity row.identity id) (has_identity rows id)
-    (false_from_ne_true (same_identity row.identity id) (λ same. other (ap transaction_of (sym (same-exact row.identity id same)) ∙ all.0)))
+    (false_from_ne_true (same_identity row.identity id) (λ same. other (ap identity_transaction (sym (same-exact row.identity id same)) ∙ all.0)))
     (own-identity t rows id other all.1)
 
 -- ---- UPDATE and DELETE
@@ -115,6 +115,6 @@ all-touched P change [] all = tt
 all-touched P change (row ∷ rows) all =
     elim (passes (cond_of change) row.cells) as (λ b. AllByRecursion P (cond b (row ∷ touched change rows) (touched change rows))) [ true ↦ (all.0, all-touched P change rows all.1) | false ↦ all-touched P change rows all.1 ]
 
-pub own-rows : (t : ℕ) (own : List Stored) → AllByRecursion (λ (stored : Stored). transaction_of stored.id ≡ t) own → AllByRecursion (λ (row : PlainRow). transaction_of row.identity ≡ t) (map own_row own)
+pub own-rows : (t : ℕ) (own : List Stored) → AllByRecursion (λ (stored : Stored). identity_transaction stored.id ≡ t) own → AllByRecursion (λ (row : PlainRow). identity_transaction row.identity ≡ t) (map own_row own)
 own-rows t [] all = tt
 own-rows t (stored ∷ own) all = (all.0, own-rows t own all.1)

@@ -69,7 +69,7 @@ IsFirstConflict count lates None = (place : ℕ) → place < count → lates pla
 IsFirstConflict count lates (Some conflict) =
     ((earlier : ℕ) → earlier < conflict.place → lates earlier ≡ []) × IsLeast (lates conflict.place) (Some conflict.late)
 
--- ---- the same, in the words of the literature
+-- ---- in the words of the literature
 
 -- rows by table, and then by identity
 abbrev pub written_cmp : Written → Written → Ordering

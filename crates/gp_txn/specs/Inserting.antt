@@ -4,7 +4,7 @@ use Rattle.std.specs.List.{AllByRecursion, list_any}
 use Rattle.gp_base.specs.declared.row_id.TheConstants.{MAX_NODES}
 use Rattle.gp_base.specs.declared.stored.Stored.{Stored}
 use Rattle.gp_base.specs.Identities.{nodes}
-use Rattle.gp_base.specs.IdentityParts.{transaction_of, statement_of}
+use Rattle.gp_base.specs.IdentityParts.{identity_transaction, identity_statement}
 use Rattle.gp_algebra.specs.Statements.{Branch, Select}
 use Rattle.gp_base.specs.declared.limit.TheConstants.{MAX_TABLE_ROWS}
 use Rattle.gp_txn.specs.declared.error.StmtStop.{StmtStop}
@@ -50,4 +50,4 @@ AreApart versions = (place : ℕ) → NoOverlap (table_at place versions).spans
 -- rows that statement k of transaction t made, of different identities
 abbrev pub AreNew : ℕ → ℕ → List Stored → Type 0
 AreNew t k new =
-    AllByRecursion (λ (stored : Stored). (transaction_of stored.id ≡ t) × (statement_of stored.id ≡ k)) new × AreDistinct (map own_write new)
+    AllByRecursion (λ (stored : Stored). (identity_transaction stored.id ≡ t) × (identity_statement stored.id ≡ k)) new × AreDistinct (map own_write new)

@@ -20,17 +20,17 @@ use Rattle.gp_txn.specs.Slots.{changed_slot, entry}
 use Rattle.gp_txn.specs.Wanted.{wanted}
 
 -- what is made of a row with this slot, if the row has a slot
-abbrev pub of_row : {X : Type 0} → (Slot → Span → List X) → Slot → Option Span → List X
-of_row make slot None = []
-of_row make slot (Some span) = make slot span
+abbrev pub made_of_slot : {X : Type 0} → (Slot → Span → List X) → Slot → Option Span → List X
+made_of_slot make slot None = []
+made_of_slot make slot (Some span) = make slot span
 
 -- of the row at a place
-abbrev pub of_place : {X : Type 0} → (ℕ → Slot → Span → List X) → List Carried → ℕ → List Placed → List Span → ℕ → List X
-of_place make carried version placed spans place = of_row (make place) (slot_at place placed) (slotted_at carried version spans place)
+abbrev pub made_of_place : {X : Type 0} → (ℕ → Slot → Span → List X) → List Carried → ℕ → List Placed → List Span → ℕ → List X
+made_of_place make carried version placed spans place = made_of_slot (make place) (slot_at place placed) (slotted_at carried version spans place)
 
 -- of the row of an entry
 abbrev pub of_entry : {X : Type 0} → (Slot → Span → List X) → List Carried → ℕ → List Span → Placed → List X
-of_entry make carried version spans placed = of_row make placed.slot (slotted_at carried version spans placed.place)
+of_entry make carried version spans placed = made_of_slot make placed.slot (slotted_at carried version spans placed.place)
 
 -- ---- what is made
 

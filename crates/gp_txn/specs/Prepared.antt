@@ -2,7 +2,7 @@
 use Rattle.std.specs.Prelude.{◌≡◌, ℕ, ◌≤◌, List, [], map, length, slice_index_or}
 use Rattle.std.specs.List.{AllByRecursion}
 use Rattle.gp_base.specs.declared.stored.Stored.{Stored}
-use Rattle.gp_base.specs.IdentityParts.{transaction_of}
+use Rattle.gp_base.specs.IdentityParts.{identity_transaction}
 use Rattle.gp_versions.specs.declared.span.Write.{Write}
 use Rattle.gp_versions.specs.Commits.{AreBelow, AreDistinct}
 use Rattle.gp_versions.specs.Spans.{Versions}
@@ -22,7 +22,7 @@ pub record IsReady (version : ℕ) (table : Versions) (writes : List Write) : Ty
 
 -- the rows that a transaction inserted, whatever the statement
 abbrev pub AreInserted : ℕ → List Stored → Type 0
-AreInserted t own = AllByRecursion (λ (stored : Stored). transaction_of stored.id ≡ t) own × AreDistinct (map own_write own)
+AreInserted t own = AllByRecursion (λ (stored : Stored). identity_transaction stored.id ≡ t) own × AreDistinct (map own_write own)
 
 -- the writes of a table of this transaction
 pub record AreWritesOf (t : ℕ) (writes : TableWrites) : Type 0 where

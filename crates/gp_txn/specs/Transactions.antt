@@ -5,7 +5,7 @@ use Rattle.std.specs.List.{AllByRecursion, list_any}
 use Rattle.gp_base.specs.declared.stored.Stored.{Stored}
 use Rattle.gp_base.specs.Annotated.{Database, unannotated}
 use Rattle.gp_base.specs.Identities.{Identity, same_identity}
-use Rattle.gp_base.specs.IdentityParts.{transaction_of, statement_of}
+use Rattle.gp_base.specs.IdentityParts.{identity_transaction, identity_statement}
 use Rattle.gp_algebra.specs.Statements.{Statement}
 use Rattle.gp_algebra.specs.Effects.{Written, step, wrote}
 use Rattle.gp_txn.specs.declared.carried.Carried.{Carried}
@@ -62,18 +62,18 @@ base_at tables versions place id = base_of (overlay_at place tables versions) (d
 
 -- the identities of the rows that it inserted: each begins with its number and that of a statement up to this one, and no two are equal
 abbrev pub IsOwn : ℕ → ℕ → Stored → Type 0
-IsOwn t last stored = (transaction_of stored.id ≡ t) × (statement_of stored.id ≤ last)
+IsOwn t last stored = (identity_transaction stored.id ≡ t) × (identity_statement stored.id ≤ last)
 
 abbrev pub AreOwn : ℕ → ℕ → List Stored → Type 0
 AreOwn t last own = AllByRecursion (IsOwn t last) own × AreDistinct (map own_write own)
 
 -- the rows that it wrote over earlier versions are those of others, and no two are of one identity
 abbrev pub AreCarried : ℕ → List Carried → Type 0
-AreCarried t carried = AllByRecursion (λ (row : Carried). transaction_of row.id ≢ t) carried × AreDistinct (map carried_write carried)
+AreCarried t carried = AllByRecursion (λ (row : Carried). identity_transaction row.id ≢ t) carried × AreDistinct (map carried_write carried)
 
 -- no row of these is the transaction's own
 abbrev pub AreOthers : ℕ → List Span → Type 0
-AreOthers t spans = AllByRecursion (λ (span : Span). transaction_of span.id ≢ t) spans
+AreOthers t spans = AllByRecursion (λ (span : Span). identity_transaction span.id ≢ t) spans
 
 -- of one table
 pub record KeepsOwn (t last : ℕ) (writes : TableWrites) : Type 0 where
@@ -119,7 +119,7 @@ pub record Applied (k version : ℕ) (statement : Statement) (versions : List Ve
   pub begin : new.begin ≡ old.begin
   pub last : new.last ≡ k
   pub view : (place : ℕ) → view_at new.tables versions version place ≡ step unannotated old.t k statement (view_at old.tables versions version) place
-  pub base : (place : ℕ) (id : Identity) → transaction_of id ≢ old.t
+  pub base : (place : ℕ) (id : Identity) → identity_transaction id ≢ old.t
       → base_at new.tables versions place id
       ≡ base_after version (has_written (wrote unannotated old.t k statement (view_at old.tables versions version)) place id) (base_at old.tables versions place id)
   -- the writes of each table lie over the version that they lay over, or over this one

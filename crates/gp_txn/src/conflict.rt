@@ -25,7 +25,7 @@ pub struct Late {
     pub version: u32,
 }
 
-/// The same, with its table.
+/// A row by which a commit is lost, with its table.
 #[derive(Drop)]
 pub struct Conflict {
     /// The place of its table.

@@ -11,7 +11,7 @@ ghost use Rattle.gp_versions.specs.Spans.{row_of, rows_at};
 ghost use Rattle.gp_txn.specs.Overlay.{carried_row, overlaid, overlay_of, rows_below, shown, slots_from, slotted, slotted_spans, stored_of, view_rows};
 ghost use Rattle.gp_txn.specs.Ascending.{IsAscending, place_of};
 ghost use Rattle.gp_txn.specs.Enough.{IsEnough, first_at, slot_or, slotted_at};
-ghost use Rattle.gp_txn.specs.Passes.{of_entry, of_row, row_dropped, row_wanted};
+ghost use Rattle.gp_txn.specs.Passes.{of_entry, made_of_slot, row_dropped, row_wanted};
 ghost use Rattle.gp_txn.specs.Slots.{dropped_count, seen};
 ghost use Rattle.gp_txn.specs.Wanted.{wanted, wanted_own};
 
@@ -93,7 +93,7 @@ fn push_place(
 ) -> Result<(), NoMemory>
     requires { where_is_simple (option_map (λ c. cond_view c.now) cond) ≡ true }
     ensures { OnOk result (rows.new ≡ rows.old
-        ++ of_row (row_wanted (option_map (λ c. cond_view c.now) cond.entry))
+        ++ made_of_slot (row_wanted (option_map (λ c. cond_view c.now) cond.entry))
         (first_at place ahead.now) (slotted_at carried.now v spans.now place)) }
 {
     match slotted(spans, carried, v, place) {

@@ -10,7 +10,7 @@ ghost use Rattle.std.specs.List.{filter_map};
 ghost use Rattle.gp_txn.specs.Overlay.{carried_row, own_row, overlaid, overlay_of, rows_below, slots_from, slotted, view_rows};
 ghost use Rattle.gp_txn.specs.Ascending.{IsAscending, place_of};
 ghost use Rattle.gp_txn.specs.Enough.{IsEnough, first_at, slot_or, slotted_at};
-ghost use Rattle.gp_txn.specs.Passes.{of_row, row_entry, row_touched};
+ghost use Rattle.gp_txn.specs.Passes.{made_of_slot, row_entry, row_touched};
 ghost use Rattle.gp_txn.specs.Slots.{carried_after, cells_after, cells_for, changed_carried, changed_from, changed_own, changed_slot, changed_table, count_touched, effect, entry, is_touched, one_if, passes_seen, seen, slot_for, stored_after};
 
 use crate::assignment::assigned;
@@ -146,10 +146,10 @@ fn push_place(
 ) -> Result<usize, NoMemory>
     requires { change_is_simple (change_view change.now) ≡ true }
     ensures slot { IfOk result (λ count. new.new.items ≡ new.old.items
-        ++ of_row (row_entry (change_view change.now) place)
+        ++ made_of_slot (row_entry (change_view change.now) place)
         (first_at place ahead.now) (slotted_at carried.now v spans.now place)) }
     ensures count { IfOk result (λ count. count
-        ≡ length (of_row (row_touched (change_view change.now))
+        ≡ length (made_of_slot (row_touched (change_view change.now))
         (first_at place ahead.now) (slotted_at carried.now v spans.now place))) }
     ensures few { IfOk result (λ count. count ≤ 1) }
 {

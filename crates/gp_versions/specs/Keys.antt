@@ -6,7 +6,7 @@ use Rattle.std.specs.List.{fold}
 use Rattle.gp_base.specs.declared.cell.Cell.{Cell}
 use Rattle.gp_base.specs.declared.cell.Cell.TheVariants as cell
 use Rattle.gp_base.specs.Identities.{Identity, Sources, identity, no_sources, source}
-use Rattle.gp_base.specs.IdentityParts.{statement_of, transaction_of}
+use Rattle.gp_base.specs.IdentityParts.{identity_statement, identity_transaction}
 use Rattle.gp_base.specs.IdentityForms.{number_of}
 use Rattle.gp_versions.specs.declared.key.By.{By}
 use Rattle.gp_versions.specs.declared.key.By.TheVariants as variant
@@ -28,7 +28,7 @@ abbrev mutual
   folded_over_all folded (source id ids) = folded_over_all (folded_over folded id) ids
 
 abbrev pub key_of : Identity → Key
-key_of id = record { t = transaction_of id; k = statement_of id; n = number_of id; folded = folded_over 0 id }
+key_of id = record { t = identity_transaction id; k = identity_statement id; n = number_of id; folded = folded_over 0 id }
 
 abbrev pub folded_cell : Cell → ℕ
 folded_cell (cell.Int n) = unsigned_abs n

@@ -10,7 +10,7 @@ use Rattle.gp_algebra.specs.Statements as s
 use Rattle.gp_algebra.specs.Statements.{Statement}
 use Rattle.gp_check.specs.Checking.{checked, refused_by}
 use Rattle.gp_check.specs.Faults.{block_columns_fault, block_types, block_where_is_typed, first_refusal, query_tables_fault, table_fault, tables_fault}
-use Rattle.gp_check.specs.Meaning.{branch_of, number_of_table, select_of, set_of, where_of}
+use Rattle.gp_check.specs.Meaning.{branch_of, number_of_table, select_of, set_expr_of, where_of}
 use Rattle.gp_check.specs.Scopes.{target_scope}
 use Rattle.gp_check.proofs.FittingLemmas.{accepted}
 use Rattle.gp_machine.specs.Entries.{Entry, Created, Began, Ran, Committed, Ended, line_of, session_of}
@@ -19,7 +19,7 @@ use Rattle.gp_log.specs.Discipline.{IsLog}
 use Rattle.gp_log.specs.Parameters.{parameters}
 use Rattle.gp_log.proofs.CheckedEntries.{was_checked}
 use Rattle.gp_log.specs.LogFacts.{tables_in}
-use Rattle.gp_whatif.specs.Changed.{changed, doubled, dropped_command, dropped_statement, is_at, is_step_of, nothing_at, nothing_from, rewritten, steps_refusal, tables_at_end, tables_before, with_added, with_other}
+use Rattle.gp_whatif.specs.Changed.{changed_log, doubled, dropped_command, dropped_statement, is_at, is_step_of, nothing_at, nothing_from, rewritten, steps_refusal, tables_at_end, tables_before, with_added, with_other}
 use Rattle.gp_whatif.specs.ChangedForms.{AreChecked}
 use Rattle.gp_whatif.proofs.ChangedLemmas.{added_same, doubled_same, other_same}
 use Rattle.gp_whatif.proofs.ChangingLemmas.{count_doubled}
@@ -50,7 +50,7 @@ dropped_checked tables (y.insert_select table query) statement e =
     subst (λ made. IsSame (checked tables (nothing_from table)) (Ok (dropped_statement made))) is.1
     (nothing_checked tables table (first_none (table_fault tables table) (query_tables_fault tables query) (first_none (tables_fault tables (y.insert_select table query)) _ is.0)))
 dropped_checked tables (y.update table sets c) statement e =
-    let is = accepted (first_refusal tables (y.update table sets c)) (s.update (number_of_table tables table) (map (set_of (target_scope tables table)) sets) (where_of (target_scope tables table) c)) statement e in
+    let is = accepted (first_refusal tables (y.update table sets c)) (s.update (number_of_table tables table) (map (set_expr_of (target_scope tables table)) sets) (where_of (target_scope tables table) c)) statement e in
     subst (λ made. IsSame (checked tables (nothing_from table)) (Ok (dropped_statement made))) is.1 (nothing_checked tables table (first_none (table_fault tables table) _ is.0))
 dropped_checked tables (y.Command.delete table c) statement e =
     let is = accepted (first_refusal tables (y.Command.delete table c)) (s.delete (number_of_table tables table) (where_of (target_scope tables table) c)) statement e in
@@ -161,7 +161,7 @@ module _ (entries new : List Entry) (are : AreChecked entries) where
   twice : AreChecked (map doubled entries)
   twice = doubled_checked entries are
 
-  pub change_checked : (change : LogChange) → AreSame (changed parameters entries change) (Ok new) → AreChecked new
+  pub change_checked : (change : LogChange) → AreSame (changed_log parameters entries change) (Ok new) → AreChecked new
   change_checked (y.drop t k) e =
       put (option_or (transaction_refusal t entries) (statement_refusal t k entries)) (Ok (tt {0})) (λ nothing. with_other t k dropped_command dropped_statement (map doubled entries)) e
       (λ nothing passes. other_checked t k dropped_command dropped_statement (map doubled entries) (λ own now is. dropped_checked (tables_before t k (map doubled entries)) own now is) twice)

@@ -25,7 +25,7 @@ use Rattle.gp_log.specs.Discipline.{transaction_in}
 use Rattle.gp_log.specs.LogFacts.{tables_in}
 use Rattle.gp_log.specs.LogFitting.{statements_fit}
 use Rattle.gp_log.specs.Sessions.{KeepsSessions}
-use Rattle.gp_whatif.specs.Changed.{changed, doubled, dropped_command, dropped_statement, is_at, is_step_of, steps_refusal, tables_at_end, tables_before, with_added, with_other}
+use Rattle.gp_whatif.specs.Changed.{changed_log, doubled, dropped_command, dropped_statement, is_at, is_step_of, steps_refusal, tables_at_end, tables_before, with_added, with_other}
 use Rattle.gp_whatif.specs.Replays.{IsCoherent, IsReplayable, WritesTables}
 use Rattle.gp_whatif.proofs.ChangedLemmas.{SameSessions, added_same, doubled_same, other_same}
 use Rattle.gp_whatif.proofs.FittingLogs.{fits_target}
@@ -149,7 +149,7 @@ module _ (parameters : Parameters) (checks : ChecksTargets parameters) (entries 
   checked_target front command statement extends checked =
       more_target (length front) tables (longer front (tables_in entries) extends) statement (checks front command statement checked)
 
-  pub change_coherent : (change : LogChange) → changed parameters entries change ≡ Ok new → IsCoherent new
+  pub change_coherent : (change : LogChange) → changed_log parameters entries change ≡ Ok new → IsCoherent new
   change_coherent (y.drop t k) e =
       put parameters entries new IsCoherent (option_or (transaction_refusal t entries) (statement_refusal t k entries)) (Ok (tt {0}))
       (λ nothing. with_other t k dropped_command dropped_statement (map doubled entries)) e

@@ -14,7 +14,7 @@ use Rattle.gp_algebra.specs.Statements.{Statement}
 use Rattle.gp_algebra.proofs.FittingMore.{statement_more}
 use Rattle.gp_check.specs.Checking.{checked}
 use Rattle.gp_check.specs.Faults.{first_refusal}
-use Rattle.gp_check.specs.Meaning.{statement_of}
+use Rattle.gp_check.specs.Meaning.{meant_statement}
 use Rattle.gp_check.specs.Valid.{change_is_valid, is_valid, table_is_valid, tables_are_valid}
 use Rattle.gp_check.proofs.FittingLemmas.{accepted, fits}
 use Rattle.gp_machine.specs.Entries.{Began, Committed, Created, Ended, Entry, Ran}
@@ -75,7 +75,7 @@ end_first t (entry ∷ older) = by (is_step_of t entry) (end_first t older)
 pub fits_all : (front whole : List Table) (command : Command) (statement : Statement) → Extends front whole → tables_are_valid whole ≡ true → is_statement command ≡ true → is_valid command ≡ true
     → checked front command ≡ Ok statement → statement_fits whole statement ≡ true
 fits_all front whole command statement extends valid kind fine e =
-    let is = accepted (first_refusal front command) (statement_of front command) statement e in
+    let is = accepted (first_refusal front command) (meant_statement front command) statement e in
     subst (λ tables. statement_fits tables statement ≡ true) (sym extends.1)
     (statement_more front extends.0 statement
     (subst (λ made. statement_fits front made ≡ true) is.1

@@ -26,7 +26,7 @@ use Rattle.gp_log.proofs.KeptSessions.{maker_version}
 use Rattle.gp_log.specs.Parameters.{parameters}
 use Rattle.gp_log.specs.LogFacts.{tables_in}
 use Rattle.gp_log.specs.Sessions.{KeepsSessions}
-use Rattle.gp_whatif.specs.Changed.{changed, doubled, dropped_command, dropped_statement, is_at, with_other}
+use Rattle.gp_whatif.specs.Changed.{changed_log, doubled, dropped_command, dropped_statement, is_at, with_other}
 use Rattle.gp_whatif.specs.Replays.{IsMade, stop_upto}
 use Rattle.gp_whatif.proofs.ReplayableLemmas.{change_tables, put}
 
@@ -215,7 +215,7 @@ module _ (log other : Log) (tables : ℕ) where
 
 -- ---- a statement that is dropped
 
-module _ (entries new : List Entry) (keeps : KeepsSessions entries) (t k version : ℕ) (made : version_of t entries ≡ Some version) (change : changed parameters entries (y.drop t k) ≡ Ok new) where
+module _ (entries new : List Entry) (keeps : KeepsSessions entries) (t k version : ℕ) (made : version_of t entries ≡ Some version) (change : changed_log parameters entries (y.drop t k) ≡ Ok new) where
   same_log : SameLog t entries new
   same_log =
       put parameters entries new (SameLog t entries) (option_or (transaction_refusal t entries) (statement_refusal t k entries)) (Ok (tt {0}))

@@ -10,7 +10,7 @@ use Rattle.gp_machine.specs.Entries.{Entry, Created, Began, Ran, Committed, Ende
 use Rattle.gp_machine.specs.Parameters.{Parameters}
 use Rattle.gp_machine.specs.Questions.{statement_refusal, transaction_refusal}
 use Rattle.gp_log.specs.Discipline.{IsLog, last_line}
-use Rattle.gp_whatif.specs.Changed.{changed, doubled, dropped_command, dropped_statement, is_at, is_step_of, rewritten, steps_refusal, tables_at_end, tables_before, with_added, with_other}
+use Rattle.gp_whatif.specs.Changed.{changed_log, doubled, dropped_command, dropped_statement, is_at, is_step_of, rewritten, steps_refusal, tables_at_end, tables_before, with_added, with_other}
 use Rattle.gp_whatif.specs.ChangedForms.{CanDouble, LinesRise}
 
 line-doubled : (entry : Entry) → line_of (doubled entry) ≡ line_of entry + line_of entry
@@ -101,7 +101,7 @@ module _ (parameters : Parameters) (entries new : List Entry) (rise : LinesRise 
   put None (Err refusal) make e each = absurd cc
   put None (Ok given) make e each = subst LinesRise (same-ok (make given) new e) (each given)
 
-  pub lines_rise : (change : LogChange) → changed parameters entries change ≡ Ok new → LinesRise new
+  pub lines_rise : (change : LogChange) → changed_log parameters entries change ≡ Ok new → LinesRise new
   lines_rise (y.drop t k) e =
       put (option_or (transaction_refusal t entries) (statement_refusal t k entries)) (Ok (tt {0})) (λ nothing. with_other t k dropped_command dropped_statement (map doubled entries)) e
       (λ nothing. other_rise t k dropped_command dropped_statement (map doubled entries) (doubled_rise entries rise))

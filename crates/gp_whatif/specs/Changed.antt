@@ -87,13 +87,13 @@ module _ (parameters : Parameters) (entries : List Entry) where
   steps_refusal t = if nat_le parameters.steps (statement_count t entries) then Some (E14 limit.Steps) else None
 
   -- the changed log, or the first refusal; a statement that is dropped needs no check
-  abbrev pub changed : LogChange → Result (List Entry) Refusal
-  changed (y.drop t k) =
+  abbrev pub changed_log : LogChange → Result (List Entry) Refusal
+  changed_log (y.drop t k) =
       rewritten (option_or (transaction_refusal t entries) (statement_refusal t k entries)) (Ok (tt {0}))
       (λ nothing. with_other t k dropped_command dropped_statement (map doubled entries))
-  changed (y.replace t k command) =
+  changed_log (y.replace t k command) =
       rewritten (option_or (transaction_refusal t entries) (statement_refusal t k entries)) (parameters.checked (tables_before t k entries) command)
       (λ statement. with_other t k (λ own. command) (λ own. statement) (map doubled entries))
-  changed (y.add t command) =
+  changed_log (y.add t command) =
       rewritten (option_or (transaction_refusal t entries) (steps_refusal t)) (parameters.checked (tables_at_end t entries) command)
       (λ statement. with_added t command statement (map doubled entries))

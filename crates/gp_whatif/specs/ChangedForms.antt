@@ -1,4 +1,5 @@
--- Part of the statement: what a changed log keeps: statements that fit and that the check passes, and lines that rise.
+-- Of the laws `changed_logs_are_checked` and `changed_lines_rise`: what a changed log keeps: statements that fit and that the check passes, and lines that
+-- rise.
 use Rattle.std.specs.Prelude.{◌≡◌, ◌^◌, ◌<◌, true, List, [], ◌∷◌, Ok}
 use Rattle.std.specs.List.{AllByRecursion}
 use Rattle.gp_grammar.specs.Syntax as y

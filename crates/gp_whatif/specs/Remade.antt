@@ -2,7 +2,7 @@
 use Rattle.std.specs.Prelude.{◌≡◌, ◌≢◌, ◌⊎◌, ℕ, suc, ◌≤◌, Bool, true, false, List, length, None}
 use Rattle.gp_base.specs.Annotated.{unannotated}
 use Rattle.gp_base.specs.Identities.{Identity}
-use Rattle.gp_base.specs.IdentityParts.{transaction_of}
+use Rattle.gp_base.specs.IdentityParts.{identity_transaction}
 use Rattle.gp_algebra.specs.Effects.{step, wrote}
 use Rattle.gp_algebra.specs.Statements.{Statement, read}
 use Rattle.gp_versions.specs.Spans.{Versions}
@@ -34,7 +34,7 @@ pub record Ran (k version : ℕ) (statement : Statement) (versions : List Versio
   pub t : new.t ≡ old.t
   pub last : new.last ≤ k
   pub view : (place : ℕ) → view_at new.tables versions version place ≡ step unannotated old.t k statement (view_at old.tables versions version) place
-  pub base : (place : ℕ) (id : Identity) → transaction_of id ≢ old.t
+  pub base : (place : ℕ) (id : Identity) → identity_transaction id ≢ old.t
       → base_at new.tables versions place id
       ≡ base_after version (has_written (wrote unannotated old.t k statement (view_at old.tables versions version)) place id) (base_at old.tables versions place id)
   pub below : (place : ℕ) → ((writes_at place new.tables).version ≡ (writes_at place old.tables).version) ⊎ ((writes_at place new.tables).version ≡ version)
@@ -70,7 +70,7 @@ pub record HasRun (entries : List Entry) (u : ℕ) (versions : List Versions) (k
   -- it sees what it has read
   pub view : (place : ℕ) → view_at writes.tables versions (statement_version (committer_of (suc u) entries) k entries) place ≡ (seen_upto entries u k).view place
   -- of the rows of others, it has written these, over these bases
-  pub base : (place : ℕ) (id : Identity) → transaction_of id ≢ committer_of (suc u) entries
+  pub base : (place : ℕ) (id : Identity) → identity_transaction id ≢ committer_of (suc u) entries
       → base_at writes.tables versions place id ≡ base_among place id (seen_upto entries u k).written
   pub there : HoldsThere writes.tables versions
   pub unstopped : run_stop unannotated parameters (log_of entries) (committer_of (suc u) entries) k (made_upto entries u).committed ≡ None

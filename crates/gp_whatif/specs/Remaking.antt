@@ -26,7 +26,7 @@ abbrev pub doubled : Logged → List Entry
 doubled log = map c.doubled (entries log)
 
 abbrev pub changed : Logged → LogChange → Result (List Entry) Refusal
-changed log change = c.changed parameters (entries log) change
+changed log change = c.changed_log parameters (entries log) change
 
 -- ---- a replay
 

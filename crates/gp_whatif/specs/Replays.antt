@@ -1,4 +1,4 @@
--- Part of the statement: what a replay of a log answers.
+-- Of the contract of `replay` and of the law `changes_keep_earlier_versions`: what a replay of a log answers.
 use Rattle.std.specs.Prelude.{◌≡◌, ℕ, true, List, [], ◌∷◌, length, Option, Some, None}
 use Rattle.gp_base.specs.Annotated.{unannotated}
 use Rattle.gp_versions.specs.Spans.{Versions}

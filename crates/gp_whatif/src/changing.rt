@@ -16,7 +16,7 @@ ghost use Rattle.gp_log.specs.Parameters.{parameters};
 ghost use Rattle.gp_log.specs.LogFacts.{tables_in};
 ghost use Rattle.gp_log.specs.Logs.{entry_view, log_view};
 ghost use Rattle.gp_whatif.specs.Changed as c;
-ghost use Rattle.gp_whatif.specs.Changed.{changed, doubled, dropped_command, dropped_statement, is_step_of, steps_refusal, tables_before, with_added, with_other};
+ghost use Rattle.gp_whatif.specs.Changed.{changed_log, doubled, dropped_command, dropped_statement, is_step_of, steps_refusal, tables_before, with_added, with_other};
 ghost use Rattle.gp_whatif.specs.Changing.{Changes, IsChecked, IsLastStep, IsRefused, Numbers, SameStep, edited, is_last, is_own, step_of};
 ghost use Rattle.gp_whatif.specs.Remaking as r;
 
@@ -183,7 +183,7 @@ fn nothing_from(alloc: Global, table: &Name) -> Result<Command, NoMemory>
     })
 }
 
-/// The same, as it is checked.
+/// `nothing_from` as a checked statement.
 fn nothing_at(alloc: Global, table: u32) -> Result<Stmt, NoMemory>
     ensures { IfOk result (λ stmt. statement_view stmt ≡ c.nothing_at table) }
 {

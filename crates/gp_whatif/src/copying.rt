@@ -8,7 +8,6 @@ use gp_base::{Name, NoMemory, Sequence};
 use gp_syntax::{Block, Command, Item, Items, Query, SetTerm, Term};
 use std::alloc::Global;
 
-/// A copy of a column.
 fn copy_column(item: &Option<Name>, col: &Name) -> Result<Term, NoMemory>
     ensures { IfOk result (λ copy. term_view copy ≡ y.col item.now col.now) }
 {
@@ -41,7 +40,6 @@ fn copy_both(alloc: Global, left: &Term, right: &Term) -> Result<(Box<Term>, Box
     Ok((left, right))
 }
 
-/// A copy of a CASE.
 #[cycle(copying)]
 fn copy_case(alloc: Global, when: &Term, first: &Term, other: &Term) -> Result<Term, NoMemory>
     ensures { IfOk result (λ copy. term_view copy
@@ -95,7 +93,6 @@ fn copy_terms(alloc: Global, terms: &[Term]) -> Result<Sequence<Term>, NoMemory>
     Ok(copies)
 }
 
-/// A copy of a condition, if there is one.
 fn copy_condition(alloc: Global, cond: &Option<Term>) -> Result<Option<Term>, NoMemory>
     ensures { IfOk result (λ copy. condition_view copy ≡ condition_view cond.now) }
 {
@@ -126,7 +123,6 @@ fn copy_item(item: &Item) -> Result<Item, NoMemory>
     })
 }
 
-/// A copy of a FROM.
 fn copy_from(alloc: Global, from: &[Item]) -> Result<Sequence<Item>, NoMemory>
     ensures { IfOk result (λ copies. map item_view copies ≡ map item_view from.now) }
 {
@@ -158,7 +154,6 @@ fn copy_blocks(alloc: Global, blocks: &[Block]) -> Result<Sequence<Block>, NoMem
     Ok(copies)
 }
 
-/// A copy of a query.
 fn copy_query(alloc: Global, query: &Query) -> Result<Query, NoMemory>
     ensures { IfOk result (λ copy. query_view copy ≡ query_view query.now) }
 {
@@ -180,7 +175,6 @@ fn copy_sets(alloc: Global, sets: &[SetTerm]) -> Result<Sequence<SetTerm>, NoMem
     Ok(copies)
 }
 
-/// A copy of an UPDATE.
 fn copy_update(
     alloc: Global,
     table: &Name,

@@ -73,7 +73,6 @@ fn copy_assignments(alloc: Global, sets: &[SetExpr]) -> Result<Sequence<SetExpr>
     Ok(copies)
 }
 
-/// A copy of an UPDATE.
 fn copy_updating(alloc: Global, table: u32, sets: &[SetExpr], cond: &Cond) -> Result<Stmt, NoMemory>
     ensures { IfOk result (λ copy. statement_view copy
         ≡ s.update table (map set_view sets.now) (cond_view cond.now)) }

@@ -7,7 +7,6 @@ use gp_base::NoMemory;
 use gp_versions::{Span, VersionTable};
 use std::alloc::Global;
 
-/// A copy of a span.
 fn copy_span(span: &Span) -> Result<Span, NoMemory>
     ensures { IfOk result (λ copy. copy ≡ span.now) }
 {

@@ -18,7 +18,7 @@ use Rattle.gp_ask.specs.QuestionFiles.{answers_text, has_refused, line_answer_in
 use Rattle.gp_ask.specs.Formats.{answers_in, asks_rows, text_in}
 use Rattle.gp_ask.specs.Questions.{answered, is_refused}
 use Rattle.gprom_cli.specs.declared.status.Status.TheVariants as exit
-use Rattle.gprom_cli.specs.Call.{AreLines, WritesOutput, all_written, some_written, write_failed}
+use Rattle.gprom_cli.specs.Call.{IsWholeLines, WritesOutput, all_written, some_written, write_failed}
 use Rattle.gprom_cli.specs.Steps.{WritesAnswers, stop_status}
 use Rattle.gprom_cli.proofs.LinesLemmas.{after-lines, answer-lines}
 use Rattle.gprom_cli.proofs.WritesLemmas.{IsAnswered, after-nothing, unanswered}
@@ -30,7 +30,7 @@ is_line_refused format answers line = is_refused (line_answer_in format answers 
 -- the answers to the lines before were written, and the remaining ones decide the rest
 pub record IsProgress (format : Format) (answers : y.Question → Answered) (questions : List ℕ) (lines : List (ℕ × List ℕ)) (refused : Bool) (old new : SinkState) : Type 0 where
   pub text : List ℕ
-  pub are : AreLines text
+  pub are : IsWholeLines text
   pub grown : new ≡ after_write text old
   pub all : text ++ flat_map (line_answer_text format answers) lines ≡ answers_text format answers questions
   pub refusals : (refused || list_any (is_line_refused format answers) lines) ≡ has_refused format answers questions

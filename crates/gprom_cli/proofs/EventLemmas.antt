@@ -15,7 +15,7 @@ use Rattle.gprom_cli.specs.declared.status.Status.{Status}
 use Rattle.gprom_cli.specs.declared.status.Status.TheVariants as exit
 use Rattle.gprom_cli.specs.Args.{Command, Run, Ask, Generate, Load}
 use Rattle.gprom_cli.specs.Call as c
-use Rattle.gprom_cli.specs.Call.{AreLines, ComesTo, HasRead, IsReadBy, answered_status, history_dump, read_of, rounds_line}
+use Rattle.gprom_cli.specs.Call.{IsWholeLines, ComesTo, HasRead, IsReadBy, answered_status, history_dump, read_of, rounds_line}
 use Rattle.gprom_cli.specs.Consequences.{AllDone, FollowsSteps, IsLast, reads, replaces}
 use Rattle.gprom_cli.specs.Steps.{script_dump}
 use Rattle.gprom_cli.proofs.OutcomeLemmas.{dump-read}
@@ -182,7 +182,7 @@ abbrev pub GenerateFollows : Option Command → List ℕ → Status → Type 0
 GenerateFollows None text status = Unit {0}
 GenerateFollows (Some (Run script dump)) text status = Unit {0}
 GenerateFollows (Some (Ask format dump questions)) text status = Unit {0}
-GenerateFollows (Some (Generate rounds)) text status = (others : List ℕ) × AreLines others × (text ≡ rounds_line rounds ++ others) × (status ≡ exit.Done)
+GenerateFollows (Some (Generate rounds)) text status = (others : List ℕ) × IsWholeLines others × (text ≡ rounds_line rounds ++ others) × (status ≡ exit.Done)
 GenerateFollows (Some (Load csv table script)) text status = Unit {0}
 
 read-generates : (command : Command) (before : List Event) (name : List ℕ) (most : ℕ) → IsReadBy command before name most → (text : List ℕ) (status : Status) → GenerateFollows (Some command) text status

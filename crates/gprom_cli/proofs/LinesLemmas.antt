@@ -18,8 +18,8 @@ use Rattle.gp_ask.specs.Formats.{exported_records, text_in}
 use Rattle.gp_ask.specs.QuestionFiles.{line_answer_in, line_answer_text}
 use Rattle.gp_ask.specs.Texts.{answer_text, checked_text, listed_line, listed_text, provenance_text, value_text}
 use Rattle.gprom_cli.specs.declared.summary.Summary.{Summary}
-use Rattle.gprom_cli.specs.Call.{AreLines, rounds_line}
-use Rattle.gprom_cli.specs.Generated.{Pieces, line_text, lines_text}
+use Rattle.gprom_cli.specs.Call.{IsWholeLines, rounds_line}
+use Rattle.gprom_cli.specs.Generated.{Pieces, pieces_line, pieces_lines}
 use Rattle.gprom_cli.specs.Summary.{summary_lines, summary_text}
 
 -- the text ends with the end of a line
@@ -34,15 +34,15 @@ then-nothing : (text : List ℕ) → EndsLine text → EndsLine (text ++ [])
 then-nothing text ends = subst EndsLine (sym (append-nil text)) ends
 
 -- whole lines behind such a text
-then-lines : (text lines : List ℕ) → EndsLine text → AreLines lines → EndsLine (text ++ lines)
+then-lines : (text lines : List ℕ) → EndsLine text → IsWholeLines lines → EndsLine (text ++ lines)
 then-lines text lines ends (inl none) = subst (λ (more : List ℕ). EndsLine (text ++ more)) (sym none) (then-nothing text ends)
 then-lines text lines ends (inr more) = behind text lines more
 
-pub after-lines : (lines more : List ℕ) → AreLines lines → AreLines more → AreLines (lines ++ more)
-after-lines lines more (inl none) are = subst (λ (first : List ℕ). AreLines (first ++ more)) (sym none) are
+pub after-lines : (lines more : List ℕ) → IsWholeLines lines → IsWholeLines more → IsWholeLines (lines ++ more)
+after-lines lines more (inl none) are = subst (λ (first : List ℕ). IsWholeLines (first ++ more)) (sym none) are
 after-lines lines more (inr ends) are = inr (then-lines lines more ends are)
 
-all-lines : {X : Type 0} (text_of : X → List ℕ) → ((item : X) → EndsLine (text_of item)) → (items : List X) → AreLines (flat_map text_of items)
+all-lines : {X : Type 0} (text_of : X → List ℕ) → ((item : X) → EndsLine (text_of item)) → (items : List X) → IsWholeLines (flat_map text_of items)
 all-lines text_of each [] = inl refl
 all-lines text_of each (item ∷ items) = inr (then-lines (text_of item) (flat_map text_of items) (each item) (all-lines text_of each items))
 
@@ -61,7 +61,7 @@ rows-ends : (rows : List (List Cell)) → EndsLine (rows_text rows)
 rows-ends rows =
     let lines = flat_map row_line (sorted_by row_cmp rows) in
     let after : EndsLine (newline ++ (lines ++ [])) =
-    then-lines newline (lines ++ []) newline-ends (subst AreLines (sym (append-nil lines)) (all-lines row_line row-ends (sorted_by row_cmp rows))) in
+    then-lines newline (lines ++ []) newline-ends (subst IsWholeLines (sym (append-nil lines)) (all-lines row_line row-ends (sorted_by row_cmp rows))) in
     behind (codes "rows ") (decimal (length rows) ++ (newline ++ (lines ++ []))) (behind (decimal (length rows)) (newline ++ (lines ++ [])) after)
 
 refused-ends : (refusal : Refusal) → EndsLine (refused_text refusal)
@@ -76,7 +76,7 @@ listed-ends number word texts =
     let lines = flat_map listed_line texts in
     let count = decimal (length texts) in
     let after : EndsLine (newline ++ (lines ++ [])) =
-    then-lines newline (lines ++ []) newline-ends (subst AreLines (sym (append-nil lines)) (all-lines listed_line listed-line-ends texts)) in
+    then-lines newline (lines ++ []) newline-ends (subst IsWholeLines (sym (append-nil lines)) (all-lines listed_line listed-line-ends texts)) in
     behind (decimal number) (codes " " ++ (word ++ (codes " " ++ (count ++ (newline ++ (lines ++ []))))))
     (behind (codes " ") (word ++ (codes " " ++ (count ++ (newline ++ (lines ++ [])))))
     (behind word (codes " " ++ (count ++ (newline ++ (lines ++ []))))
@@ -102,31 +102,31 @@ text-ends number (Refused refusal) = numbered-ends number (refused_text refusal)
 
 -- ---- as CSV
 
-csv-lines : (records : List (List (List ℕ))) → AreLines (csv_text records)
+csv-lines : (records : List (List (List ℕ))) → IsWholeLines (csv_text records)
 csv-lines [] = inl refl
 csv-lines (fields ∷ records) = inr (then-lines _ (csv_text records) (behind _ _ (behind _ _ newline-ends)) (csv-lines records))
 
 -- ---- each answer
 
-lines-in : (format : Format) (number : ℕ) (answer : Answered) → AreLines (text_in format number answer)
+lines-in : (format : Format) (number : ℕ) (answer : Answered) → IsWholeLines (text_in format number answer)
 lines-in Text number answer = inr (text-ends number answer)
 lines-in Csv number answer = csv-lines (exported_records number answer)
 
-pub answer-lines : (format : Format) (answers : y.Question → Answered) (line : ℕ × List ℕ) → AreLines (line_answer_text format answers line)
+pub answer-lines : (format : Format) (answers : y.Question → Answered) (line : ℕ × List ℕ) → IsWholeLines (line_answer_text format answers line)
 answer-lines format answers line = lines-in format line.0 (line_answer_in format answers line)
 
 -- ---- the summary of `gen`
 
-pieces-end : (line : Pieces) → EndsLine (line_text line)
+pieces-end : (line : Pieces) → EndsLine (pieces_line line)
 pieces-end [] = then-nothing newline newline-ends
-pieces-end (piece ∷ line) = behind piece (line_text line) (pieces-end line)
+pieces-end (piece ∷ line) = behind piece (pieces_line line) (pieces-end line)
 
 abbrev behind_first : List Pieces → List Pieces
 behind_first [] = []
 behind_first (line ∷ lines) = lines
 
 -- the first line has the rounds, and lines follow
-pub summary-lines : (summary : Summary) → (others : List ℕ) × AreLines others × (summary_text summary ≡ rounds_line summary.rounds ++ others)
+pub summary-lines : (summary : Summary) → (others : List ℕ) × IsWholeLines others × (summary_text summary ≡ rounds_line summary.rounds ++ others)
 summary-lines summary =
     let others = behind_first (summary_lines summary) in
-    (lines_text others, all-lines line_text pieces-end others, refl)
+    (pieces_lines others, all-lines pieces_line pieces-end others, refl)

@@ -22,7 +22,7 @@ use Rattle.gp_plantext.specs.Spelling.{program_text}
 use Rattle.gp_replay.specs.Differences.{IsOfHistory, difference}
 use Rattle.gp_syntax.specs.Lines.{script_lines}
 use Rattle.gp_script.specs.History.{IsScript, ReadLine, has_refusal, last_state, outcome_of, replies_text, replies_to, state_along}
-use Rattle.gp_script.specs.Scripts.{final_state, line_read, lines_as_read}
+use Rattle.gp_script.specs.Scripts.{final_state, line_if_read, lines_as_read}
 use Rattle.gp_script.specs.declared.script.TheConstants.{MAX_SCRIPT_LENGTH}
 use Rattle.gp_dump.specs.declared.dump.TheConstants.{MAX_DUMP_LENGTH}
 use Rattle.gp_dump.specs.Dumps.{Dump, dump_of, written_text}
@@ -43,14 +43,14 @@ use Rattle.gp_ask.specs.declared.answered.Answered as reply
 use Rattle.gp_ask.specs.Explained.{ExplainsLines}
 use Rattle.gp_ask.specs.Hypothetical.{remaking_refusal, replayed_dump}
 use Rattle.gp_ask.specs.Isolated.{IsIsolated, LosesToFirst}
-use Rattle.gp_whatif.specs.Changed.{changed}
+use Rattle.gp_whatif.specs.Changed.{changed_log}
 use Rattle.gp_ask.specs.Questions.{AreQuestions, ReadQuestion, answer_texts, refuses_some}
 use Rattle.gprom_cli.specs.declared.load.TheConstants.{MAX_SHEET_LENGTH}
 use Rattle.gprom_cli.specs.declared.status.Status.{Status}
 use Rattle.gprom_cli.specs.declared.status.Status.TheVariants as exit
 use Rattle.gprom_cli.specs.Args.{Command, Run, Ask, Generate, Load}
 use Rattle.gprom_cli.specs.Call as c
-use Rattle.gprom_cli.specs.Call.{AreLines, answered_status, Call, ComesTo, HasOutcome, history_dump, loaded_message, read_of, rounds_line, RunsScript, sheet_message, usage_text, WritesOutput}
+use Rattle.gprom_cli.specs.Call.{IsWholeLines, answered_status, Call, ComesTo, HasOutcome, history_dump, loaded_message, read_of, rounds_line, RunsScript, sheet_message, usage_text, WritesOutput}
 use Rattle.gprom_cli.specs.Steps.{script_dump}
 use Rattle.gprom_cli.specs.Promises.{IsReadAsDump, Promises}
 use Rattle.gprom_cli.specs.Consequences.{AllDone, Consequences, FollowsSteps, HasFailed, IsClean, IsDetermined, IsLast, IsOrFails, IsReplacedAfter, LoadsSheet}
@@ -107,14 +107,14 @@ module _ (script : List ℕ) (lines : List ReadLine) (are : IsScript script line
 
 -- those that are read
 abbrev taken : List ReadLine → List Line
-taken = flat_map (λ (line : ReadLine). line_read line.0 line.1)
+taken = flat_map (λ (line : ReadLine). line_if_read line.0 line.1)
 
 abbrev read_again : Line → ReadLine
 read_again line = (line.number, Ok (record { session = line.session; command = line.command }))
 
 module _ {M : Type 0} (domain : Annotations M) where
   taken-after : (lines : List ReadLine) → ((state : State M) → state_along domain state lines ≡ after domain parameters state (taken lines)) → (state : State M) (number : ℕ) (read : Result y.ScriptLine ReadFault)
-      → state_along domain (outcome_of domain state number read).0 lines ≡ after domain parameters state (line_read number read ++ taken lines)
+      → state_along domain (outcome_of domain state number read).0 lines ≡ after domain parameters state (line_if_read number read ++ taken lines)
   taken-after lines rest state number (Err fault) = rest state
   taken-after lines rest state number (Ok line) = rest (event domain parameters state number line.session line.command).0
 
@@ -154,7 +154,7 @@ pub record DumpLaws : Type 0 where
       → program_text tables program ≡ program_text tables other → program ≡ other
   pub isolated : (lines : List Line) → IsIsolated (after monomials parameters start lines)
   pub lost : (lines : List Line) → LosesToFirst (after monomials parameters start lines)
-  pub remade : (dump : Dump) → IsDump dump → (change : y.LogChange) (entries : List Entry) → changed parameters dump.entries change ≡ Ok entries
+  pub remade : (dump : Dump) → IsDump dump → (change : y.LogChange) (entries : List Entry) → changed_log parameters dump.entries change ≡ Ok entries
       → remaking_refusal entries ≡ None → IsIsolated (replayed_state monomials (tables_in entries) entries)
 
 -- of a state of a script, by its lines
@@ -236,7 +236,7 @@ module _ (call : Call) (promises : Promises call) where
         or-fails usage_text exit.Usage call.sink call.sink_after call.status (subst (λ (o : Option Command). WritesTold call (told programs o call.events)) none writes)
 
     generated-by : HasOutcome programs call → (rounds : ℕ) → call.command ≡ Some (Generate rounds)
-        → (others : List ℕ) × AreLines others × WritesOutput (rounds_line rounds ++ others) exit.Done call.sink call.sink_after call.status
+        → (others : List ℕ) × IsWholeLines others × WritesOutput (rounds_line rounds ++ others) exit.Done call.sink call.sink_after call.status
     generated-by (c.comes_to text status comes writes) rounds generate =
         let follows : GenerateFollows (Some (Generate rounds)) text status =
         subst (λ (o : Option Command). GenerateFollows o text status) generate (generate-follows programs call.command call.events text status comes) in (

@@ -34,7 +34,7 @@ use Rattle.gp_machine.specs.Runs.{run}
 use Rattle.gp_machine.specs.Questions.{annotated_answer, annotation_stop, answer_refusal, given, is_known, log_refusal, needed_version, own_stop, rows_answer, stop_refusal, transaction_refusal}
 use Rattle.gp_log.specs.Parameters.{parameters}
 use Rattle.gp_log.specs.LogFacts.{tables_in}
-use Rattle.gp_whatif.specs.Changed.{changed}
+use Rattle.gp_whatif.specs.Changed.{changed_log}
 use Rattle.gp_dump.specs.Dumps.{Dump}
 use Rattle.gp_dump.proofs.RowPlaces.{sorted_length}
 use Rattle.gp_history.specs.Agreement.{occurrence}
@@ -44,7 +44,7 @@ use Rattle.gp_semiring.specs.Witnesses.{sets_text}
 use Rattle.gp_semiring.specs.declared.rules.Rule.{Rule}
 use Rattle.gp_semiring.specs.Rules.{first_outside}
 use Rattle.gp_history.specs.DistinctRows.{distinct_rows}
-use Rattle.gp_history.specs.ValueAnswers.{all_elements, history_refusal, limited, values_of}
+use Rattle.gp_history.specs.ValueAnswers.{all_elements, history_refusal, limited, row_values}
 use Rattle.gp_history.specs.ValueForms.{value_answer}
 use Rattle.gp_history.specs.Agreement.{agree}
 use Rattle.gp_ask.specs.declared.answered.Answered.{Answered}
@@ -55,7 +55,7 @@ use Rattle.gp_compose.specs.Seen.{changes_refusal, saw_refusal}
 use Rattle.gp_reenact.specs.Looking.{saw_answer}
 use Rattle.gp_ask.specs.Answers.{versions_answer}
 use Rattle.gp_ask.specs.Computed.{computed_answer, what_if_answer}
-use Rattle.gp_ask.specs.Asking.{of_elements, query_answer, spans_at, with_monomials}
+use Rattle.gp_ask.specs.Asking.{of_elements, query_answer, table_spans, with_monomials}
 use Rattle.gp_ask.specs.Printed.{ask_to, changed_answer}
 use Rattle.gp_ask.specs.AskingForms.{dump_program, dump_provenance, dump_remaining, dump_rows, rules_of}
 use Rattle.gp_ask.specs.ValueForms.{dump_minimal, dump_valued, dump_values}
@@ -160,7 +160,7 @@ module _ (entries : List Entry) (spans : ℕ → List Span) (point : y.Point) (q
   few-valued : {K : Type 0} (plus : K → K → K) (zero_of one_of : K) (times : K → K → K) (value : Token → K) (catalogue : List Table)
       → AreFew (value_answer parameters plus zero_of one_of times value agree catalogue entries spans point query)
   few-valued plus zero_of one_of times value catalogue =
-      few-limited (values_of plus zero_of one_of times value) (all_elements monomials parameters agree catalogue entries spans point query)
+      few-limited (row_values plus zero_of one_of times value) (all_elements monomials parameters agree catalogue entries spans point query)
 
 few-checked : (answers : Select → Answered) (refusal : Option Refusal) (checked : Result Select Refusal) → ((select : Select) → HasFew (answers select)) → HasFew (query_answer answers refusal checked)
 few-checked answers (Some refusal) checked few = omega arith
@@ -182,13 +182,13 @@ module _ (dump : Dump) (point : y.Point) (select : Select) where
   few-semiring name rules =
       let semiring = semiring_of name in
       let value = value_of semiring rules in
-      let rows = value_answer parameters semiring.plus_of semiring.zero_of semiring.one_of semiring.times_of value agree (tables_in dump.entries) dump.entries (spans_at dump.tables) point select in
+      let rows = value_answer parameters semiring.plus_of semiring.zero_of semiring.one_of semiring.times_of value agree (tables_in dump.entries) dump.entries (table_spans dump.tables) point select in
       few-unless (outside_refusal name (first_outside semiring.number_of rules.0 rules.1)) (with_values semiring.text_of rows)
-      (few-values semiring.text_of rows (few-valued dump.entries (spans_at dump.tables) point select semiring.plus_of semiring.zero_of semiring.one_of semiring.times_of value (tables_in dump.entries)))
+      (few-values semiring.text_of rows (few-valued dump.entries (table_spans dump.tables) point select semiring.plus_of semiring.zero_of semiring.one_of semiring.times_of value (tables_in dump.entries)))
 
   few-minimal : HasFew (dump_minimal dump point select)
   few-minimal =
-      let elements = all_elements monomials parameters agree (tables_in dump.entries) dump.entries (spans_at dump.tables) point select in
+      let elements = all_elements monomials parameters agree (tables_in dump.entries) dump.entries (table_spans dump.tables) point select in
       few-values sets_text (limited MAX_ANSWER_ROWS minimal_of elements) (few-limited minimal_of elements)
 
   few-by-rules : (name : SemiringName) (rules : List y.Rule) (other : Option ℕ) → HasFew (dump_valued name rules other dump point select)
@@ -204,8 +204,8 @@ module _ (dump : Dump) (point : y.Point) (select : Select) where
 
   few-remaining : (patterns : List Rule) → HasFew (dump_remaining patterns dump point select)
   few-remaining patterns =
-      let db = at_point monomials dump.entries point (annotated_versions monomials dump.entries (spans_at dump.tables)) in
-      let refusal = history_refusal monomials parameters agree (tables_in dump.entries) dump.entries (spans_at dump.tables) point in
+      let db = at_point monomials dump.entries point (annotated_versions monomials dump.entries (table_spans dump.tables)) in
+      let refusal = history_refusal monomials parameters agree (tables_in dump.entries) dump.entries (table_spans dump.tables) point in
       let rest = remaining (has_left_out patterns) select db in
       few-elements (remaining_answer (has_left_out patterns) select db refusal)
       (behind rest refusal (cond (are_too_many (has_left_out patterns) select db) (Some E27) None)
@@ -214,10 +214,10 @@ module _ (dump : Dump) (point : y.Point) (select : Select) where
 few-ask : (dump : Dump) (how : y.How) (point : y.Point) (query : y.Query) → HasFew (ask_to dump how point query)
 few-ask dump y.rows point query =
     few-checked (dump_rows dump point) (log_refusal dump.entries point) (checked_query (tables_in dump.entries) query)
-    (λ select. few-elements (rows_answer parameters dump.entries (spans_at dump.tables) point select) (few-plain dump.entries (spans_at dump.tables) point select))
+    (λ select. few-elements (rows_answer parameters dump.entries (table_spans dump.tables) point select) (few-plain dump.entries (table_spans dump.tables) point select))
 few-ask dump y.provenance point query =
     few-checked (dump_provenance dump point) (log_refusal dump.entries point) (checked_query (tables_in dump.entries) query)
-    (λ select. few-listed (annotated_answer monomials parameters agree (tables_in dump.entries) dump.entries (spans_at dump.tables) point select) (few-annotated dump.entries (spans_at dump.tables) point select (tables_in dump.entries)))
+    (λ select. few-listed (annotated_answer monomials parameters agree (tables_in dump.entries) dump.entries (table_spans dump.tables) point select) (few-annotated dump.entries (table_spans dump.tables) point select (tables_in dump.entries)))
 few-ask dump (y.explain prov) point query =
     few-checked (dump_program dump prov point) (log_refusal dump.entries point) (checked_query (tables_in dump.entries) query) (λ select. omega arith)
 few-ask dump (y.value name rules other) point query =
@@ -285,7 +285,7 @@ few-answer dump (y.versions name) = few-versions name dump.tables (place_of name
 few-answer dump y.transactions = omega arith
 few-answer dump (y.saw t k query) =
     few-checked (dump_saw dump t k) (saw_refusal t k dump.entries) (checked_query (tables_in dump.entries) query)
-    (λ select. few-elements (saw_answer parameters dump.entries (spans_at dump.tables) t k select) (few-saw dump.entries (spans_at dump.tables) t k select))
+    (λ select. few-elements (saw_answer parameters dump.entries (table_spans dump.tables) t k select) (few-saw dump.entries (table_spans dump.tables) t k select))
 few-answer dump (y.changes t k) = few-unless (changes_refusal t k dump.entries) _ (few-any dump t (k - 1) (statement_at t k dump.entries))
 few-answer dump (y.commit_changes t) = few-unless (transaction_refusal t dump.entries) _ (few-version dump (version_of t dump.entries))
 few-answer dump y.check = omega arith
@@ -293,7 +293,7 @@ few-answer dump (y.diff first second query) =
     few-diff (answers.rows_in (side_answer (ask_to dump) (what_if_answer dump.entries) first query)) (answers.rows_in (side_answer (ask_to dump) (what_if_answer dump.entries) second query))
 few-answer dump (y.causes kept query) = few-causes (without_in (what_if_answer dump.entries) kept query) (committed_writes dump.entries) (answers.rows_in (ask_to dump kept.how kept.state query))
 few-answer dump (y.ask how point query) = few-ask dump how point query
-few-answer dump (y.what_if change how point query) = few-changed (changed parameters dump.entries change) how point query
+few-answer dump (y.what_if change how point query) = few-changed (changed_log parameters dump.entries change) how point query
 
 few-read : (dump : Dump) (read : Result y.Question Fault) → HasFew (answered (computed_answer dump) read)
 few-read dump (Err fault) = omega arith

@@ -23,7 +23,7 @@ use Rattle.gp_ask.specs.Printed.{held_to}
 use Rattle.gp_ask.specs.Computed.{computed_answer}
 use Rattle.gprom_cli.specs.declared.summary.Summary.{Summary}
 use Rattle.gprom_cli.specs.Steps.{script_dump}
-use Rattle.gprom_cli.specs.Generated.{Pieces, closing_lines, generated_questions, generated_script, line_text, lines_text, replay_line}
+use Rattle.gprom_cli.specs.Generated.{Pieces, closing_lines, generated_questions, generated_script, pieces_line, pieces_lines, replay_line}
 use Rattle.gprom_cli.specs.Summary.{committed_in, has_committed, is_lost, lost_in, questions_about, with_fate}
 use Rattle.gprom_cli.specs.Summaries.{committed_up_to, lost_up_to, rows_in, summary_by, summary_of, summary_with}
 use Rattle.gprom_cli.proofs.GeneratedLemmas.{lines-length, wide}
@@ -100,26 +100,26 @@ transactions-few = count-most is_begin
 versions-few : (entries : List Entry) → versions_in entries ≤ length entries
 versions-few = count-most is_commit
 
-replay-length : (t : ℕ) → t < 10000 → length (lines_text (replay_line t ∷ [])) ≤ 60
+replay-length : (t : ℕ) → t < 10000 → length (pieces_lines (replay_line t ∷ [])) ≤ 60
 replay-length t below = let digits = wide t below in omega (arith, lines-length (replay_line t ∷ []), digits)
 
-closing-length : (last : ℕ) → last < 10000 → length (lines_text (closing_lines last)) ≤ 200
+closing-length : (last : ℕ) → last < 10000 → length (pieces_lines (closing_lines last)) ≤ 200
 closing-length last below = let digits = wide last below in omega (arith, lines-length (closing_lines last), digits)
 
 -- one question more, or none
-replays-one : (committed : Bool) (so_far : List ℕ) (t : ℕ) → suc t < 10000 → length (lines_text (map replay_line so_far)) ≤ 60 * t → length (lines_text (map replay_line (so_far ++ cond committed (suc t ∷ []) []))) ≤ 60 * suc t
+replays-one : (committed : Bool) (so_far : List ℕ) (t : ℕ) → suc t < 10000 → length (pieces_lines (map replay_line so_far)) ≤ 60 * t → length (pieces_lines (map replay_line (so_far ++ cond committed (suc t ∷ []) []))) ≤ 60 * suc t
 replays-one true so_far t below before =
     let last = replay-length (suc t) below in
     let parts =
-    ap (λ (lines : List Pieces). length (lines_text lines)) (map-append replay_line so_far (suc t ∷ []))
-    ∙ ap (λ (text : List ℕ). length text) (flat_map-append line_text (map replay_line so_far) (replay_line (suc t) ∷ []))
-    ∙ length-append (lines_text (map replay_line so_far)) (lines_text (replay_line (suc t) ∷ [])) in
+    ap (λ (lines : List Pieces). length (pieces_lines lines)) (map-append replay_line so_far (suc t ∷ []))
+    ∙ ap (λ (text : List ℕ). length text) (flat_map-append pieces_line (map replay_line so_far) (replay_line (suc t) ∷ []))
+    ∙ length-append (pieces_lines (map replay_line so_far)) (pieces_lines (replay_line (suc t) ∷ [])) in
     omega (arith, before, last, parts)
 replays-one false so_far t below before =
-    let same = ap (λ (ts : List ℕ). length (lines_text (map replay_line ts))) (append-nil so_far) in
+    let same = ap (λ (ts : List ℕ). length (pieces_lines (map replay_line ts))) (append-nil so_far) in
     omega (arith, before, same)
 
-replays-length : (entries : List Entry) (t : ℕ) → t < 10000 → length (lines_text (map replay_line (committed_up_to entries t))) ≤ 60 * t
+replays-length : (entries : List Entry) (t : ℕ) → t < 10000 → length (pieces_lines (map replay_line (committed_up_to entries t))) ≤ 60 * t
 replays-length entries zero below = omega arith
 replays-length entries (suc t) below = replays-one (has_committed (fate_of (suc t) entries)) (committed_up_to entries t) t below (replays-length entries t (omega (arith, below)))
 
@@ -130,8 +130,8 @@ short-questions entries few =
     let versions = versions-few entries in
     let replays = replays-length entries (transactions_in entries) (omega (arith, transactions, few)) in
     let closing = closing-length (versions_in entries) (omega (arith, versions, few)) in
-    let parts = ap (λ (text : List ℕ). length text) (flat_map-append line_text (map replay_line (committed_in entries)) (closing_lines (versions_in entries)))
-    ∙ length-append (lines_text (map replay_line (committed_in entries))) (lines_text (closing_lines (versions_in entries))) in
+    let parts = ap (λ (text : List ℕ). length text) (flat_map-append pieces_line (map replay_line (committed_in entries)) (closing_lines (versions_in entries)))
+    ∙ length-append (pieces_lines (map replay_line (committed_in entries))) (pieces_lines (closing_lines (versions_in entries))) in
     omega (arith, transactions, few, replays, closing, parts)
 
 -- ---- the dump that was read back

@@ -37,18 +37,18 @@ pub record Call : Type 0 where
 -- ---- writing
 
 -- the text is whole lines, or empty
-abbrev pub AreLines : List ℕ → Type 0
-AreLines text = (text ≡ []) ⊎ ((front : List ℕ) × (text ≡ front ++ newline))
+abbrev pub IsWholeLines : List ℕ → Type 0
+IsWholeLines text = (text ≡ []) ⊎ ((front : List ℕ) × (text ≡ front ++ newline))
 
 -- How a text is written under a status. A reader is never shown a part of a line, unless the system took a part of the write that failed, which is the last one.
 pub data WritesOutput (text : List ℕ) (expected : Status) (before after : SinkState) (actual : Status) : Type 0 where
   -- all of it, and the status is the expected one
   all_written : after ≡ after_write text before → actual ≡ expected → WritesOutput text expected before after actual
   -- whole lines of it, and then memory ran out
-  some_written : (lines rest : List ℕ) → text ≡ lines ++ rest → AreLines lines → after ≡ after_write lines before → actual ≡ exit.OutOfMemory
+  some_written : (lines rest : List ℕ) → text ≡ lines ++ rest → IsWholeLines lines → after ≡ after_write lines before → actual ≡ exit.OutOfMemory
       → WritesOutput text expected before after actual
   -- whole lines of it, and then the write of some bytes that come next failed, of which the system may have taken a prefix
-  write_failed : (lines next rest : List ℕ) → text ≡ lines ++ (next ++ rest) → AreLines lines → after ≡ after_failure next (after_write lines before) → actual ≡ exit.Unwritten
+  write_failed : (lines next rest : List ℕ) → text ≡ lines ++ (next ++ rest) → IsWholeLines lines → after ≡ after_failure next (after_write lines before) → actual ≡ exit.Unwritten
       → WritesOutput text expected before after actual
 
 -- ---- texts
@@ -133,7 +133,7 @@ module _ (programs : Programs) where
         → ComesTo (Some (Ask format dump questions)) (read_of dump MAX_DUMP_LENGTH bytes ∷ read_of questions MAX_SCRIPT_LENGTH asked ∷ [])
         (answer_texts format (answer_to programs contents) lines) (answered_status (refuses_some format (answer_to programs contents) lines))
     -- `gen`: a summary, in lines. What it says is the contract of `generate`.
-    summarized : (rounds : ℕ) (others : List ℕ) → AreLines others → ComesTo (Some (Generate rounds)) [] (rounds_line rounds ++ others) exit.Done
+    summarized : (rounds : ℕ) (others : List ℕ) → IsWholeLines others → ComesTo (Some (Generate rounds)) [] (rounds_line rounds ++ others) exit.Done
     -- `load`: the sheet has a fault; or its script is not replaced, or is, and loads its rows
     faulty_sheet : (csv table script bytes : List ℕ) (c number : ℕ) → length bytes ≤ MAX_SHEET_LENGTH → loaded_of table bytes ≡ refuse c number
         → ComesTo (Some (Load csv table script)) (read_of csv MAX_SHEET_LENGTH bytes ∷ []) (sheet_message c number) exit.SheetRefused

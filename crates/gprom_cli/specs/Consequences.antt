@@ -1,4 +1,4 @@
--- Part of the statement of the law `promises_have_consequences`: what follows from the promises of a call, by what was asked and what the shelf has done.
+-- Of the law `promises_have_consequences`: what follows from the promises of a call, by what was asked and what the shelf has done.
 use Rattle.std.specs.Prelude.{◌≡◌, ◌⊎◌, ℕ, ◌≤◌, List, [], ◌∷◌, ◌++◌, length, map, Option, Some, None, Result, Ok, Err}
 use Rattle.gp_base.specs.Annotated.{monomials, unannotated}
 use Rattle.gp_io.specs.Events.{Event, Read, Missing, Unreadable, Replaced, NotReplaced}
@@ -21,7 +21,7 @@ use Rattle.gprom_cli.specs.declared.load.TheConstants.{MAX_SHEET_LENGTH}
 use Rattle.gprom_cli.specs.declared.status.Status.{Status}
 use Rattle.gprom_cli.specs.declared.status.Status.TheVariants as exit
 use Rattle.gprom_cli.specs.Args.{Command, Run, Ask, Generate, Load}
-use Rattle.gprom_cli.specs.Call.{AreLines, Call, ComesTo, RunsScript, WritesOutput, answered_status, history_dump, loaded_message, read_of, rounds_line, sheet_message}
+use Rattle.gprom_cli.specs.Call.{IsWholeLines, Call, ComesTo, RunsScript, WritesOutput, answered_status, history_dump, loaded_message, read_of, rounds_line, sheet_message}
 
 -- ---- what the shelf has done
 
@@ -132,7 +132,7 @@ pub record Consequences (programs : Programs) (call : Call) : Type 0 where
       (answered_status (refuses_some format (held_to programs (after monomials parameters start lines)) questions)) call.sink call.sink_after call.status
   -- `gen` writes lines, of which the first has the rounds.
   pub generated : (rounds : ℕ) → call.command ≡ Some (Generate rounds)
-      → (others : List ℕ) × AreLines others × WritesOutput (rounds_line rounds ++ others) exit.Done call.sink call.sink_after call.status
+      → (others : List ℕ) × IsWholeLines others × WritesOutput (rounds_line rounds ++ others) exit.Done call.sink call.sink_after call.status
   -- `load` replaces the script by one that creates the table and fills it with the rows of the sheet that it read: no line of it is refused, and the last
   -- version of its history has exactly these rows. A sheet that has a fault is refused for the first, and no file is replaced.
   pub loaded : (name table script bytes : List ℕ) (made : List Event) → call.command ≡ Some (Load name table script)

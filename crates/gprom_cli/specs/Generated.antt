@@ -1,4 +1,4 @@
--- Part of the statement of `generate`: what `gen` makes: a script of a bank, whose transactions overlap, and questions about it. Lines are given by their pieces.
+-- Of the contract of `generate`: what `gen` makes: a script of a bank, whose transactions overlap, and questions about it. Lines are given by their pieces.
 use Rattle.std.specs.Prelude.{ℕ, zero, suc, ◌+◌, ◌*◌, ◌%◌, List, [], ◌∷◌, ◌++◌, map, codes}
 use Rattle.std.specs.Fmt.{decimal}
 use Rattle.std.specs.List.{concat, flat_map}
@@ -8,11 +8,11 @@ use Rattle.gp_base.specs.Numbered.{newline}
 abbrev pub Pieces : Type 0
 Pieces = List (List ℕ)
 
-abbrev pub line_text : Pieces → List ℕ
-line_text line = concat (line ++ newline ∷ [])
+abbrev pub pieces_line : Pieces → List ℕ
+pieces_line line = concat (line ++ newline ∷ [])
 
-abbrev pub lines_text : List Pieces → List ℕ
-lines_text lines = flat_map line_text lines
+abbrev pub pieces_lines : List Pieces → List ℕ
+pieces_lines lines = flat_map pieces_line lines
 
 -- ---- the script
 
@@ -55,7 +55,7 @@ rounds_lines zero = []
 rounds_lines (suc round) = rounds_lines round ++ round_lines (suc round)
 
 abbrev pub generated_script : ℕ → List ℕ
-generated_script rounds = lines_text (opening_lines ++ rounds_lines rounds)
+generated_script rounds = pieces_lines (opening_lines ++ rounds_lines rounds)
 
 -- ---- the questions
 
@@ -72,4 +72,4 @@ closing_lines last =
 
 -- a question for each of these transactions, then two about the last version
 abbrev pub generated_questions : List ℕ → ℕ → List ℕ
-generated_questions committed last = lines_text (map replay_line committed ++ closing_lines last)
+generated_questions committed last = pieces_lines (map replay_line committed ++ closing_lines last)

@@ -1,5 +1,5 @@
--- Part of the statement of the law `calls_keep_promises_over_files`: what a call promises where the shelf knows its files, as one in memory does
--- (`events_lead_to_files` of `gp_io`). `old` is what the files have before the call, and `new` what they have after it.
+-- Of the law `calls_keep_promises_over_files`: what a call promises where the shelf knows its files, as one in memory does (`events_lead_to_files` of `gp_io`).
+-- `old` is what the files have before the call, and `new` what they have after it.
 use Rattle.std.specs.Prelude.{◌≡◌, ◌≢◌, ◌⊎◌, ℕ, ◌≤◌, List, [], ◌∷◌, length, Option, Some, None, Result, Ok, Err}
 use Rattle.gp_base.specs.Annotated.{monomials}
 use Rattle.gp_io.specs.Contents.{Contents, HaveSame, Leads, replaced_by}

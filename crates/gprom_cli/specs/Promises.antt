@@ -30,7 +30,7 @@ use Rattle.gp_ask.specs.Explained.{ExplainsLines}
 use Rattle.gp_ask.specs.Hypothetical.{remaking_refusal, replayed_dump}
 use Rattle.gp_ask.specs.Isolated.{IsIsolated, LosesToFirst}
 use Rattle.gp_ask.specs.Questions.{AreQuestions, ReadQuestion}
-use Rattle.gp_whatif.specs.Changed.{changed}
+use Rattle.gp_whatif.specs.Changed.{changed_log}
 use Rattle.gprom_cli.specs.Call.{Call, HasOutcome, history_dump}
 
 -- what the bytes of a file are read as: a dump, or the number of the first rule that fails and that of its line
@@ -75,5 +75,5 @@ pub record Promises (call : Call) : Type 0 where
   -- log of any dump, made again, lead to, where none of them stops.
   pub isolated : (lines : List ReadLine) → IsIsolated (last_state monomials lines)
   pub lost : (lines : List ReadLine) → LosesToFirst (last_state monomials lines)
-  pub remade : (bytes : List ℕ) (contents : Dump) (change : y.LogChange) (entries : List Entry) → WellFormed bytes contents → changed parameters contents.entries change ≡ Ok entries
+  pub remade : (bytes : List ℕ) (contents : Dump) (change : y.LogChange) (entries : List Entry) → WellFormed bytes contents → changed_log parameters contents.entries change ≡ Ok entries
       → remaking_refusal entries ≡ None → IsIsolated (replayed_state monomials (tables_in entries) entries)

@@ -4,7 +4,6 @@ use Rattle.std.specs.Prelude.{ℕ}
 use Rattle.gprom_cli.specs.declared.status.Status.{Status}
 use Rattle.gprom_cli.specs.declared.status.Status.TheVariants.{Done, Refused, Usage, Absent, Unreadable, Unwritten, TooLong, Damaged, OutOfMemory, SheetRefused}
 
--- the number of a status
 abbrev pub exit_number : Status → ℕ
 exit_number Done = 0
 exit_number Refused = 1

@@ -1,4 +1,4 @@
--- Part of the statement of `generate`: the summary of `gen`: what the history of a generated script comes to, and what it answers to the generated questions.
+-- Of the contract of `generate`: the summary of `gen`: what the history of a generated script comes to, and what it answers to the generated questions.
 use Rattle.std.specs.Prelude.{◌≡◌, ℕ, zero, suc, Bool, true, false, List, [], ◌∷◌, ◌++◌, length, if◌then◌else◌, codes}
 use Rattle.std.specs.Fmt.{decimal}
 use Rattle.std.specs.List.{sum_by}
@@ -13,7 +13,7 @@ use Rattle.gp_ask.specs.declared.answered.Answered.TheVariants.{Rows, Listed, Va
 use Rattle.gp_ask.specs.Printed.{held_to}
 use Rattle.gp_ask.specs.Questions.{AreQuestions, ReadQuestion, answered}
 use Rattle.gprom_cli.specs.declared.summary.Summary.{Summary}
-use Rattle.gprom_cli.specs.Generated.{Pieces, generated_questions, generated_script, lines_text}
+use Rattle.gprom_cli.specs.Generated.{Pieces, generated_questions, generated_script, pieces_lines}
 
 -- ---- transactions, by their fates
 
@@ -88,4 +88,4 @@ summary_lines summary =
     ∷ []
 
 abbrev pub summary_text : Summary → List ℕ
-summary_text summary = lines_text (summary_lines summary)
+summary_text summary = pieces_lines (summary_lines summary)

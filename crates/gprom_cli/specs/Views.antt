@@ -1,4 +1,4 @@
--- Part of the statement: the command of the code as that of the statement.
+-- Of the contract of `parse`: the command of the code as that of the statement.
 use Rattle.std.specs.Prelude.{◌≤◌}
 use Rattle.gprom_cli.specs.declared.args.Command as code
 use Rattle.gprom_cli.specs.declared.args.Command.TheVariants as command

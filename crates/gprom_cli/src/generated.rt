@@ -1,7 +1,7 @@
 //! Scripts that are generated, and questions about them: a workload of transactions that overlap.
 
 ghost use Rattle.std.specs.Prelude.{◌≡◌, ◌≤◌, ◌++◌, IfOk, OnOk};
-ghost use Rattle.gprom_cli.specs.Generated.{closing_lines, generated_questions, generated_script, line_text, lines_text, replay_line, round_lines};
+ghost use Rattle.gprom_cli.specs.Generated.{closing_lines, generated_questions, generated_script, pieces_line, pieces_lines, replay_line, round_lines};
 
 use gp_base::{NoMemory, append_all};
 use itoa::Buffer;
@@ -21,7 +21,7 @@ s1: COMMIT
 /// Appends the lines of a round.
 fn append_round(round: u32, out: &mut Vec<u8>) -> Result<(), NoMemory>
     requires { round ≤ MAX_ROUNDS }
-    ensures { OnOk result (out.new.items ≡ out.old.items ++ lines_text (round_lines round)) }
+    ensures { OnOk result (out.new.items ≡ out.old.items ++ pieces_lines (round_lines round)) }
 {
     let mut buffers = (Buffer::new(), Buffer::new(), Buffer::new());
     let source = buffers.0.format(round % 10 + 1).as_bytes();
@@ -65,7 +65,7 @@ pub fn generate_script(alloc: Global, rounds: u32) -> Result<Vec<u8>, NoMemory>
 
 /// Appends the questions about the last version.
 fn append_closing(last: u32, out: &mut Vec<u8>) -> Result<(), NoMemory>
-    ensures { OnOk result (out.new.items ≡ out.old.items ++ lines_text (closing_lines last)) }
+    ensures { OnOk result (out.new.items ≡ out.old.items ++ pieces_lines (closing_lines last)) }
 {
     let mut buffer = Buffer::new();
     let last = buffer.format(last).as_bytes();
@@ -83,7 +83,7 @@ fn append_closing(last: u32, out: &mut Vec<u8>) -> Result<(), NoMemory>
 
 /// Appends the question about a transaction.
 fn append_replay(t: u32, out: &mut Vec<u8>) -> Result<(), NoMemory>
-    ensures { OnOk result (out.new.items ≡ out.old.items ++ line_text (replay_line t)) }
+    ensures { OnOk result (out.new.items ≡ out.old.items ++ pieces_line (replay_line t)) }
 {
     let mut buffer = Buffer::new();
     let t = buffer.format(t).as_bytes();

@@ -16,7 +16,7 @@ ghost use Rattle.gp_script.specs.Scripts.{final_state};
 ghost use Rattle.gp_syntax.specs.Lines.{script_lines};
 ghost use Rattle.gprom_cli.specs.declared.summary.Summary.{Summary};
 ghost use Rattle.gprom_cli.specs.Call.{WritesOutput};
-ghost use Rattle.gprom_cli.specs.Generated.{line_text};
+ghost use Rattle.gprom_cli.specs.Generated.{pieces_line};
 ghost use Rattle.gprom_cli.specs.Summary.{IsSummary, committed_in, has_committed, is_lost, row_count, summary_text};
 ghost use Rattle.gprom_cli.specs.Summaries.{line_rows, lost_up_to, rows_in, summary_of};
 
@@ -213,7 +213,7 @@ fn summary_of(alloc: Global, rounds: u32) -> Result<Summary, NoMemory>
 /// Appends a line of a summary: a word and a number.
 fn append_line(word: &[u8], number: u64, out: &mut Vec<u8>) -> Result<(), NoMemory>
     ensures { OnOk result (out.new.items
-        ≡ out.old.items ++ line_text (word.now ∷ decimal number ∷ [])) }
+        ≡ out.old.items ++ pieces_line (word.now ∷ decimal number ∷ [])) }
 {
     let mut buffer = Buffer::new();
     append_all(out, &[word, buffer.format(number).as_bytes(), b"\n"])

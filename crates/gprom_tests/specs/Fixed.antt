@@ -1,4 +1,4 @@
--- Part of the statement: a backend that gives the same rows for every program.
+-- Of the contract of `Fixed`: a backend that gives the same rows for every program.
 use Rattle.std.specs.Prelude.{◌≡◌, List, [], ◌∷◌, Ok, pos}
 use Rattle.gp_base.specs.declared.cell.Cell.{Cell}
 use Rattle.gp_base.specs.declared.cell.Cell.TheVariants.{Int}

@@ -19,7 +19,6 @@ use gp_exec::{Env, ExecStop};
 use gp_syntax::{How, Question, ReadStop, read_question};
 use std::alloc::Global;
 
-/// A row of one number.
 fn number_row(alloc: Global, number: i64) -> Result<Row, NoMemory>
     ensures { IfOk result (λ row. row ≡ cell.Int number ∷ []) }
 {

@@ -18,7 +18,6 @@ pub(crate) enum Given {
     Text(&'static str),
 }
 
-/// The cell.
 fn cell_of(alloc: Global, given: Given) -> Result<Cell, NoMemory> {
     match given {
         Given::Null => Ok(Cell::Null),

@@ -5,7 +5,7 @@ use Rattle.gp_grammar.specs.Syntax as y
 use Rattle.gp_grammar.specs.Syntax.{LogChange}
 use Rattle.gp_log.specs.Parameters.{parameters}
 use Rattle.gp_syntax.specs.Views.{change_view, how_view, kept_view, query_view, point_view}
-use Rattle.gp_whatif.specs.Changed.{changed}
+use Rattle.gp_whatif.specs.Changed.{changed_log}
 use Rattle.gp_ask.specs.declared.answered.Answered.{Answered}
 use Rattle.gp_ask.specs.Computed.{computed_answer, what_if_answer}
 use Rattle.gp_ask.specs.Differences.{without_in}
@@ -36,8 +36,8 @@ pub what_if_from-requires-clause-made : goal.what_if_from-requires-clause-made
 what_if_from-requires-clause-made c = λ new is.
     let dump = dump_view c.args.asked.now.dump.now in
     let replays = replayable dump c.requires.asked.rules in
-    let change : changed parameters dump.entries (y.drop c.args.own.t c.args.own.k) ≡ Ok new =
-    subst (λ (own : LogChange). changed parameters dump.entries own ≡ Ok new) c.dropping-change.ensures is in
+    let change : changed_log parameters dump.entries (y.drop c.args.own.t c.args.own.k) ≡ Ok new =
+    subst (λ (own : LogChange). changed_log parameters dump.entries own ≡ Ok new) c.dropping-change.ensures is in
     let within = c.changes_keep_earlier_versions.ensures.within dump.entries new c.args.own.t c.args.own.k (suc c.args.before) replays c.requires.version change in (
       omega (arith, within),
       c.changes_keep_earlier_versions.ensures.made dump.entries new c.args.own.t c.args.own.k (suc c.args.before) replays c.requires.version change c.args.before (omega arith) c.in_ok-copies.copies.items

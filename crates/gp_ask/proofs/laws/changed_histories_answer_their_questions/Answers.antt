@@ -1,6 +1,6 @@
 use Rattle.gp_log.specs.Parameters.{parameters}
 use Rattle.gp_machine.specs.Entries.{versions_in}
-use Rattle.gp_whatif.specs.Changed.{changed}
+use Rattle.gp_whatif.specs.Changed.{changed_log}
 use Rattle.gp_whatif.specs.Replays.{IsCoherent}
 use Rattle.gp_ask.proofs.HypotheticalLemmas.{any-order, changed-same, remade}
 use Rattle.gp_ask.proofs.TargetLemmas.{targets-checked}
@@ -8,7 +8,7 @@ use Rattle.gp_ask.proofs.laws.changed_histories_answer_their_questions.Goals as 
 
 pub returns-clause-held : goal.returns-clause-held
 returns-clause-held c = λ entries change is how point query.
-    changed-same (changed parameters entries change) how point query
+    changed-same (changed_log parameters entries change) how point query
     (λ new made.
     let own : IsCoherent new = c.changed_logs_are_coherent.ensures.changed parameters entries new change targets-checked is made in
     remade new (λ place past. c.replays_have_the_tables_of_their_logs.ensures new own place past (versions_in new))

@@ -17,7 +17,7 @@ use Rattle.gp_versions.specs.declared.span.Span.{Span}
 use Rattle.gp_whatif.specs.Replays.{IsCoherent}
 use Rattle.gp_dump.specs.Dumps.{dump_of}
 use Rattle.gp_ask.specs.Printed.{answer_to, held_to}
-use Rattle.gp_ask.specs.Asking.{spans_at}
+use Rattle.gp_ask.specs.Asking.{table_spans}
 use Rattle.gp_ask.proofs.CommittedLines.{commits}
 use Rattle.gp_ask.proofs.HeldLemmas.{forgetting, held}
 use Rattle.gp_ask.proofs.SeenLemmas.{alters, sees}
@@ -37,7 +37,7 @@ returns c = λ lines question.
     subst (λ (s : State (Unit {0})). IsCoherent s.entries) same (c.changed_logs_are_coherent.ensures.histories parameters lines targets-checked) in
     let kept : (table : ℕ) → state_spans (forgetting state) table ≡ state_spans state table = λ table. c.annotations_change_no_reply.ensures.spans forgotten state table in
     let beyond : (table : ℕ) → length state.catalogue ≤ table → state_spans (forgetting state) table ≡ [] = λ table past. kept table ∙ c.commits_publish_the_spans.ensures.beyond monomials parameters targets-checked lines table past in
-    let spans : ℕ → List Span = spans_at (dump_of (forgetting state)).tables in
+    let spans : ℕ → List Span = table_spans (dump_of (forgetting state)).tables in
     let moved : (table : ℕ) → IsPermutation (spans table) (state_spans state table) =
     λ table. subst (λ (own : List Span). IsPermutation (spans table) own) (kept table) (dumped (forgetting state) beyond table) in
     let sessions : KeepsSessions state.entries = coherent.sessions in

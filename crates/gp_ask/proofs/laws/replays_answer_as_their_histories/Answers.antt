@@ -7,7 +7,7 @@ use Rattle.gp_log.specs.LogFacts.{tables_in}
 use Rattle.gp_machine.specs.Entries.{log_of, versions_in}
 use Rattle.gp_machine.specs.Replayed.{replayed_state}
 use Rattle.gp_versions.specs.declared.span.Span.{Span}
-use Rattle.gp_ask.specs.Asking.{spans_at}
+use Rattle.gp_ask.specs.Asking.{table_spans}
 use Rattle.gp_ask.proofs.laws.replays_answer_as_their_histories.Goals as goal
 
 pub returns : goal.returns
@@ -16,5 +16,5 @@ returns c = λ entries order none tables are how point query.
     let unstopped = c.histories_do_not_stop.ensures.replayed monomials parameters (tables_in entries) entries order
     (sym (c.annotations_change_no_replay.ensures.stops monomials unannotated forgotten forgets parameters (log_of entries) (length (tables_in entries)) (versions_in entries)) ∙ none) in
     c.unstopped_histories_answer_as_their_dumps.ensures (replayed_state monomials (tables_in entries) entries) unstopped refl tables
-    (λ place. subst (λ (own : List Span). IsPermutation (spans_at tables place) own)
+    (λ place. subst (λ (own : List Span). IsPermutation (table_spans tables place) own)
     (c.annotations_change_no_replay.ensures.spans monomials unannotated forgotten forgets (log_of entries) (length (tables_in entries)) (versions_in entries) place) (are place)) how point query

@@ -10,7 +10,7 @@ use Rattle.gp_machine.specs.Unstopped.{IsUnstopped}
 use Rattle.gp_machine.proofs.AskedLemmas.{asked}
 use Rattle.gp_history.proofs.HeldLemmas.{log_refuses}
 use Rattle.gp_versions.specs.declared.span.Span.{Span}
-use Rattle.gp_ask.specs.Asking.{spans_at}
+use Rattle.gp_ask.specs.Asking.{table_spans}
 use Rattle.gp_ask.proofs.HeldLemmas as held
 use Rattle.gp_ask.proofs.HeldLemmas.{forgetting}
 use Rattle.gp_ask.proofs.ValueLemmas.{AreHeld, each-semiring}
@@ -18,7 +18,7 @@ use Rattle.gp_ask.proofs.laws.unstopped_histories_answer_as_their_dumps.Goals as
 
 pub returns : goal.returns
 returns c = λ state unstopped kept tables are how point query.
-    let spans : ℕ → List Span = spans_at tables in
+    let spans : ℕ → List Span = table_spans tables in
     let plainly : IsUnstopped unannotated parameters (forgetting state) =
     c.annotations_change_no_replay.ensures.unstopped monomials unannotated forgotten (c.annotations_commute.ensures.forgetting monomials) parameters state unstopped in
     let moved : (table : ℕ) → IsPermutation (spans table) (state_spans (forgetting state) table) =

@@ -14,12 +14,12 @@ use Rattle.gp_versions.specs.Spans.{Versions}
 use Rattle.gp_dump.specs.Views.{dump_view, tables_view}
 use Rattle.gp_ask.specs.declared.answered.Answered.{Answered}
 use Rattle.gp_ask.specs.declared.answered.Answered.TheVariants.{Rows}
-use Rattle.gp_ask.specs.Asking.{of_elements, spans_at}
+use Rattle.gp_ask.specs.Asking.{of_elements, table_spans}
 use Rattle.gp_ask.specs.Seeing.{dump_saw}
 use Rattle.gp_ask.proofs.ReenactedLemmas.{dump-spans, in-order, refused}
 use Rattle.gp_ask.proofs.seeing.selected_saw.Goals as goal
 
-same-spans : (own versions : List Versions) → own ≡ versions → spans_of own ≡ spans_at (tables_view versions)
+same-spans : (own versions : List Versions) → own ≡ versions → spans_of own ≡ table_spans (tables_view versions)
 same-spans own versions is = ap spans_of is ∙ dump-spans versions
 
 pub saw-requires-clause-query : goal.saw-requires-clause-query

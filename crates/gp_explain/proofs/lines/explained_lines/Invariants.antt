@@ -1,7 +1,7 @@
 use Rattle.std.proofs.Common.{◌≡◌, ◌++◌, drop}
-use Rattle.gp_explain.specs.ExplainedLines.{lines_from, lines_of}
+use Rattle.gp_explain.specs.ExplainedLines.{lines_from, text_lines}
 use Rattle.gp_explain.proofs.lines.explained_lines.Given as goal
 
 -- the lines so far and those of what remains are the lines of all
 abbrev pub invariant-loop-byte : goal.invariant-loop-byte
-invariant-loop-byte l = l.lines ++ lines_from l.line.items (drop l.byte-index l.text) ≡ lines_of l.text
+invariant-loop-byte l = l.lines ++ lines_from l.line.items (drop l.byte-index l.text) ≡ text_lines l.text

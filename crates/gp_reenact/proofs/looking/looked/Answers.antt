@@ -9,7 +9,7 @@ use Rattle.gp_log.specs.Parameters.{parameters}
 use Rattle.gp_reenact.specs.Encoding.{encoded}
 use Rattle.gp_reenact.specs.LookingForms.{EndsInTable, Looks, looked_answer}
 use Rattle.gp_reenact.specs.Reenacting.{spans_of}
-use Rattle.gp_reenact.specs.Travel.{as_of}
+use Rattle.gp_reenact.specs.Travel.{past_environment}
 use Rattle.gp_reenact.specs.declared.error.ReenactStop.{ReenactStop}
 use Rattle.gp_reenact.proofs.LookingLemmas.{looked_built, looked_found, looked_stopped}
 use Rattle.gp_reenact.proofs.looking.looked.Goals as goal
@@ -24,7 +24,7 @@ pub returns-in-Ok : goal.returns-in-Ok
 returns-in-Ok c =
     looked_found (log_view c.args.log.now.entries) c.args.versions.now c.requires.statement.statements c.requires.spans c.args.t c.args.before (statement_view c.args.stmt.now) c.requires.statement.known c.requires.statement.here
     c.requires.writes (λ (rows : Vec Row Global). rows.items) c.in-Ok.rows
-    (subst (λ (program : PlainProgram). EndsInTable (λ (rows : Vec Row Global). rows.items) (Ok c.in-Ok.rows) program (encoded (as_of unannotated c.args.versions.now))) c.in_ok-planned.ensures.1 c.in-Ok.ensures)
+    (subst (λ (program : PlainProgram). EndsInTable (λ (rows : Vec Row Global). rows.items) (Ok c.in-Ok.rows) program (encoded (past_environment unannotated c.args.versions.now))) c.in_ok-planned.ensures.1 c.in-Ok.ensures)
 
 pub returns : goal.returns
 returns c =
@@ -32,4 +32,4 @@ returns c =
     let statement = statement_view c.args.stmt.now in
     subst (λ (s : ReenactStop). Looks (λ (rows : Vec Row Global). rows.items) (Err s) (looked_answer parameters entries (spans_of c.args.versions.now) c.args.t c.args.before statement)) (sym c.stopped.ensures)
     (looked_stopped entries c.args.versions.now c.requires.statement.statements c.requires.spans c.args.t c.args.before statement c.requires.statement.known c.requires.statement.here c.requires.writes (λ (rows : Vec Row Global). rows.items) c.in-Err.stop
-    (subst (λ (program : PlainProgram). EndsInTable (λ (rows : Vec Row Global). rows.items) (Err c.in-Err.stop) program (encoded (as_of unannotated c.args.versions.now))) c.in_ok-planned.ensures.1 c.in-Err.ensures))
+    (subst (λ (program : PlainProgram). EndsInTable (λ (rows : Vec Row Global). rows.items) (Err c.in-Err.stop) program (encoded (past_environment unannotated c.args.versions.now))) c.in_ok-planned.ensures.1 c.in-Err.ensures))

@@ -7,7 +7,7 @@ use Rattle.gp_algebra.specs.WellBuilt.{is_well_built}
 use Rattle.gp_compose.specs.Seen.{saw_refusal}
 use Rattle.gp_log.specs.Logs.{log_view}
 use Rattle.gp_reenact.specs.Encoding.{encoded}
-use Rattle.gp_reenact.specs.Travel.{as_of}
+use Rattle.gp_reenact.specs.Travel.{past_environment}
 use Rattle.gp_reenact.specs.Backends.{GivesOver, IsGivenOver, ReenactsBy}
 use Rattle.gp_reenact.specs.LookingForms.{saw_program}
 use Rattle.gp_reenact.specs.Reenacting.{stopped}
@@ -28,7 +28,7 @@ number_of-requires g c = known_of c.args.t c.args.k (log_view c.args.log.now.ent
 pub returns-in-Ok : goal.returns-in-Ok
 returns-in-Ok g c =
     let planned = c.in_ok-planned.ensures in
-    (planned.0, subst (λ (program : PlainProgram). IsGivenOver (g.B.Backend.gives c.args.backend.now) program (encoded (as_of unannotated c.args.versions.now)) (Ok c.in-Ok.rows.items)) planned.1 c.in-Ok.ensures)
+    (planned.0, subst (λ (program : PlainProgram). IsGivenOver (g.B.Backend.gives c.args.backend.now) program (encoded (past_environment unannotated c.args.versions.now)) (Ok c.in-Ok.rows.items)) planned.1 c.in-Ok.ensures)
 
 pub returns : goal.returns
 returns g c =
@@ -36,7 +36,7 @@ returns g c =
     let entries = log_view c.args.log.now.entries in
     let expected = saw_refusal c.args.t c.args.k entries in
     let program = saw_program entries c.args.t c.args.k (select_view c.args.select.now) in
-    let past = encoded (as_of unannotated c.args.versions.now) in
+    let past = encoded (past_environment unannotated c.args.versions.now) in
     let planned = c.in_ok-planned.ensures in
     let over = subst (λ (program : PlainProgram). GivesOver (λ (rows : Vec Row Global). rows.items) gives (Err c.in-Err.stop) program past) planned.1 c.in-Err.ensures in
     subst (λ (s : ReenactStop). ReenactsBy (λ (rows : Vec Row Global). rows.items) gives (Err s) expected c.args.t program past)

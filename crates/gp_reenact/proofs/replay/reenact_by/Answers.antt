@@ -8,7 +8,7 @@ use Rattle.gp_algebra.specs.WellBuilt.{is_well_built}
 use Rattle.gp_log.specs.Logs.{log_view}
 use Rattle.gp_machine.specs.Questions.{log_refusal}
 use Rattle.gp_reenact.specs.Encoding.{encoded}
-use Rattle.gp_reenact.specs.Travel.{as_of}
+use Rattle.gp_reenact.specs.Travel.{past_environment}
 use Rattle.gp_reenact.specs.Backends.{GivesOver, IsGivenOver, ReenactsBy}
 use Rattle.gp_reenact.specs.declared.error.ReenactStop.{ReenactStop}
 use Rattle.gp_reenact.specs.Reenacting.{stopped, transaction_at}
@@ -26,14 +26,14 @@ rows_over-requires g c =
 pub returns-in-Ok : goal.returns-in-Ok
 returns-in-Ok g c =
     let planned = c.in_ok-plain.ensures in
-    (planned.0, subst (λ (program : PlainProgram). IsGivenOver (g.B.Backend.gives c.args.backend.now) program (encoded (as_of unannotated c.args.versions.now)) (Ok c.in-Ok.rows.items)) planned.1 c.in-Ok.ensures)
+    (planned.0, subst (λ (program : PlainProgram). IsGivenOver (g.B.Backend.gives c.args.backend.now) program (encoded (past_environment unannotated c.args.versions.now)) (Ok c.in-Ok.rows.items)) planned.1 c.in-Ok.ensures)
 
 pub returns : goal.returns
 returns g c =
     let gives = g.B.Backend.gives c.args.backend.now in
     let expected = log_refusal (log_view c.args.log.now.entries) (point_view c.args.state) in
     let program = merged_at false (log_view c.args.log.now.entries) (point_view c.args.state) (select_view c.args.select.now) in
-    let past = encoded (as_of unannotated c.args.versions.now) in
+    let past = encoded (past_environment unannotated c.args.versions.now) in
     let planned = c.in_ok-plain.ensures in
     let over = subst (λ (program : PlainProgram). GivesOver (λ (rows : Vec Row Global). rows.items) gives (Err c.in-Err.stop) program past) planned.1 c.in-Err.ensures in
     subst (λ (s : ReenactStop). ReenactsBy (λ (rows : Vec Row Global). rows.items) gives (Err s) expected (transaction_at (point_view c.args.state)) program past)

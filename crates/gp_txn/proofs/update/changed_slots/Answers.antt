@@ -3,7 +3,7 @@ use Rattle.std.specs.List.{flat_map}
 use Rattle.std.proofs.lemmas.List.{append-nil, drop_all, drop_more}
 use Rattle.gp_txn.specs.Changes.{change_view}
 use Rattle.gp_txn.specs.Enough.{first_at, slotted_at}
-use Rattle.gp_txn.specs.Passes.{of_place, of_row, row_entry, row_touched}
+use Rattle.gp_txn.specs.Passes.{made_of_place, made_of_slot, row_entry, row_touched}
 use Rattle.gp_txn.proofs.ChangedLemmas.{changed-places, touched-places}
 use Rattle.gp_txn.proofs.PlacedLemmas.{IsAhead, ahead-all, ahead-first, ahead-more, anywhere, pass-count, pass-more}
 use Rattle.gp_txn.proofs.update.changed_slots.Goals as goal
@@ -24,10 +24,10 @@ loop-place-preserved c =
     let slot = ap (first_at place) c.seek-ahead.ensures ∙ ahead-first slots c.loop-place.ahead.now place rest (drop index places) is held in
     record {
       rest = rw c.in_ok-count.ensures.slot
-          (pass-more (of_place (row_entry change) carried v slots spans) place rest (drop index places) is c.loop-place.new.items _ (ap (λ s. of_row (row_entry change place) s (slotted_at carried v spans place)) slot)
+          (pass-more (made_of_place (row_entry change) carried v slots spans) place rest (drop index places) is c.loop-place.new.items _ (ap (λ s. made_of_slot (row_entry change place) s (slotted_at carried v spans place)) slot)
           ∙ c.loop-place.invariant.rest);
-      count = pass-count (of_place (anywhere (row_touched change)) carried v slots spans) place rest (drop index places) is c.loop-place.count c.in_ok-count.field-0
-          (c.in_ok-count.ensures.count ∙ ap (λ s. length (of_row (row_touched change) s (slotted_at carried v spans place))) slot)
+      count = pass-count (made_of_place (anywhere (row_touched change)) carried v slots spans) place rest (drop index places) is c.loop-place.count c.in_ok-count.field-0
+          (c.in_ok-count.ensures.count ∙ ap (λ s. length (made_of_slot (row_touched change) s (slotted_at carried v spans place))) slot)
           ∙ c.loop-place.invariant.count;
       few = omega (arith, c.in_ok-count.ensures.few, c.loop-place.invariant.few);
       ahead = subst (λ ahead. IsAhead slots ahead rest) (sym c.seek-ahead.ensures) (ahead-more slots c.loop-place.ahead.now place rest (drop index places) is held);
@@ -44,7 +44,7 @@ returns-clause-slots c =
     let spans = c.args.spans.now in
     let places = c.args.places.now in
     sym (append-nil c.loop-place.new.items)
-    ∙ ap (λ rest. c.loop-place.new.items ++ flat_map (of_place (row_entry change) carried c.args.v slots spans) rest) (sym (drop_all c.loop-place.place-index places c.loop-place-test.false))
+    ∙ ap (λ rest. c.loop-place.new.items ++ flat_map (made_of_place (row_entry change) carried c.args.v slots spans) rest) (sym (drop_all c.loop-place.place-index places c.loop-place-test.false))
     ∙ c.loop-place.invariant.rest
     ∙ changed-places change carried c.args.v spans slots places c.requires.enough
 
@@ -55,5 +55,5 @@ returns-clause-count c =
     let carried = c.args.carried.now in
     let spans = c.args.spans.now in
     let places = c.args.places.now in
-    let none = ap (λ rest. length (flat_map (of_place (anywhere (row_touched change)) carried c.args.v slots spans) rest)) (drop_all c.loop-place.place-index places c.loop-place-test.false) in
+    let none = ap (λ rest. length (flat_map (made_of_place (anywhere (row_touched change)) carried c.args.v slots spans) rest)) (drop_all c.loop-place.place-index places c.loop-place-test.false) in
     omega (arith, none, touched-places change carried c.args.v spans slots places c.requires.enough, c.loop-place.invariant.count)

@@ -1,16 +1,16 @@
 use Rattle.std.proofs.Common.{◌≡◌, ◌+◌, ◌≤◌, ◌++◌, drop, length}
 use Rattle.std.specs.List.{flat_map}
 use Rattle.gp_txn.specs.Changes.{change_view}
-use Rattle.gp_txn.specs.Passes.{of_place, row_entry, row_touched}
+use Rattle.gp_txn.specs.Passes.{made_of_place, row_entry, row_touched}
 use Rattle.gp_txn.proofs.PlacedLemmas.{IsAhead, anywhere}
 use Rattle.gp_txn.proofs.update.changed_slots.Given as goal
 
 abbrev pub invariant-loop-place : goal.invariant-loop-place
 invariant-loop-place l = record {
-  rest : l.new.items ++ flat_map (of_place (row_entry (change_view l.change)) l.carried l.v l.slots l.spans) (drop l.place-index l.places)
-      ≡ flat_map (of_place (row_entry (change_view l.change)) l.carried l.v l.slots l.spans) l.places;
-  count : l.count + length (flat_map (of_place (anywhere (row_touched (change_view l.change))) l.carried l.v l.slots l.spans) (drop l.place-index l.places))
-      ≡ length (flat_map (of_place (anywhere (row_touched (change_view l.change))) l.carried l.v l.slots l.spans) l.places);
+  rest : l.new.items ++ flat_map (made_of_place (row_entry (change_view l.change)) l.carried l.v l.slots l.spans) (drop l.place-index l.places)
+      ≡ flat_map (made_of_place (row_entry (change_view l.change)) l.carried l.v l.slots l.spans) l.places;
+  count : l.count + length (flat_map (made_of_place (anywhere (row_touched (change_view l.change))) l.carried l.v l.slots l.spans) (drop l.place-index l.places))
+      ≡ length (flat_map (made_of_place (anywhere (row_touched (change_view l.change))) l.carried l.v l.slots l.spans) l.places);
   few : l.count ≤ l.place-index;
   ahead : IsAhead l.slots l.ahead (drop l.place-index l.places);
 }

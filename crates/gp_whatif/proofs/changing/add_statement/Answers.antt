@@ -8,7 +8,7 @@ use Rattle.gp_machine.specs.Questions.{transaction_refusal}
 use Rattle.gp_log.specs.Parameters.{parameters}
 use Rattle.gp_log.specs.LogFacts.{tables_in}
 use Rattle.gp_log.specs.Logs.{log_view}
-use Rattle.gp_whatif.specs.Changed.{changed, tables_at_end}
+use Rattle.gp_whatif.specs.Changed.{changed_log, tables_at_end}
 use Rattle.gp_whatif.specs.Replays.{IsReplayable}
 use Rattle.gp_whatif.proofs.ChangingLemmas.{log-all}
 use Rattle.gp_whatif.proofs.FittingMore.{end_first, fits_all}
@@ -24,7 +24,7 @@ returns-clause-changed c =
     ∙ (c.last_step-last.ensures.tables ∙ ap (λ (place : ℕ). tables_in (log_view (take place c.args.log.now.entries))) (sym c.unwrap_or.ensures)) in
     let passes = ap (λ (ts : List Table). checked ts command) tables ∙ c.in_ok-stmt.ensures in
     let known = ap (λ (t : ℕ). transaction_refusal t entries) c.in_ok-t.ensures.same ∙ c.in_ok-t.ensures.refusal in
-    subst (λ (t : ℕ). changed parameters entries (y.add t command) ≡ Ok (log_view c.in_ok-with_extra.field-0.entries)) c.in_ok-t.ensures.same
+    subst (λ (t : ℕ). changed_log parameters entries (y.add t command) ≡ Ok (log_view c.in_ok-with_extra.field-0.entries)) c.in_ok-t.ensures.same
     (adds entries c.in_ok-t.t known command (statement_view c.in_ok-stmt.stmt) (log_view c.in_ok-with_extra.field-0.entries) c.in_ok-check_steps.ensures.refusal passes c.in_ok-with_extra.ensures)
 
 pub returns-clause-replayable : goal.returns-clause-replayable

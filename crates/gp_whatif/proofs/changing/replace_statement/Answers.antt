@@ -8,7 +8,7 @@ use Rattle.gp_machine.specs.Questions.{statement_refusal, transaction_refusal}
 use Rattle.gp_log.specs.Parameters.{parameters}
 use Rattle.gp_log.specs.LogFacts.{tables_in}
 use Rattle.gp_log.specs.Logs.{log_view}
-use Rattle.gp_whatif.specs.Changed.{changed, tables_before}
+use Rattle.gp_whatif.specs.Changed.{changed_log, tables_before}
 use Rattle.gp_whatif.specs.Replays.{IsReplayable}
 use Rattle.gp_whatif.proofs.FittingMore.{before_first, fits_all}
 use Rattle.gp_whatif.proofs.OutcomeLemmas.{replaces}
@@ -22,7 +22,7 @@ returns-clause-changed c =
     let passes = ap (λ (tables : List Table). checked tables command) c.place_of.ensures.tables ∙ c.in_ok-stmt.ensures in
     let known = ap (λ (t : ℕ). transaction_refusal t entries) c.in_ok-t.ensures.same ∙ c.in_ok-t.ensures.refusal in
     let there = ap (λ (k : ℕ). statement_refusal c.in_ok-t.t k entries) c.in_ok-k.ensures.same ∙ c.in_ok-k.ensures.refusal in
-    subst (λ (x : ℕ × ℕ). changed parameters entries (y.replace x.0 x.1 command) ≡ Ok (log_view c.in_ok-with_replaced.field-0.entries)) (λ i. (c.in_ok-t.ensures.same i, c.in_ok-k.ensures.same i))
+    subst (λ (x : ℕ × ℕ). changed_log parameters entries (y.replace x.0 x.1 command) ≡ Ok (log_view c.in_ok-with_replaced.field-0.entries)) (λ i. (c.in_ok-t.ensures.same i, c.in_ok-k.ensures.same i))
     (replaces entries c.in_ok-t.t known c.in_ok-k.k command (statement_view c.in_ok-stmt.stmt) (log_view c.in_ok-with_replaced.field-0.entries) there passes c.in_ok-with_replaced.ensures)
 
 pub returns-clause-replayable : goal.returns-clause-replayable

@@ -5,4 +5,4 @@ use Rattle.gprom_cli.proofs.generated.generate_questions.Given as goal
 
 -- the questions about the transactions so far
 abbrev pub invariant-loop-t : goal.invariant-loop-t
-invariant-loop-t l = l.questions.items ≡ flat_map (λ (t : ℕ). spec.line_text (spec.replay_line t)) (take l.t-index l.committed)
+invariant-loop-t l = l.questions.items ≡ flat_map (λ (t : ℕ). spec.pieces_line (spec.replay_line t)) (take l.t-index l.committed)
