@@ -35,3 +35,8 @@ pub titles-end : (fields : List (List ℕ)) (cells : List Cell) (place i : ℕ) 
 titles-end fields cells place i past = rw (drop_all i cells past) (append-nil fields)
 
 pub ruleset title_steps = (titles-next, titles-end)
+
+pub texts-next : (fields texts : List (List ℕ)) (i : ℕ) (d : List ℕ) → i < length texts → (fields ++ take i texts) ++ get_or texts i d ∷ [] ≡ fields ++ take (i + 1) texts
+texts-next fields texts i d within = append_assoc fields (take i texts) (get_or texts i d ∷ []) ∙ ap (λ (t : List (List ℕ)). fields ++ t) (sym (take_more texts i d within))
+
+pub ruleset text_steps = (texts-next)

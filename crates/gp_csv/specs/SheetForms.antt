@@ -4,15 +4,12 @@ use Rattle.std.specs.Prelude.{List, [], ◌∷◌, ◌≡◌, ◌⊎◌, ◌<◌
 use Rattle.std.specs.List.{flat_map, IsDistinct, list_all}
 use Rattle.std.specs.Str.{bytes_eq}
 use Rattle.gp_base.specs.CellForms.{ArePlain}
-use Rattle.gp_base.specs.Cells.{fits_number, is_user_text}
 use Rattle.gp_base.specs.Names.{is_name}
 use Rattle.gp_base.specs.declared.cell.Cell.{Cell}
-use Rattle.gp_base.specs.declared.cell.Cell.TheVariants as cell
 use Rattle.gp_base.specs.declared.table.Column.{Column}
-use Rattle.gp_base.specs.declared.table.Kind.{Kind}
-use Rattle.gp_base.specs.declared.table.Kind.TheVariants as kind
 use Rattle.gp_grammar.specs.declared.limits.TheConstants.{MAX_COLUMNS, MAX_LINE_LENGTH, MAX_VALUES}
 use Rattle.gp_grammar.specs.Syntax.{insert}
+pub use Rattle.gp_csv.specs.Titled.{column_names, is_cell_of}
 use Rattle.gp_csv.specs.Scripts.{Row, session_line}
 use Rattle.gp_csv.specs.declared.sheet.Sheet.{Sheet}
 use Rattle.gp_csv.specs.declared.error.CsvStop.{CsvStop}
@@ -32,21 +29,11 @@ rows_in batches = flat_map (λ (batch : List Row). batch) batches
 abbrev pub PassesLimit : List ℕ → List Row → Type 0
 PassesLimit name batch = (MAX_VALUES < length batch) ⊎ (MAX_LINE_LENGTH < length (session_line (insert name batch)))
 
--- a cell that a user can write and that a column of this type can hold
-abbrev pub is_cell_of : Kind → Cell → Bool
-is_cell_of column cell.Null = true
-is_cell_of kind.Int (cell.Int number) = fits_number number
-is_cell_of kind.Text (cell.Text text) = is_user_text text
-is_cell_of column other = false
-
 -- a cell for each column
 abbrev pub is_row_of : List Column → List Cell → Bool
 is_row_of [] [] = true
 is_row_of (column ∷ columns) (cell ∷ cells) = is_cell_of column.kind cell && is_row_of columns cells
 is_row_of columns cells = false
-
-abbrev pub column_names : List Column → List (List ℕ)
-column_names columns = map (λ (column : Column). column.name) columns
 
 -- a sheet that can be a table: 1 to MAX_COLUMNS columns, whose names are names and differ, and rows of these columns
 pub record IsSheet (sheet : Sheet) : Type 0 where
