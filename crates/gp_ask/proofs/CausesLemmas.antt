@@ -20,7 +20,8 @@ use Rattle.gp_machine.proofs.HeldPoints.{version_is}
 use Rattle.gp_machine.specs.Entries.{Entry, statement_count, version_of, versions_in}
 use Rattle.gp_ask.specs.declared.causes.Asked.{Asked}
 use Rattle.gp_ask.specs.declared.causes.Write.{Write}
-use Rattle.gp_ask.specs.Differences.{committed_writes, written_by}
+use Rattle.gp_ask.specs.DifferenceForms.{committed_writes}
+use Rattle.gp_ask.specs.Differences.{written_by}
 use Rattle.gp_ask.specs.Writes.{ArePut, ArePutUpto, AreWrites, IsLine, committed_write, listed_line, made_by, write_in, write_view}
 
 -- ---- the entries so far

@@ -27,7 +27,7 @@ use Rattle.gp_compose.specs.Seen.{changed_rows, is_changed_by, looked_at}
 use Rattle.gp_machine.proofs.Distinct.{differ_filter, differ_map}
 use Rattle.gp_machine.proofs.Made.{same_equal}
 use Rattle.gp_machine.specs.SeenRows.{HaveDifferentIdentities, same_row}
-use Rattle.gp_ask.specs.Changes.{by_identity, changed_text, changed_texts}
+use Rattle.gp_ask.specs.ChangeForms.{by_identity, changed_text, changed_texts}
 use Rattle.gp_ask.specs.Keyed.{keyed_lines}
 use Rattle.gp_ask.proofs.ReenactedLemmas.{same-order}
 use Rattle.gp_ask.proofs.SpanLemmas.{permuted}

@@ -41,7 +41,8 @@ use Rattle.gp_versions.specs.declared.span.Span.{Span}
 use Rattle.gp_versions.specs.Spans.{Versions}
 use Rattle.gp_dump.specs.Views.{tables_view}
 use Rattle.gp_ask.specs.declared.answered.Answered.TheVariants.{Changes, Refused}
-use Rattle.gp_ask.specs.Changes.{by_identity, changed_text, changed_texts, changes_of, changes_to, commit_changes_to, dump_changes, if_any, table_changes, span_texts, spans_texts, tables_texts, version_changes}
+use Rattle.gp_ask.specs.ChangeForms.{by_identity, changed_text, changed_texts, changes_of, changes_to, commit_changes_to, dump_changes, if_any, table_changes, tables_texts, version_changes}
+use Rattle.gp_ask.specs.Changes.{span_texts, spans_texts}
 use Rattle.gp_ask.specs.Values.{unless_refused}
 use Rattle.gp_ask.specs.Asking.{table_spans}
 use Rattle.gp_ask.specs.Keyed.{as_identity, cells_of, identity_of, keyed_from, keyed_if, keyed_lines, sets_are_simple, shown_texts}

@@ -30,7 +30,8 @@ use Rattle.gp_versions.specs.Spans.{row_of, span_cmp, spans_at}
 use Rattle.gp_versions.specs.TableSpans.{AreOfDifferentRows}
 use Rattle.gp_ask.specs.declared.answered.Answered.TheVariants.{Changes}
 use Rattle.gp_ask.specs.Printed.{answer_to, held_to}
-use Rattle.gp_ask.specs.Changes.{history_writes, spans_texts, tables_texts, version_changes, written_texts}
+use Rattle.gp_ask.specs.ChangeForms.{tables_texts, version_changes}
+use Rattle.gp_ask.specs.Changes.{history_writes, spans_texts, written_texts}
 use Rattle.gp_ask.specs.ShownWrites.{ShowsWrites}
 use Rattle.gp_ask.specs.Values.{unless_refused}
 use Rattle.gp_ask.proofs.SpanLemmas.{in-order, listed}

@@ -28,7 +28,8 @@ use Rattle.gp_ask.specs.Asking.{table_spans}
 use Rattle.gp_ask.specs.AskingForms.{dump_remaining, pattern_of}
 use Rattle.gp_ask.specs.Counted.{counted_answer}
 use Rattle.gp_ask.specs.Remaining.{is_left_out}
-use Rattle.gp_ask.specs.Values.{count, rule_of}
+use Rattle.gp_ask.specs.Operations.{count}
+use Rattle.gp_ask.specs.Values.{rule_of}
 use Rattle.gp_ask.proofs.CountedLemmas.{EachCounts, answers_count}
 use Rattle.gp_ask.proofs.RemainingLemmas.{by_patterns, expected, found_is, refused_is}
 use Rattle.gp_ask.proofs.ValueLemmas.{found_in}

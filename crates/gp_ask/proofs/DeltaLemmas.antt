@@ -17,7 +17,7 @@ use Rattle.gp_base.specs.declared.cell.Cell.TheVariants.{Null, Int, Text, Id, Ma
 use Rattle.gp_base.specs.contracts.cell.CellOrd.TheImpl as cell_order
 use Rattle.gp_base.specs.Order.{cell_cmp, row_cmp}
 use Rattle.gp_base.specs.RowOrder.{exact_rows, row_cmp_total}
-use Rattle.gp_ask.specs.Deltas.{Signed, added, added_in, delta, delta_from, removed, removed_in, signed_text}
+use Rattle.gp_ask.specs.Deltas.{Signed, added, added_in, delta, delta_from, removed, removed_in, with_sign}
 use Rattle.gp_ask.specs.DeltaForms.{added_rows, removed_rows, signed_row}
 
 -- ---- bags
@@ -196,13 +196,13 @@ first_of rows others i j row other left right row_is other_is o is =
     ∙ ap (λ (p : Ordering). by_order p (removed row ∷ delta (drop (i + 1) rows) (drop j others)) (delta (drop (i + 1) rows) (drop (j + 1) others)) (added other ∷ delta (drop i rows) (drop (j + 1) others))) (sym is)
 
 -- a line that is written is the first of those that remain
-pub one_more : (lines more : List (List ℕ)) (text : List ℕ) (line : Signed) (rest before : List Signed) (all : List (List ℕ)) → more ≡ lines ++ text ∷ [] → text ≡ signed_text line → before ≡ line ∷ rest
-    → lines ++ map signed_text before ≡ all → more ++ map signed_text rest ≡ all
-one_more lines more text line rest before all pushed is first whole =
-    ap (λ (list : List (List ℕ)). list ++ map signed_text rest) pushed
-    ∙ append_assoc lines (text ∷ []) (map signed_text rest)
-    ∙ ap (λ (t : List ℕ). lines ++ t ∷ map signed_text rest) is
-    ∙ ap (λ (list : List Signed). lines ++ map signed_text list) (sym first)
+pub one_more : (lines more : List (List Cell)) (own : List Cell) (line : Signed) (rest before : List Signed) (all : List (List Cell)) → more ≡ lines ++ own ∷ [] → own ≡ with_sign line → before ≡ line ∷ rest
+    → lines ++ map with_sign before ≡ all → more ++ map with_sign rest ≡ all
+one_more lines more own line rest before all pushed is first whole =
+    ap (λ (list : List (List Cell)). list ++ map with_sign rest) pushed
+    ∙ append_assoc lines (own ∷ []) (map with_sign rest)
+    ∙ ap (λ (t : List Cell). lines ++ t ∷ map with_sign rest) is
+    ∙ ap (λ (list : List Signed). lines ++ map with_sign list) (sym first)
     ∙ whole
 
 -- ---- what holds of each row

@@ -1,9 +1,10 @@
 -- Answers to DIFF and to CAUSES are the same where those of the questions are that they stand for.
-use Rattle.std.proofs.Common.{◌≡◌, ℕ, List}
+use Rattle.std.proofs.Common.{◌≡◌, List}
 use Rattle.gp_grammar.specs.Syntax as y
 use Rattle.gp_machine.specs.Entries.{Entry}
 use Rattle.gp_ask.specs.declared.answered.Answered.{Answered}
-use Rattle.gp_ask.specs.Differences.{causes_answer, causes_of, committed_writes, diff_answer, diff_of, rows_in, side_answer, without_in}
+use Rattle.gp_ask.specs.DifferenceForms.{causes_of, committed_writes, diff_of, without_in}
+use Rattle.gp_ask.specs.Differences.{causes_answer, diff_answer, rows_in, side_answer}
 
 module _ (asks others : y.How → y.Point → y.Query → Answered) (changes others_changed : y.LogChange → y.How → y.Point → y.Query → Answered)
     (same : (how : y.How) (point : y.Point) (query : y.Query) → asks how point query ≡ others how point query)

@@ -1,5 +1,5 @@
 -- The answers of the dump of a history are those that the history held.
-use Rattle.std.proofs.Common.{◌≡◌, ℕ, zero, suc, nat_lt, List, [], ◌++◌, ◌∷◌, length, map, Option, Some, None, Result, Ok, Err, refl, ap, ◌∙◌, if◌then◌else◌}
+use Rattle.std.proofs.Common.{◌≡◌, ℕ, zero, suc, nat_lt, List, [], ◌++◌, ◌∷◌, length, map, Option, Some, None, Result, Ok, Err, refl, sym, ap, ◌∙◌, if◌then◌else◌}
 use Rattle.std.specs.List.Sorted.{IsPermutation}
 use Rattle.std.specs.Option.{option_or}
 use Rattle.std.proofs.lemmas.List.{length-map}
@@ -40,16 +40,17 @@ use Rattle.gp_history.specs.Agreement.{occurrence}
 use Rattle.gp_ask.specs.declared.answered.Answered.{Answered}
 use Rattle.gp_ask.specs.declared.answered.Answered.TheVariants.{Checked, Listed, Refused, Rows}
 use Rattle.gp_replay.specs.Differences.{difference}
-use Rattle.gp_ask.specs.Answers.{versions_answer}
 use Rattle.gp_ask.specs.Printed.{answer_to, held_to, ask_to, ask_held, what_if_held}
 use Rattle.gp_ask.specs.Asking.{of_elements, query_answer, table_spans, with_monomials}
-use Rattle.gp_ask.specs.AskingForms.{dump_program, dump_provenance, dump_query, dump_remaining, dump_rows, held_provenance, held_remaining, held_rows, rules_of}
+use Rattle.gp_ask.specs.AskingForms.{dump_program, dump_provenance, dump_query, dump_remaining, dump_rows, held_provenance, held_remaining, held_rows, rules_of, versions_answer}
 use Rattle.gp_ask.specs.ValueForms.{dump_minimal, dump_valued, dump_values, held_minimal, held_valued, held_values}
 use Rattle.gp_ask.specs.Remaining.{has_left_out, is_left_out, remaining_answer}
-use Rattle.gp_ask.specs.Values.{evaluated, rule_of, semiring_of, with_values}
+use Rattle.gp_ask.specs.Operations.{evaluated, operations_of}
+use Rattle.gp_ask.specs.Values.{rule_of, with_values}
 use Rattle.gp_ask.specs.Witnesses.{minimal_of}
 use Rattle.gp_ask.proofs.CountedLemmas.{answers_count}
 use Rattle.gp_ask.proofs.DifferenceLemmas.{causes-same, diff-same}
+use Rattle.gp_ask.proofs.GroupedRows.{listed-are}
 use Rattle.gp_ask.proofs.MovedLemmas.{remaining_moved}
 use Rattle.gp_ask.proofs.ProvenanceLemmas.{same-list}
 use Rattle.gp_ask.proofs.QueryLemmas.{query-same}
@@ -67,7 +68,8 @@ alike (Ok elements) (Err other) same = absurd same
 alike (Err refusal) (Ok others) same = absurd same
 
 alike-monomials : (found other : Result (List (Element Monomial)) Refusal) → AreAlike found other → with_monomials found ≡ with_monomials other
-alike-monomials (Ok elements) (Ok others) same = ap Listed (same-list (map occurrence elements) (map occurrence others) (IsPermutation-map occurrence elements others same))
+alike-monomials (Ok elements) (Ok others) same =
+    ap Listed (sym (listed-are elements) ∙ same-list (map occurrence elements) (map occurrence others) (IsPermutation-map occurrence elements others same) ∙ listed-are others)
 alike-monomials (Err refusal) (Err other) same = ap Refused same
 alike-monomials (Ok elements) (Err other) same = absurd same
 alike-monomials (Err refusal) (Ok others) same = absurd same
@@ -141,10 +143,10 @@ module _ (forgets : Forgets) (state : State Monomial) where
           ∙ alike-monomials (annotated_answer monomials parameters agree state.catalogue state.entries spans point select) (held_answer monomials parameters state point select) (provenance-alike point select)
 
       values-held : (name : SemiringName) (rules : List Rule × Option ℕ) (point : y.Point) (select : Select)
-          → dump_values (semiring_of name) name rules dump point select ≡ held_values (semiring_of name) name rules state point select
+          → dump_values (operations_of name) name rules dump point select ≡ held_values (operations_of name) name rules state point select
       values-held name rules point select =
-          ap (λ (catalogue : List Table). evaluated (semiring_of name) rules name (found_in (semiring_of name) rules state.entries catalogue spans point select)) kept
-          ∙ ap (evaluated (semiring_of name) rules name) (values-alike name rules point select)
+          ap (λ (catalogue : List Table). evaluated (operations_of name) rules name (found_in (operations_of name) rules state.entries catalogue spans point select)) kept
+          ∙ ap (evaluated (operations_of name) rules name) (values-alike name rules point select)
 
       -- the elements over the row versions of the dump
       abbrev found-elements : y.Point → Select → List (Element Monomial)

@@ -13,6 +13,7 @@ mod ExplainedLemmas
 mod FewLemmas
 mod FittingReplays
 mod FormatLemmas
+mod GroupedRows
 mod HeldLemmas
 mod HypotheticalLemmas
 mod IsolatedLemmas
@@ -27,9 +28,11 @@ mod ReenactedLemmas
 mod RemainingLemmas
 mod SeenLemmas
 mod SpanLemmas
+mod StatementLines
 mod StopLemmas
 mod TableLemmas
 mod TargetLemmas
+mod TitleLemmas
 mod TransactionRuns
 mod ValueLemmas
 mod WhatIfLemmas

@@ -9,8 +9,7 @@ use Rattle.gp_machine.specs.Entries.{is_of}
 use Rattle.gp_log.specs.Logs.{entry_view, log_view}
 use Rattle.gp_machine.specs.Entries as m
 use Rattle.gp_dumpline.specs.Texts.{entry_text}
-use Rattle.gp_ask.specs.Answers.{entries_of}
-use Rattle.gp_ask.specs.Lines.{transaction_lines}
+use Rattle.gp_ask.specs.Lines.{entries_of, transaction_lines}
 
 map-reversed : {A B : Type 0} (f : A → B) (xs : List A) → map f (reverse xs) ≡ reverse (map f xs)
 map-reversed f [] = refl

@@ -40,6 +40,7 @@ use Rattle.gp_ask.specs.Answerable.{IsAnswerable}
 use Rattle.gp_ask.specs.Asking.{table_spans, with_monomials}
 use Rattle.gp_ask.specs.AskingForms.{dump_provenance}
 use Rattle.gp_ask.specs.Keeping.{MayBeKeptOf}
+use Rattle.gp_ask.proofs.GroupedRows.{listed-are}
 use Rattle.gp_ask.proofs.ReenactedLemmas.{dump-spans, same-order}
 
 -- occurrences in any order are listed alike
@@ -48,7 +49,7 @@ same-list rows others moved = ap grouped (same-order rows others moved)
 
 pub in-list : {X : Type 0} (view : X → List (List Cell)) (found : X) (expected : Result (List (Element Monomial)) Refusal) → Proves view (Ok found) expected
     → Listed (listed (view found)) ≡ with_monomials expected
-in-list view found (Ok elements) moved = ap Listed (same-list (view found) (map occurrence elements) moved)
+in-list view found (Ok elements) moved = ap Listed (same-list (view found) (map occurrence elements) moved ∙ listed-are elements)
 in-list view found (Err refusal) none = absurd none
 
 pub unproven : {X : Type 0} (view : X → List (List Cell)) (refusal : Refusal) (expected : Result (List (Element Monomial)) Refusal) → Proves view (Err (stop.Refused refusal)) expected

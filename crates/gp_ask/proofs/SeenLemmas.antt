@@ -46,13 +46,15 @@ use Rattle.gp_ask.specs.declared.answered.Answered.{Answered}
 use Rattle.gp_ask.specs.declared.answered.Answered.TheVariants.{Changes, Rows}
 use Rattle.gp_ask.specs.Printed.{answer_to, held_to}
 use Rattle.gp_ask.specs.Asking.{of_elements, query_answer, table_spans}
-use Rattle.gp_ask.specs.Changes.{changes_of, dump_changes, history_changes, if_any, written_texts}
+use Rattle.gp_ask.specs.ChangeForms.{changes_of, dump_changes, if_any}
+use Rattle.gp_ask.specs.Changes.{history_changes, written_texts}
 use Rattle.gp_ask.specs.Values.{unless_refused}
 use Rattle.gp_ask.specs.Seeing.{dump_saw, history_saw}
 use Rattle.gp_ask.proofs.ChangedLines.{changed-different, changed-reannotated, changed-same, texts-same}
 use Rattle.gp_ask.proofs.HeldLemmas.{forgetting, same-rows}
 use Rattle.gp_ask.proofs.QueryLemmas.{query-same}
 use Rattle.gp_ask.proofs.ReenactedLemmas.{same-order}
+use Rattle.gp_ask.proofs.StatementLines.{changes-told}
 use Rattle.gp_ask.proofs.TransactionRuns.{IsRising, MakesOnce, ReadsWithin, different-after, different-before, own-before, own-starts, passes-none, reads-within, saw, started}
 use Rattle.gp_ask.proofs.WrittenLines.{IsFresh, changes-written}
 
@@ -211,7 +213,7 @@ module _ (state : State Monomial) (reached : IsReached monomials parameters stat
         ∙ (λ i. Changes (written_texts state.catalogue (wrote_by monomials t (suc k) (sym here i) read-rows) read-rows (sym left i)))
 
   pub alters : (t k : ℕ) → answer_to dump (y.changes t k) ≡ held_to state (y.changes t k)
-  alters t k = by (changes_refusal t k state.entries) refl
+  alters t k = changes-told dump t k ∙ by (changes_refusal t k state.entries) refl
     where
       any : changes_refusal t k state.entries ≡ None → (found : Option Statement) → statement_at t k state.entries ≡ found
           → if_any (dump_changes dump t (k - 1)) found ≡ history_changes state t (k - 1)

@@ -30,12 +30,13 @@ use Rattle.gp_semiring.specs.Values.{token_value, value_by}
 use Rattle.gp_history.specs.ValueForms.{held_value_answer, value_answer}
 use Rattle.gp_ask.specs.declared.answered.Answered.TheVariants.{Refused, Values}
 use Rattle.gp_ask.specs.Asking.{table_spans}
-use Rattle.gp_ask.specs.Values.{Semiring, semiring_of, value_of, valued, with_values}
+use Rattle.gp_ask.specs.Operations.{Operations, operations_of, value_of}
+use Rattle.gp_ask.specs.Values.{valued, with_values}
 use Rattle.gp_ask.proofs.ProvenanceLemmas.{spans-are}
 
 -- ---- the values of a log and its spans, and those of a history
 
-module _ (semiring : Semiring) (rules : List Rule × Option ℕ) where
+module _ (semiring : Operations) (rules : List Rule × Option ℕ) where
   abbrev pub found_in : List Entry → List Table → (ℕ → List Span) → y.Point → Select → Result (List (List Cell × semiring.Element)) Refusal
   found_in entries catalogue spans point select =
       value_answer parameters semiring.plus_of semiring.zero_of semiring.one_of semiring.times_of (value_of semiring rules) agree catalogue entries spans point select
@@ -45,7 +46,7 @@ module _ (semiring : Semiring) (rules : List Rule × Option ℕ) where
 
 abbrev pub AreHeld : State Monomial → (ℕ → List Span) → SemiringName → Type 0
 AreHeld state spans name =
-    (rules : List Rule × Option ℕ) (point : y.Point) (select : Select) → found_in (semiring_of name) rules state.entries state.catalogue spans point select ≡ held_in (semiring_of name) rules state point select
+    (rules : List Rule × Option ℕ) (point : y.Point) (select : Select) → found_in (operations_of name) rules state.entries state.catalogue spans point select ≡ held_in (operations_of name) rules state point select
 
 pub each-semiring : (Holds : SemiringName → Type 0) → Holds named.Count → Holds named.Bool → Holds named.Cost → Holds named.Level → Holds named.Poly → Holds named.Witness → (name : SemiringName) → Holds name
 each-semiring Holds count truth cost level polynomial witness named.Count = count
@@ -58,7 +59,7 @@ each-semiring Holds count truth cost level polynomial witness named.Witness = wi
 -- ---- what is found
 
 -- over the row versions of a dump, by these rules
-module _ (dump : code.Dump) (versions : List Versions) (same : versions ≡ dump.versions) (semiring : Semiring) (kept rules : List Rule × Option ℕ) (by : kept ≡ rules) (point : y.Point) (select : Select) where
+module _ (dump : code.Dump) (versions : List Versions) (same : versions ≡ dump.versions) (semiring : Operations) (kept rules : List Rule × Option ℕ) (by : kept ≡ rules) (point : y.Point) (select : Select) where
   abbrev entries : List Entry
   entries = log_view dump.log.entries
 

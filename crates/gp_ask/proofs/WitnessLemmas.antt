@@ -32,7 +32,8 @@ use Rattle.gp_ask.specs.Computed.{computed_answer}
 use Rattle.gp_ask.specs.Asking.{table_spans}
 use Rattle.gp_ask.specs.AskingForms.{dump_query, rules_of}
 use Rattle.gp_ask.specs.ValueForms.{dump_minimal, dump_valued, dump_values}
-use Rattle.gp_ask.specs.Values.{semiring_of, witness, with_values}
+use Rattle.gp_ask.specs.Operations.{operations_of, witness}
+use Rattle.gp_ask.specs.Values.{with_values}
 use Rattle.gp_ask.specs.Witnesses.{minimal_of}
 use Rattle.gp_ask.proofs.CountedLemmas.{EachCounts, answers_count}
 use Rattle.gp_ask.proofs.MovedLemmas.{each_moved}
@@ -72,7 +73,7 @@ values_are_minimal dump point select =
 
 -- the values by rules are the answer, also where no rule is given
 valued_is : (name : SemiringName) (rules : List y.Rule) (other : Option ℕ) (dump : Dump) (point : y.Point) (select : Select)
-    → dump_values (semiring_of name) name (rules_of rules other) dump point select ≡ dump_valued name rules other dump point select
+    → dump_values (operations_of name) name (rules_of rules other) dump point select ≡ dump_valued name rules other dump point select
 valued_is named.Count rules other dump point select = refl
 valued_is named.Bool rules other dump point select = refl
 valued_is named.Cost rules other dump point select = refl
@@ -84,7 +85,7 @@ valued_is named.Witness (rule ∷ rules) None dump point select = refl
 valued_is named.Witness (rule ∷ rules) (Some n) dump point select = refl
 
 pub asked_values : (name : SemiringName) (rules : List y.Rule) (other : Option ℕ) (dump : Dump) (point : y.Point) (query : y.Query)
-    → dump_query dump (dump_values (semiring_of name) name (rules_of rules other) dump point) point query ≡ computed_answer dump (y.ask (y.value name rules other) point query)
+    → dump_query dump (dump_values (operations_of name) name (rules_of rules other) dump point) point query ≡ computed_answer dump (y.ask (y.value name rules other) point query)
 asked_values name rules other dump point query =
-    query-same (dump_values (semiring_of name) name (rules_of rules other) dump point) (dump_valued name rules other dump point) (valued_is name rules other dump point)
+    query-same (dump_values (operations_of name) name (rules_of rules other) dump point) (dump_valued name rules other dump point) (valued_is name rules other dump point)
     (log_refusal dump.entries point) (checked_query (tables_in dump.entries) query)

@@ -28,7 +28,8 @@ use Rattle.gp_machine.specs.SeenRows.{AreDistinct, HaveDifferentIdentities}
 use Rattle.gp_versions.proofs.SameLemmas.{same-exact, same-itself}
 use Rattle.gp_versions.specs.declared.span.Span.{Span}
 use Rattle.gp_versions.specs.Spans.{span_cmp}
-use Rattle.gp_ask.specs.Changes.{cells_in, change_text, side_texts, spans_texts, tables_texts, written_row_texts, written_texts}
+use Rattle.gp_ask.specs.ChangeForms.{tables_texts}
+use Rattle.gp_ask.specs.Changes.{cells_in, change_text, side_texts, spans_texts, written_row_texts, written_texts}
 use Rattle.gp_ask.specs.ShownWrites.{AreCells, HasCells, HasChange, HasRow, Rise, RowChange, ShowsWrites, row_change_text}
 use Rattle.gp_ask.proofs.TransactionRuns.{same_written}
 use Rattle.gp_ask.proofs.WrittenLines.{own-cells}

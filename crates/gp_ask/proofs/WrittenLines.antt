@@ -29,7 +29,8 @@ use Rattle.gp_machine.specs.Publishing.{holds_identity}
 use Rattle.gp_machine.specs.SeenRows.{HaveDifferentIdentities, same_row}
 use Rattle.gp_versions.proofs.SameLemmas.{same-exact, same-itself}
 use Rattle.gp_ask.specs.declared.answered.Answered.TheVariants.{Changes}
-use Rattle.gp_ask.specs.Changes.{after_of, before_of, by_identity, cells_in, change_text, changed_text, changed_texts, changes_of, side_texts, written_row_texts, written_texts}
+use Rattle.gp_ask.specs.ChangeForms.{after_of, before_of, by_identity, changed_text, changed_texts, changes_of}
+use Rattle.gp_ask.specs.Changes.{cells_in, change_text, side_texts, written_row_texts, written_texts}
 use Rattle.gp_ask.proofs.ChangedLines.{turned-rows}
 
 -- ---- the row of an identity, where no two have one

@@ -2,8 +2,10 @@
 -- first that applies: its version, transaction or statement is not in the log, the check of its query, a number of its rules that is not in the
 -- semiring, for provenance, values and what remains without some rows a version that the log does not give, a limit that the statements of a transaction
 -- pass, the number of its rows.
-use Rattle.std.specs.Prelude.{ℕ, Bool, List, [], map, Option, None, Result, Err, slice_index_or}
+use Rattle.std.specs.Prelude.{ℕ, Bool, List, [], ◌∷◌, map, Option, None, Result, Err, slice_index_or, if◌then◌else◌}
 use Rattle.std.specs.Option.{option_map_or}
+use Rattle.std.specs.Ordering.{is_eq}
+use Rattle.std.specs.declared.cmp.Ordering.{Ordering}
 use Rattle.gp_base.specs.declared.refusal.Refusal.{Refusal}
 use Rattle.gp_base.specs.Annotated.{monomials}
 use Rattle.gp_base.specs.Order.{row_cmp, sorted_by}
@@ -25,13 +27,14 @@ use Rattle.gp_log.specs.LogFacts.{tables_in}
 use Rattle.gp_dump.specs.Dumps.{Dump}
 use Rattle.gp_semiring.specs.declared.rules.Rule.{Rule}
 use Rattle.gp_semiring.specs.Witnesses.{sets_text}
+use Rattle.gp_semiring.specs.Values.{token_value}
 use Rattle.gp_history.specs.ValueAnswers.{all_elements, history_refusal, limited, row_values}
 use Rattle.gp_history.specs.Agreement.{agree, occurrence}
-use Rattle.gp_semiring.specs.Listing.{listed}
+use Rattle.gp_semiring.specs.declared.listed.Listed as l
 use Rattle.gp_ask.specs.declared.answered.Answered.{Answered}
 use Rattle.gp_ask.specs.declared.answered.Answered.TheVariants.{Rows, Listed, Program}
 use Rattle.gp_ask.specs.Remaining.{has_left_out, remaining_answer}
-use Rattle.gp_ask.specs.Values.{Semiring, evaluated, or_refused, rule_of, semiring_of, value_of, with_values}
+use Rattle.gp_ask.specs.Values.{Semiring, or_refused, outside_refusal, rule_of, semiring_of, semiring_with, unless_refused, with_values}
 use Rattle.gp_ask.specs.Witnesses.{minimal_of}
 
 -- the row versions of a table of a dump
@@ -44,9 +47,24 @@ table_spans tables place = slice_index_or tables place []
 abbrev pub of_elements : {M : Type 0} → Result (List (Element M)) Refusal → Answered
 of_elements elements = or_refused (λ own. Rows (sorted_by row_cmp (cells_of own))) elements
 
+-- in row order, those of one row in the order of their monomials
+abbrev pub element_cmp : Element Monomial → Element Monomial → Ordering
+element_cmp element other = row_cmp (occurrence element) (occurrence other)
+
+-- an element put to the distinct rows of those behind it, of which the first may be its own
+abbrev pub put_first : Element Monomial → List l.Listed → List l.Listed
+put_first element [] = record { row = element.cells; monomials = element.annotation ∷ [] } ∷ []
+put_first element (next ∷ others) =
+    if is_eq (row_cmp element.cells next.row) then record { row = element.cells; monomials = element.annotation ∷ next.monomials } ∷ others
+    else record { row = element.cells; monomials = element.annotation ∷ [] } ∷ next ∷ others
+
+abbrev pub grouped : List (Element Monomial) → List l.Listed
+grouped [] = []
+grouped (element ∷ elements) = put_first element (grouped elements)
+
 -- each distinct row in row order, with the monomials of all its occurrences in order
 abbrev pub with_monomials : Result (List (Element Monomial)) Refusal → Answered
-with_monomials elements = or_refused (λ own. Listed (listed (map occurrence own))) elements
+with_monomials elements = or_refused (λ own. Listed (grouped (sorted_by element_cmp own))) elements
 
 -- the check of a query comes after the refusal of its version or transaction
 abbrev pub asked : Option Refusal → Result Select Refusal → Result Select Refusal
@@ -56,19 +74,16 @@ asked refusal checked = option_map_or Err refusal checked
 abbrev pub query_answer : (Select → Answered) → Option Refusal → Result Select Refusal → Answered
 query_answer answer refusal checked = or_refused answer (asked refusal checked)
 
--- the minimal witnesses of the rows, by the monomials of the elements; distinct rows are counted
-abbrev pub minimal_answer : Result (List (Element Monomial)) Refusal → Answered
-minimal_answer elements = with_values sets_text (limited parameters.answer minimal_of elements)
-
--- their values in a semiring, by the same monomials
-abbrev pub values_answer : Semiring → SemiringName → List Rule × Option ℕ → Result (List (Element Monomial)) Refusal → Answered
-values_answer semiring name rules elements =
-    evaluated semiring rules name (limited parameters.answer (row_values semiring.plus_of semiring.zero_of semiring.one_of semiring.times_of (value_of semiring rules)) elements)
+-- the values of the rows in a semiring, by the monomials of the elements; distinct rows are counted
+abbrev pub values_in : Semiring → List Rule × Option ℕ → Result (List (Element Monomial)) Refusal → Answered
+values_in (semiring_with zero one plus times number itself text) rules elements =
+    with_values text (limited parameters.answer (row_values plus zero one times (token_value one number itself rules)) elements)
 
 -- values by rules; those in witnesses without rules are the minimal witnesses
 abbrev pub valued_answer : SemiringName → List y.Rule → Option ℕ → Result (List (Element Monomial)) Refusal → Answered
-valued_answer named.Witness [] None elements = minimal_answer elements
-valued_answer name rules other elements = values_answer (semiring_of name) name (map rule_of rules, other) elements
+valued_answer named.Witness [] None elements = with_values sets_text (limited parameters.answer minimal_of elements)
+valued_answer name rules other elements =
+    unless_refused (outside_refusal name (map rule_of rules) other) (values_in (semiring_of name) (map rule_of rules, other) elements)
 
 -- ---- programs
 

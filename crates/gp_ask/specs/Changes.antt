@@ -1,38 +1,37 @@
 -- Part of the statement: what a statement changed, over what its transaction read, whatever became of the transaction; and what a commit changed: from a dump
 -- alone, and as the history held it. Each row that was inserted, updated or deleted is a line with its table, its identity, and its cells before and after.
-use Rattle.std.specs.Prelude.{ℕ, suc, ◌-◌, ◌==◌, ◌&&◌, not, Bool, false, List, [], ◌∷◌, ◌++◌, map, codes, Option, Some, None, Result, slice_get, if◌then◌else◌}
+use Rattle.std.specs.Prelude.{ℕ, suc, ◌-◌, ◌==◌, ◌&&◌, not, Bool, false, List, [], ◌∷◌, ◌++◌, filter, map, codes, Option, Some, None, slice_get, if◌then◌else◌}
 use Rattle.std.specs.List.{concat, flat_map, zip}
-use Rattle.std.specs.declared.cmp.Ordering.{Ordering}
 use Rattle.std.specs.Option.{option_and_then, option_map_or}
 use Rattle.gp_base.specs.declared.cell.Cell.{Cell}
-use Rattle.gp_base.specs.declared.refusal.Refusal.{Refusal}
 use Rattle.gp_base.specs.declared.table.Table.{Table}
 use Rattle.gp_base.specs.Annotated.{Annotated, Database, monomials, unannotated}
 use Rattle.gp_base.specs.Identities.{Identity, identity_cmp, identity_text, same_identity}
+use Rattle.gp_base.specs.IdentityParts.{identity_statement, identity_transaction}
 use Rattle.gp_base.specs.Order.{sorted_by}
 use Rattle.gp_base.specs.Texts.{row_text}
 use Rattle.gp_base.specs.Tokens.{Monomial}
-use Rattle.gp_algebra.specs.Effects.{Written, assigned}
-use Rattle.gp_algebra.specs.Statements.{Statement, update, delete, target}
-use Rattle.gp_compose.specs.Seen.{changed_rows, changes_refusal}
+use Rattle.gp_grammar.specs.Syntax as y
+use Rattle.gp_expr.specs.Values.{passes}
+use Rattle.gp_algebra.specs.Effects.{Written, assigned, step}
+use Rattle.gp_algebra.specs.Statements.{Statement, insert, insert_select, update, delete, read, target}
 use Rattle.gp_dump.specs.Dumps.{Dump}
 use Rattle.gp_log.specs.LogFacts.{tables_in}
 use Rattle.gp_log.specs.Parameters.{parameters}
 use Rattle.gp_machine.specs.Conflicts.{written_cmp}
-use Rattle.gp_machine.specs.Entries.{log_of, statement_at, version_of}
+use Rattle.gp_machine.specs.Entries.{log_of, statement_at}
 use Rattle.gp_machine.specs.Event.{name_at}
 use Rattle.gp_machine.specs.HistorySpans.{as_of}
-use Rattle.gp_machine.specs.Questions.{given, transaction_refusal}
+use Rattle.gp_machine.specs.Questions.{given, own_stop}
 use Rattle.gp_machine.specs.ReadBy.{start_by}
 use Rattle.gp_machine.specs.Reading.{wrote_by}
 use Rattle.gp_machine.specs.Runs.{run_before}
 use Rattle.gp_machine.specs.State.{State}
-use Rattle.gp_reenact.specs.Looking.{looked_refusal}
 use Rattle.gp_versions.specs.declared.span.Span.{Span}
 use Rattle.gp_ask.specs.declared.answered.Answered.{Answered}
 use Rattle.gp_ask.specs.declared.answered.Answered.TheVariants.{Changes}
 use Rattle.gp_ask.specs.Asking.{table_spans}
-use Rattle.gp_ask.specs.Values.{or_refused, unless_refused}
+use Rattle.gp_ask.specs.Values.{or_refused}
 
 -- ---- texts
 
@@ -46,47 +45,41 @@ change_text name id before after =
 
 -- ---- a statement
 
--- a row that it changed, before it and after it; an inserted one is given as it is after it, any other as it was before it
-abbrev pub before_of : Statement → List Cell → Option (List Cell)
-before_of (update table sets c) cells = Some cells
-before_of (delete table c) cells = Some cells
-before_of _ cells = None
+-- a row that it changed: its identity, and its cells before and after
+abbrev pub Change : Type 0
+Change = Identity × (Option (List Cell) × Option (List Cell))
 
-abbrev pub after_of : Statement → List Cell → Option (List Cell)
-after_of (update table sets c) cells = Some (assigned sets cells)
-after_of (delete table c) cells = None
-after_of _ cells = Some cells
+-- of the rows that an INSERT leaves, those with an identity that it made
+abbrev pub inserted_by : ℕ → ℕ → List (Annotated (Unit {0})) → List Change
+inserted_by t k rows =
+    map (λ (row : Annotated (Unit {0})). (row.identity, (None, Some row.cells)))
+    (filter (λ row. (identity_transaction row.identity == t) && (identity_statement row.identity == k)) rows)
 
--- in the order of their identities; rows of one identity, which no history has, are in the order of the table
-abbrev pub by_identity : {M : Type 0} → Annotated M → Annotated M → Ordering
-by_identity row other = identity_cmp row.identity other.identity
+-- the rows that statement k of transaction t changes of a database
+abbrev pub changed_by : ℕ → ℕ → Statement → Database (Unit {0}) → List Change
+changed_by t k (insert table rows) db = inserted_by t k (step unannotated t k (insert table rows) db table)
+changed_by t k (insert_select table select) db = inserted_by t k (step unannotated t k (insert_select table select) db table)
+changed_by t k (update table sets c) db =
+    map (λ (row : Annotated (Unit {0})). (row.identity, (Some row.cells, Some (assigned sets row.cells)))) (filter (λ row. passes c row.cells) (db table))
+changed_by t k (delete table c) db = map (λ (row : Annotated (Unit {0})). (row.identity, (Some row.cells, None))) (filter (λ row. passes c row.cells) (db table))
+changed_by t k (read select) db = []
 
-abbrev pub changed_text : {M : Type 0} → List ℕ → Statement → Annotated M → List ℕ
-changed_text name statement row = change_text name row.identity (before_of statement row.cells) (after_of statement row.cells)
+-- their lines, in the order of the identities; rows of one identity, which no history has, are in the order of the table
+abbrev pub change_texts : List ℕ → List Change → List (List ℕ)
+change_texts name changes =
+    map (λ (change : Change). change_text name change.0 change.1.0 change.1.1) (sorted_by (λ (change other : Change). identity_cmp change.0 other.0) changes)
 
-abbrev pub changed_texts : {M : Type 0} → List ℕ → Statement → List (Annotated M) → List (List ℕ)
-changed_texts name statement rows = map (changed_text name statement) (sorted_by by_identity rows)
-
-abbrev pub table_changes : {M : Type 0} → List ℕ → Statement → Result (List (Annotated M)) Refusal → Answered
-table_changes name statement rows = or_refused (λ own. Changes (changed_texts name statement own)) rows
-
--- a SELECT changes nothing, whatever its transaction read; given the tables, and what a statement changed of a table
-abbrev pub changes_of : {M : Type 0} → List Table → Option ℕ → Statement → Result (List (Annotated M)) Refusal → Answered
-changes_of tables table statement rows = option_map_or (λ (place : ℕ). table_changes (name_at place tables) statement rows) table (Changes [])
+-- From a dump: what the logged statement k + 1 gives over the stored versions, where the statements before it ran. A SELECT changes nothing, whatever its
+-- transaction read.
+abbrev pub changes_over : Dump → ℕ → ℕ → Statement → Answered
+changes_over dump t k statement =
+    let past = as_of unannotated (table_spans dump.tables) in
+    let changes = given (own_stop unannotated parameters dump.entries (y.after t (suc k)) past) (changed_by t (suc k) statement (run_before unannotated (log_of dump.entries) t k past)) in
+    option_map_or (λ (place : ℕ). or_refused (λ (own : List Change). Changes (change_texts (name_at place (tables_in dump.entries)) own)) changes) (target statement) (Changes [])
 
 -- a number without a statement changes nothing
-abbrev pub if_any : (Statement → Answered) → Option Statement → Answered
-if_any answer statement = option_map_or answer statement (Changes [])
-
--- From a dump: what the logged statement k + 1 gives over the stored versions, where the statements before it ran.
-abbrev pub dump_changes : Dump → ℕ → ℕ → Statement → Answered
-dump_changes dump t k statement =
-    changes_of (tables_in dump.entries) (target statement) statement
-    (given (looked_refusal parameters dump.entries (table_spans dump.tables) t k statement)
-    (changed_rows unannotated t (suc k) statement (run_before unannotated (log_of dump.entries) t k (as_of unannotated (table_spans dump.tables)))))
-
-abbrev pub changes_to : Dump → ℕ → ℕ → Answered
-changes_to dump t k = unless_refused (changes_refusal t k dump.entries) (if_any (dump_changes dump t (k - 1)) (statement_at t k dump.entries))
+abbrev pub numbered_changes : Dump → ℕ → ℕ → Answered
+numbered_changes dump t k = option_map_or (changes_over dump t (k - 1)) (statement_at t k dump.entries) (Changes [])
 
 -- ---- a commit
 
@@ -112,15 +105,9 @@ abbrev pub spans_texts : List ℕ → ℕ → Option Span → List Span → List
 spans_texts name version last [] = []
 spans_texts name version last (span ∷ spans) = span_texts name version last span (slice_get spans 0) ++ spans_texts name version (Some span) spans
 
-abbrev pub tables_texts : ℕ → List Table → List (List Span) → List (List ℕ)
-tables_texts version tables lists = flat_map (λ (own : Table × List Span). spans_texts own.0.name version None own.1) (zip tables lists)
-
-abbrev pub version_changes : Dump → Option ℕ → Answered
-version_changes dump version = option_map_or (λ (own : ℕ). Changes (tables_texts own (tables_in dump.entries) dump.tables)) version (Changes [])
-
 -- by table, in the order of creation, and then by identity; the versions are those of the dump, and so are those of a history
-abbrev pub commit_changes_to : Dump → ℕ → Answered
-commit_changes_to dump t = unless_refused (transaction_refusal t dump.entries) (version_changes dump (version_of t dump.entries))
+abbrev pub dump_writes : Dump → ℕ → Answered
+dump_writes dump version = Changes (flat_map (λ (own : Table × List Span). spans_texts own.0.name version None own.1) (zip (tables_in dump.entries) dump.tables))
 
 -- ---- as a history held it
 
@@ -148,12 +135,6 @@ history_changes state t k =
     let before = start_by monomials (log_of state.entries) t k state.committed in
     Changes (written_texts state.catalogue (wrote_by monomials t (suc k) (statement_at t (suc k) state.entries) before) before (state.views t (suc k)))
 
-abbrev pub changes_held : State Monomial → ℕ → ℕ → Answered
-changes_held state t k = unless_refused (changes_refusal t k state.entries) (history_changes state t (k - 1))
-
 -- the rows that the commit of a version wrote: from the version before to its own
 abbrev pub history_writes : State Monomial → ℕ → Answered
 history_writes state version = Changes (written_texts state.catalogue (state.written version) (state.committed (version - 1)) (state.committed version))
-
-abbrev pub commit_changes_held : State Monomial → ℕ → Answered
-commit_changes_held state t = unless_refused (transaction_refusal t state.entries) (option_map_or (history_writes state) (version_of t state.entries) (Changes []))

@@ -1,10 +1,10 @@
 -- Part of the statement: the difference of two bags of rows, each a list in row order: a row as often as it is more often in the one than in the other, with a
 -- sign. The law `deltas_are_differences` says what that gives.
-use Rattle.std.specs.Prelude.{ℕ, Bool, true, false, List, [], ◌∷◌, ◌++◌, length, filter, map, not, codes}
+use Rattle.std.specs.Prelude.{ℕ, Bool, true, false, List, [], ◌∷◌, length, filter, map, not, codes}
 use Rattle.std.specs.FinMap.Entries.{by_order}
 use Rattle.gp_base.specs.declared.cell.Cell.{Cell}
+use Rattle.gp_base.specs.declared.cell.Cell.TheVariants as cell
 use Rattle.gp_base.specs.Order.{row_cmp}
-use Rattle.gp_base.specs.Texts.{row_text}
 
 -- a row that is more often in the first bag, and one that is more often in the second
 pub data Signed : Type 0 where
@@ -27,9 +27,10 @@ abbrev pub is_removed : Signed → Bool
 is_removed (removed row) = true
 is_removed (added row) = false
 
-abbrev pub signed_text : Signed → List ℕ
-signed_text (removed row) = codes "- " ++ row_text row
-signed_text (added row) = codes "+ " ++ row_text row
+-- the row behind its sign
+abbrev pub with_sign : Signed → List Cell
+with_sign (removed row) = cell.Text (codes "-") ∷ row
+with_sign (added row) = cell.Text (codes "+") ∷ row
 
 -- how many lines have a minus, and how many a plus
 abbrev pub removed_in : List Signed → ℕ

@@ -2,7 +2,7 @@
 -- added, and the commits of the changed log are made again. Such a question is refused by the first that applies: the change; then, on the changed log, what
 -- refuses the question whatever the rows are: its version, transaction or statement is not in the log, the check of its query, a number of its rules that is not
 -- in the semiring; then, unless the query is explained, the first commit that cannot be made again; then the number of its rows.
-use Rattle.std.specs.Prelude.{List, [], length, map, Option, None, Result}
+use Rattle.std.specs.Prelude.{List, [], length, map, Option, None}
 use Rattle.std.specs.Option.{option_map, option_or}
 use Rattle.std.specs.Result.{result_err}
 use Rattle.gp_base.specs.declared.limit.Limit.TheVariants as limit
@@ -18,12 +18,11 @@ use Rattle.gp_machine.specs.Event.{name_at}
 use Rattle.gp_machine.specs.Questions.{log_refusal, stop_refusal}
 use Rattle.gp_machine.specs.Replayed.{replayed_state}
 use Rattle.gp_machine.specs.Replaying as made
-use Rattle.gp_semiring.specs.Rules.{first_outside}
 use Rattle.gp_whatif.specs.Changed.{changed_log}
 use Rattle.gp_dump.specs.Dumps.{Dump, dump_of}
 use Rattle.gp_ask.specs.declared.answered.Answered.{Answered}
 use Rattle.gp_ask.specs.Asking.{Programs, ask_to, ask_held}
-use Rattle.gp_ask.specs.Values.{or_refused, outside_refusal, rule_of, semiring_of, unless_refused}
+use Rattle.gp_ask.specs.Values.{or_refused, outside_refusal, rule_of, unless_refused}
 
 -- the dump of the history that the commits of a log, made again, lead to
 abbrev pub replayed_dump : List Entry → Dump
@@ -32,8 +31,7 @@ replayed_dump entries = dump_of (replayed_state unannotated (tables_in entries) 
 -- ---- refusals
 
 abbrev pub rules_refusal : y.How → Option Refusal
-rules_refusal (y.value name rules other) =
-    outside_refusal name (first_outside (semiring_of name).number_of (map rule_of rules) other)
+rules_refusal (y.value name rules other) = outside_refusal name (map rule_of rules) other
 rules_refusal how = None
 
 -- what refuses a question on a log, whatever the rows are
@@ -60,10 +58,7 @@ module _ (programs : Programs) where
   remade_answer answer entries how point query =
       unless_refused (asking_refusal entries how point query) (unless_refused (remaking_refusal entries) (answer how point query))
 
-  -- by the changed log, or the refusal of the change
-  abbrev pub changed_answer : (List Entry → y.How → y.Point → y.Query → Answered) → Result (List Entry) Refusal → y.How → y.Point → y.Query → Answered
-  changed_answer answers log how point query = or_refused (λ entries. remade_answer (answers entries) entries how point query) log
-
-  -- from the log of a dump: what the history held that would have been, its rows and their provenance
+  -- by the changed log, or the refusal of the change: what the history held that would have been, its rows and their provenance
   abbrev pub what_if_held : List Entry → y.LogChange → y.How → y.Point → y.Query → Answered
-  what_if_held entries change how point query = changed_answer (λ own. ask_held programs (replayed_state monomials (tables_in own) own)) (changed_log parameters entries change) how point query
+  what_if_held entries change how point query =
+      or_refused (λ own. remade_answer (ask_held programs (replayed_state monomials (tables_in own) own)) own how point query) (changed_log parameters entries change)

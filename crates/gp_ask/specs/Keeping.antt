@@ -10,11 +10,11 @@ use Rattle.gp_reenact.specs.Reenacting.{spans_of}
 use Rattle.gp_semiring.specs.declared.rules.Rule.{Rule}
 use Rattle.gp_ask.specs.declared.keeping.KeptAnnotations.{KeptAnnotations}
 use Rattle.gp_ask.specs.declared.keeping.KeptValues.{KeptValues}
-use Rattle.gp_ask.specs.Values as v
-use Rattle.gp_ask.specs.Values.{Semiring}
+use Rattle.gp_ask.specs.Operations as v
+use Rattle.gp_ask.specs.Operations.{Operations}
 
 -- what the elements of a semiring are by rules
-abbrev pub elements_by : (semiring : Semiring) → List Rule × Option ℕ → Annotations semiring.Element
+abbrev pub elements_by : (semiring : Operations) → List Rule × Option ℕ → Annotations semiring.Element
 elements_by semiring rules = values_by semiring.one_of semiring.times_of semiring.number_of semiring.itself_of rules
 
 -- annotations of the row versions of this dump, if there are any

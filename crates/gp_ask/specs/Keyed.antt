@@ -9,7 +9,8 @@ use Rattle.gp_base.specs.Order.{row_cmp, sorted_by}
 use Rattle.gp_algebra.specs.Statements.{Statement, update}
 use Rattle.gp_txn.specs.Changes.{set_is_simple}
 use Rattle.gp_compose.specs.Seen.{is_changed_by}
-use Rattle.gp_ask.specs.Changes.{after_of, before_of, change_text}
+use Rattle.gp_ask.specs.ChangeForms.{after_of, before_of}
+use Rattle.gp_ask.specs.Changes.{change_text}
 
 abbrev pub as_identity : Option Cell → Option Identity
 as_identity (Some (cell.Id id)) = Some id

@@ -4,10 +4,12 @@ pub mod Asking
 pub mod AskingForms
 pub mod Backends
 pub mod Begins
+pub mod ChangeForms
 pub mod Changes
 pub mod Computed
 pub mod Counted
 pub mod Deltas
+pub mod DifferenceForms
 pub mod Differences
 pub mod Explained
 pub mod ExplainedTexts
@@ -27,6 +29,7 @@ pub mod Replays
 pub mod Seeing
 pub mod ShownWrites
 pub mod Texts
+pub mod Titles
 pub mod Transactions
 pub mod ValueForms
 pub mod Values

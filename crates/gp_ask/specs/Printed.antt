@@ -12,6 +12,7 @@ use Rattle.gp_ask.specs.Answers as answers
 use Rattle.gp_ask.specs.Asking as asking
 use Rattle.gp_ask.specs.Hypothetical as hypothetical
 use Rattle.gp_ask.specs.Programs.{program_lines}
+use Rattle.gp_ask.specs.Values.{or_refused}
 
 abbrev pub dump_answer : Dump → y.How → y.Point → Select → Answered
 dump_answer = asking.dump_answer program_lines
@@ -28,8 +29,9 @@ ask_held = asking.ask_held program_lines
 abbrev pub remade_answer : (y.How → y.Point → y.Query → Answered) → List Entry → y.How → y.Point → y.Query → Answered
 remade_answer = hypothetical.remade_answer program_lines
 
+-- by the changed log, or the refusal of the change
 abbrev pub changed_answer : (List Entry → y.How → y.Point → y.Query → Answered) → Result (List Entry) Refusal → y.How → y.Point → y.Query → Answered
-changed_answer = hypothetical.changed_answer program_lines
+changed_answer answers log how point query = or_refused (λ entries. remade_answer (answers entries) entries how point query) log
 
 abbrev pub what_if_held : List Entry → y.LogChange → y.How → y.Point → y.Query → Answered
 what_if_held = hypothetical.what_if_held program_lines

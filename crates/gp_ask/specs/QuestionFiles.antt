@@ -1,6 +1,7 @@
 -- Machinery: the answers to a file of questions as functions of its bytes, by the parser. They are those to the questions that the file is read as.
 use Rattle.std.specs.Prelude.{ℕ, Bool, IfOk, List, Result}
 use Rattle.std.specs.List.{flat_map, list_any}
+use Rattle.gp_base.specs.declared.table.Table.{Table}
 use Rattle.gp_grammar.specs.LineReading.{Fault}
 use Rattle.gp_grammar.specs.Reading.{question_of, read_lines}
 use Rattle.gp_grammar.specs.Syntax as y
@@ -8,7 +9,7 @@ use Rattle.gp_machine.specs.Entries.{Entry}
 use Rattle.gp_syntax.specs.Lines.{script_lines}
 use Rattle.gp_ask.specs.declared.answered.Answered.{Answered}
 use Rattle.gp_ask.specs.declared.format.Format.{Format}
-use Rattle.gp_ask.specs.declared.format.Format.TheVariants.{Text, Csv}
+use Rattle.gp_ask.specs.declared.format.Format.TheVariants.{Text}
 use Rattle.gp_ask.specs.ExplainedTexts.{ExplainsQuestion}
 use Rattle.gp_ask.specs.Formats.{answers_in, text_in}
 use Rattle.gp_ask.specs.Questions.{ReadQuestion, answered, is_refused}
@@ -22,10 +23,10 @@ module _ (answers : y.Question → Answered) where
   abbrev pub line_answer : ℕ × List ℕ → Answered
   line_answer line = answered answers (question_of line.1)
 
-module _ (format : Format) (answers : y.Question → Answered) where
+module _ (format : Format) (tables : List Table) (answers : y.Question → Answered) where
   -- the answer to a line in a format
   abbrev pub line_answer_in : ℕ × List ℕ → Answered
-  line_answer_in line = line_answer (answers_in format answers) line
+  line_answer_in line = line_answer (answers_in format tables answers) line
 
   abbrev pub line_answer_text : ℕ × List ℕ → List ℕ
   line_answer_text line = text_in format line.0 (line_answer_in line)
@@ -45,4 +46,4 @@ ExplainsRead entries reading = IfOk reading (ExplainsQuestion entries)
 -- what is said of explained questions is said of text: none is exported
 abbrev pub ExplainsIn : Format → Type 0 → Type 0
 ExplainsIn Text says = says
-ExplainsIn Csv says = Unit {0}
+ExplainsIn format says = Unit {0}

@@ -1,6 +1,7 @@
 -- Part of the statement: the answers to a file of questions. Its lines are those of a script: blank lines and comments get no answer, but are counted.
 use Rattle.std.specs.Prelude.{ℕ, Bool, true, false, List, Result, Ok, Err}
 use Rattle.std.specs.List.{flat_map, list_any}
+use Rattle.gp_base.specs.declared.table.Table.{Table}
 use Rattle.gp_grammar.specs.Limits.{question_shape}
 use Rattle.gp_grammar.specs.LineReading.{Fault, AreReadAs}
 use Rattle.gp_grammar.specs.QuestionGrammar.{IsQuestion}
@@ -29,10 +30,10 @@ abbrev pub answered : (y.Question → Answered) → Result y.Question Fault → 
 answered answers (Err fault) = Refused (refusal_of_fault fault)
 answered answers (Ok question) = answers question
 
-module _ (format : Format) (answers : y.Question → Answered) where
-  -- the answer to a line in a format
+module _ (format : Format) (tables : List Table) (answers : y.Question → Answered) where
+  -- the answer to a line in a format, where these are the tables of the dump
   abbrev pub read_answer : ReadQuestion → Answered
-  read_answer line = answered (answers_in format answers) line.1
+  read_answer line = answered (answers_in format tables answers) line.1
 
   abbrev pub read_answer_text : ReadQuestion → List ℕ
   read_answer_text line = text_in format line.0 (read_answer line)

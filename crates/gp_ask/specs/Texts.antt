@@ -3,6 +3,8 @@ use Rattle.std.specs.Prelude.{ℕ, List, [], ◌∷◌, ◌++◌, length, map, O
 use Rattle.std.specs.Option.{option_map_or}
 use Rattle.std.specs.Fmt.{decimal}
 use Rattle.std.specs.List.{concat, flat_map}
+use Rattle.gp_base.specs.declared.cell.Cell.{Cell}
+use Rattle.gp_base.specs.declared.cell.Cell.TheVariants as cell
 use Rattle.gp_base.specs.Numbered.{newline, numbered, refused_text, rows_text}
 use Rattle.gp_base.specs.Texts.{row_text}
 use Rattle.gp_base.specs.Tokens.{monomial_text}
@@ -10,7 +12,7 @@ use Rattle.gp_base.specs.Writing.{joined_texts}
 use Rattle.gp_semiring.specs.declared.listed.Listed as l
 use Rattle.gp_ask.specs.declared.answered.Answered.{Answered}
 use Rattle.gp_ask.specs.declared.answered.Valued.{Valued}
-use Rattle.gp_ask.specs.declared.answered.Answered.TheVariants.{Rows, Listed, Values, Log, Versions, Program, Transactions, Changes, Diff, Causes, Refused, Checked}
+use Rattle.gp_ask.specs.declared.answered.Answered.TheVariants.{Rows, Listed, Values, Log, Versions, Program, Transactions, Changes, Diff, Causes, Refused, Checked, Sheet}
 
 -- a line of an answer
 abbrev pub listed_line : List ℕ → List ℕ
@@ -29,6 +31,11 @@ provenance_text listed = concat (row_text listed.row ∷ codes " : " ∷ joined_
 abbrev pub value_text : Valued → List ℕ
 value_text valued = concat (row_text valued.row ∷ codes " : " ∷ valued.text ∷ [])
 
+-- a row of a difference: its first cell is its sign
+abbrev pub signed_text : List Cell → List ℕ
+signed_text (cell.Text sign ∷ row) = concat (sign ∷ codes " " ∷ row_text row ∷ [])
+signed_text row = row_text row
+
 -- whether the dump is that of a history, or its first line that differs
 abbrev pub checked_text : Option ℕ → List ℕ
 checked_text line = option_map_or (λ (own : ℕ). concat (codes "differs at line " ∷ decimal own ∷ newline ∷ [])) line (codes "history" ++ newline)
@@ -36,6 +43,7 @@ checked_text line = option_map_or (λ (own : ℕ). concat (codes "differs at lin
 -- rows and refusals are written as those of a script are: rows in row order, each as often as it occurs
 abbrev pub answer_text : ℕ → Answered → List ℕ
 answer_text number (Rows rows) = numbered number (rows_text rows)
+answer_text number (Sheet sheet) = numbered number (rows_text sheet.rows)
 answer_text number (Listed rows) = listed_text number (codes "rows") (map provenance_text rows)
 answer_text number (Values rows) = listed_text number (codes "rows") (map value_text rows)
 answer_text number (Log texts) = listed_text number (codes "log") texts
@@ -43,7 +51,7 @@ answer_text number (Versions texts) = listed_text number (codes "versions") text
 answer_text number (Program texts) = listed_text number (codes "program") texts
 answer_text number (Transactions texts) = listed_text number (codes "transactions") texts
 answer_text number (Changes texts) = listed_text number (codes "changes") texts
-answer_text number (Diff texts) = listed_text number (codes "diff") texts
+answer_text number (Diff rows) = listed_text number (codes "diff") (map signed_text rows)
 answer_text number (Causes texts) = listed_text number (codes "causes") texts
 answer_text number (Checked line) = numbered number (checked_text line)
 answer_text number (Refused refusal) = numbered number (refused_text refusal)

@@ -1,15 +1,13 @@
 -- Part of the statement: the transactions of a log, each on a line: its number, its session, its level, the version at which it began, how many statements it
 -- ran, and what has become of it.
-use Rattle.std.specs.Prelude.{ℕ, Bool, true, false, List, [], ◌∷◌, reverse, codes}
+use Rattle.std.specs.Prelude.{ℕ, Bool, true, false, List, [], ◌∷◌, codes}
 use Rattle.std.specs.Fmt.{decimal}
-use Rattle.std.specs.List.{concat, flat_map}
+use Rattle.std.specs.List.{concat}
 use Rattle.gp_base.specs.declared.refusal.Fate.{Fate}
 use Rattle.gp_base.specs.declared.refusal.Fate.TheVariants.{Committed}
 use Rattle.gp_base.specs.Refusals as refusal
 use Rattle.gp_machine.specs.Entries as m
 use Rattle.gp_machine.specs.Entries.{Entry, begin_version, fate_of, statement_count}
-use Rattle.gp_ask.specs.declared.answered.Answered.{Answered}
-use Rattle.gp_ask.specs.declared.answered.Answered.TheVariants.{Transactions}
 
 abbrev pub level_text : Bool → List ℕ
 level_text true = codes "READ COMMITTED"
@@ -25,10 +23,7 @@ transaction_text entries t session read_committed =
     concat (decimal t ∷ codes " s" ∷ decimal session ∷ codes " " ∷ level_text read_committed ∷ codes " at " ∷ decimal (begin_version t entries)
     ∷ codes " statements " ∷ decimal (statement_count t entries) ∷ codes " " ∷ fate_text (fate_of t entries) ∷ [])
 
--- a line for each BEGIN, the oldest first: transactions are numbered in this order
+-- the line of a BEGIN
 abbrev pub begun_lines : List Entry → Entry → List (List ℕ)
 begun_lines entries (m.Began line session t read_committed) = transaction_text entries t session read_committed ∷ []
 begun_lines entries entry = []
-
-abbrev pub transactions_answer : List Entry → Answered
-transactions_answer entries = Transactions (flat_map (begun_lines entries) (reverse entries))

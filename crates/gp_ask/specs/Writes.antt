@@ -15,7 +15,8 @@ use Rattle.gp_syntax.specs.Views.{kept_view, query_view}
 use Rattle.gp_ask.specs.declared.causes.Asked.{Asked}
 use Rattle.gp_ask.specs.declared.causes.Write.{Write}
 use Rattle.gp_ask.specs.Answerable.{has_few_items}
-use Rattle.gp_ask.specs.Differences.{cause_of, rows_in, without_in}
+use Rattle.gp_ask.specs.DifferenceForms.{without_in}
+use Rattle.gp_ask.specs.Differences.{cause_of, rows_in}
 use Rattle.gp_ask.specs.Computed.{what_if_answer}
 
 abbrev pub write_view : Write → ℕ × ℕ

@@ -14,11 +14,22 @@ pub struct Valued {
     pub text: Text,
 }
 
+/// Rows whose columns have titles.
+#[derive(Drop)]
+pub struct Sheet {
+    /// The titles. The first is that of the number of the question, which is in no row.
+    pub titles: Sequence<Text>,
+    /// The rows.
+    pub rows: Sequence<Row>,
+}
+
 /// The answer to a question.
 #[derive(Drop)]
 pub enum Answered {
     /// The rows of a query, in row order, each as often as it occurs.
     Rows(Sequence<Row>),
+    /// The rows of a query, or of a difference, under titles.
+    Sheet(Sheet),
     /// The distinct rows of a query, in row order, each with the monomials of all its occurrences, in order and with repetitions.
     Listed(Sequence<Listed>),
     /// The distinct rows of a query, in row order, each with its value in a semiring.
@@ -33,8 +44,8 @@ pub enum Answered {
     Transactions(Sequence<Text>),
     /// The lines of the rows that were changed, by table and then by identity.
     Changes(Sequence<Text>),
-    /// The rows that are more often in one of two answers, each behind a sign, in row order.
-    Diff(Sequence<Text>),
+    /// The rows that are more often in one of two answers, in row order, each behind its sign, a text.
+    Diff(Sequence<Row>),
     /// The lines of the statements that an answer depends on, in the order of their lines.
     Causes(Sequence<Text>),
     /// The number of the first line of the dump that differs, or None if it is the dump of a history.

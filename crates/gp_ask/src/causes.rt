@@ -16,6 +16,7 @@ ghost use Rattle.gp_syntax.specs.Views.{change_view, kept_view, query_view};
 ghost use Rattle.gp_whatif.specs.Replays.{IsMade};
 ghost use Rattle.gp_ask.specs.Answerable.{has_few_items};
 ghost use Rattle.gp_ask.specs.Printed.{ask_to};
+ghost use Rattle.gp_ask.specs.DifferenceForms as f;
 ghost use Rattle.gp_ask.specs.Differences as d;
 ghost use Rattle.gp_ask.specs.Computed.{what_if_answer};
 ghost use Rattle.gp_ask.specs.Keeping.{AreKept};
@@ -100,7 +101,7 @@ fn push_write(writes: &mut Vec<Write>, own: Option<Write>) -> Result<(), NoMemor
 /// The statements that write, of transactions that committed, in the order of their lines.
 fn committed_writes(alloc: Global, log: &Log) -> Result<Vec<Write>, NoMemory>
     ensures own { IfOk result (λ writes. map write_view writes.items
-        ≡ d.committed_writes (entries log.now)) }
+        ≡ f.committed_writes (entries log.now)) }
     ensures versions { IfOk result (λ writes. AreWrites (entries log.now) writes.items) }
 {
     let mut writes = Vec::new(alloc);
@@ -124,7 +125,7 @@ fn statement_text(alloc: Global, own: Write) -> Result<Vec<u8>, NoMemory>
 /// The line of a statement without which the answer would lose and gain so many rows.
 fn cause_text(alloc: Global, own: Write, found: Sizes) -> Result<Text, NoMemory>
     ensures { IfOk result (λ text. text
-        ≡ d.sizes_text (write_view own) found.removed found.added) }
+        ≡ f.sizes_text (write_view own) found.removed found.added) }
 {
     let statement = statement_text(alloc, own)?;
     let removed = found.removed.to_string(alloc)?;
@@ -144,7 +145,7 @@ fn cause_text(alloc: Global, own: Write, found: Sizes) -> Result<Text, NoMemory>
 
 /// The line of a statement without which the question would be refused.
 fn refused_text(alloc: Global, own: Write, refusal: &Refusal) -> Result<Text, NoMemory>
-    ensures { IfOk result (λ text. text ≡ d.refused_text (write_view own) refusal.now) }
+    ensures { IfOk result (λ text. text ≡ f.refused_text (write_view own) refusal.now) }
 {
     let mut text = statement_text(alloc, own)?;
     append_all(&mut text, &[b" : "])?;
@@ -199,7 +200,7 @@ fn answer_without(
     requires asked { IsAsked asked.now }
     requires version { version_of own.t (dump_view asked.now.dump.now).entries ≡ Some (suc before) }
     requires made { IsMade (dump_view asked.now.dump.now).entries before versions.now }
-    ensures { IfOk result (λ answered. answered ≡ d.without_in
+    ensures { IfOk result (λ answered. answered ≡ f.without_in
         (what_if_answer (dump_view asked.now.dump.now).entries) (kept_view asked.now.kept.now)
         (query_view asked.now.query.now) (write_view own)) }
 {
@@ -385,10 +386,10 @@ fn all_lines(alloc: Global, found: Vec<Option<Text>>) -> Result<Sequence<Text>, 
 /// The lines of the statements that the rows depend on.
 fn cause_lines(alloc: Global, asked: &Asked<'_>) -> Result<Sequence<Text>, NoMemory>
     requires asked { IsAsked asked.now }
-    ensures { IfOk result (λ lines. lines ≡ d.all_cause_lines (d.without_in
+    ensures { IfOk result (λ lines. lines ≡ f.all_cause_lines (f.without_in
         (what_if_answer (dump_view asked.now.dump.now).entries) (kept_view asked.now.kept.now)
         (query_view asked.now.query.now))
-        (d.committed_writes (dump_view asked.now.dump.now).entries) asked.now.rows.now) }
+        (f.committed_writes (dump_view asked.now.dump.now).entries) asked.now.rows.now) }
 {
     let writes = committed_writes(alloc, &asked.dump.log)?;
     let found = lines_in_places(alloc, asked, &writes)?;

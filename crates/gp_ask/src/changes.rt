@@ -7,12 +7,15 @@ ghost use Rattle.gp_algebra.specs.Statements.{target};
 ghost use Rattle.gp_algebra.specs.Views.{statement_view};
 ghost use Rattle.gp_compose.specs.Seen.{is_changed_by};
 ghost use Rattle.gp_dump.specs.Views.{dump_view};
+ghost use Rattle.gp_grammar.specs.Syntax as y;
 ghost use Rattle.gp_log.specs.Contents.{entries};
 ghost use Rattle.gp_log.specs.LogFacts.{tables_in};
 ghost use Rattle.gp_machine.specs.Entries as m;
 ghost use Rattle.gp_machine.specs.Questions.{is_known};
 ghost use Rattle.gp_ask.specs.Answerable.{IsAnswerable};
+ghost use Rattle.gp_ask.specs.ChangeForms as f;
 ghost use Rattle.gp_ask.specs.Changes as s;
+ghost use Rattle.gp_ask.specs.Computed.{computed_answer};
 ghost use Rattle.gp_ask.specs.Keyed as c;
 
 use crate::answered::Answered;
@@ -184,8 +187,8 @@ fn statement_line(
 ) -> Result<Text, NoMemory>
     requires fits { c.sets_are_simple (statement_view stmt.now) ≡ true }
     ensures { IfOk result (λ text. text ≡ s.change_text name.now id.now
-        (s.before_of (statement_view stmt.now) row.now)
-        (s.after_of (statement_view stmt.now) row.now)) }
+        (f.before_of (statement_view stmt.now) row.now)
+        (f.after_of (statement_view stmt.now) row.now)) }
 {
     match stmt {
         Stmt::Update { sets, .. } => {
@@ -254,7 +257,7 @@ fn written_changes(
     requires here { m.statement_at t k (dump_view dump.now).entries ≡ Some (statement_view stmt.now) }
     requires target { target (statement_view stmt.now) ≡ Some table }
     ensures { IfOk result (λ answered. answered
-        ≡ s.dump_changes (dump_view dump.now) t (k - 1) (statement_view stmt.now)) }
+        ≡ f.dump_changes (dump_view dump.now) t (k - 1) (statement_view stmt.now)) }
 {
     match looked(alloc, &dump.log, dump.versions.as_slice(), t, k - 1, stmt) {
         Ok(rows) => {
@@ -281,7 +284,7 @@ fn known_changes(
     requires most { k ≤ m.statement_count t (dump_view dump.now).entries }
     requires here { m.statement_at t k (dump_view dump.now).entries ≡ Some (statement_view stmt.now) }
     ensures { IfOk result (λ answered. answered
-        ≡ s.dump_changes (dump_view dump.now) t (k - 1) (statement_view stmt.now)) }
+        ≡ f.dump_changes (dump_view dump.now) t (k - 1) (statement_view stmt.now)) }
 {
     match stmt.target() {
         Some(table) => written_changes(alloc, dump, t, k, stmt, table),
@@ -295,7 +298,7 @@ fn statement_changes(alloc: Global, dump: &Dump, t: u32, k: u32) -> Result<Answe
     requires known { is_known t (dump_view dump.now).entries ≡ true }
     requires first { 0 < k }
     requires most { k ≤ m.statement_count t (dump_view dump.now).entries }
-    ensures { IfOk result (λ answered. answered ≡ s.if_any (s.dump_changes (dump_view dump.now) t (k - 1))
+    ensures { IfOk result (λ answered. answered ≡ f.if_any (f.dump_changes (dump_view dump.now) t (k - 1))
         (m.statement_at t k (dump_view dump.now).entries)) }
 {
     match dump.log.statement(t, k) {
@@ -327,7 +330,7 @@ fn statement_number(log: &Log, t: u32, k: u64) -> u32
 /// up to this one. A SELECT changes nothing. The number of rows is not limited.
 pub fn changes_answer(alloc: Global, dump: &Dump, t: u64, k: u64) -> Result<Answered, NoMemory>
     requires rules { IsAnswerable (dump_view dump.now) }
-    ensures { IfOk result (λ answered. answered ≡ s.changes_to (dump_view dump.now) t k) }
+    ensures { IfOk result (λ answered. answered ≡ computed_answer (dump_view dump.now) (y.changes t k)) }
 {
     match changes_refusal(&dump.log, t, k) {
         Some(refusal) => Ok(Answered::Refused(refusal)),
@@ -431,7 +434,7 @@ fn push_table(
 /// The lines of the rows that a version changed.
 fn commit_lines(alloc: Global, dump: &Dump, version: u32) -> Result<Sequence<Text>, NoMemory>
     requires rules { IsAnswerable (dump_view dump.now) }
-    ensures { IfOk result (λ lines. lines ≡ s.tables_texts version
+    ensures { IfOk result (λ lines. lines ≡ f.tables_texts version
         (tables_in (dump_view dump.now).entries) (dump_view dump.now).tables) }
 {
     dump.log.bounds();
@@ -446,7 +449,7 @@ fn commit_lines(alloc: Global, dump: &Dump, version: u32) -> Result<Sequence<Tex
 /// What the commit of a transaction changed, if it made a version.
 fn made_changes(alloc: Global, dump: &Dump, t: u32) -> Result<Answered, NoMemory>
     requires rules { IsAnswerable (dump_view dump.now) }
-    ensures { IfOk result (λ answered. answered ≡ s.version_changes (dump_view dump.now)
+    ensures { IfOk result (λ answered. answered ≡ f.version_changes (dump_view dump.now)
         (m.version_of t (dump_view dump.now).entries)) }
 {
     match dump.log.version_of(t) {
@@ -459,7 +462,7 @@ fn made_changes(alloc: Global, dump: &Dump, t: u32) -> Result<Answered, NoMemory
 /// made, by table and then by identity. E20 if no transaction has the number, E21 if it did not commit.
 pub fn commit_changes_answer(alloc: Global, dump: &Dump, t: u64) -> Result<Answered, NoMemory>
     requires rules { IsAnswerable (dump_view dump.now) }
-    ensures { IfOk result (λ answered. answered ≡ s.commit_changes_to (dump_view dump.now) t) }
+    ensures { IfOk result (λ answered. answered ≡ f.commit_changes_to (dump_view dump.now) t) }
 {
     match log_refusal(&dump.log, Point::Commit { t }) {
         Some(refusal) => Ok(Answered::Refused(refusal)),

@@ -15,7 +15,8 @@ ghost use Rattle.gp_ask.specs.Computed.{computed_answer};
 ghost use Rattle.gp_ask.specs.AskingForms.{dump_remaining};
 ghost use Rattle.gp_ask.specs.Counted.{counted_answer};
 ghost use Rattle.gp_ask.specs.Keeping.{MayBeKeptBy, elements_by};
-ghost use Rattle.gp_ask.specs.Values.{count, rule_of};
+ghost use Rattle.gp_ask.specs.Operations.{count};
+ghost use Rattle.gp_ask.specs.Values.{rule_of};
 
 use crate::answered::Answered;
 use crate::keeping::{KeptValues, rows_with_values};

@@ -1,10 +1,10 @@
 //! The difference of two bags of rows, by one pass over both, sorted.
 
-ghost use Rattle.std.specs.Prelude.{◌≡◌, ◌++◌, map, IfOk};
-ghost use Rattle.gp_base.specs.Texts.{row_text};
-ghost use Rattle.gp_ask.specs.Deltas.{added_in, delta, removed_in, signed_text};
+ghost use Rattle.std.specs.Prelude.{◌≡◌, ◌++◌, ◌∷◌, map, IfOk, OnOk};
+ghost use Rattle.gp_base.specs.declared.cell.Cell.TheVariants as cell;
+ghost use Rattle.gp_ask.specs.Deltas.{added_in, delta, removed_in, with_sign};
 
-use gp_base::{NoMemory, Row, Sequence, Text, text_of_pieces, write_row};
+use gp_base::{Cell, NoMemory, Row, Sequence, Text};
 use std::alloc::Global;
 use std::cmp::Ordering;
 
@@ -49,18 +49,30 @@ pub fn delta_sizes(rows: &[Row], others: &[Row]) -> Sizes
     }
 }
 
-/// A row behind a sign.
-fn signed_line(alloc: Global, sign: &[u8], row: &Row) -> Result<Text, NoMemory>
-    ensures { IfOk result (λ text. text ≡ sign.now ++ row_text row.now) }
+/// Adds the cells to a row.
+fn add_cells(row: &mut Row, cells: &[Cell]) -> Result<(), NoMemory>
+    ensures { OnOk result (row.new ≡ row.old ++ cells.now) }
 {
-    let mut text = text_of_pieces(alloc, &[sign])?;
-    write_row(alloc, row, &mut text)?;
-    Text::from_bytes(alloc, &text)
+    for cell in cells {
+        row.push(cell.clone()?)?;
+    }
+    Ok(())
 }
 
-/// The lines of the difference of two bags, whose rows are in order.
-pub fn delta_lines(alloc: Global, rows: &[Row], others: &[Row]) -> Result<Sequence<Text>, NoMemory>
-    ensures { IfOk result (λ lines. lines ≡ map signed_text (delta rows.now others.now)) }
+/// A row behind a sign.
+fn signed_row(alloc: Global, sign: &[u8], row: &Row) -> Result<Row, NoMemory>
+    ensures { IfOk result (λ signed. signed ≡ cell.Text sign.now ∷ row.now) }
+{
+    let cells = row.cells();
+    let mut signed = Row::new(alloc);
+    signed.push(Cell::Text(Text::from_bytes(alloc, sign)?))?;
+    add_cells(&mut signed, cells)?;
+    Ok(signed)
+}
+
+/// The rows of the difference of two bags, whose rows are in order, each behind its sign.
+pub fn delta_rows(alloc: Global, rows: &[Row], others: &[Row]) -> Result<Sequence<Row>, NoMemory>
+    ensures { IfOk result (λ lines. lines ≡ map with_sign (delta rows.now others.now)) }
 {
     let mut lines = Sequence::new(alloc);
     let mut i = 0usize;
@@ -68,11 +80,11 @@ pub fn delta_lines(alloc: Global, rows: &[Row], others: &[Row]) -> Result<Sequen
     'both: while i < rows.len() && j < others.len() {
         match rows[i].cmp(&others[j]) {
             Ordering::Less => {
-                lines.push(signed_line(alloc, b"- ", &rows[i])?)?;
+                lines.push(signed_row(alloc, b"-", &rows[i])?)?;
                 i += 1;
             }
             Ordering::Greater => {
-                lines.push(signed_line(alloc, b"+ ", &others[j])?)?;
+                lines.push(signed_row(alloc, b"+", &others[j])?)?;
                 j += 1;
             }
             Ordering::Equal => {
@@ -82,11 +94,11 @@ pub fn delta_lines(alloc: Global, rows: &[Row], others: &[Row]) -> Result<Sequen
         }
     }
     'left: while i < rows.len() {
-        lines.push(signed_line(alloc, b"- ", &rows[i])?)?;
+        lines.push(signed_row(alloc, b"-", &rows[i])?)?;
         i += 1;
     }
     'right: while j < others.len() {
-        lines.push(signed_line(alloc, b"+ ", &others[j])?)?;
+        lines.push(signed_row(alloc, b"+", &others[j])?)?;
         j += 1;
     }
     Ok(lines)

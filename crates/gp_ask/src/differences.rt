@@ -11,12 +11,13 @@ ghost use Rattle.gp_syntax.specs.Views.{query_view, side_view};
 ghost use Rattle.gp_ask.specs.Answerable.{has_few_items};
 ghost use Rattle.gp_ask.specs.Printed.{ask_to};
 ghost use Rattle.gp_ask.specs.Deltas.{delta};
+ghost use Rattle.gp_ask.specs.DifferenceForms as f;
 ghost use Rattle.gp_ask.specs.Differences as d;
 ghost use Rattle.gp_ask.specs.Computed.{what_if_answer};
 ghost use Rattle.gp_ask.specs.Keeping.{AreKept};
 
 use crate::answered::Answered;
-use crate::deltas::{Sizes, delta_lines, delta_sizes};
+use crate::deltas::{Sizes, delta_rows, delta_sizes};
 use crate::hypothetical::what_if_answer;
 use crate::keeping::KeptAnnotations;
 use crate::states::ask_answer;
@@ -78,7 +79,7 @@ fn diff_rows(alloc: Global, rows: &[Row], others: &[Row]) -> Result<Answered, No
     if are_too_many(delta_sizes(rows, others)) {
         return Ok(Answered::Refused(Refusal::E27));
     }
-    Ok(Answered::Diff(delta_lines(alloc, rows, others)?))
+    Ok(Answered::Diff(delta_rows(alloc, rows, others)?))
 }
 
 /// The difference of two answers; the first is refused first.
@@ -87,7 +88,7 @@ fn diff_of(
     first: Result<Sequence<Row>, Refusal>,
     second: Result<Sequence<Row>, Refusal>,
 ) -> Result<Answered, NoMemory>
-    ensures { IfOk result (λ answered. answered ≡ d.diff_of first second) }
+    ensures { IfOk result (λ answered. answered ≡ f.diff_of first second) }
 {
     match first {
         Err(refusal) => Ok(Answered::Refused(refusal)),

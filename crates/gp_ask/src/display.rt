@@ -10,8 +10,8 @@ ghost use Rattle.gp_ask.specs.Texts as t;
 
 use crate::answered::{Answered, Valued};
 use gp_base::{
-    Monomial, NoMemory, Refusal, Row, Sequence, Text, TextFormat, append_all, refused_text,
-    rows_text, short_text, text_of_pieces, write_joined, write_monomial, write_row,
+    Cell, CellFormat, Monomial, NoMemory, Refusal, Row, Sequence, Text, TextFormat, append_all,
+    refused_text, rows_text, short_text, text_of_pieces, write_joined, write_monomial, write_row,
 };
 use gp_semiring::Listed;
 use std::alloc::Global;
@@ -150,6 +150,47 @@ fn write_provenance(
     write_listed(alloc, number, b"rows", texts.as_slice(), out)
 }
 
+/// A row of a difference.
+fn signed_text(alloc: Global, row: &Row) -> Result<Text, NoMemory>
+    ensures { IfOk result (λ text. text ≡ t.signed_text row.now) }
+{
+    let mut text = Vec::new(alloc);
+    match row.cells() {
+        [Cell::Text(sign), cells @ ..] => {
+            append_all(&mut text, &[sign.as_bytes(), b" "])?;
+            write_joined(alloc, cells, &CellFormat, b", ", &mut text)?;
+        }
+        _ => write_row(alloc, row, &mut text)?,
+    }
+    Text::from_bytes(alloc, &text)
+}
+
+/// The rows of a difference.
+fn signed_texts(alloc: Global, rows: &[Row]) -> Result<Sequence<Text>, NoMemory>
+    ensures { IfOk result (λ texts. texts ≡ map t.signed_text rows.now) }
+{
+    let mut texts = Sequence::new(alloc);
+    for row in rows {
+        texts.push(signed_text(alloc, row)?)?;
+    }
+    Ok(texts)
+}
+
+/// Appends a difference. If memory runs out, `out` is unchanged.
+fn write_difference(
+    alloc: Global,
+    number: u32,
+    rows: &[Row],
+    out: &mut Vec<u8>,
+) -> Result<(), NoMemory>
+    ensures ok { OnOk result (out.new.items
+        ≡ out.old.items ++ listed_text number (codes "diff") (map t.signed_text rows.now)) }
+    ensures err { OnErr result (out.new.items ≡ out.old.items) }
+{
+    let texts = signed_texts(alloc, rows)?;
+    write_listed(alloc, number, b"diff", texts.as_slice(), out)
+}
+
 /// Appends an answer of rows. If memory runs out, `out` is unchanged.
 fn write_rows(
     alloc: Global,
@@ -221,6 +262,7 @@ pub fn write_answer(
 {
     match answered {
         Answered::Rows(rows) => write_rows(alloc, number, rows, out),
+        Answered::Sheet(sheet) => write_rows(alloc, number, sheet.rows, out),
         Answered::Listed(rows) => write_provenance(alloc, number, rows.as_slice(), out),
         Answered::Values(rows) => write_values(alloc, number, rows.as_slice(), out),
         Answered::Log(texts) => write_listed(alloc, number, b"log", texts.as_slice(), out),
@@ -244,7 +286,7 @@ pub fn write_answer(
         Answered::Changes(texts) => {
             write_listed(alloc, number, b"changes", texts.as_slice(), out)
         }
-        Answered::Diff(texts) => write_listed(alloc, number, b"diff", texts.as_slice(), out),
+        Answered::Diff(rows) => write_difference(alloc, number, rows.as_slice(), out),
         Answered::Causes(texts) => write_listed(alloc, number, b"causes", texts.as_slice(), out),
         Answered::Checked(line) => write_checked(alloc, number, line, out),
         Answered::Refused(refusal) => write_refused(alloc, number, &refusal, out),

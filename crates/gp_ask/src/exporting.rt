@@ -3,7 +3,7 @@
 ghost use Rattle.std.specs.Prelude.{◌≡◌, ◌++◌, true, IfOk, OnErr, OnOk};
 ghost use Rattle.gp_grammar.specs.Reading.{question_of};
 ghost use Rattle.gp_grammar.specs.Syntax as y;
-ghost use Rattle.gp_syntax.specs.Views.{how_view, question_view};
+ghost use Rattle.gp_syntax.specs.Views.{how_view, query_view, question_view};
 ghost use Rattle.gp_check.specs.Valid.{tables_are_valid};
 ghost use Rattle.gp_csv.specs.Answers.{csv_text};
 ghost use Rattle.gp_dump.specs.WholeDumps.{IsDump};
@@ -12,20 +12,23 @@ ghost use Rattle.gp_log.specs.LogFacts.{tables_in};
 ghost use Rattle.gp_ask.specs.Answerable.{question_is_valid};
 ghost use Rattle.gp_ask.specs.Computed.{computed_answer};
 ghost use Rattle.gp_ask.specs.ExplainedTexts.{ExplainsQuestion};
+ghost use Rattle.gp_ask.specs.Formats as f;
 ghost use Rattle.gp_ask.specs.Formats.{answers_in, asks_rows, exported, exported_records, text_in};
 ghost use Rattle.gp_ask.specs.QuestionFiles.{ExplainsIn, ExplainsRead};
 ghost use Rattle.gp_ask.specs.Keeping.{AreKept};
 ghost use Rattle.gp_ask.specs.Questions.{answered};
+ghost use Rattle.gp_ask.specs.Titles.{query_names};
 
-use crate::answered::Answered;
+use crate::answered::{Answered, Sheet};
 use crate::answering::{answer, answer_from};
 use crate::display::write_answer;
 use crate::format::Format;
 use crate::keeping::KeptAnnotations;
-use gp_base::{NoMemory, Refusal};
-use gp_csv::{write_answer_csv, write_refusal_csv};
+use crate::titles::{difference_titles, row_titles};
+use gp_base::{Catalog, NoMemory, Refusal};
+use gp_csv::{write_answer_csv, write_refusal_csv, write_titled_csv};
 use gp_dump::Dump;
-use gp_syntax::{How, Question, ReadStop, read_question};
+use gp_syntax::{How, Query, Question, ReadStop, read_question};
 use std::alloc::Global;
 
 /// Whether rows are asked for.
@@ -76,9 +79,96 @@ fn exported(alloc: Global, dump: &Dump, question: &Question) -> Result<Answered,
     }
 }
 
+/// Whether rows are asked for, or those that are left.
+fn gives_rows(how: &How) -> bool
+    ensures { result ≡ f.gives_rows (how_view how.now) }
+{
+    match how {
+        How::Rows => true,
+        How::Provenance => false,
+        How::Explain { .. } => false,
+        How::Value { .. } => false,
+        How::Without { .. } => true,
+    }
+}
+
+/// Rows under the titles of the columns of their query.
+fn titled(
+    alloc: Global,
+    catalog: &Catalog,
+    query: &Query,
+    answered: Answered,
+) -> Result<Answered, NoMemory>
+    ensures { IfOk result (λ found. found
+        ≡ f.titled (query_names catalog.now (query_view query.now)) answered) }
+{
+    match answered {
+        Answered::Rows(rows) => {
+            let titles = row_titles(alloc, catalog, query)?;
+            Ok(Answered::Sheet(Sheet { titles, rows }))
+        }
+        Answered::Diff(rows) => {
+            let titles = difference_titles(alloc, catalog, query)?;
+            Ok(Answered::Sheet(Sheet { titles, rows }))
+        }
+        answered => Ok(answered),
+    }
+}
+
+/// Answers a question that was read under the titles of the columns of its query.
+fn titled_answer(
+    alloc: Global,
+    dump: &Dump,
+    question: &Question,
+    query: &Query,
+    kept: &mut KeptAnnotations,
+) -> Result<Answered, NoMemory>
+    requires rules { IsDump (dump_view dump.now) }
+    requires valid { tables_are_valid (tables_in (dump_view dump.now).entries) ≡ true }
+    requires question { question_is_valid (question_view question.now) ≡ true }
+    requires kept { AreKept dump.now kept.old }
+    ensures kept { AreKept dump.now kept.new }
+    ensures answered { IfOk result (λ found. found ≡ f.titled
+        (query_names (tables_in (dump_view dump.now).entries) (query_view query.now))
+        (computed_answer (dump_view dump.now) (question_view question.now))) }
+{
+    let found = answer_from(alloc, dump, question, kept)?;
+    titled(alloc, dump.log.catalog(), query, found)
+}
+
+/// Answers a question that was read under the titles of the columns of its query, or refuses it as one that is not exported (E30), if it
+/// does not ask for rows, or for their difference.
+fn named(
+    alloc: Global,
+    dump: &Dump,
+    question: &Question,
+    kept: &mut KeptAnnotations,
+) -> Result<Answered, NoMemory>
+    requires rules { IsDump (dump_view dump.now) }
+    requires valid { tables_are_valid (tables_in (dump_view dump.now).entries) ≡ true }
+    requires question { question_is_valid (question_view question.now) ≡ true }
+    requires kept { AreKept dump.now kept.old }
+    ensures kept { AreKept dump.now kept.new }
+    ensures answered { IfOk result (λ found. found ≡ f.named
+        (tables_in (dump_view dump.now).entries) (computed_answer (dump_view dump.now))
+        (question_view question.now)) }
+{
+    match question {
+        Question::Saw { query, .. } => titled_answer(alloc, dump, question, query, kept),
+        Question::Diff { query, .. } => titled_answer(alloc, dump, question, query, kept),
+        Question::Ask { how, query, .. } if gives_rows(how) => {
+            titled_answer(alloc, dump, question, query, kept)
+        }
+        Question::WhatIf { how, query, .. } if gives_rows(how) => {
+            titled_answer(alloc, dump, question, query, kept)
+        }
+        _ => Ok(Answered::Refused(Refusal::E30)),
+    }
+}
+
 /// Answers a question that was read ([`read_questions_are_valid`](crate::read_questions_are_valid)), in a format: as [`answer`] does, but
-/// CSV refuses one that is no plain AS OF or REENACT (E30), whatever it would have been refused for otherwise. Running out of memory is
-/// the only error.
+/// CSV refuses one that is no plain AS OF or REENACT (E30), and CSV with names one that does not ask for rows, or for their difference,
+/// whatever it would have been refused for otherwise. Running out of memory is the only error.
 fn answer_in(
     alloc: Global,
     format: Format,
@@ -92,19 +182,22 @@ fn answer_in(
     requires kept { AreKept dump.now kept.old }
     ensures kept { AreKept dump.now kept.new }
     ensures answered { IfOk result (λ found. found
-        ≡ answers_in format (computed_answer (dump_view dump.now)) (question_view question.now)) }
+        ≡ answers_in format (tables_in (dump_view dump.now).entries)
+        (computed_answer (dump_view dump.now)) (question_view question.now)) }
     ensures explained { IfOk result (λ found.
         ExplainsIn format (ExplainsQuestion (dump_view dump.now).entries (question_view question.now))) }
 {
     match format {
         Format::Text => answer_from(alloc, dump, question, kept),
         Format::Csv => exported(alloc, dump, question),
+        Format::Named => named(alloc, dump, question, kept),
     }
 }
 
 /// Answers a line of a file of questions from a dump, in a format. A line that is no question is refused as
-/// [`read_question`](gp_syntax::read_question) refuses it, in either format. Any other is answered as [`answer`] does, but CSV refuses a
-/// question that is no plain AS OF or REENACT (E30). Running out of memory is the only error.
+/// [`read_question`](gp_syntax::read_question) refuses it, in each format. Any other is answered as [`answer`] does, but CSV refuses a
+/// question that is no plain AS OF or REENACT (E30), and CSV with names one that does not ask for rows, or for their difference. Running
+/// out of memory is the only error.
 ///
 /// The annotations that earlier lines left are used, and the line leaves its own. Whatever they are, the answer is that of the line alone.
 pub fn answer_line_in(
@@ -119,7 +212,8 @@ pub fn answer_line_in(
     requires kept { AreKept dump.now kept.old }
     ensures kept { AreKept dump.now kept.new }
     ensures answered { IfOk result (λ found. found
-        ≡ answered (answers_in format (computed_answer (dump_view dump.now))) (question_of line.now)) }
+        ≡ answered (answers_in format (tables_in (dump_view dump.now).entries)
+        (computed_answer (dump_view dump.now))) (question_of line.now)) }
     ensures explained { IfOk result (λ found.
         ExplainsIn format (ExplainsRead (dump_view dump.now).entries (question_of line.now))) }
 {
@@ -150,12 +244,18 @@ pub fn answer_line(alloc: Global, dump: &Dump, line: &[u8]) -> Result<Answered, 
     found
 }
 
-/// The CSV text of an answer. Only rows and refusals are exported.
+/// The CSV text of an answer. Only rows, those under titles, and refusals are exported.
 fn exported_text(alloc: Global, number: u32, answered: &Answered) -> Result<Vec<u8>, NoMemory>
     ensures { IfOk result (λ text. text.items ≡ csv_text (exported_records number answered.now)) }
 {
     match answered {
         Answered::Rows(rows) => write_answer_csv(alloc, number, rows.as_slice()),
+        Answered::Sheet(sheet) => write_titled_csv(
+            alloc,
+            number,
+            sheet.titles.as_slice(),
+            sheet.rows.as_slice(),
+        ),
         Answered::Refused(refusal) => write_refusal_csv(alloc, number, refusal),
         Answered::Listed(_)
         | Answered::Values(_)
@@ -200,7 +300,7 @@ pub fn write_answer_in(
 {
     match format {
         Format::Text => write_answer(alloc, number, answered, out),
-        Format::Csv => {
+        Format::Csv | Format::Named => {
             let written = write_exported(alloc, number, &answered, out);
             drop(answered);
             written

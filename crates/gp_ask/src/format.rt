@@ -7,4 +7,7 @@ pub enum Format {
     Text,
     /// As CSV (RFC 4180). Plain AS OF and REENACT are answered, and any other question is refused.
     Csv,
+    /// As CSV under the names of columns. Questions that ask for rows, or for their difference, are answered, and any other question is
+    /// refused.
+    Named,
 }

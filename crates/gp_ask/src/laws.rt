@@ -93,7 +93,7 @@ fn rules_give_the_values_of_the_history<K: Semiring>()
 /// states as the history held it, and refuses it where the history did: the rows of a past version are those that its commit
 /// published, whatever was written since, the statements of a transaction, run again over the versions that it read, give the rows
 /// that it saw, and the commits, run again one after another, give each row the provenance that it had there, though the dump has
-/// none, and so its value in every semiring, its minimal witnesses, and whether it remains without the rows of some tokens. They never
+/// none, and so its value in each semiring, its minimal witnesses, and whether it remains without the rows of some tokens. They never
 /// pass a limit, and never differ from the dump.
 pub fn unstopped_histories_answer_as_their_dumps()
     ensures { (state : State Monomial) → IsUnstopped monomials parameters state

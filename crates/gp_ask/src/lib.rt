@@ -14,7 +14,7 @@
 //! lines of a file share their [`KeptAnnotations`], so that the row versions of a dump are annotated once for all its questions. In
 //! `specs/`, `Asking` and `Answers` say what the answer is, whichever programs answer explained queries (`Printed` with those that are printed, `Computed` as it is
 //! computed), `Explained` what these programs say, `Hypothetical` what the history answers that would have been, `Formats`
-//! which answers are exported as CSV, `Questions` which answers the lines of a file get (`QuestionFiles` by its bytes), and `Texts` how they are written. `Values` has
+//! which answers are exported as CSV, `Titles` under which titles, `Questions` which answers the lines of a file get (`QuestionFiles` by its bytes), and `Texts` how they are written. `Values` has
 //! the semirings and the rules of VALUE IN, `Witnesses` the minimal witnesses of rows, and `Remaining` what remains for WITHOUT. Inside,
 //! `logs` answers LOG, `row_versions` VERSIONS, `asking` any question about a state, by `queries` AS OF and REENACT, by `provenance`
 //! PROVENANCE OF, by `values` VALUE IN, by `deletion` WITHOUT and by `programs` EXPLAIN, and `hypothetical` WHATIF. `keeping` has what
@@ -49,10 +49,11 @@ mod row_versions;
 mod rules;
 mod seeing;
 mod states;
+mod titles;
 mod transactions;
 mod values;
 
-pub use answered::{Answered, Valued};
+pub use answered::{Answered, Sheet, Valued};
 pub use answering::{answer, answer_by};
 pub use display::write_answer;
 pub use exporting::{answer_line, answer_line_in, write_answer_in};

@@ -6,9 +6,8 @@ ghost use Rattle.gp_log.specs.Contents.{entries};
 ghost use Rattle.gp_log.specs.Logs.{entry_view};
 ghost use Rattle.gp_machine.specs.Entries.{is_of};
 ghost use Rattle.gp_dumpline.specs.Texts.{entry_text};
-ghost use Rattle.gp_ask.specs.Answers.{entries_of};
-ghost use Rattle.gp_ask.specs.Answers as a;
-ghost use Rattle.gp_ask.specs.Lines.{transaction_lines};
+ghost use Rattle.gp_ask.specs.Lines as a;
+ghost use Rattle.gp_ask.specs.Lines.{entries_of, transaction_lines};
 
 use crate::answered::Answered;
 use gp_base::{NoMemory, Refusal, Sequence, Text};

@@ -2,11 +2,13 @@
 
 ghost use Rattle.std.specs.Prelude.{◌≡◌, ◌<◌, ◌≤◌, ◌++◌, IfOk, OnOk};
 ghost use Rattle.gp_dump.specs.Views.{dump_view};
+ghost use Rattle.gp_grammar.specs.Syntax as y;
 ghost use Rattle.gp_log.specs.Contents.{entries};
 ghost use Rattle.gp_log.specs.Logs.{entry_view};
 ghost use Rattle.gp_machine.specs.Entries as m;
 ghost use Rattle.gp_ask.specs.Answerable.{IsAnswerable};
 ghost use Rattle.gp_ask.specs.Begins.{IsKnownBegin};
+ghost use Rattle.gp_ask.specs.Computed.{computed_answer};
 ghost use Rattle.gp_ask.specs.Transactions as s;
 
 use crate::answered::Answered;
@@ -124,7 +126,7 @@ fn push_begun(
 pub fn transactions_answer(alloc: Global, dump: &Dump) -> Result<Answered, NoMemory>
     requires rules { IsAnswerable (dump_view dump.now) }
     ensures { IfOk result (λ answered. answered
-        ≡ s.transactions_answer (dump_view dump.now).entries) }
+        ≡ computed_answer (dump_view dump.now) y.transactions) }
 {
     let log = &dump.log;
     let mut lines = Sequence::new(alloc);

@@ -13,7 +13,6 @@ ghost use Rattle.gp_kexec.specs.Valuing.{values_in};
 ghost use Rattle.gp_log.specs.Parameters.{parameters};
 ghost use Rattle.gp_log.specs.LogFacts.{tables_in};
 ghost use Rattle.gp_syntax.specs.Views.{how_view, query_view, rule_view, point_view};
-ghost use Rattle.gp_semiring.specs.Rules as r;
 ghost use Rattle.gp_semiring.specs.Values.{token_value};
 ghost use Rattle.gp_history.specs.ValueForms as a;
 ghost use Rattle.gp_ask.specs.Answerable.{IsAnswerable, has_few_items};
@@ -22,7 +21,7 @@ ghost use Rattle.gp_ask.specs.AskingForms as f;
 ghost use Rattle.gp_ask.specs.ValueForms.{dump_values};
 ghost use Rattle.gp_ask.specs.Hypothetical as h;
 ghost use Rattle.gp_ask.specs.Keeping.{AreKept, MayBeKeptBy};
-ghost use Rattle.gp_ask.specs.Operations.{semiring_with};
+ghost use Rattle.gp_ask.specs.Operations as o;
 ghost use Rattle.gp_ask.specs.Values as v;
 
 use crate::answered::{Answered, Valued};
@@ -68,8 +67,8 @@ fn first_outside_in(
     name: SemiringName,
     rules: &Rules,
 ) -> Result<Option<u64>, NoMemory>
-    ensures { IfOk result (λ found. found ≡ r.first_outside (v.semiring_of name).number_of
-        rules.now.rules rules.now.other) }
+    ensures { IfOk result (λ found. found ≡ v.outside_in (v.semiring_of name) rules.now.rules
+        rules.now.other) }
 {
     match name {
         SemiringName::Count => first_outside::<Count>(alloc, rules),
@@ -87,8 +86,8 @@ fn outside_refusal(
     name: SemiringName,
     rules: &Rules,
 ) -> Result<Option<Refusal>, NoMemory>
-    ensures { IfOk result (λ refusal. refusal ≡ v.outside_refusal name (r.first_outside
-        (v.semiring_of name).number_of rules.now.rules rules.now.other)) }
+    ensures { IfOk result (λ refusal. refusal ≡ v.outside_refusal name rules.now.rules
+        rules.now.other) }
 {
     match first_outside_in(alloc, name, rules)? {
         Some(number) => Ok(Some(outside(alloc, number, name)?)),
@@ -185,7 +184,7 @@ fn values_in<K: Semiring>(
     requires few { HasFewItems (select_view select.now) }
     requires kept { MayBeKeptBy (values_in K.Semiring) dump.now slot.old }
     ensures kept { MayBeKeptBy (values_in K.Semiring) dump.now slot.new }
-    ensures answered { IfOk result (λ answered. answered ≡ dump_values (semiring_with K.zero_of K.one_of
+    ensures answered { IfOk result (λ answered. answered ≡ dump_values (o.operations_with K.zero_of K.one_of
         K.plus_of K.times_of K.number_of K.itself_of K.text_of) name (rules.rules, rules.other)
         (dump_view dump.now) (point_view state) (select_view select.now)) }
 {
@@ -211,7 +210,7 @@ fn selected_values(
     requires few { HasFewItems (select_view select.now) }
     requires kept { AreKept dump.now kept.old }
     ensures kept { AreKept dump.now kept.new }
-    ensures answered { IfOk result (λ answered. answered ≡ dump_values (v.semiring_of name) name
+    ensures answered { IfOk result (λ answered. answered ≡ dump_values (o.operations_of name) name
         (rules.rules, rules.other) (dump_view dump.now) (point_view state) (select_view select.now)) }
 {
     match name {
@@ -256,7 +255,7 @@ pub fn value_answer(
     requires kept { AreKept dump.now kept.old }
     ensures kept { AreKept dump.now kept.new }
     ensures answered { IfOk result (λ answered. answered ≡ f.dump_query (dump_view dump.now)
-        (dump_values (v.semiring_of name) name (f.rules_of (map rule_view rules.now) other)
+        (dump_values (o.operations_of name) name (f.rules_of (map rule_view rules.now) other)
         (dump_view dump.now) (point_view state)) (point_view state) (query_view query.now)) }
 {
     match asked(alloc, &dump.log, state, query) {

@@ -8,7 +8,7 @@ use Rattle.gp_syntax.specs.Views.{change_view, how_view, kept_view, query_view, 
 use Rattle.gp_whatif.specs.Changed.{changed_log}
 use Rattle.gp_ask.specs.declared.answered.Answered.{Answered}
 use Rattle.gp_ask.specs.Computed.{computed_answer, what_if_answer}
-use Rattle.gp_ask.specs.Differences.{without_in}
+use Rattle.gp_ask.specs.DifferenceForms.{without_in}
 use Rattle.gp_ask.specs.Writes.{write_view}
 use Rattle.gp_ask.proofs.CausesLemmas.{copies-made}
 use Rattle.gp_ask.proofs.ProvenanceLemmas.{replayable}

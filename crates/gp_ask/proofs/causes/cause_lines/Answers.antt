@@ -5,7 +5,8 @@ use Rattle.gp_dump.specs.Views.{dump_view}
 use Rattle.gp_machine.specs.Entries.{Entry, versions_in}
 use Rattle.gp_syntax.specs.Views.{kept_view, query_view}
 use Rattle.gp_ask.specs.declared.causes.Write.{Write}
-use Rattle.gp_ask.specs.Differences.{cause_of, committed_writes, rows_in, without_in}
+use Rattle.gp_ask.specs.DifferenceForms.{committed_writes, without_in}
+use Rattle.gp_ask.specs.Differences.{cause_of, rows_in}
 use Rattle.gp_ask.specs.Computed.{what_if_answer}
 use Rattle.gp_ask.specs.Writes.{ArePut, listed_line}
 use Rattle.gp_ask.proofs.CausesLemmas.{put-lines}

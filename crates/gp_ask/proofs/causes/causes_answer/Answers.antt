@@ -1,7 +1,8 @@
 use Rattle.std.proofs.Common.{ap, sym, ◌∙◌}
 use Rattle.gp_dump.specs.Views.{dump_view}
 use Rattle.gp_syntax.specs.Views.{kept_view, query_view}
-use Rattle.gp_ask.specs.Differences.{causes_of, committed_writes, rows_in, without_in}
+use Rattle.gp_ask.specs.DifferenceForms.{causes_of, committed_writes, without_in}
+use Rattle.gp_ask.specs.Differences.{rows_in}
 use Rattle.gp_ask.specs.Computed.{what_if_answer}
 use Rattle.gp_ask.proofs.ProvenanceLemmas.{answerable}
 use Rattle.gp_ask.proofs.causes.causes_answer.Goals as goal

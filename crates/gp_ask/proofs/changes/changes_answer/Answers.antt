@@ -2,13 +2,17 @@ use Rattle.std.proofs.Common.{◌-◌, ◌<◌, ◌≡◌, ◌≤◌, ◌∙◌,
 use Rattle.std.proofs.lemmas.Result.{IfOk-weaker}
 use Rattle.gp_base.specs.declared.refusal.Refusal.{Refusal}
 use Rattle.gp_dump.specs.Views.{dump_view}
+use Rattle.gp_grammar.specs.Syntax as y
 use Rattle.gp_log.specs.Logs.{log_view}
 use Rattle.gp_machine.specs.Entries.{statement_at, statement_count}
 use Rattle.gp_machine.specs.Questions.{is_known}
 use Rattle.gp_ask.specs.declared.answered.Answered.{Answered}
-use Rattle.gp_ask.specs.Changes.{changes_to, dump_changes, if_any}
+use Rattle.gp_ask.specs.ChangeForms.{dump_changes, if_any}
+use Rattle.gp_ask.specs.Changes.{numbered_changes}
+use Rattle.gp_ask.specs.Computed.{computed_answer}
 use Rattle.gp_ask.specs.Values.{unless_refused}
 use Rattle.gp_ask.proofs.ChangesLemmas.{changes-by, known-changed, numbered-changed}
+use Rattle.gp_ask.proofs.StatementLines.{changes-told}
 use Rattle.gp_ask.proofs.changes.changes_answer.Goals as goal
 
 pub transaction_number-number-requires : goal.transaction_number-number-requires
@@ -37,12 +41,13 @@ statement_changes-requires-clause-most c =
 pub returns-in-Some : goal.returns-in-Some
 returns-in-Some c =
     let dump = dump_view c.args.dump.now in
-    ap (λ (refusal : Option Refusal). unless_refused refusal (if_any (dump_changes dump c.args.t (c.args.k - 1)) (statement_at c.args.t c.args.k dump.entries))) c.in-Some.ensures
+    ap (λ (refusal : Option Refusal). unless_refused refusal (numbered_changes dump c.args.t c.args.k)) c.in-Some.ensures
 
 pub returns-in-None : goal.returns-in-None
 returns-in-None c =
     let dump = dump_view c.args.dump.now in
     let number = c.transaction_number-number.result in
     let statement = c.statement_number-statement.result in
-    IfOk-weaker c.statement_changes.result (λ (a : Answered). a ≡ if_any (dump_changes dump number (statement - 1)) (statement_at number statement dump.entries)) (λ (a : Answered). a ≡ changes_to dump c.args.t c.args.k)
-    (λ a is. is ∙ changes-by dump c.args.t c.args.k number statement (sym c.in-None.ensures) c.transaction_number-number.ensures c.statement_number-statement.ensures) c.statement_changes.ensures
+    IfOk-weaker c.statement_changes.result (λ (a : Answered). a ≡ if_any (dump_changes dump number (statement - 1)) (statement_at number statement dump.entries)) (λ (a : Answered). a ≡ computed_answer dump (y.changes c.args.t c.args.k))
+    (λ a is. is ∙ changes-by dump c.args.t c.args.k number statement (sym c.in-None.ensures) c.transaction_number-number.ensures c.statement_number-statement.ensures
+    ∙ sym (changes-told dump c.args.t c.args.k)) c.statement_changes.ensures

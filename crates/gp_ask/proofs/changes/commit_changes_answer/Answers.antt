@@ -5,7 +5,7 @@ use Rattle.gp_dump.specs.Views.{dump_view}
 use Rattle.gp_log.specs.Logs.{log_view}
 use Rattle.gp_machine.specs.Entries.{version_of}
 use Rattle.gp_ask.specs.declared.answered.Answered.{Answered}
-use Rattle.gp_ask.specs.Changes.{commit_changes_to, version_changes}
+use Rattle.gp_ask.specs.ChangeForms.{commit_changes_to, version_changes}
 use Rattle.gp_ask.specs.Values.{unless_refused}
 use Rattle.gp_ask.proofs.ChangesLemmas.{commit-changes-by, known-committed}
 use Rattle.gp_ask.proofs.changes.commit_changes_answer.Goals as goal

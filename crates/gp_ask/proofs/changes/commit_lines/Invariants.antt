@@ -1,7 +1,7 @@
 use Rattle.std.proofs.Common.{◌≡◌, ◌++◌, drop}
 use Rattle.gp_dump.specs.Views.{dump_view, tables_view}
 use Rattle.gp_log.specs.LogFacts.{tables_in}
-use Rattle.gp_ask.specs.Changes.{tables_texts}
+use Rattle.gp_ask.specs.ChangeForms.{tables_texts}
 use Rattle.gp_ask.proofs.changes.commit_lines.Given as goal
 
 -- the tables that remain give the other lines

@@ -1,7 +1,7 @@
 use Rattle.std.proofs.Common.{◌∙◌, ap}
 use Rattle.gp_dump.specs.Views.{dump_view}
 use Rattle.gp_ask.specs.declared.answered.Answered.TheVariants.{Changes}
-use Rattle.gp_ask.specs.Changes.{version_changes}
+use Rattle.gp_ask.specs.ChangeForms.{version_changes}
 use Rattle.gp_ask.proofs.changes.made_changes.Goals as goal
 
 pub returns-in_ok-commit_lines-in-Some : goal.returns-in_ok-commit_lines-in-Some

@@ -3,7 +3,7 @@ use Rattle.std.specs.Prelude.{IfOk}
 use Rattle.gp_algebra.specs.Statements.{Statement}
 use Rattle.gp_dump.specs.Views.{dump_view}
 use Rattle.gp_ask.specs.declared.answered.Answered.TheVariants.{Changes}
-use Rattle.gp_ask.specs.Changes.{dump_changes, if_any}
+use Rattle.gp_ask.specs.ChangeForms.{dump_changes, if_any}
 use Rattle.gp_ask.proofs.changes.statement_changes.Goals as goal
 
 pub known_changes-requires-clause-here : goal.known_changes-requires-clause-here

@@ -10,7 +10,7 @@ use Rattle.gp_semiring.specs.declared.rules.Rules.{Rules}
 use Rattle.gp_syntax.specs.Views.{point_view}
 use Rattle.gp_history.specs.Keeping.{MayBeKept}
 use Rattle.gp_ask.specs.Keeping.{MayBeKeptOf}
-use Rattle.gp_ask.specs.Operations.{semiring_with}
+use Rattle.gp_ask.specs.Operations.{operations_with}
 use Rattle.gp_ask.proofs.ProvenanceLemmas.{kept-of, of-kept, sound-versions}
 use Rattle.gp_ask.proofs.ValueLemmas.{moved}
 use Rattle.gp_ask.proofs.keeping.rows_with_values.Goals as goal
@@ -44,7 +44,7 @@ returns-clause-kept g c =
 pub returns-clause-answer : goal.returns-clause-answer
 returns-clause-answer g c =
     let k = g.K.Semiring in
-    let semiring = semiring_with k.zero_of k.one_of k.plus_of k.times_of k.number_of k.itself_of k.text_of in
+    let semiring = operations_with k.zero_of k.one_of k.plus_of k.times_of k.number_of k.itself_of k.text_of in
     let rules : List Rule × Option ℕ = (c.args.rules.rules, c.args.rules.other) in
     moved c.args.dump.now c.as_slice.result.now c.as_slice.ensures semiring c.in_ok-valuation.valuation rules c.in_ok-valuation.ensures (point_view c.args.state) (select_view c.args.select.now)
     (λ (rows : Vec (KRow g.row.K.Denot) Global). map pair_view rows.items) c.values_from-found.result c.values_from-found.ensures.answer

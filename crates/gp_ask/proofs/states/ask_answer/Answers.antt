@@ -10,7 +10,7 @@ use Rattle.gp_ask.specs.declared.answered.Answered.{Answered}
 use Rattle.gp_ask.specs.Computed.{computed_answer}
 use Rattle.gp_ask.specs.AskingForms.{dump_query, rules_of}
 use Rattle.gp_ask.specs.ValueForms.{dump_values}
-use Rattle.gp_ask.specs.Values.{semiring_of}
+use Rattle.gp_ask.specs.Operations.{operations_of}
 use Rattle.gp_ask.proofs.WitnessLemmas.{asked_values}
 use Rattle.gp_ask.proofs.states.ask_answer.Goals as goal
 
@@ -41,7 +41,7 @@ returns-in-Value-clause-answered c =
     (sym c.in-Value.is)
     (subst (λ (rules : List Rule). IfOk c.value_answer.result (λ answered. answered ≡ computed_answer dump (y.ask (y.value name (map rule_view rules) other) point query)))
     c.as_slice.ensures
-    (IfOk-weaker c.value_answer.result (λ (a : Answered). a ≡ dump_query dump (dump_values (semiring_of name) name (rules_of own other) dump point) point query)
+    (IfOk-weaker c.value_answer.result (λ (a : Answered). a ≡ dump_query dump (dump_values (operations_of name) name (rules_of own other) dump point) point query)
     (λ (a : Answered). a ≡ computed_answer dump (y.ask (y.value name own other) point query))
     (λ a is. is ∙ asked_values name own other dump point query) c.value_answer.ensures.answered))
 

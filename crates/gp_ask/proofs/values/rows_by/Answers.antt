@@ -8,7 +8,7 @@ use Rattle.gp_syntax.specs.Views.{point_view}
 use Rattle.gp_semiring.specs.declared.rules.Rule.{Rule}
 use Rattle.gp_ask.specs.declared.answered.Answered.TheVariants.{Refused, Values}
 use Rattle.gp_ask.specs.Asking.{table_spans}
-use Rattle.gp_ask.specs.Operations.{semiring_with}
+use Rattle.gp_ask.specs.Operations.{operations_with}
 use Rattle.gp_ask.specs.Values.{valued}
 use Rattle.gp_ask.proofs.ValueLemmas.{found_in, is-unvalued, is-valued}
 use Rattle.gp_ask.proofs.values.rows_by.Goals as goal
@@ -16,7 +16,7 @@ use Rattle.gp_ask.proofs.values.rows_by.Goals as goal
 pub returns-in_ok-valued_rows-in-Ok-clause-answered : goal.returns-in_ok-valued_rows-in-Ok-clause-answered
 returns-in_ok-valued_rows-in-Ok-clause-answered g c =
     let k = g.K.Semiring in
-    let semiring = semiring_with k.zero_of k.one_of k.plus_of k.times_of k.number_of k.itself_of k.text_of in
+    let semiring = operations_with k.zero_of k.one_of k.plus_of k.times_of k.number_of k.itself_of k.text_of in
     let dump = dump_view c.args.dump.now in
     let rules : List Rule × Option ℕ = (c.args.rules.rules, c.args.rules.other) in
     ap Values c.in_ok-valued_rows-in-Ok.ensures
@@ -27,7 +27,7 @@ returns-in_ok-valued_rows-in-Ok-clause-answered g c =
 pub returns-in-Err-Refused-clause-answered : goal.returns-in-Err-Refused-clause-answered
 returns-in-Err-Refused-clause-answered g c =
     let k = g.K.Semiring in
-    let semiring = semiring_with k.zero_of k.one_of k.plus_of k.times_of k.number_of k.itself_of k.text_of in
+    let semiring = operations_with k.zero_of k.one_of k.plus_of k.times_of k.number_of k.itself_of k.text_of in
     let dump = dump_view c.args.dump.now in
     let rules : List Rule × Option ℕ = (c.args.rules.rules, c.args.rules.other) in
     ap Refused c.in-Err-Refused.refusal-is

@@ -5,14 +5,14 @@ use Rattle.gp_dump.specs.Views.{dump_view}
 use Rattle.gp_grammar.specs.declared.semiring_name.SemiringName.{SemiringName}
 use Rattle.gp_syntax.specs.Views.{point_view}
 use Rattle.gp_semiring.specs.declared.rules.Rule.{Rule}
+use Rattle.gp_ask.specs.Operations.{operations_of}
 use Rattle.gp_ask.specs.ValueForms.{dump_values}
-use Rattle.gp_ask.specs.Values.{semiring_of}
 use Rattle.gp_ask.proofs.values.selected_values.Goals as goal
 
 pub returns-in-Count-clause-answered : goal.returns-in-Count-clause-answered
 returns-in-Count-clause-answered c =
     let rules : List Rule × Option ℕ = (c.args.rules.rules, c.args.rules.other) in
-    subst (λ (name : SemiringName). IfOk c.values_in.result (λ answered. answered ≡ dump_values (semiring_of name) c.args.name rules (dump_view c.args.dump.now) (point_view c.args.state) (select_view c.args.select.now)))
+    subst (λ (name : SemiringName). IfOk c.values_in.result (λ answered. answered ≡ dump_values (operations_of name) c.args.name rules (dump_view c.args.dump.now) (point_view c.args.state) (select_view c.args.select.now)))
     (sym c.in-Count.is) c.values_in.ensures.answered
 
 pub returns-in-Count-clause-kept : goal.returns-in-Count-clause-kept
@@ -32,7 +32,7 @@ returns-in-Count-clause-kept c =
 pub returns-in-Bool-clause-answered : goal.returns-in-Bool-clause-answered
 returns-in-Bool-clause-answered c =
     let rules : List Rule × Option ℕ = (c.args.rules.rules, c.args.rules.other) in
-    subst (λ (name : SemiringName). IfOk c.values_in-in-Bool.result (λ answered. answered ≡ dump_values (semiring_of name) c.args.name rules (dump_view c.args.dump.now) (point_view c.args.state) (select_view c.args.select.now)))
+    subst (λ (name : SemiringName). IfOk c.values_in-in-Bool.result (λ answered. answered ≡ dump_values (operations_of name) c.args.name rules (dump_view c.args.dump.now) (point_view c.args.state) (select_view c.args.select.now)))
     (sym c.in-Bool.is) c.values_in-in-Bool.ensures.answered
 
 pub returns-in-Bool-clause-kept : goal.returns-in-Bool-clause-kept
@@ -52,7 +52,7 @@ returns-in-Bool-clause-kept c =
 pub returns-in-Cost-clause-answered : goal.returns-in-Cost-clause-answered
 returns-in-Cost-clause-answered c =
     let rules : List Rule × Option ℕ = (c.args.rules.rules, c.args.rules.other) in
-    subst (λ (name : SemiringName). IfOk c.values_in-in-Cost.result (λ answered. answered ≡ dump_values (semiring_of name) c.args.name rules (dump_view c.args.dump.now) (point_view c.args.state) (select_view c.args.select.now)))
+    subst (λ (name : SemiringName). IfOk c.values_in-in-Cost.result (λ answered. answered ≡ dump_values (operations_of name) c.args.name rules (dump_view c.args.dump.now) (point_view c.args.state) (select_view c.args.select.now)))
     (sym c.in-Cost.is) c.values_in-in-Cost.ensures.answered
 
 pub returns-in-Cost-clause-kept : goal.returns-in-Cost-clause-kept
@@ -72,7 +72,7 @@ returns-in-Cost-clause-kept c =
 pub returns-in-Level-clause-answered : goal.returns-in-Level-clause-answered
 returns-in-Level-clause-answered c =
     let rules : List Rule × Option ℕ = (c.args.rules.rules, c.args.rules.other) in
-    subst (λ (name : SemiringName). IfOk c.values_in-in-Level.result (λ answered. answered ≡ dump_values (semiring_of name) c.args.name rules (dump_view c.args.dump.now) (point_view c.args.state) (select_view c.args.select.now)))
+    subst (λ (name : SemiringName). IfOk c.values_in-in-Level.result (λ answered. answered ≡ dump_values (operations_of name) c.args.name rules (dump_view c.args.dump.now) (point_view c.args.state) (select_view c.args.select.now)))
     (sym c.in-Level.is) c.values_in-in-Level.ensures.answered
 
 pub returns-in-Level-clause-kept : goal.returns-in-Level-clause-kept
@@ -92,7 +92,7 @@ returns-in-Level-clause-kept c =
 pub returns-in-Poly-clause-answered : goal.returns-in-Poly-clause-answered
 returns-in-Poly-clause-answered c =
     let rules : List Rule × Option ℕ = (c.args.rules.rules, c.args.rules.other) in
-    subst (λ (name : SemiringName). IfOk c.values_in-in-Poly.result (λ answered. answered ≡ dump_values (semiring_of name) c.args.name rules (dump_view c.args.dump.now) (point_view c.args.state) (select_view c.args.select.now)))
+    subst (λ (name : SemiringName). IfOk c.values_in-in-Poly.result (λ answered. answered ≡ dump_values (operations_of name) c.args.name rules (dump_view c.args.dump.now) (point_view c.args.state) (select_view c.args.select.now)))
     (sym c.in-Poly.is) c.values_in-in-Poly.ensures.answered
 
 pub returns-in-Poly-clause-kept : goal.returns-in-Poly-clause-kept
@@ -112,7 +112,7 @@ returns-in-Poly-clause-kept c =
 pub returns-in-Witness-clause-answered : goal.returns-in-Witness-clause-answered
 returns-in-Witness-clause-answered c =
     let rules : List Rule × Option ℕ = (c.args.rules.rules, c.args.rules.other) in
-    subst (λ (name : SemiringName). IfOk c.values_in-in-Witness.result (λ answered. answered ≡ dump_values (semiring_of name) c.args.name rules (dump_view c.args.dump.now) (point_view c.args.state) (select_view c.args.select.now)))
+    subst (λ (name : SemiringName). IfOk c.values_in-in-Witness.result (λ answered. answered ≡ dump_values (operations_of name) c.args.name rules (dump_view c.args.dump.now) (point_view c.args.state) (select_view c.args.select.now)))
     (sym c.in-Witness.is) c.values_in-in-Witness.ensures.answered
 
 pub returns-in-Witness-clause-kept : goal.returns-in-Witness-clause-kept

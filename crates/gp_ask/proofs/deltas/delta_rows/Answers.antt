@@ -1,9 +1,9 @@
 use Rattle.std.proofs.Common.{◌≡◌, List, ◌+◌, ◌++◌, drop, map, sym, ap, ◌∙◌, arith}
 use Rattle.std.specs.declared.cmp.Ordering.TheVariants.{Less, Equal, Greater}
 use Rattle.std.proofs.lemmas.List.{get_or_read}
-use Rattle.gp_ask.specs.Deltas.{Signed, added, delta, removed, signed_text}
+use Rattle.gp_ask.specs.Deltas.{Signed, added, delta, removed, with_sign}
 use Rattle.gp_ask.proofs.DeltaLemmas.{first_of, one_more, rows_compared}
-use Rattle.gp_ask.proofs.deltas.delta_lines.Goals as goal
+use Rattle.gp_ask.proofs.deltas.delta_rows.Goals as goal
 
 pub both-preserved-in-Less : goal.both-preserved-in-Less
 both-preserved-in-Less c =
@@ -15,8 +15,8 @@ both-preserved-in-Less c =
       i_within = omega arith;
       j_within = omega arith;
       all =
-          one_more c.both.lines c.push.new.self c.in_ok-signed_line-in-Less.field-0 (removed c.index-rows-i.result) (delta (drop (c.both.i + 1) rows) (drop c.both.j others)) (delta (drop c.both.i rows) (drop c.both.j others)) (map signed_text (delta rows others))
-          c.in_ok-push-in-Less.ensures.ok (c.in_ok-signed_line-in-Less.ensures ∙ ap (λ row. signed_text (removed row)) same) first c.both.invariant.all;
+          one_more c.both.lines c.push.new.self c.in_ok-signed_row-in-Less.field-0 (removed c.index-rows-i.result) (delta (drop (c.both.i + 1) rows) (drop c.both.j others)) (delta (drop c.both.i rows) (drop c.both.j others)) (map with_sign (delta rows others))
+          c.in_ok-push-in-Less.ensures.ok (c.in_ok-signed_row-in-Less.ensures ∙ ap (λ row. with_sign (removed row)) same) first c.both.invariant.all;
     }
 
 pub both-preserved-in-Greater : goal.both-preserved-in-Greater
@@ -29,8 +29,8 @@ both-preserved-in-Greater c =
       i_within = omega arith;
       j_within = omega arith;
       all =
-          one_more c.both.lines c.push-in-Greater.new.self c.in_ok-signed_line-in-Greater.field-0 (added c.index-others-j.result) (delta (drop c.both.i rows) (drop (c.both.j + 1) others)) (delta (drop c.both.i rows) (drop c.both.j others)) (map signed_text (delta rows others))
-          c.in_ok-push-in-Greater.ensures.ok (c.in_ok-signed_line-in-Greater.ensures ∙ ap (λ row. signed_text (added row)) same) first c.both.invariant.all;
+          one_more c.both.lines c.push-in-Greater.new.self c.in_ok-signed_row-in-Greater.field-0 (added c.index-others-j.result) (delta (drop c.both.i rows) (drop (c.both.j + 1) others)) (delta (drop c.both.i rows) (drop c.both.j others)) (map with_sign (delta rows others))
+          c.in_ok-push-in-Greater.ensures.ok (c.in_ok-signed_row-in-Greater.ensures ∙ ap (λ row. with_sign (added row)) same) first c.both.invariant.all;
     }
 
 pub both-preserved : goal.both-preserved
@@ -41,5 +41,5 @@ both-preserved c =
     record {
       i_within = omega arith;
       j_within = omega arith;
-      all = ap (λ (list : List Signed). c.both.lines ++ map signed_text list) (sym first) ∙ c.both.invariant.all;
+      all = ap (λ (list : List Signed). c.both.lines ++ map with_sign list) (sym first) ∙ c.both.invariant.all;
     }

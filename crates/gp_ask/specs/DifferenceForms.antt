@@ -1,0 +1,42 @@
+-- Machinery: differences, and the lines of statements that an answer depends on, as contracts and lemmas speak of them.
+use Rattle.std.specs.Prelude.{ℕ, List, [], ◌∷◌, Result, codes}
+use Rattle.std.specs.Fmt.{decimal}
+use Rattle.std.specs.List.{concat, flat_map}
+use Rattle.gp_base.specs.declared.cell.Cell.{Cell}
+use Rattle.gp_base.specs.declared.refusal.Refusal.{Refusal}
+use Rattle.gp_base.specs.Refusals.{refusal_text}
+use Rattle.gp_grammar.specs.Syntax as y
+use Rattle.gp_machine.specs.Entries.{Entry}
+use Rattle.gp_ask.specs.declared.answered.Answered.{Answered}
+use Rattle.gp_ask.specs.declared.answered.Answered.TheVariants.{Causes}
+use Rattle.gp_ask.specs.Deltas.{delta}
+use Rattle.gp_ask.specs.Differences.{cause_of, diff_lines, rows_in, statement_text, written_by}
+use Rattle.gp_ask.specs.Values.{or_refused}
+
+-- the first answer is refused first
+abbrev pub diff_of : Result (List (List Cell)) Refusal → Result (List (List Cell)) Refusal → Answered
+diff_of first second = or_refused (λ rows. or_refused (λ others. diff_lines (delta rows others)) second) first
+
+-- ---- the statements that an answer depends on
+
+abbrev pub committed_writes : List Entry → List (ℕ × ℕ)
+committed_writes entries = written_by entries entries
+
+-- how many rows an answer would lose without a statement, and how many it would gain
+abbrev pub sizes_text : ℕ × ℕ → ℕ → ℕ → List ℕ
+sizes_text own lost gained = concat (statement_text own ∷ codes " -" ∷ decimal lost ∷ codes " +" ∷ decimal gained ∷ [])
+
+-- what the question would be refused for without it
+abbrev pub refused_text : ℕ × ℕ → Refusal → List ℕ
+refused_text own refusal = concat (statement_text own ∷ codes " : " ∷ refusal_text refusal ∷ [])
+
+-- given the answers without each of these statements
+abbrev pub all_cause_lines : (ℕ × ℕ → Answered) → List (ℕ × ℕ) → List (List Cell) → List (List ℕ)
+all_cause_lines without statements rows = flat_map (λ own. cause_of rows own (rows_in (without own))) statements
+
+abbrev pub causes_of : (ℕ × ℕ → Answered) → List (ℕ × ℕ) → Result (List (List Cell)) Refusal → Answered
+causes_of without statements rows = or_refused (λ own. Causes (all_cause_lines without statements own)) rows
+
+-- the answer without a statement
+abbrev pub without_in : (y.LogChange → y.How → y.Point → y.Query → Answered) → y.Kept → y.Query → ℕ × ℕ → Answered
+without_in changes kept query own = changes (y.drop own.0 own.1) kept.how kept.state query
