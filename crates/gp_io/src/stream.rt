@@ -1,4 +1,4 @@
-//! Reading the first bytes of any reader, and writing bytes to any writer.
+//! Reading the first bytes of any reader, and writing bytes to any writer: proved wherever their bytes are known. Of those of the system they are not.
 ghost use Rattle.std.specs.Prelude.{◌≡◌, ◌≢◌, ◌≤◌, ◌↔◌, IfOk, IfErr, IsErrAnd, OnOk, IfSome, take, vec_len};
 ghost use Rattle.std.specs.IoError.{error_kind};
 ghost use Rattle.std.specs.Io.KnownBytes.{Appends};
