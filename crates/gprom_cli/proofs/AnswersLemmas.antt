@@ -1,22 +1,17 @@
 -- Answers that are written one after another.
-use Rattle.std.proofs.Common.{◌≡◌, ℕ, inl, Bool, true, false, ◌||◌, cond, List, [], ◌∷◌, ◌++◌, Result, Ok, Err, refl, sym, ap, ◌∙◌, subst, append_assoc}
+use Rattle.std.proofs.Common.{◌≡◌, ℕ, inl, Bool, true, false, ◌||◌, List, [], ◌∷◌, ◌++◌, Result, Ok, Err, refl, sym, ap, ◌∙◌, subst, append_assoc}
 use Rattle.std.specs.List.{flat_map, list_any}
 use Rattle.std.specs.Result.{IsErrAnd}
 use Rattle.std.proofs.lemmas.List.{append-nil}
 use Rattle.gp_io.specs.declared.error.SinkStop.{SinkStop}
 use Rattle.gp_io.specs.Sink.{SinkState, after_failure, after_write}
 use Rattle.gp_syntax.specs.Lines.{script_lines}
-use Rattle.gp_grammar.specs.LineReading.{Fault}
-use Rattle.gp_grammar.specs.Reading.{question_of}
 use Rattle.gp_grammar.specs.Syntax as y
-use Rattle.gp_base.specs.declared.refusal.Refusal.TheVariants.{E30}
+use Rattle.gp_base.specs.declared.table.Table.{Table}
 use Rattle.gp_ask.specs.declared.answered.Answered.{Answered}
-use Rattle.gp_ask.specs.declared.answered.Answered.TheVariants.{Refused}
 use Rattle.gp_ask.specs.declared.format.Format.{Format}
-use Rattle.gp_ask.specs.declared.format.Format.TheVariants.{Text, Csv}
 use Rattle.gp_ask.specs.QuestionFiles.{answers_text, has_refused, line_answer_in, line_answer_text}
-use Rattle.gp_ask.specs.Formats.{answers_in, asks_rows, text_in}
-use Rattle.gp_ask.specs.Questions.{answered, is_refused}
+use Rattle.gp_ask.specs.Questions.{is_refused}
 use Rattle.gprom_cli.specs.declared.status.Status.TheVariants as exit
 use Rattle.gprom_cli.specs.Call.{IsWholeLines, WritesOutput, all_written, some_written, write_failed}
 use Rattle.gprom_cli.specs.Steps.{WritesAnswers, stop_status}
@@ -24,16 +19,16 @@ use Rattle.gprom_cli.proofs.LinesLemmas.{after-lines, answer-lines}
 use Rattle.gprom_cli.proofs.WritesLemmas.{IsAnswered, after-nothing, unanswered}
 use Rattle.gp_base.proofs.SmallLemmas.{or_nothing}
 
-abbrev pub is_line_refused : Format → (y.Question → Answered) → ℕ × List ℕ → Bool
-is_line_refused format answers line = is_refused (line_answer_in format answers line)
+abbrev pub is_line_refused : Format → List Table → (y.Question → Answered) → ℕ × List ℕ → Bool
+is_line_refused format tables answers line = is_refused (line_answer_in format tables answers line)
 
 -- the answers to the lines before were written, and the remaining ones decide the rest
-pub record IsProgress (format : Format) (answers : y.Question → Answered) (questions : List ℕ) (lines : List (ℕ × List ℕ)) (refused : Bool) (old new : SinkState) : Type 0 where
+pub record IsProgress (format : Format) (tables : List Table) (answers : y.Question → Answered) (questions : List ℕ) (lines : List (ℕ × List ℕ)) (refused : Bool) (old new : SinkState) : Type 0 where
   pub text : List ℕ
   pub are : IsWholeLines text
   pub grown : new ≡ after_write text old
-  pub all : text ++ flat_map (line_answer_text format answers) lines ≡ answers_text format answers questions
-  pub refusals : (refused || list_any (is_line_refused format answers) lines) ≡ has_refused format answers questions
+  pub all : text ++ flat_map (line_answer_text format tables answers) lines ≡ answers_text format tables answers questions
+  pub refusals : (refused || list_any (is_line_refused format tables answers) lines) ≡ has_refused format tables answers questions
 
 or-again : (a b c : Bool) → ((a || b) || c) ≡ (a || (b || c))
 or-again true b c = refl
@@ -43,54 +38,54 @@ or-again false b c = refl
 joined-behind : (first some rest later : List ℕ) → first ++ ((some ++ rest) ++ later) ≡ (first ++ some) ++ (rest ++ later)
 joined-behind first some rest later = ap (λ (t : List ℕ). first ++ t) (append_assoc some rest later) ∙ sym (append_assoc first some (rest ++ later))
 
-module _ (format : Format) (answers : y.Question → Answered) (questions : List ℕ) (old new : SinkState) where
+module _ (format : Format) (tables : List Table) (answers : y.Question → Answered) (questions : List ℕ) (old new : SinkState) where
   -- one write and another one
   write-twice : (first second : List ℕ) → after_write second (after_write first old) ≡ after_write (first ++ second) old
   write-twice first second = λ i. record { taken = append_assoc old.taken first second i; failed = old.failed }
 
   -- before the first line
-  pub starts : (lines : List (ℕ × List ℕ)) → lines ≡ script_lines questions → IsProgress format answers questions lines false old old
+  pub starts : (lines : List (ℕ × List ℕ)) → lines ≡ script_lines questions → IsProgress format tables answers questions lines false old old
   starts lines whole = record {
     text = [];
     are = inl refl;
     grown = after-nothing old;
-    all = ap (flat_map (line_answer_text format answers)) whole;
-    refusals = ap (list_any (is_line_refused format answers)) whole;
+    all = ap (flat_map (line_answer_text format tables answers)) whole;
+    refusals = ap (list_any (is_line_refused format tables answers)) whole;
   }
 
   -- after the last line
-  pub ends : (refused : Bool) → IsProgress format answers questions [] refused old new → WritesAnswers (answers_text format answers questions) (has_refused format answers questions) old new (Ok refused)
+  pub ends : (refused : Bool) → IsProgress format tables answers questions [] refused old new → WritesAnswers (answers_text format tables answers questions) (has_refused format tables answers questions) old new (Ok refused)
   ends refused way =
-      let whole : way.text ≡ answers_text format answers questions = sym (append-nil way.text) ∙ way.all in
+      let whole : way.text ≡ answers_text format tables answers questions = sym (append-nil way.text) ∙ way.all in
       record { refused = sym (or_nothing refused) ∙ way.refusals; written = way.grown ∙ ap (λ (text : List ℕ). after_write text old) whole }
 
   module _ (line : ℕ × List ℕ) (lines : List (ℕ × List ℕ)) (refused : Bool) (newest : SinkState) where
     abbrev line_text : List ℕ
-    line_text = line_answer_text format answers line
+    line_text = line_answer_text format tables answers line
 
     abbrev later_text : List ℕ
-    later_text = flat_map (line_answer_text format answers) lines
+    later_text = flat_map (line_answer_text format tables answers) lines
 
     -- all answers, by the parts of this one
-    whole-of : (way : IsProgress format answers questions (line ∷ lines) refused old new) (parts : List ℕ) → line_text ≡ parts → answers_text format answers questions ≡ way.text ++ (parts ++ later_text)
+    whole-of : (way : IsProgress format tables answers questions (line ∷ lines) refused old new) (parts : List ℕ) → line_text ≡ parts → answers_text format tables answers questions ≡ way.text ++ (parts ++ later_text)
     whole-of way parts split = sym way.all ∙ ap (λ (t : List ℕ). way.text ++ (t ++ later_text)) split
 
     -- one more line was answered
-    pub goes_on : (one : Bool) → IsProgress format answers questions (line ∷ lines) refused old new → WritesAnswers line_text (is_line_refused format answers line) new newest (Ok one)
-        → IsProgress format answers questions lines (refused || one) old newest
+    pub goes_on : (one : Bool) → IsProgress format tables answers questions (line ∷ lines) refused old new → WritesAnswers line_text (is_line_refused format tables answers line) new newest (Ok one)
+        → IsProgress format tables answers questions lines (refused || one) old newest
     goes_on one way wrote = record {
       text = way.text ++ line_text;
-      are = after-lines way.text line_text way.are (answer-lines format answers line);
+      are = after-lines way.text line_text way.are (answer-lines format tables answers line);
       grown = wrote.written ∙ ap (after_write line_text) way.grown ∙ write-twice way.text line_text;
       all = append_assoc way.text line_text later_text ∙ way.all;
       refusals =
-          or-again refused one (list_any (is_line_refused format answers) lines)
-          ∙ ap (λ (b : Bool). refused || (b || list_any (is_line_refused format answers) lines)) wrote.refused ∙ way.refusals;
+          or-again refused one (list_any (is_line_refused format tables answers) lines)
+          ∙ ap (λ (b : Bool). refused || (b || list_any (is_line_refused format tables answers) lines)) wrote.refused ∙ way.refusals;
     }
 
     -- the answer to a line was not written, or a part of its lines
-    stops-in : (stop : SinkStop) → IsProgress format answers questions (line ∷ lines) refused old new → WritesOutput line_text exit.Done new newest (stop_status stop)
-        → WritesOutput (answers_text format answers questions) exit.Done old newest (stop_status stop)
+    stops-in : (stop : SinkStop) → IsProgress format tables answers questions (line ∷ lines) refused old new → WritesOutput line_text exit.Done new newest (stop_status stop)
+        → WritesOutput (answers_text format tables answers questions) exit.Done old newest (stop_status stop)
     stops-in stop way (all_written all is) = absurd (unanswered stop (subst IsAnswered (sym is) tt))
     stops-in stop way (some_written some rest split are grown memory) =
         some_written (way.text ++ some) (rest ++ later_text) (whole-of way (some ++ rest) split ∙ joined-behind way.text some rest later_text) (after-lines way.text some way.are are)
@@ -100,41 +95,22 @@ module _ (format : Format) (answers : y.Question → Answered) (questions : List
         (whole-of way (some ++ (next ++ rest)) split ∙ joined-behind way.text some (next ++ rest) later_text ∙ ap (λ (t : List ℕ). (way.text ++ some) ++ t) (append_assoc next rest later_text))
         (after-lines way.text some way.are are) (grown ∙ ap (λ (k : SinkState). after_failure next (after_write some k)) way.grown ∙ ap (after_failure next) (write-twice way.text some)) unwritten
 
-    pub stops : (stop : SinkStop) → IsProgress format answers questions (line ∷ lines) refused old new → WritesAnswers line_text (is_line_refused format answers line) new newest (Err stop)
-        → WritesAnswers (answers_text format answers questions) (has_refused format answers questions) old newest (Err stop)
+    pub stops : (stop : SinkStop) → IsProgress format tables answers questions (line ∷ lines) refused old new → WritesAnswers line_text (is_line_refused format tables answers line) new newest (Err stop)
+        → WritesAnswers (answers_text format tables answers questions) (has_refused format tables answers questions) old newest (Err stop)
     stops stop way wrote = record { refused = tt; written = stops-in stop way wrote.written }
 
     -- the same, where the error is handed on
-    pub stops_with : (result : Result Bool SinkStop) (stop : SinkStop) → IsErrAnd result (λ other. other ≡ stop) → IsProgress format answers questions (line ∷ lines) refused old new
-        → WritesAnswers line_text (is_line_refused format answers line) new newest (Err stop) → WritesAnswers (answers_text format answers questions) (has_refused format answers questions) old newest result
+    pub stops_with : (result : Result Bool SinkStop) (stop : SinkStop) → IsErrAnd result (λ other. other ≡ stop) → IsProgress format tables answers questions (line ∷ lines) refused old new
+        → WritesAnswers line_text (is_line_refused format tables answers line) new newest (Err stop) → WritesAnswers (answers_text format tables answers questions) (has_refused format tables answers questions) old newest result
     stops_with (Ok value) stop same way wrote = absurd same
     stops_with (Err other) stop same way wrote =
-        subst (λ (e : SinkStop). WritesAnswers (answers_text format answers questions) (has_refused format answers questions) old newest (Err e)) (sym same) (stops stop way wrote)
+        subst (λ (e : SinkStop). WritesAnswers (answers_text format tables answers questions) (has_refused format tables answers questions) old newest (Err e)) (sym same) (stops stop way wrote)
 
 -- ---- answers that are the same
 
-module _ (answers others : y.Question → Answered) (same : (question : y.Question) → answers question ≡ others question) where
-  -- so they are in a format, for a line that is read as this
-  read-same : (format : Format) (read : Result y.Question Fault) → answered (answers_in format answers) read ≡ answered (answers_in format others) read
-  read-same format (Err fault) = refl
-  read-same Text (Ok question) = same question
-  read-same Csv (Ok question) = ap (λ (a : Answered). cond (asks_rows question) a (Refused E30)) (same question)
+module _ (format : Format) (tables : List Table) (answers others : y.Question → Answered) (same : (question : y.Question) → answers question ≡ others question) (questions : List ℕ) where
+  pub same-texts : answers_text format tables answers questions ≡ answers_text format tables others questions
+  same-texts = λ i. answers_text format tables (λ question. same question i) questions
 
-  module _ (format : Format) where
-    texts-same : (lines : List (ℕ × List ℕ)) → flat_map (line_answer_text format answers) lines ≡ flat_map (line_answer_text format others) lines
-    texts-same [] = refl
-    texts-same (line ∷ lines) =
-        ap (λ (a : Answered). text_in format line.0 a ++ flat_map (line_answer_text format answers) lines) (read-same format (question_of line.1))
-        ∙ ap (λ (rest : List ℕ). line_answer_text format others line ++ rest) (texts-same lines)
-
-    pub same-texts : (questions : List ℕ) → answers_text format answers questions ≡ answers_text format others questions
-    same-texts questions = texts-same (script_lines questions)
-
-    refusals-same : (lines : List (ℕ × List ℕ)) → list_any (is_line_refused format answers) lines ≡ list_any (is_line_refused format others) lines
-    refusals-same [] = refl
-    refusals-same (line ∷ lines) =
-        ap (λ (a : Answered). is_refused a || list_any (is_line_refused format answers) lines) (read-same format (question_of line.1))
-        ∙ ap (λ (b : Bool). is_line_refused format others line || b) (refusals-same lines)
-
-    pub same-refusals : (questions : List ℕ) → has_refused format answers questions ≡ has_refused format others questions
-    same-refusals questions = refusals-same (script_lines questions)
+  pub same-refusals : has_refused format tables answers questions ≡ has_refused format tables others questions
+  same-refusals = λ i. has_refused format tables (λ question. same question i) questions

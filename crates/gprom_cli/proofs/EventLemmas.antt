@@ -7,13 +7,14 @@ use Rattle.gp_script.proofs.ReadHistory.{one-script}
 use Rattle.gp_dump.specs.declared.dump.TheConstants.{MAX_DUMP_LENGTH}
 use Rattle.gp_csv.specs.Faults.{Fault}
 use Rattle.gp_load.specs.Loading.{LoadsText, loaded_of}
+use Rattle.gp_log.specs.LogFacts.{tables_in}
 use Rattle.gp_ask.specs.Answers.{answer_to}
 use Rattle.gp_ask.specs.Asking.{Programs}
 use Rattle.gp_ask.specs.Questions.{refuses_some}
 use Rattle.gprom_cli.specs.declared.load.TheConstants.{MAX_SHEET_LENGTH}
 use Rattle.gprom_cli.specs.declared.status.Status.{Status}
 use Rattle.gprom_cli.specs.declared.status.Status.TheVariants as exit
-use Rattle.gprom_cli.specs.Args.{Command, Run, Ask, Generate, Load}
+use Rattle.gprom_cli.specs.Args.{Command, Run, Ask, Generate, Load, Help, Version}
 use Rattle.gprom_cli.specs.Call as c
 use Rattle.gprom_cli.specs.Call.{IsWholeLines, ComesTo, HasRead, IsReadBy, answered_status, history_dump, read_of, rounds_line}
 use Rattle.gprom_cli.specs.Consequences.{AllDone, FollowsSteps, IsLast, reads, replaces}
@@ -67,6 +68,8 @@ no-steps (Some (Run script dump)) = (reads script ∷ replaces dump ∷ [], refl
 no-steps (Some (Ask format dump questions)) = (reads dump ∷ reads questions ∷ [], refl)
 no-steps (Some (Generate rounds)) = ([], refl)
 no-steps (Some (Load csv table script)) = (reads csv ∷ replaces script ∷ [], refl)
+no-steps (Some Help) = ([], refl)
+no-steps (Some Version) = ([], refl)
 
 pub read-follows : (command : Option Command) (events : List Event) → HasRead command events → FollowsSteps command events
 read-follows _ _ (c.nothing command) = no-steps command
@@ -74,6 +77,8 @@ read-follows _ _ (c.files command before name most bytes is short) = read-steps 
 
 pub end-follows : (programs : Programs) (command : Option Command) (events : List Event) (text : List ℕ) (status : Status) → ComesTo programs command events text status → FollowsSteps command events
 end-follows programs _ _ _ _ c.usage = ([], refl)
+end-follows programs _ _ _ _ c.helped = ([], refl)
+end-follows programs _ _ _ _ c.versioned = ([], refl)
 end-follows programs _ _ _ _ (c.absent command before name most is) = missing-steps command before name most is
 end-follows programs _ _ _ _ (c.unreadable command before name most is) = unreadable-steps command before name most is
 end-follows programs _ _ _ _ (c.too_long command before name most bytes is long) = read-steps command before name most bytes is
@@ -113,6 +118,8 @@ answered-cause false command events done = done
 
 pub cause : (programs : Programs) (command : Option Command) (events : List Event) (text : List ℕ) (status : Status) → ComesTo programs command events text status → Cause status command events
 cause programs _ _ _ _ c.usage = (refl, tt)
+cause programs _ _ _ _ c.helped = tt
+cause programs _ _ _ _ c.versioned = tt
 cause programs _ _ _ _ (c.absent command before name most is) = (name, (before, refl))
 cause programs _ _ _ _ (c.unreadable command before name most is) = (name, (before, refl))
 cause programs _ _ _ _ (c.too_long command before name most bytes is long) = read-done command before name most bytes is
@@ -122,7 +129,7 @@ cause programs _ _ _ _ (c.replied script dump bytes lines run small) =
     answered-cause (has_refusal (replies_to lines)) (Some (Run script dump)) (read_of script MAX_SCRIPT_LENGTH bytes ∷ Replaced dump (history_dump lines) ∷ []) tt
 cause programs _ _ _ _ (c.damaged format dump questions bytes asked f line few short fault) = tt
 cause programs _ _ _ _ (c.answered format dump questions bytes asked contents lines few short formed are) =
-    answered-cause (refuses_some format (answer_to programs contents) lines) (Some (Ask format dump questions)) (read_of dump MAX_DUMP_LENGTH bytes ∷ read_of questions MAX_SCRIPT_LENGTH asked ∷ []) tt
+    answered-cause (refuses_some format (tables_in contents.entries) (answer_to programs contents) lines) (Some (Ask format dump questions)) (read_of dump MAX_DUMP_LENGTH bytes ∷ read_of questions MAX_SCRIPT_LENGTH asked ∷ []) tt
 cause programs _ _ _ _ (c.summarized rounds others are) = tt
 cause programs _ _ _ _ (c.faulty_sheet csv table script bytes number record_number short fault) = tt
 cause programs _ _ _ _ (c.lost_script csv table script bytes text rows short is) = (script, text, (read_of csv MAX_SHEET_LENGTH bytes ∷ [], refl))
@@ -159,6 +166,8 @@ long-run _ _ _ _ read (c.reads_sheet csv table script) long = tt
 
 pub run-follows : (programs : Programs) (command : Option Command) (events : List Event) (text : List ℕ) (status : Status) → ComesTo programs command events text status → RunFollows command events
 run-follows programs _ _ _ _ c.usage = tt
+run-follows programs _ _ _ _ c.helped = tt
+run-follows programs _ _ _ _ c.versioned = tt
 run-follows programs _ _ _ _ (c.absent command before name most is) = missing-run command before name most (Missing name) (λ no. no) is
 run-follows programs _ _ _ _ (c.unreadable command before name most is) = missing-run command before name most (Unreadable name) (λ no. no) is
 run-follows programs _ _ _ _ (c.too_long command before name most bytes is long) = long-run command before name most bytes is long
@@ -184,6 +193,8 @@ GenerateFollows (Some (Run script dump)) text status = Unit {0}
 GenerateFollows (Some (Ask format dump questions)) text status = Unit {0}
 GenerateFollows (Some (Generate rounds)) text status = (others : List ℕ) × IsWholeLines others × (text ≡ rounds_line rounds ++ others) × (status ≡ exit.Done)
 GenerateFollows (Some (Load csv table script)) text status = Unit {0}
+GenerateFollows (Some Help) text status = Unit {0}
+GenerateFollows (Some Version) text status = Unit {0}
 
 read-generates : (command : Command) (before : List Event) (name : List ℕ) (most : ℕ) → IsReadBy command before name most → (text : List ℕ) (status : Status) → GenerateFollows (Some command) text status
 read-generates _ _ _ _ (c.reads_script script dump) text status = tt
@@ -193,6 +204,8 @@ read-generates _ _ _ _ (c.reads_sheet csv table script) text status = tt
 
 pub generate-follows : (programs : Programs) (command : Option Command) (events : List Event) (text : List ℕ) (status : Status) → ComesTo programs command events text status → GenerateFollows command text status
 generate-follows programs _ _ _ _ c.usage = tt
+generate-follows programs _ _ _ _ c.helped = tt
+generate-follows programs _ _ _ _ c.versioned = tt
 generate-follows programs _ _ _ _ (c.absent command before name most is) = read-generates command before name most is _ _
 generate-follows programs _ _ _ _ (c.unreadable command before name most is) = read-generates command before name most is _ _
 generate-follows programs _ _ _ _ (c.too_long command before name most bytes is long) = read-generates command before name most is _ _
@@ -237,6 +250,8 @@ long-load _ _ _ _ read (c.reads_sheet csv table script) long = λ name bytes mad
 
 pub load-follows : (programs : Programs) (command : Option Command) (events : List Event) (text : List ℕ) (status : Status) → ComesTo programs command events text status → LoadFollows command events
 load-follows programs _ _ _ _ c.usage = tt
+load-follows programs _ _ _ _ c.helped = tt
+load-follows programs _ _ _ _ c.versioned = tt
 load-follows programs _ _ _ _ (c.absent command before name most is) = missing-load command before name most (Missing name) (λ no. no) is
 load-follows programs _ _ _ _ (c.unreadable command before name most is) = missing-load command before name most (Unreadable name) (λ no. no) is
 load-follows programs _ _ _ _ (c.too_long command before name most bytes is long) = long-load command before name most bytes is long
@@ -272,6 +287,8 @@ none-read (Some (Run script dump)) = λ event made is. sym (ap rest_of is)
 none-read (Some (Ask format dump questions)) = tt
 none-read (Some (Generate rounds)) = λ event made is. sym (ap rest_of is)
 none-read (Some (Load csv table script)) = λ event made is. sym (ap rest_of is)
+none-read (Some Help) = λ event made is. sym (ap rest_of is)
+none-read (Some Version) = λ event made is. sym (ap rest_of is)
 
 pub nothing-follows : (command : Option Command) (events : List Event) → HasRead command events → NothingFollows command events
 nothing-follows _ _ (c.nothing command) = none-read command

@@ -8,15 +8,16 @@ use Rattle.gp_base.specs.Refusals.{refusal_text}
 use Rattle.gp_base.specs.Texts as cells
 use Rattle.gp_base.specs.declared.cell.Cell.{Cell}
 use Rattle.gp_base.specs.declared.refusal.Refusal.{Refusal}
+use Rattle.gp_base.specs.declared.table.Table.{Table}
 use Rattle.gp_csv.specs.Answers.{csv_text}
 use Rattle.gp_grammar.specs.Syntax as y
 use Rattle.gp_ask.specs.declared.answered.Answered.{Answered}
-use Rattle.gp_ask.specs.declared.answered.Answered.TheVariants.{Rows, Listed, Values, Log, Versions, Program, Transactions, Changes, Diff, Causes, Checked, Refused}
+use Rattle.gp_ask.specs.declared.answered.Answered.TheVariants.{Rows, Listed, Values, Log, Versions, Program, Transactions, Changes, Diff, Causes, Checked, Refused, Sheet}
 use Rattle.gp_ask.specs.declared.format.Format.{Format}
-use Rattle.gp_ask.specs.declared.format.Format.TheVariants.{Text, Csv}
+use Rattle.gp_ask.specs.declared.format.Format.TheVariants.{Text, Csv, Named}
 use Rattle.gp_ask.specs.Formats.{exported_records, text_in}
 use Rattle.gp_ask.specs.QuestionFiles.{line_answer_in, line_answer_text}
-use Rattle.gp_ask.specs.Texts.{answer_text, checked_text, listed_line, listed_text, provenance_text, value_text}
+use Rattle.gp_ask.specs.Texts.{answer_text, checked_text, listed_line, listed_text, provenance_text, signed_text, value_text}
 use Rattle.gprom_cli.specs.declared.summary.Summary.{Summary}
 use Rattle.gprom_cli.specs.Call.{IsWholeLines, rounds_line}
 use Rattle.gprom_cli.specs.Generated.{Pieces, pieces_line, pieces_lines}
@@ -88,6 +89,7 @@ checked-ends (Some line) = behind (codes "differs at line ") (decimal line ++ (n
 
 text-ends : (number : ℕ) (answer : Answered) → EndsLine (answer_text number answer)
 text-ends number (Rows rows) = numbered-ends number (rows_text rows) (rows-ends rows)
+text-ends number (Sheet sheet) = numbered-ends number (rows_text sheet.rows) (rows-ends sheet.rows)
 text-ends number (Listed rows) = listed-ends number (codes "rows") (map provenance_text rows)
 text-ends number (Values rows) = listed-ends number (codes "rows") (map value_text rows)
 text-ends number (Log texts) = listed-ends number (codes "log") texts
@@ -95,7 +97,7 @@ text-ends number (Versions texts) = listed-ends number (codes "versions") texts
 text-ends number (Program texts) = listed-ends number (codes "program") texts
 text-ends number (Transactions texts) = listed-ends number (codes "transactions") texts
 text-ends number (Changes texts) = listed-ends number (codes "changes") texts
-text-ends number (Diff texts) = listed-ends number (codes "diff") texts
+text-ends number (Diff rows) = listed-ends number (codes "diff") (map signed_text rows)
 text-ends number (Causes texts) = listed-ends number (codes "causes") texts
 text-ends number (Checked line) = numbered-ends number (checked_text line) (checked-ends line)
 text-ends number (Refused refusal) = numbered-ends number (refused_text refusal) (refused-ends refusal)
@@ -111,9 +113,10 @@ csv-lines (fields ∷ records) = inr (then-lines _ (csv_text records) (behind _ 
 lines-in : (format : Format) (number : ℕ) (answer : Answered) → IsWholeLines (text_in format number answer)
 lines-in Text number answer = inr (text-ends number answer)
 lines-in Csv number answer = csv-lines (exported_records number answer)
+lines-in Named number answer = csv-lines (exported_records number answer)
 
-pub answer-lines : (format : Format) (answers : y.Question → Answered) (line : ℕ × List ℕ) → IsWholeLines (line_answer_text format answers line)
-answer-lines format answers line = lines-in format line.0 (line_answer_in format answers line)
+pub answer-lines : (format : Format) (tables : List Table) (answers : y.Question → Answered) (line : ℕ × List ℕ) → IsWholeLines (line_answer_text format tables answers line)
+answer-lines format tables answers line = lines-in format line.0 (line_answer_in format tables answers line)
 
 -- ---- the summary of `gen`
 

@@ -5,10 +5,12 @@ use Rattle.std.proofs.lemmas.List.{length-map}
 use Rattle.std.proofs.lemmas.List.Sums.{sum_by-cons}
 use Rattle.gp_base.specs.Annotated.{monomials, unannotated}
 use Rattle.gp_base.specs.Tokens.{Monomial}
+use Rattle.gp_base.specs.declared.table.Table.{Table}
 use Rattle.gp_grammar.specs.Reading.{question_of, read_lines, script_line_of}
 use Rattle.gp_grammar.specs.Syntax as y
 use Rattle.gp_io.specs.Events.{Event, Replaced, NotReplaced}
 use Rattle.gp_io.specs.Sink.{SinkState}
+use Rattle.gp_log.specs.LogFacts.{tables_in}
 use Rattle.gp_machine.specs.State.{State}
 use Rattle.gp_syntax.specs.Lines.{script_lines}
 use Rattle.gp_script.specs.History.{NumberedReply, ReadLine, has_refusal, last_state, replies_text, replies_to}
@@ -23,9 +25,8 @@ use Rattle.gp_load.specs.Loading.{LoadsText, loaded_of}
 use Rattle.gp_ask.specs.declared.answered.Answered.{Answered}
 use Rattle.gp_ask.specs.declared.format.Format.{Format}
 use Rattle.gp_ask.specs.Printed.{answer_to, held_to}
-use Rattle.gp_ask.specs.Computed.{computed_answer}
 use Rattle.gp_ask.specs.QuestionFiles.{answers_text, has_refused, questions_as_read}
-use Rattle.gp_ask.specs.Questions.{ReadQuestion, answer_texts, answered, refuses_some}
+use Rattle.gp_ask.specs.Questions.{ReadQuestion, answered}
 use Rattle.gp_ask.proofs.ReadAnswers.{are-questions, one-file, refusals-read, texts-read}
 use Rattle.gprom_cli.specs.declared.load.TheConstants.{MAX_SHEET_LENGTH}
 use Rattle.gprom_cli.specs.declared.status.Status.{Status}
@@ -36,8 +37,8 @@ use Rattle.gprom_cli.specs.Generated.{generated_script}
 use Rattle.gprom_cli.specs.Summary.{IsSummary, committed_in, lost_in, questions_about, row_count, summary_for}
 use Rattle.gprom_cli.specs.Summaries.{line_rows, summary_by, summary_of}
 use Rattle.gprom_cli.specs.Call as c
-use Rattle.gprom_cli.specs.Call.{RunsScript, WritesOutput, answered_status, history_dump, loaded_message, message, read_of, sheet_message}
-use Rattle.gprom_cli.specs.Steps.{Answers, Ends, is_answered, script_dump}
+use Rattle.gprom_cli.specs.Call.{RunsScript, WritesOutput, answered_status, asked_status, asked_text, history_dump, loaded_message, message, read_of, sheet_message}
+use Rattle.gprom_cli.specs.Steps.{Answers, Ends, file_refused, file_text, is_answered, script_dump}
 
 -- ---- scripts
 
@@ -219,15 +220,17 @@ module _ (csv table script bytes : List ℕ) (short : length bytes ≤ MAX_SHEET
 
 -- ---- the end of `ask` where the questions are answered
 
-pub answered-read : (format : Format) (bytes asked : List ℕ) (contents : Dump) (sink sink' : SinkState) (s : Status) → WellFormed bytes contents
-    → ((own : Format) → answers_text own (computed_answer contents) asked ≡ answers_text own (answer_to contents) asked)
-    → ((own : Format) → has_refused own (computed_answer contents) asked ≡ has_refused own (answer_to contents) asked)
-    → WritesOutput (answers_text format (computed_answer contents) asked) (answered_status (has_refused format (computed_answer contents) asked)) sink sink' s
-    → Answers format bytes asked sink sink' s
-answered-read format bytes asked contents sink sink' s formed texts refusals writes =
-    let lines = questions_as_read asked in
-    let due : WritesOutput (answer_texts format (answer_to contents) lines) (answered_status (refuses_some format (answer_to contents) lines)) sink sink' s =
-    subst (λ (t : List ℕ). WritesOutput t (answered_status (refuses_some format (answer_to contents) lines)) sink sink' s) (texts format ∙ sym (texts-read format (answer_to contents) asked))
-    (subst (λ (e : Status). WritesOutput (answers_text format (computed_answer contents) asked) e sink sink' s)
-    (ap answered_status (refusals format ∙ sym (refusals-read format (answer_to contents) asked))) writes) in
-    is_answered contents lines formed (are-questions asked) due
+module _ (format : Format) (bytes asked : List ℕ) (contents : Dump) (sink sink' : SinkState) (s : Status) where
+  abbrev tables : List Table
+  tables = tables_in contents.entries
+
+  pub answered-read : WellFormed bytes contents → file_text format contents asked ≡ answers_text format tables (answer_to contents) asked
+      → file_refused format contents asked ≡ has_refused format tables (answer_to contents) asked
+      → WritesOutput (file_text format contents asked) (answered_status (file_refused format contents asked)) sink sink' s → Answers format bytes asked sink sink' s
+  answered-read formed texts refusals writes =
+      let lines = questions_as_read asked in
+      let due : WritesOutput (asked_text format contents (answer_to contents) lines) (asked_status format contents (answer_to contents) lines) sink sink' s =
+      subst (λ (t : List ℕ). WritesOutput t (asked_status format contents (answer_to contents) lines) sink sink' s) (texts ∙ sym (texts-read format tables (answer_to contents) asked))
+      (subst (λ (e : Status). WritesOutput (file_text format contents asked) e sink sink' s)
+      (ap answered_status (refusals ∙ sym (refusals-read format tables (answer_to contents) asked))) writes) in
+      is_answered contents lines formed (are-questions asked) due

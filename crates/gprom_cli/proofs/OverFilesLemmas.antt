@@ -4,26 +4,26 @@ use Rattle.std.specs.Option.{option_map}
 use Rattle.std.proofs.lemmas.Bool.Decides.{nat_tests}
 use Rattle.std.proofs.lemmas.List.{take_all}
 use Rattle.std.proofs.lemmas.Slice.Eq.{bytes_eq-Decides}
-use Rattle.gp_base.specs.Annotated.{monomials}
+use Rattle.gp_base.specs.Annotated.{monomials, unannotated}
 use Rattle.gp_io.specs.Contents.{Contents, HaveSame, Leads, replaced_by}
 use Rattle.gp_io.specs.Events.{Event, Read, Missing, Unreadable, Replaced, NotReplaced}
 use Rattle.gp_script.specs.History.{ReadLine, has_refusal, last_state, replies_text, replies_to}
 use Rattle.gp_script.specs.declared.script.TheConstants.{MAX_SCRIPT_LENGTH}
 use Rattle.gp_dump.specs.declared.dump.TheConstants.{MAX_DUMP_LENGTH}
-use Rattle.gp_dump.specs.Dumps.{Dump}
+use Rattle.gp_dump.specs.Dumps.{Dump, dump_of}
 use Rattle.gp_dump.specs.Rules.{WellFormed}
 use Rattle.gp_csv.specs.Faults.{Fault}
 use Rattle.gp_load.specs.Loading.{loaded_of}
 use Rattle.gp_ask.specs.declared.format.Format.{Format}
 use Rattle.gp_ask.specs.Answers.{answer_to, held_to}
 use Rattle.gp_ask.specs.Asking.{Programs}
-use Rattle.gp_ask.specs.Questions.{AreQuestions, ReadQuestion, answer_texts, refuses_some}
+use Rattle.gp_ask.specs.Questions.{AreQuestions, ReadQuestion}
 use Rattle.gprom_cli.specs.declared.load.TheConstants.{MAX_SHEET_LENGTH}
 use Rattle.gprom_cli.specs.declared.status.Status.{Status}
 use Rattle.gprom_cli.specs.declared.status.Status.TheVariants as exit
-use Rattle.gprom_cli.specs.Args.{Command, Run, Ask, Generate, Load}
+use Rattle.gprom_cli.specs.Args.{Command, Run, Ask, Generate, Load, Help, Version}
 use Rattle.gprom_cli.specs.Call as c
-use Rattle.gprom_cli.specs.Call.{Call, ComesTo, HasOutcome, HasRead, IsReadBy, RunsScript, WritesOutput, answered_status, history_dump, loaded_message, read_of, sheet_message}
+use Rattle.gprom_cli.specs.Call.{Call, ComesTo, HasOutcome, HasRead, IsReadBy, RunsScript, WritesOutput, answered_status, asked_status, asked_text, history_dump, loaded_message, read_of, sheet_message}
 use Rattle.gprom_cli.specs.OverFiles.{Becomes, LeavesOthers, LoadsFile, NoFault, OthersHaveSame, OverFiles}
 use Rattle.gprom_cli.specs.Consequences.{AllDone, Consequences, IsDetermined, IsReplacedAfter, LoadsSheet}
 use Rattle.gprom_cli.specs.Promises.{Promises}
@@ -71,6 +71,8 @@ HasShape (Some (Run script dump)) events = ReadsAndReplaces script MAX_SCRIPT_LE
 HasShape (Some (Ask format dump questions)) events = ReadsBoth dump questions events
 HasShape (Some (Generate rounds)) events = events ≡ []
 HasShape (Some (Load csv table script)) events = ReadsAndReplaces csv MAX_SHEET_LENGTH script events
+HasShape (Some Help) events = events ≡ []
+HasShape (Some Version) events = events ≡ []
 
 missing-shape : (command : Command) (before : List Event) (name : List ℕ) (most : ℕ) → IsReadBy command before name most → HasShape (Some command) (before ++ Missing name ∷ [])
 missing-shape _ _ _ _ (c.reads_script script dump) = (refl, tt)
@@ -96,6 +98,8 @@ no-shape (Some (Run script dump)) = tt
 no-shape (Some (Ask format dump questions)) = tt
 no-shape (Some (Generate rounds)) = refl
 no-shape (Some (Load csv table script)) = tt
+no-shape (Some Help) = refl
+no-shape (Some Version) = refl
 
 read-shape : (command : Option Command) (events : List Event) → HasRead command events → HasShape command events
 read-shape _ _ (c.nothing command) = no-shape command
@@ -103,6 +107,8 @@ read-shape _ _ (c.files command before name most bytes is short) = whole-shape c
 
 end-shape : (programs : Programs) (command : Option Command) (events : List Event) (text : List ℕ) (status : Status) → ComesTo programs command events text status → HasShape command events
 end-shape programs _ _ _ _ c.usage = refl
+end-shape programs _ _ _ _ c.helped = refl
+end-shape programs _ _ _ _ c.versioned = refl
 end-shape programs _ _ _ _ (c.absent command before name most is) = missing-shape command before name most is
 end-shape programs _ _ _ _ (c.unreadable command before name most is) = unreadable-shape command before name most is
 end-shape programs _ _ _ _ (c.too_long command before name most bytes is long) = whole-shape command before name most bytes is
@@ -163,6 +169,8 @@ IsFull (Some (Ask format dump questions)) (event ∷ second ∷ events) = IsShor
 IsFull (Some (Generate rounds)) events = Unit {0}
 IsFull (Some (Load csv table script)) [] = ⊥
 IsFull (Some (Load csv table script)) (event ∷ events) = NoFault events → events ≡ load_made table script event
+IsFull (Some Help) events = Unit {0}
+IsFull (Some Version) events = Unit {0}
 
 missing-full : (command : Command) (before : List Event) (name : List ℕ) (most : ℕ) → IsReadBy command before name most → IsFull (Some command) (before ++ Missing name ∷ [])
 missing-full _ _ _ _ (c.reads_script script dump) = λ none. refl
@@ -194,6 +202,8 @@ after-sheet table script bytes result short is = test-false MAX_SHEET_LENGTH (le
 
 end-full : (programs : Programs) (command : Option Command) (events : List Event) (text : List ℕ) (status : Status) → ComesTo programs command events text status → IsFull command events
 end-full programs _ _ _ _ c.usage = tt
+end-full programs _ _ _ _ c.helped = tt
+end-full programs _ _ _ _ c.versioned = tt
 end-full programs _ _ _ _ (c.absent command before name most is) = missing-full command before name most is
 end-full programs _ _ _ _ (c.unreadable command before name most is) = unreadable-full command before name most is
 end-full programs _ _ _ _ (c.too_long command before name most bytes is long) = long-full command before name most bytes is long
@@ -307,6 +317,8 @@ module _ (old : Contents) where
         → Leads old events new → Leads old others after → NoFault events → NoFault others → events ≡ others
     same-events None events others shape shape' full full' leads leads' none none' = shape ∙ sym shape'
     same-events (Some (Generate rounds)) events others shape shape' full full' leads leads' none none' = shape ∙ sym shape'
+    same-events (Some Help) events others shape shape' full full' leads leads' none none' = shape ∙ sym shape'
+    same-events (Some Version) events others shape shape' full full' leads leads' none none' = shape ∙ sym shape'
     same-events (Some (Run script dump)) [] others shape shape' full full' leads leads' none none' = absurd full
     same-events (Some (Run script dump)) (event ∷ events) [] shape shape' full full' leads leads' none none' = absurd full'
     same-events (Some (Run script dump)) (event ∷ events) (other ∷ others) shape shape' full full' leads leads' none none' =
@@ -375,6 +387,8 @@ module _ (old : Contents) where
     leaves-others (Some (Ask format dump questions)) events shape leads = both-same dump questions events shape leads
     leaves-others (Some (Generate rounds)) events shape leads = subst (λ (es : List Event). Leads old es new) shape leads
     leaves-others (Some (Load csv table script)) events shape leads = one-changes csv MAX_SHEET_LENGTH script events shape leads
+    leaves-others (Some Help) events shape leads = subst (λ (es : List Event). Leads old es new) shape leads
+    leaves-others (Some Version) events shape leads = subst (λ (es : List Event). Leads old es new) shape leads
 
 -- ---- every promise
 
@@ -451,18 +465,18 @@ module _ (call : Call) (old new : Contents) (promises : Promises call) (follows 
   held : (format : Format) (dump name script asked : List ℕ) (lines : List ReadLine) (questions : List ReadQuestion) → call.command ≡ Some (Ask format dump name) → NoFault call.events
       → RunsScript script lines → old dump ≡ Some (history_dump lines) → length (history_dump lines) ≤ MAX_DUMP_LENGTH → old name ≡ Some asked → length asked ≤ MAX_SCRIPT_LENGTH
       → AreQuestions asked questions
-      → WritesOutput (answer_texts format (held_to programs (last_state monomials lines)) questions) (answered_status (refuses_some format (held_to programs (last_state monomials lines)) questions))
+      → WritesOutput (asked_text format (dump_of (last_state unannotated lines)) (held_to programs (last_state monomials lines)) questions) (asked_status format (dump_of (last_state unannotated lines)) (held_to programs (last_state monomials lines)) questions)
       call.sink call.sink_after call.status
   held format dump name script asked lines questions ask none runs has few also short are =
-      ⊎_elim (λ early. early-written (answer_texts format (held_to programs (last_state monomials lines)) questions) (answered_status (refuses_some format (held_to programs (last_state monomials lines)) questions)) early)
+      ⊎_elim (λ early. early-written (asked_text format (dump_of (last_state unannotated lines)) (held_to programs (last_state monomials lines)) questions) (asked_status format (dump_of (last_state unannotated lines)) (held_to programs (last_state monomials lines)) questions) early)
       (λ is. follows.held format dump name script asked lines questions ask is runs few short are)
       (asked-of format dump name (history_dump lines) asked ask none has few also short)
 
   hypothetical : (format : Format) (dump name bytes asked : List ℕ) (contents : Dump) (questions : List ReadQuestion) → call.command ≡ Some (Ask format dump name) → NoFault call.events
       → old dump ≡ Some bytes → length bytes ≤ MAX_DUMP_LENGTH → WellFormed bytes contents → old name ≡ Some asked → length asked ≤ MAX_SCRIPT_LENGTH → AreQuestions asked questions
-      → WritesOutput (answer_texts format (answer_to programs contents) questions) (answered_status (refuses_some format (answer_to programs contents) questions)) call.sink call.sink_after call.status
+      → WritesOutput (asked_text format contents (answer_to programs contents) questions) (asked_status format contents (answer_to programs contents) questions) call.sink call.sink_after call.status
   hypothetical format dump name bytes asked contents questions ask none has few formed also short are =
-      ⊎_elim (λ early. early-written (answer_texts format (answer_to programs contents) questions) (answered_status (refuses_some format (answer_to programs contents) questions)) early)
+      ⊎_elim (λ early. early-written (asked_text format contents (answer_to programs contents) questions) (asked_status format contents (answer_to programs contents) questions) early)
       (λ is. follows.answered format dump name bytes asked contents questions ask is few short formed are)
       (asked-of format dump name bytes asked ask none has few also short)
 

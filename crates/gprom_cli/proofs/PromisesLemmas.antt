@@ -1,5 +1,5 @@
 -- The promises of a call by its outcome and by laws, and what follows from them.
-use Rattle.std.proofs.Common.{◌≡◌, ℕ, ◌≤◌, ◌⊎◌, inl, inr, true, List, [], ◌∷◌, ◌++◌, length, map, Option, Some, None, Result, Ok, Err, refl, sym, ap, ◌∙◌, subst, ⊎_elim}
+use Rattle.std.proofs.Common.{◌≡◌, ℕ, ◌^◌, ◌<◌, ◌≤◌, ◌⊎◌, inl, inr, true, List, [], ◌∷◌, ◌++◌, length, map, Option, Some, None, Result, Ok, Err, codes, refl, sym, ap, ◌∙◌, subst, ⊎_elim}
 use Rattle.std.specs.List.{flat_map}
 use Rattle.gp_base.specs.Annotated.{Annotations, monomials, unannotated}
 use Rattle.gp_base.specs.CatalogForms.{HaveDifferentNames}
@@ -32,8 +32,12 @@ use Rattle.gp_dump.specs.Verdicts.{Fails, Holds, Verdict, fault_in, verdict_on}
 use Rattle.gp_dump.proofs.FaultLemmas.{fault-found, fault-is, kept-found, kept-is}
 use Rattle.gp_dump.proofs.LawLemmas as dumps
 use Rattle.gp_script.proofs.ReadHistory.{one-script, state-read}
+use Rattle.gp_base.specs.declared.cell.Cell.{Cell}
+use Rattle.gp_csv.specs.Answers.{csv_text, titled_records}
 use Rattle.gp_csv.specs.Faults.{Fault}
+use Rattle.gp_csv.specs.Titled.{AreReloadable}
 use Rattle.gp_load.specs.Loading.{LoadsText, loaded_of}
+use Rattle.gp_load.specs.Reloading.{LoadsAgain}
 use Rattle.gp_ask.specs.declared.format.Format.{Format}
 use Rattle.gp_ask.specs.Answers.{answer_to, held_to}
 use Rattle.gp_ask.specs.Asking.{Programs}
@@ -44,13 +48,13 @@ use Rattle.gp_ask.specs.Explained.{ExplainsLines}
 use Rattle.gp_ask.specs.Hypothetical.{remaking_refusal, replayed_dump}
 use Rattle.gp_ask.specs.Isolated.{IsIsolated, LosesToFirst}
 use Rattle.gp_whatif.specs.Changed.{changed_log}
-use Rattle.gp_ask.specs.Questions.{AreQuestions, ReadQuestion, answer_texts, refuses_some}
+use Rattle.gp_ask.specs.Questions.{AreQuestions, ReadQuestion}
 use Rattle.gprom_cli.specs.declared.load.TheConstants.{MAX_SHEET_LENGTH}
 use Rattle.gprom_cli.specs.declared.status.Status.{Status}
 use Rattle.gprom_cli.specs.declared.status.Status.TheVariants as exit
 use Rattle.gprom_cli.specs.Args.{Command, Run, Ask, Generate, Load}
 use Rattle.gprom_cli.specs.Call as c
-use Rattle.gprom_cli.specs.Call.{IsWholeLines, answered_status, Call, ComesTo, HasOutcome, history_dump, loaded_message, read_of, rounds_line, RunsScript, sheet_message, usage_text, WritesOutput}
+use Rattle.gprom_cli.specs.Call.{IsWholeLines, Call, ComesTo, HasOutcome, RunsScript, WritesOutput, answered_status, asked_status, asked_text, history_dump, loaded_message, read_of, rounds_line, sheet_message, usage_text}
 use Rattle.gprom_cli.specs.Steps.{script_dump}
 use Rattle.gprom_cli.specs.Promises.{IsReadAsDump, Promises}
 use Rattle.gprom_cli.specs.Consequences.{AllDone, Consequences, FollowsSteps, HasFailed, IsClean, IsDetermined, IsLast, IsOrFails, IsReplacedAfter, LoadsSheet}
@@ -150,6 +154,8 @@ pub record DumpLaws : Type 0 where
   pub held : (lines : List Line) (question : y.Question) → printed.answer_to (dump_of (after unannotated parameters start lines)) question ≡ printed.held_to (after monomials parameters start lines) question
   pub checked : (dump : Dump) → IsDump dump → difference dump ≡ None → IsOfHistory dump
   pub explained : (bytes file : List ℕ) (dump : Dump) (questions : List ReadQuestion) → WellFormed bytes dump → AreQuestions file questions → ExplainsLines program_lines dump.entries questions
+  pub reloaded : (number : ℕ) (titles : List (List ℕ)) (rows : List (List Cell)) → number < 2 ^ 63 → AreReloadable (codes "line" ∷ titles) rows
+      → LoadsAgain number (codes "line" ∷ titles) rows (csv_text (titled_records number (codes "line" ∷ titles) rows))
   pub programs : (tables : List Table) (program other : PlainProgram) → HaveDifferentNames tables → is_spellable tables program ≡ true → is_spellable tables other ≡ true
       → program_text tables program ≡ program_text tables other → program ≡ other
   pub isolated : (lines : List Line) → IsIsolated (after monomials parameters start lines)
@@ -178,6 +184,7 @@ promised laws call has = record {
       ∙ laws.held (taken lines) question
       ∙ ap (λ (state : State Monomial). printed.held_to state question) (sym (state-taken monomials lines start));
   explained = laws.explained;
+  reloaded = laws.reloaded;
   programs = λ tables text program other different spells also. laws.programs tables program other different spells.spellable also.spellable (spells.is ∙ sym also.is);
   checked = λ bytes contents formed none.
       let history = laws.checked contents (dumps.whole-text bytes contents formed).rules none in
@@ -334,24 +341,24 @@ module _ (call : Call) (promises : Promises call) where
         (is : call.events ≡ read_of dump MAX_DUMP_LENGTH bytes ∷ read_of name MAX_SCRIPT_LENGTH asked ∷ []) (few : length bytes ≤ MAX_DUMP_LENGTH) (short : length asked ≤ MAX_SCRIPT_LENGTH)
         (formed : WellFormed bytes contents) (are : AreQuestions asked questions) where
       -- the answers to questions, from a dump that is well formed
-      answers-from : WritesOutput (answer_texts format (answer_to programs contents) questions) (answered_status (refuses_some format (answer_to programs contents) questions)) call.sink call.sink_after call.status
+      answers-from : WritesOutput (asked_text format contents (answer_to programs contents) questions) (asked_status format contents (answer_to programs contents) questions) call.sink call.sink_after call.status
       answers-from =
           determined-as (Some (Ask format dump name)) (read_of dump MAX_DUMP_LENGTH bytes ∷ read_of name MAX_SCRIPT_LENGTH asked ∷ []) tt ask is
-          (answer_texts format (answer_to programs contents) questions) (answered_status (refuses_some format (answer_to programs contents) questions))
+          (asked_text format contents (answer_to programs contents) questions) (asked_status format contents (answer_to programs contents) questions)
           (c.answered format dump name bytes asked contents questions few short formed are)
 
       -- by other answers that are the same
       answers-by : (answers : y.Question → reply.Answered) → ((question : y.Question) → answer_to programs contents question ≡ answers question)
-          → WritesOutput (answer_texts format answers questions) (answered_status (refuses_some format answers questions)) call.sink call.sink_after call.status
+          → WritesOutput (asked_text format contents answers questions) (asked_status format contents answers questions) call.sink call.sink_after call.status
       answers-by answers same =
-          subst (λ (given : y.Question → reply.Answered). WritesOutput (answer_texts format given questions) (answered_status (refuses_some format given questions)) call.sink call.sink_after call.status)
+          subst (λ (given : y.Question → reply.Answered). WritesOutput (asked_text format contents given questions) (asked_status format contents given questions) call.sink call.sink_after call.status)
           (λ i question. same question i) answers-from
 
     recorded : (format : Format) (dump name bytes asked : List ℕ) (contents : Dump) (lines : List Line) (questions : List ReadQuestion) → call.command ≡ Some (Ask format dump name)
         → call.events ≡ read_of dump MAX_DUMP_LENGTH bytes ∷ read_of name MAX_SCRIPT_LENGTH asked ∷ [] → length bytes ≤ MAX_DUMP_LENGTH → length asked ≤ MAX_SCRIPT_LENGTH
         → WellFormed bytes contents → contents ≡ dump_of (after unannotated parameters start lines) → AreQuestions asked questions
-        → WritesOutput (answer_texts format (held_to programs (after monomials parameters start lines)) questions)
-        (answered_status (refuses_some format (held_to programs (after monomials parameters start lines)) questions)) call.sink call.sink_after call.status
+        → WritesOutput (asked_text format contents (held_to programs (after monomials parameters start lines)) questions)
+        (asked_status format contents (held_to programs (after monomials parameters start lines)) questions) call.sink call.sink_after call.status
     recorded format dump name bytes asked contents lines questions ask is few short formed made are =
         answers-by format dump name bytes asked contents questions ask is few short formed are (held_to programs (after monomials parameters start lines))
         (λ question.
@@ -362,7 +369,7 @@ module _ (call : Call) (promises : Promises call) where
     held : (format : Format) (dump name script asked : List ℕ) (lines : List ReadLine) (questions : List ReadQuestion) → call.command ≡ Some (Ask format dump name)
         → call.events ≡ read_of dump MAX_DUMP_LENGTH (history_dump lines) ∷ read_of name MAX_SCRIPT_LENGTH asked ∷ [] → RunsScript script lines
         → length (history_dump lines) ≤ MAX_DUMP_LENGTH → length asked ≤ MAX_SCRIPT_LENGTH → AreQuestions asked questions
-        → WritesOutput (answer_texts format (held_to programs (last_state monomials lines)) questions) (answered_status (refuses_some format (held_to programs (last_state monomials lines)) questions))
+        → WritesOutput (asked_text format (dump_of (last_state unannotated lines)) (held_to programs (last_state monomials lines)) questions) (asked_status format (dump_of (last_state unannotated lines)) (held_to programs (last_state monomials lines)) questions)
         call.sink call.sink_after call.status
     held format dump name script asked lines questions ask is runs few short are =
         answers-by format dump name (history_dump lines) asked (dump_of (last_state unannotated lines)) questions ask is few short (promises.formed script lines runs.short runs.are) are

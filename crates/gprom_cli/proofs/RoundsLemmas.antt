@@ -1,7 +1,6 @@
 -- The number of rounds that a word writes.
 use Rattle.std.proofs.Common.{◌≡◌, ℕ, ◌^◌, ◌<◌, ◌≤◌, ◌≢◌, Bool, true, false, cond, ◌&&◌, ◌==◌, List, [], ◌∷◌, length, Option, Some, None, Result, Ok, Err, refl, sym, ap, ◌∙◌, subst, arith, nat_le, nat_lt, codes}
 use Rattle.std.specs.Prelude.{IfSome, slice_index}
-use Rattle.std.specs.List.{list_all}
 use Rattle.std.specs.Option.{option_map}
 use Rattle.std.specs.Result.{OkIff}
 use Rattle.std.specs.Char.{digit_value, is_ascii_digit}
@@ -12,11 +11,12 @@ use Rattle.std.proofs.lemmas.Bool.Decides.{nat_tests}
 use Rattle.std.proofs.lemmas.Str.Parse.{digit_from_value}
 use Rattle.gp_grammar.specs.CommandGrammar.{is_number_without_zero}
 use Rattle.gp_syntax.proofs.NameLemmas.{number-digits}
-use Rattle.gp_ask.specs.declared.format.Format.TheVariants.{Text, Csv}
+use Rattle.gp_ask.specs.declared.format.Format.{Format}
+use Rattle.gp_ask.specs.declared.format.Format.TheVariants.{Named}
 use Rattle.gprom_cli.specs.declared.args.Command as code
 use Rattle.gprom_cli.specs.declared.args.Command.TheVariants as command
 use Rattle.gprom_cli.specs.declared.generated.TheConstants.{MAX_ROUNDS}
-use Rattle.gprom_cli.specs.Args.{Run, Ask, Generate, Load, command_of, command_of_words, is_word, rounds_of, table_name}
+use Rattle.gprom_cli.specs.Args.{Run, Ask, Generate, Load, Help, Version, are_words, asks_help, asks_version, command_of, command_of_words, format_of, is_word, rounds_of, table_name}
 use Rattle.gprom_cli.specs.Views.{HasFewRounds, command_view}
 
 -- ---- reading
@@ -100,29 +100,44 @@ few-if : (gen : Bool) (word : List ℕ) (n : ℕ) → cond gen (option_map Gener
 few-if true word n at = few-mapped (rounds_of word) n (few-read word) at
 few-if false word n at = absurd cc
 
-no-names : (run ask export : Bool) (first second : List ℕ) (n : ℕ)
-    → cond run (Some (Run first second)) (cond ask (Some (Ask Text first second)) (cond export (Some (Ask Csv first second)) None)) ≡ Some (Generate n) → n ≤ MAX_ROUNDS
-no-names true ask export first second n at = absurd cc
-no-names false true export first second n at = absurd cc
-no-names false false true first second n at = absurd cc
-no-names false false false first second n at = absurd cc
+no-names : (run : Bool) (format : Option Format) (first second : List ℕ) (n : ℕ)
+    → cond run (Some (Run first second)) (option_map (λ format. Ask format first second) format) ≡ Some (Generate n) → n ≤ MAX_ROUNDS
+no-names true format first second n at = absurd cc
+no-names false (Some format) first second n at = absurd cc
+no-names false None first second n at = absurd cc
 
 no-table : (load : Bool) (csv script : List ℕ) (table : Option (List ℕ)) (n : ℕ) → cond load (option_map (λ name. Load csv name script) table) None ≡ Some (Generate n) → n ≤ MAX_ROUNDS
 no-table true csv script None n at = absurd cc
 no-table true csv script (Some table) n at = absurd cc
 no-table false csv script table n at = absurd cc
 
+no-export : (names load : Bool) (first second third : List ℕ) (table : Option (List ℕ)) (n : ℕ)
+    → cond names (Some (Ask Named first second)) (cond load (option_map (λ name. Load first name third) table) None) ≡ Some (Generate n) → n ≤ MAX_ROUNDS
+no-export true load first second third table n at = absurd cc
+no-export false load first second third table n at = no-table load first third table n at
+
 few-words : (words : List (List ℕ)) (n : ℕ) → command_of_words words ≡ Some (Generate n) → n ≤ MAX_ROUNDS
 few-words [] n at = absurd cc
 few-words (word ∷ []) n at = absurd cc
 few-words (word ∷ first ∷ []) n at = few-if (bytes_eq word (codes "gen")) first n at
-few-words (word ∷ first ∷ second ∷ []) n at = no-names (bytes_eq word (codes "run")) (bytes_eq word (codes "ask")) (bytes_eq word (codes "export")) first second n at
-few-words (word ∷ first ∷ second ∷ third ∷ []) n at = no-table (bytes_eq word (codes "load")) first third (table_name second) n at
+few-words (word ∷ first ∷ second ∷ []) n at = no-names (bytes_eq word (codes "run") && is_word second) (format_of word) first second n at
+few-words (word ∷ first ∷ second ∷ third ∷ []) n at =
+    no-export (bytes_eq word (codes "export") && bytes_eq third (codes "names")) (bytes_eq word (codes "load")) first second third (table_name second) n at
 few-words (word ∷ first ∷ second ∷ third ∷ other ∷ others) n at = absurd cc
 
 few-asked : (plain : Bool) (words : List (List ℕ)) (n : ℕ) → cond plain (command_of_words words) None ≡ Some (Generate n) → n ≤ MAX_ROUNDS
 few-asked true words n at = few-words words n at
 few-asked false words n at = absurd cc
+
+no-word : (help version : Bool) (n : ℕ) → cond help (Some Help) (cond version (Some Version) None) ≡ Some (Generate n) → n ≤ MAX_ROUNDS
+no-word true version n at = absurd cc
+no-word false true n at = absurd cc
+no-word false false n at = absurd cc
+
+few-command : (words : List (List ℕ)) (n : ℕ) → command_of words ≡ Some (Generate n) → n ≤ MAX_ROUNDS
+few-command [] n at = absurd cc
+few-command (word ∷ []) n at = no-word (asks_help word) (asks_version word) n at
+few-command (word ∷ first ∷ words) n at = few-asked (are_words (word ∷ first ∷ words)) (word ∷ first ∷ words) n at
 
 -- a command of arguments has few rounds
 pub few-rounds : (command : Option code.Command) (words : List (List ℕ)) → option_map command_view command ≡ command_of words → IfSome command HasFewRounds
@@ -130,4 +145,6 @@ few-rounds None words is = tt
 few-rounds (Some (command.Run script dump)) words is = tt
 few-rounds (Some (command.Ask format dump questions)) words is = tt
 few-rounds (Some (command.Load csv table script)) words is = tt
-few-rounds (Some (command.Generate rounds)) words is = few-asked (list_all is_word words) words rounds (sym is)
+few-rounds (Some command.Help) words is = tt
+few-rounds (Some command.Version) words is = tt
+few-rounds (Some (command.Generate rounds)) words is = few-command words rounds (sym is)

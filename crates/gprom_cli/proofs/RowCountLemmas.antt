@@ -1,8 +1,9 @@
 -- No answer has more rows than an answer may have.
-use Rattle.std.proofs.Common.{◌≡◌, ℕ, suc, ◌≤◌, Bool, true, false, cond, nat_lt, List, [], ◌∷◌, ◌++◌, length, map, Option, Some, None, Result, Ok, Err, refl, arith}
+use Rattle.std.proofs.Common.{◌≡◌, ℕ, suc, ◌≤◌, Bool, true, false, cond, nat_lt, List, [], ◌∷◌, length, map, Option, Some, None, Result, Ok, Err, refl, arith}
 use Rattle.std.specs.Prelude.{IfOk, ◌||◌, ◌-◌}
 use Rattle.std.specs.List.{sum_by}
-use Rattle.std.specs.Option.{option_map, option_or}
+use Rattle.std.specs.Option.{option_map, option_map_or, option_or}
+use Rattle.std.specs.Ordering.{is_eq}
 use Rattle.std.proofs.lemmas.Bool.Decides.{nat_tests}
 use Rattle.std.proofs.lemmas.List.{length-map}
 use Rattle.std.proofs.lemmas.List.Sums.{sum_by-cons}
@@ -11,7 +12,7 @@ use Rattle.gp_base.specs.declared.refusal.Refusal.{Refusal}
 use Rattle.gp_base.specs.declared.refusal.Refusal.TheVariants.{E27}
 use Rattle.gp_base.specs.Order.{row_cmp, sorted_by}
 use Rattle.gp_base.specs.Tokens.{Monomial}
-use Rattle.gp_base.specs.Annotated.{Annotated, monomials, unannotated}
+use Rattle.gp_base.specs.Annotated.{monomials, unannotated}
 use Rattle.gp_base.specs.declared.table.Table.{Table}
 use Rattle.gp_base.specs.declared.token.Token.{Token}
 use Rattle.gp_grammar.specs.declared.semiring_name.SemiringName.{SemiringName}
@@ -28,6 +29,7 @@ use Rattle.gp_versions.specs.declared.span.Span.{Span}
 use Rattle.gp_syntax.specs.Lines.{script_lines}
 use Rattle.gp_machine.specs.Annotating.{annotated_versions}
 use Rattle.gp_machine.specs.Entries.{Entry, log_of, statement_at, version_of}
+use Rattle.gp_machine.specs.Event.{name_at}
 use Rattle.gp_machine.specs.HistorySpans.{as_of}
 use Rattle.gp_machine.specs.Points.{at_point, run_stop}
 use Rattle.gp_machine.specs.Runs.{run}
@@ -37,8 +39,6 @@ use Rattle.gp_log.specs.LogFacts.{tables_in}
 use Rattle.gp_whatif.specs.Changed.{changed_log}
 use Rattle.gp_dump.specs.Dumps.{Dump}
 use Rattle.gp_dump.proofs.RowPlaces.{sorted_length}
-use Rattle.gp_history.specs.Agreement.{occurrence}
-use Rattle.gp_semiring.specs.Listing as listing
 use Rattle.gp_semiring.specs.declared.listed.Listed.{Listed}
 use Rattle.gp_semiring.specs.Witnesses.{sets_text}
 use Rattle.gp_semiring.specs.declared.rules.Rule.{Rule}
@@ -48,22 +48,24 @@ use Rattle.gp_history.specs.ValueAnswers.{all_elements, history_refusal, limited
 use Rattle.gp_history.specs.ValueForms.{value_answer}
 use Rattle.gp_history.specs.Agreement.{agree}
 use Rattle.gp_ask.specs.declared.answered.Answered.{Answered}
-use Rattle.gp_ask.specs.declared.answered.Answered.TheVariants.{Diff, Refused}
-use Rattle.gp_ask.specs.Changes.{changes_of, dump_changes, if_any, version_changes}
+use Rattle.gp_ask.specs.declared.answered.Answered.TheVariants.{Changes, Diff, Refused}
+use Rattle.gp_ask.specs.ChangeForms.{version_changes}
+use Rattle.gp_ask.specs.Changes.{Change, change_texts, changes_over}
 use Rattle.gp_ask.specs.Seeing.{dump_saw}
 use Rattle.gp_compose.specs.Seen.{changes_refusal, saw_refusal}
 use Rattle.gp_reenact.specs.Looking.{saw_answer}
-use Rattle.gp_ask.specs.Answers.{versions_answer}
 use Rattle.gp_ask.specs.Computed.{computed_answer, what_if_answer}
-use Rattle.gp_ask.specs.Asking.{of_elements, query_answer, table_spans, with_monomials}
+use Rattle.gp_ask.specs.Asking.{element_cmp, grouped, of_elements, put_first, query_answer, table_spans, with_monomials}
 use Rattle.gp_ask.specs.Printed.{ask_to, changed_answer}
-use Rattle.gp_ask.specs.AskingForms.{dump_program, dump_provenance, dump_remaining, dump_rows, rules_of}
+use Rattle.gp_ask.specs.AskingForms.{dump_program, dump_provenance, dump_remaining, dump_rows, rules_of, versions_answer}
 use Rattle.gp_ask.specs.ValueForms.{dump_minimal, dump_valued, dump_values}
-use Rattle.gp_ask.specs.Deltas.{Signed, delta, signed_text}
+use Rattle.gp_ask.specs.Deltas.{Signed, delta, with_sign}
 use Rattle.gp_ask.specs.Differences as answers
-use Rattle.gp_ask.specs.Differences.{causes_of, committed_writes, diff_of, side_answer, without_in}
+use Rattle.gp_ask.specs.DifferenceForms.{causes_of, committed_writes, diff_of, without_in}
+use Rattle.gp_ask.specs.Differences.{side_answer}
 use Rattle.gp_ask.specs.Hypothetical.{asking_refusal, remaking_refusal, replayed_dump}
-use Rattle.gp_ask.specs.Values.{outside_refusal, rule_of, semiring_of, unless_refused, value_of, valued, with_values}
+use Rattle.gp_ask.specs.Operations.{number_refusal, operations_of, value_of}
+use Rattle.gp_ask.specs.Values.{or_refused, rule_of, unless_refused, valued, with_values}
 use Rattle.gp_ask.specs.Questions.{answered}
 use Rattle.gp_ask.specs.Remaining.{are_too_many, has_left_out, remaining, remaining_answer}
 use Rattle.gp_ask.specs.Replays.{dump_in}
@@ -101,28 +103,24 @@ few-elements : {M : Type 0} (result : Result (List (Element M)) Refusal) → Are
 few-elements (Ok elements) few = let same = sorted_length row_cmp (cells_of elements) in let cells = length-map elements (λ element. element.cells) in omega (arith, few, same, cells)
 few-elements (Err refusal) few = omega arith
 
-grouped-one : (same : Bool) (cells : List Cell) (monomials : List Monomial) (more others : List Listed) (n : ℕ) → length more ≤ n → length others ≤ n → length (cond same more (record { row = cells; monomials = monomials } ∷ others)) ≤ suc n
-grouped-one true cells monomials more others n few few_others = omega (arith, few)
-grouped-one false cells monomials more others n few few_others = omega (arith, few_others)
+put-few : (element : Element Monomial) (groups : List Listed) → length (put_first element groups) ≤ suc (length groups)
+put-few element [] = omega arith
+put-few element (next ∷ others) =
+    one (record { row = element.cells; monomials = element.annotation ∷ next.monomials }) (record { row = element.cells; monomials = element.annotation ∷ [] }) (is_eq (row_cmp element.cells next.row))
+  where
+    one : (joined own : Listed) (same : Bool) → length (cond same (joined ∷ others) (own ∷ next ∷ others)) ≤ suc (suc (length others))
+    one joined own true = omega arith
+    one joined own false = omega arith
 
-grouped-few : (cells : List Cell) (monomials : List Monomial) (rows : List (List Cell)) → length (listing.grouped_after cells monomials rows) ≤ suc (length rows)
-grouped-few cells monomials [] = omega arith
-grouped-few cells monomials (row ∷ rows) =
-    grouped-one (listing.has_cells cells row) cells monomials
-    (listing.grouped_after cells (monomials ++ listing.monomial_of row ∷ []) rows) (listing.grouped_after (listing.cells_of row) (listing.monomial_of row ∷ []) rows) (suc (length rows))
-    (grouped-few cells (monomials ++ listing.monomial_of row ∷ []) rows) (grouped-few (listing.cells_of row) (listing.monomial_of row ∷ []) rows)
-
-grouped-all : (rows : List (List Cell)) → length (listing.grouped rows) ≤ length rows
+grouped-all : (elements : List (Element Monomial)) → length (grouped elements) ≤ length elements
 grouped-all [] = omega arith
-grouped-all (row ∷ rows) = grouped-few (listing.cells_of row) (listing.monomial_of row ∷ []) rows
+grouped-all (element ∷ elements) = let first = put-few element (grouped elements) in let rest = grouped-all elements in omega (arith, first, rest)
 
 few-listed : (result : Result (List (Element Monomial)) Refusal) → AreFew result → HasFew (with_monomials result)
 few-listed (Ok elements) few =
-    let rows = map occurrence elements in
-    let groups = grouped-all (sorted_by row_cmp rows) in
-    let same = sorted_length row_cmp rows in
-    let each = length-map elements occurrence in
-    omega (arith, few, groups, same, each)
+    let groups = grouped-all (sorted_by element_cmp elements) in
+    let same = sorted_length element_cmp elements in
+    omega (arith, few, groups, same)
 few-listed (Err refusal) few = omega arith
 
 few-values : {K : Type 0} (text_of : K → List ℕ) (result : Result (List (List Cell × K)) Refusal) → AreFew result → HasFew (with_values text_of result)
@@ -178,12 +176,12 @@ few-versions name tables None = omega arith
 few-versions name tables (Some place) = omega arith
 
 module _ (dump : Dump) (point : y.Point) (select : Select) where
-  few-semiring : (name : SemiringName) (rules : List Rule × Option ℕ) → HasFew (dump_values (semiring_of name) name rules dump point select)
+  few-semiring : (name : SemiringName) (rules : List Rule × Option ℕ) → HasFew (dump_values (operations_of name) name rules dump point select)
   few-semiring name rules =
-      let semiring = semiring_of name in
+      let semiring = operations_of name in
       let value = value_of semiring rules in
       let rows = value_answer parameters semiring.plus_of semiring.zero_of semiring.one_of semiring.times_of value agree (tables_in dump.entries) dump.entries (table_spans dump.tables) point select in
-      few-unless (outside_refusal name (first_outside semiring.number_of rules.0 rules.1)) (with_values semiring.text_of rows)
+      few-unless (number_refusal name (first_outside semiring.number_of rules.0 rules.1)) (with_values semiring.text_of rows)
       (few-values semiring.text_of rows (few-valued dump.entries (table_spans dump.tables) point select semiring.plus_of semiring.zero_of semiring.one_of semiring.times_of value (tables_in dump.entries)))
 
   few-minimal : HasFew (dump_minimal dump point select)
@@ -251,14 +249,15 @@ few-saw entries spans t k query =
 
 -- ---- changes have no rows
 
-few-changes : {M : Type 0} (tables : List Table) (own : Option ℕ) (statement : Statement) (rows : Result (List (Annotated M)) Refusal) → HasFew (changes_of tables own statement rows)
-few-changes tables None statement rows = omega arith
-few-changes tables (Some place) statement (Ok rows) = omega arith
-few-changes tables (Some place) statement (Err refusal) = omega arith
+few-changes : (tables : List Table) (own : Option ℕ) (changes : Result (List Change) Refusal)
+    → HasFew (option_map_or (λ (place : ℕ). or_refused (λ (rows : List Change). Changes (change_texts (name_at place tables) rows)) changes) own (Changes []))
+few-changes tables None changes = omega arith
+few-changes tables (Some place) (Ok changes) = omega arith
+few-changes tables (Some place) (Err refusal) = omega arith
 
-few-any : (dump : Dump) (t k : ℕ) (statement : Option Statement) → HasFew (if_any (dump_changes dump t k) statement)
+few-any : (dump : Dump) (t k : ℕ) (statement : Option Statement) → HasFew (option_map_or (changes_over dump t k) statement (Changes []))
 few-any dump t k None = omega arith
-few-any dump t k (Some statement) = few-changes (tables_in dump.entries) (target statement) statement _
+few-any dump t k (Some statement) = few-changes (tables_in dump.entries) (target statement) _
 
 few-version : (dump : Dump) (version : Option ℕ) → HasFew (version_changes dump version)
 few-version dump None = omega arith
@@ -266,7 +265,7 @@ few-version dump (Some version) = omega arith
 
 -- ---- differences have no rows
 
-few-lines : (lines : List Signed) (over : Bool) → HasFew (cond over (Refused E27) (Diff (map signed_text lines)))
+few-lines : (lines : List Signed) (over : Bool) → HasFew (cond over (Refused E27) (Diff (map with_sign lines)))
 few-lines lines true = omega arith
 few-lines lines false = omega arith
 

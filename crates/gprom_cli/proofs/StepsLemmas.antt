@@ -7,12 +7,11 @@ use Rattle.gp_dump.specs.declared.dump.TheConstants.{MAX_DUMP_LENGTH}
 use Rattle.gp_ask.specs.declared.format.Format.{Format}
 use Rattle.gp_ask.specs.Printed.{answer_to}
 use Rattle.gp_ask.specs.Programs.{program_lines}
-use Rattle.gp_ask.specs.Questions.{answer_texts, refuses_some}
 use Rattle.gprom_cli.specs.declared.status.Status.{Status}
 use Rattle.gprom_cli.specs.declared.status.Status.TheVariants as exit
 use Rattle.gprom_cli.specs.Args.{Command, Ask}
 use Rattle.gprom_cli.specs.Call as c
-use Rattle.gprom_cli.specs.Call.{HasRead, IsReadBy, WritesOutput, answered_status, damage_message, message, read_of}
+use Rattle.gprom_cli.specs.Call.{HasRead, IsReadBy, WritesOutput, asked_status, asked_text, damage_message, message, read_of}
 use Rattle.gprom_cli.specs.Steps.{Answers, Ends, StopsReading, is_absent, is_unreadable, is_long, no_memory, is_damaged, is_answered, no_answer}
 use Rattle.gprom_cli.proofs.OutcomeLemmas.{grows-twice}
 
@@ -74,7 +73,7 @@ ask-answered format dump questions bytes asked start before after sink sink' s t
 ask-answered format dump questions bytes asked start before after sink sink' s there grown few short (is_answered contents lines formed are writes) = record {
   events = read_of dump MAX_DUMP_LENGTH bytes ∷ read_of questions MAX_SCRIPT_LENGTH asked ∷ [];
   grown = grows-twice start before after (read_of dump MAX_DUMP_LENGTH bytes) (read_of questions MAX_SCRIPT_LENGTH asked) there grown;
-  outcome = c.comes_to (answer_texts format (answer_to contents) lines) (answered_status (refuses_some format (answer_to contents) lines))
+  outcome = c.comes_to (asked_text format contents (answer_to contents) lines) (asked_status format contents (answer_to contents) lines)
       (c.answered format dump questions bytes asked contents lines few short formed are) writes;
 }
 ask-answered format dump questions bytes asked start before after sink sink' s there grown few short (no_answer quiet memory) = record {

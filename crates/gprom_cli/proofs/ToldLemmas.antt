@@ -16,15 +16,15 @@ use Rattle.gp_load.specs.Loading.{loaded_of}
 use Rattle.gp_ask.specs.declared.format.Format.{Format}
 use Rattle.gp_ask.specs.Answers.{answer_to}
 use Rattle.gp_ask.specs.Asking.{Programs}
-use Rattle.gp_ask.specs.Questions.{ReadQuestion, answer_texts, refuses_some}
+use Rattle.gp_log.specs.LogFacts.{tables_in}
 use Rattle.gp_ask.specs.QuestionFiles.{answers_text, has_refused}
 use Rattle.gp_ask.proofs.ReadAnswers.{one-file, refusals-read, texts-read}
 use Rattle.gprom_cli.specs.declared.load.TheConstants.{MAX_SHEET_LENGTH}
 use Rattle.gprom_cli.specs.declared.status.Status.{Status}
 use Rattle.gprom_cli.specs.declared.status.Status.TheVariants as exit
-use Rattle.gprom_cli.specs.Args.{Command, Run, Ask, Generate, Load}
+use Rattle.gprom_cli.specs.Args.{Command, Run, Ask, Generate, Load, Help, Version}
 use Rattle.gprom_cli.specs.Call as c
-use Rattle.gprom_cli.specs.Call.{Call, ComesTo, HasOutcome, IsReadBy, WritesOutput, answered_status, damage_message, history_dump, loaded_message, message, read_of, sheet_message, usage_text}
+use Rattle.gprom_cli.specs.Call.{Call, ComesTo, HasOutcome, IsReadBy, WritesOutput, answered_status, asked_status, asked_text, damage_message, help_text, history_dump, loaded_message, message, read_of, sheet_message, usage_text, version_text}
 use Rattle.gprom_cli.specs.Consequences.{IsDetermined}
 use Rattle.gprom_cli.proofs.OutcomeLemmas.{status-read, text-read}
 use Rattle.gprom_cli.proofs.WritesLemmas.{nothing-written}
@@ -63,7 +63,8 @@ sheet_told events (Ok made) = replace_told events nothing_told (loaded_message m
 sheet_told events (Err fault) = (sheet_message fault.c fault.number, exit.SheetRefused)
 
 abbrev verdict_told : Programs → Format → List ℕ → Verdict → Told
-verdict_told programs format asked (Holds dump) = (answers_text format (answer_to programs dump) asked, answered_status (has_refused format (answer_to programs dump) asked))
+verdict_told programs format asked (Holds dump) =
+    (answers_text format (tables_in dump.entries) (answer_to programs dump) asked, answered_status (has_refused format (tables_in dump.entries) (answer_to programs dump) asked))
 verdict_told programs format asked (Fails f line) = (damage_message f line, exit.Damaged)
 
 abbrev ask_told : Programs → Format → List Event → List ℕ → Told
@@ -75,9 +76,13 @@ file_told programs (Run script dump) event events = read_told MAX_SCRIPT_LENGTH 
 file_told programs (Ask format dump questions) event events = read_told MAX_DUMP_LENGTH event (ask_told programs format events)
 file_told programs (Generate rounds) event events = nothing_told
 file_told programs (Load csv table script) event events = read_told MAX_SHEET_LENGTH event (λ bytes. sheet_told events (loaded_of table bytes))
+file_told programs Help event events = nothing_told
+file_told programs Version event events = nothing_told
 
 abbrev pub told : Programs → Option Command → List Event → Told
 told programs None events = (usage_text, exit.Usage)
+told programs (Some Help) events = (help_text, exit.Done)
+told programs (Some Version) events = (version_text, exit.Done)
 told programs (Some command) [] = nothing_told
 told programs (Some command) (event ∷ events) = file_told programs command event events
 
@@ -139,6 +144,8 @@ both-same text other status also t s = λ i. (t i, s i)
 module _ (law : ReadsWellFormed) where
   pub told-is : (programs : Programs) (command : Option Command) (events : List Event) (text : List ℕ) (status : Status) → ComesTo programs command events text status → IsDetermined command → told programs command events ≡ (text, status)
   told-is programs _ _ _ _ c.usage may = refl
+  told-is programs _ _ _ _ c.helped may = refl
+  told-is programs _ _ _ _ c.versioned may = refl
   told-is programs _ _ _ _ (c.absent command before name most reads) may = absent-told programs command before name most reads
   told-is programs _ _ _ _ (c.unreadable command before name most reads) may = unreadable-told programs command before name most reads
   told-is programs _ _ _ _ (c.too_long command before name most bytes reads long) may = long-told programs command before name most bytes reads long
@@ -159,10 +166,10 @@ module _ (law : ReadsWellFormed) where
       read-short dump MAX_DUMP_LENGTH bytes (ask_told programs format (read_of questions MAX_SCRIPT_LENGTH asked ∷ [])) few
       ∙ read-short questions MAX_SCRIPT_LENGTH asked (λ read. verdict_told programs format read (verdict_on bytes)) short
       ∙ ap (verdict_told programs format asked) (law bytes contents formed)
-      ∙ both-same (answers_text format (answer_to programs contents) asked) (answer_texts format (answer_to programs contents) lines) (answered_status (has_refused format (answer_to programs contents) asked))
-      (answered_status (refuses_some format (answer_to programs contents) lines))
-      (sym (ap (answer_texts format (answer_to programs contents)) one ∙ texts-read format (answer_to programs contents) asked))
-      (sym (ap (λ (ls : List ReadQuestion). answered_status (refuses_some format (answer_to programs contents) ls)) one ∙ ap answered_status (refusals-read format (answer_to programs contents) asked)))
+      ∙ both-same (answers_text format (tables_in contents.entries) (answer_to programs contents) asked) (asked_text format contents (answer_to programs contents) lines)
+      (answered_status (has_refused format (tables_in contents.entries) (answer_to programs contents) asked)) (asked_status format contents (answer_to programs contents) lines)
+      (sym (ap (asked_text format contents (answer_to programs contents)) one ∙ texts-read format (tables_in contents.entries) (answer_to programs contents) asked))
+      (sym (ap (asked_status format contents (answer_to programs contents)) one ∙ ap answered_status (refusals-read format (tables_in contents.entries) (answer_to programs contents) asked)))
   told-is programs _ _ _ _ (c.summarized rounds others are) may = absurd may
   told-is programs _ _ _ _ (c.faulty_sheet csv table script bytes number record_number short fault) may =
       read-short csv MAX_SHEET_LENGTH bytes (λ read. sheet_told [] (loaded_of table read)) short ∙ ap (sheet_told []) fault

@@ -13,14 +13,18 @@ use Rattle.gp_dump.specs.Dumps.{Dump, dump_of, written_text}
 use Rattle.gp_dump.specs.Rules.{FirstFault, WellFormed}
 use Rattle.gp_csv.specs.Faults.{refuse}
 use Rattle.gp_load.specs.Loading.{LoadsText, loaded_of}
+use Rattle.gp_log.specs.LogFacts.{tables_in}
+use Rattle.gp_grammar.specs.Syntax as y
+use Rattle.gp_ask.specs.declared.answered.Answered.{Answered}
 use Rattle.gp_ask.specs.declared.format.Format.{Format}
 use Rattle.gp_ask.specs.Answers.{answer_to}
 use Rattle.gp_ask.specs.Asking.{Programs}
 use Rattle.gp_ask.specs.Questions.{AreQuestions, ReadQuestion, answer_texts, refuses_some}
+use Rattle.gprom_cli.specs.declared.about.TheConstants.{HELP, VERSION}
 use Rattle.gprom_cli.specs.declared.load.TheConstants.{MAX_SHEET_LENGTH}
 use Rattle.gprom_cli.specs.declared.status.Status.{Status}
 use Rattle.gprom_cli.specs.declared.status.Status.TheVariants as exit
-use Rattle.gprom_cli.specs.Args.{Command, Run, Ask, Generate, Load}
+use Rattle.gprom_cli.specs.Args.{Command, Run, Ask, Generate, Load, Help, Version}
 
 -- One call: what it was asked to do, and what it has done.
 pub record Call : Type 0 where
@@ -76,7 +80,17 @@ rounds_line rounds = concat (codes "gen " ∷ decimal rounds ∷ newline ∷ [])
 
 -- the usage line
 abbrev pub usage_text : List ℕ
-usage_text = concat (codes "usage: gprom run SCRIPT DUMP, gprom ask DUMP QUESTIONS, gprom gen N, gprom load CSV TABLE SCRIPT, gprom export DUMP QUESTIONS" ∷ newline ∷ [])
+usage_text = concat (codes "usage: gprom run SCRIPT DUMP, gprom ask DUMP QUESTIONS, gprom gen N, gprom load CSV TABLE SCRIPT, gprom export DUMP QUESTIONS [names], gprom help" ∷ newline ∷ [])
+
+-- the page of `help`, and what `version` writes
+abbrev pub help_text : List ℕ
+help_text = usage_text ++ HELP.now
+
+abbrev pub version_line : List ℕ → List ℕ
+version_line version = concat (codes "gprom " ∷ version ∷ newline ∷ [])
+
+abbrev pub version_text : List ℕ
+version_text = version_line VERSION.now
 
 -- the status of lines that were all answered: whether one was refused
 abbrev pub answered_status : Bool → Status
@@ -85,6 +99,14 @@ answered_status refused = if refused then exit.Refused else exit.Done
 -- the text of the dump of a history
 abbrev pub history_dump : List ReadLine → List ℕ
 history_dump lines = written_text (dump_of (last_state unannotated lines))
+
+-- what is written where the questions to a dump have these answers, and the status
+module _ (format : Format) (dump : Dump) (answers : y.Question → Answered) (lines : List ReadQuestion) where
+  abbrev pub asked_text : List ℕ
+  asked_text = answer_texts format (tables_in dump.entries) answers lines
+
+  abbrev pub asked_status : Status
+  asked_status = answered_status (refuses_some format (tables_in dump.entries) answers lines)
 
 -- ---- what a call comes to
 
@@ -110,6 +132,9 @@ module _ (programs : Programs) where
   pub data ComesTo : Option Command → List Event → List ℕ → Status → Type 0 where
     -- the arguments are invalid
     usage : ComesTo None [] usage_text exit.Usage
+    -- `help` and `version`
+    helped : ComesTo (Some Help) [] help_text exit.Done
+    versioned : ComesTo (Some Version) [] version_text exit.Done
     -- a file does not exist, cannot be read, or is too long
     absent : (command : Command) (before : List Event) (name : List ℕ) (most : ℕ) → IsReadBy command before name most
         → ComesTo (Some command) (before ++ Missing name ∷ []) (message (codes "absent") name) exit.Absent
@@ -131,7 +156,7 @@ module _ (programs : Programs) where
     answered : (format : Format) (dump questions bytes asked : List ℕ) (contents : Dump) (lines : List ReadQuestion) → length bytes ≤ MAX_DUMP_LENGTH → length asked ≤ MAX_SCRIPT_LENGTH
         → WellFormed bytes contents → AreQuestions asked lines
         → ComesTo (Some (Ask format dump questions)) (read_of dump MAX_DUMP_LENGTH bytes ∷ read_of questions MAX_SCRIPT_LENGTH asked ∷ [])
-        (answer_texts format (answer_to programs contents) lines) (answered_status (refuses_some format (answer_to programs contents) lines))
+        (asked_text format contents (answer_to programs contents) lines) (asked_status format contents (answer_to programs contents) lines)
     -- `gen`: a summary, in lines. What it says is the contract of `generate`.
     summarized : (rounds : ℕ) (others : List ℕ) → IsWholeLines others → ComesTo (Some (Generate rounds)) [] (rounds_line rounds ++ others) exit.Done
     -- `load`: the sheet has a fault; or its script is not replaced, or is, and loads its rows

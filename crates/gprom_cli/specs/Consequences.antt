@@ -16,12 +16,12 @@ use Rattle.gp_load.specs.Loading.{LoadsText, loaded_of}
 use Rattle.gp_ask.specs.declared.format.Format.{Format}
 use Rattle.gp_ask.specs.Answers.{answer_to, held_to}
 use Rattle.gp_ask.specs.Asking.{Programs}
-use Rattle.gp_ask.specs.Questions.{AreQuestions, ReadQuestion, answer_texts, refuses_some}
+use Rattle.gp_ask.specs.Questions.{AreQuestions, ReadQuestion}
 use Rattle.gprom_cli.specs.declared.load.TheConstants.{MAX_SHEET_LENGTH}
 use Rattle.gprom_cli.specs.declared.status.Status.{Status}
 use Rattle.gprom_cli.specs.declared.status.Status.TheVariants as exit
-use Rattle.gprom_cli.specs.Args.{Command, Run, Ask, Generate, Load}
-use Rattle.gprom_cli.specs.Call.{IsWholeLines, Call, ComesTo, RunsScript, WritesOutput, answered_status, history_dump, loaded_message, read_of, rounds_line, sheet_message}
+use Rattle.gprom_cli.specs.Args.{Command, Run, Ask, Generate, Load, Help, Version}
+use Rattle.gprom_cli.specs.Call.{IsWholeLines, Call, ComesTo, RunsScript, WritesOutput, answered_status, asked_status, asked_text, history_dump, loaded_message, read_of, rounds_line, sheet_message}
 
 -- ---- what the shelf has done
 
@@ -35,6 +35,8 @@ steps_of (Some (Run script dump)) = reads script ∷ replaces dump ∷ []
 steps_of (Some (Ask format dump questions)) = reads dump ∷ reads questions ∷ []
 steps_of (Some (Generate rounds)) = []
 steps_of (Some (Load csv table script)) = reads csv ∷ replaces script ∷ []
+steps_of (Some Help) = []
+steps_of (Some Version) = []
 
 abbrev pub step_of : Event → Step
 step_of (Read name most bytes) = reads name
@@ -67,6 +69,8 @@ IsDetermined (Some (Run script dump)) = Unit {0}
 IsDetermined (Some (Ask format dump questions)) = Unit {0}
 IsDetermined (Some (Generate rounds)) = ⊥
 IsDetermined (Some (Load csv table script)) = Unit {0}
+IsDetermined (Some Help) = Unit {0}
+IsDetermined (Some Version) = Unit {0}
 
 -- the status is the expected one, or the write failed, or memory ran out
 abbrev pub IsOrFails : Status → Status → Type 0
@@ -107,13 +111,13 @@ pub record Consequences (programs : Programs) (call : Call) : Type 0 where
       → WritesOutput (replies_text (replies_to lines)) (answered_status (has_refusal (replies_to lines))) call.sink call.sink_after call.status
       × IsReplacedAfter (read_of name MAX_SCRIPT_LENGTH script) dump (history_dump lines) call
   -- `ask` answers from the dump of a script that it read, whichever script made it, as the history of the script held it, with the provenance of each row there,
-  -- though the dump has none: so with its value in every semiring, without rules in witnesses exactly with its minimal token sets, and without the rows
+  -- though the dump has none: so with its value in each of the six semirings, without rules in witnesses exactly with its minimal token sets, and without the rows
   -- of some tokens with exactly the rows that the query gives over the annotated history without these rows. What a transaction saw is the query over what the history
   -- machine held for it, and what a statement changed are the rows that it wrote there, whatever became of the transaction. `export` writes the same answers as CSV, but refuses questions that are not exported.
   pub held : (format : Format) (dump name script asked : List ℕ) (lines : List ReadLine) (questions : List ReadQuestion) → call.command ≡ Some (Ask format dump name)
       → call.events ≡ read_of dump MAX_DUMP_LENGTH (history_dump lines) ∷ read_of name MAX_SCRIPT_LENGTH asked ∷ [] → RunsScript script lines
       → length (history_dump lines) ≤ MAX_DUMP_LENGTH → length asked ≤ MAX_SCRIPT_LENGTH → AreQuestions asked questions
-      → WritesOutput (answer_texts format (held_to programs (last_state monomials lines)) questions) (answered_status (refuses_some format (held_to programs (last_state monomials lines)) questions))
+      → WritesOutput (asked_text format (dump_of (last_state unannotated lines)) (held_to programs (last_state monomials lines)) questions) (asked_status format (dump_of (last_state unannotated lines)) (held_to programs (last_state monomials lines)) questions)
       call.sink call.sink_after call.status
   -- From any well-formed dump `ask` and `export` answer by the log and the stored versions, as `answer_to` says. They answer a question about what would be with
   -- a change as the history held it that the commits of the changed log, made again, lead to: so every row, with its provenance and its values, is one of that
@@ -123,13 +127,13 @@ pub record Consequences (programs : Programs) (call : Call) : Type 0 where
   pub answered : (format : Format) (dump name bytes asked : List ℕ) (contents : Dump) (questions : List ReadQuestion) → call.command ≡ Some (Ask format dump name)
       → call.events ≡ read_of dump MAX_DUMP_LENGTH bytes ∷ read_of name MAX_SCRIPT_LENGTH asked ∷ [] → length bytes ≤ MAX_DUMP_LENGTH → length asked ≤ MAX_SCRIPT_LENGTH
       → WellFormed bytes contents → AreQuestions asked questions
-      → WritesOutput (answer_texts format (answer_to programs contents) questions) (answered_status (refuses_some format (answer_to programs contents) questions)) call.sink call.sink_after call.status
+      → WritesOutput (asked_text format contents (answer_to programs contents) questions) (asked_status format contents (answer_to programs contents) questions) call.sink call.sink_after call.status
   -- Where the dump is that of a history, `ask` and `export` answer every question as that history held it, whichever lines it was of.
   pub recorded : (format : Format) (dump name bytes asked : List ℕ) (contents : Dump) (lines : List Line) (questions : List ReadQuestion) → call.command ≡ Some (Ask format dump name)
       → call.events ≡ read_of dump MAX_DUMP_LENGTH bytes ∷ read_of name MAX_SCRIPT_LENGTH asked ∷ [] → length bytes ≤ MAX_DUMP_LENGTH → length asked ≤ MAX_SCRIPT_LENGTH
       → WellFormed bytes contents → contents ≡ dump_of (after unannotated parameters start lines) → AreQuestions asked questions
-      → WritesOutput (answer_texts format (held_to programs (after monomials parameters start lines)) questions)
-      (answered_status (refuses_some format (held_to programs (after monomials parameters start lines)) questions)) call.sink call.sink_after call.status
+      → WritesOutput (asked_text format contents (held_to programs (after monomials parameters start lines)) questions)
+      (asked_status format contents (held_to programs (after monomials parameters start lines)) questions) call.sink call.sink_after call.status
   -- `gen` writes lines, of which the first has the rounds.
   pub generated : (rounds : ℕ) → call.command ≡ Some (Generate rounds)
       → (others : List ℕ) × IsWholeLines others × WritesOutput (rounds_line rounds ++ others) exit.Done call.sink call.sink_after call.status

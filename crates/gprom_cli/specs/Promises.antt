@@ -1,9 +1,10 @@
 -- Part of the statement: what every call of the program promises. This is the contract of `gprom`, for every shelf and every sink that keep their own
 -- contracts, the real ones included. It speaks of what the shelf has done in the call: which bytes each read gave, and by which bytes a file was replaced.
 -- What follows for each command and each status is in `Consequences`, and for the files that a shelf has in `OverFiles`, both by laws.
-use Rattle.std.specs.Prelude.{◌≡◌, ◌≢◌, ℕ, ◌≤◌, AllPairs, List, length, None, Result, Ok, Err}
+use Rattle.std.specs.Prelude.{◌≡◌, ◌≢◌, ℕ, ◌^◌, ◌<◌, ◌≤◌, AllPairs, List, ◌∷◌, length, None, Result, Ok, Err, codes}
 use Rattle.gp_base.specs.Annotated.{monomials, unannotated}
 use Rattle.gp_base.specs.Catalogs.{table_names}
+use Rattle.gp_base.specs.declared.cell.Cell.{Cell}
 use Rattle.gp_base.specs.declared.table.Table.{Table}
 use Rattle.gp_algebra.specs.Plain.{PlainProgram}
 use Rattle.gp_grammar.specs.CommandGrammar.{IsScriptLine}
@@ -23,10 +24,15 @@ use Rattle.gp_machine.specs.Entries.{Entry}
 use Rattle.gp_machine.specs.Event.{after}
 use Rattle.gp_machine.specs.Replayed.{replayed_state}
 use Rattle.gp_machine.specs.State.{start}
+use Rattle.gp_csv.specs.Titled.{AreReloadable}
+use Rattle.gp_load.specs.Reloading.{LoadsAgain}
 use Rattle.gp_replay.specs.Differences.{IsOfHistory, difference}
+use Rattle.gp_ask.specs.declared.answered.Answered.TheVariants.{Sheet}
+use Rattle.gp_ask.specs.declared.format.Format.TheVariants.{Named}
 use Rattle.gp_ask.specs.Answers.{answer_to, held_to}
 use Rattle.gp_ask.specs.Asking.{Programs}
 use Rattle.gp_ask.specs.Explained.{ExplainsLines}
+use Rattle.gp_ask.specs.Formats.{text_in}
 use Rattle.gp_ask.specs.Hypothetical.{remaking_refusal, replayed_dump}
 use Rattle.gp_ask.specs.Isolated.{IsIsolated, LosesToFirst}
 use Rattle.gp_ask.specs.Questions.{AreQuestions, ReadQuestion}
@@ -54,7 +60,7 @@ pub record Promises (call : Call) : Type 0 where
   pub unchanged : (script : List ℕ) (lines : List ReadLine) → length script ≤ MAX_SCRIPT_LENGTH → IsScript script lines
       → (remaking_refusal (last_state unannotated lines).entries ≡ None) × (replayed_dump (last_state unannotated lines).entries ≡ dump_of (last_state unannotated lines))
   -- From the dump of a history, of whatever lines, every question is answered as the history held it, with the provenance of each row there, though the dump
-  -- has none: so with its value in every semiring, without rules in witnesses exactly with its minimal token sets, and without the rows of some tokens with
+  -- has none: so with its value in each of the six semirings, without rules in witnesses exactly with its minimal token sets, and without the rows of some tokens with
   -- exactly the rows that the query gives over the annotated history without these rows. What a transaction saw is the query over what the history machine
   -- held for it, and what a statement or a commit changed are the rows that it wrote, as the machine held them before and after, whatever became of the
   -- transaction. What would be with a change is what the history held that the commits of the changed log, made again, lead to, and so it is answered from
@@ -63,6 +69,9 @@ pub record Promises (call : Call) : Type 0 where
   -- Every query that the questions of a file ask to explain, of whatever well-formed dump, has as answer the lines of the text of one program that on every
   -- database of past versions gives the answer of the query over the state that the logged statements lead to.
   pub explained : (bytes file : List ℕ) (contents : Dump) (lines : List ReadQuestion) → WellFormed bytes contents → AreQuestions file lines → ExplainsLines shown contents.entries lines
+  -- What `export` writes with names for rows under such titles is a sheet that loads again, with the number of the question in front of each row.
+  pub reloaded : (number : ℕ) (titles : List (List ℕ)) (rows : List (List Cell)) → number < 2 ^ 63 → AreReloadable (codes "line" ∷ titles) rows
+      → LoadsAgain number (codes "line" ∷ titles) rows (text_in Named number (Sheet (record { titles = codes "line" ∷ titles; rows = rows })))
   -- A text spells one program, where no two tables have the same name, as in every log.
   pub programs : (tables : List Table) (text : List ℕ) (program other : PlainProgram) → AllPairs (λ (name also : List ℕ). name ≢ also) (table_names tables)
       → Spells tables program text → Spells tables other text → program ≡ other

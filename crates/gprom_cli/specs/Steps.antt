@@ -8,14 +8,18 @@ use Rattle.gp_io.specs.declared.error.SinkStop.TheVariants.{Failed, NoMemory}
 use Rattle.gp_script.specs.Scripts.{final_state}
 use Rattle.gp_dump.specs.Dumps.{Dump, dump_of, written_text}
 use Rattle.gp_dump.specs.Rules.{FirstFault, WellFormed}
+use Rattle.gp_log.specs.LogFacts.{tables_in}
+use Rattle.gp_ask.specs.declared.answered.Answered.{Answered}
 use Rattle.gp_ask.specs.declared.format.Format.{Format}
+use Rattle.gp_ask.specs.Computed.{computed_answer}
 use Rattle.gp_ask.specs.Printed.{answer_to}
 use Rattle.gp_ask.specs.Programs.{program_lines}
-use Rattle.gp_ask.specs.Questions.{AreQuestions, ReadQuestion, answer_texts, refuses_some}
+use Rattle.gp_ask.specs.QuestionFiles.{answers_text, has_refused, line_answer_in, line_answer_text}
+use Rattle.gp_ask.specs.Questions.{AreQuestions, ReadQuestion}
 use Rattle.gprom_cli.specs.declared.status.Status.{Status}
 use Rattle.gprom_cli.specs.declared.status.Status.TheVariants as exit
 use Rattle.gprom_cli.specs.Args.{Command}
-use Rattle.gprom_cli.specs.Call.{HasOutcome, WritesOutput, answered_status, damage_message, message, read_of}
+use Rattle.gprom_cli.specs.Call.{HasOutcome, WritesOutput, answered_status, asked_status, asked_text, damage_message, message, read_of}
 
 -- the text of the dump of a script
 abbrev pub script_dump : List ℕ → List ℕ
@@ -58,6 +62,20 @@ pub data StopsReading (name : List ℕ) (most : ℕ) (before after : List Event)
 
 -- ---- answering questions
 
+-- the answers that are computed from a dump
+module _ (format : Format) (dump : Dump) where
+  abbrev pub line_answer : ℕ × List ℕ → Answered
+  line_answer line = line_answer_in format (tables_in dump.entries) (computed_answer dump) line
+
+  abbrev pub line_text : ℕ × List ℕ → List ℕ
+  line_text line = line_answer_text format (tables_in dump.entries) (computed_answer dump) line
+
+  abbrev pub file_text : List ℕ → List ℕ
+  file_text questions = answers_text format (tables_in dump.entries) (computed_answer dump) questions
+
+  abbrev pub file_refused : List ℕ → Bool
+  file_refused questions = has_refused format (tables_in dump.entries) (computed_answer dump) questions
+
 -- how the answer to a question, or those to several, are written: all, or whole lines before an error; and whether one of them was refused
 pub record WritesAnswers (text : List ℕ) (refuses : Bool) (before after : SinkState) (result : Result Bool SinkStop) : Type 0 where
   pub refused : IfOk result (λ refused. refused ≡ refuses)
@@ -67,6 +85,6 @@ pub record WritesAnswers (text : List ℕ) (refuses : Bool) (before after : Sink
 pub data Answers (format : Format) (bytes asked : List ℕ) (sink sink_after : SinkState) (status : Status) : Type 0 where
   is_damaged : (f line : ℕ) → FirstFault bytes f line → WritesOutput (damage_message f line) exit.Damaged sink sink_after status → Answers format bytes asked sink sink_after status
   is_answered : (contents : Dump) (lines : List ReadQuestion) → WellFormed bytes contents → AreQuestions asked lines
-      → WritesOutput (answer_texts format (answer_to contents) lines) (answered_status (refuses_some format (answer_to contents) lines)) sink sink_after status
+      → WritesOutput (asked_text format contents (answer_to contents) lines) (asked_status format contents (answer_to contents) lines) sink sink_after status
       → Answers format bytes asked sink sink_after status
   no_answer : sink_after ≡ sink → status ≡ exit.OutOfMemory → Answers format bytes asked sink sink_after status

@@ -1,9 +1,9 @@
 -- Machinery: the arguments as clap reads them.
-use Rattle.std.specs.Prelude.{ℕ, true, List, [], ◌∷◌, Option, Some, None, codes}
+use Rattle.std.specs.Prelude.{ℕ, true, List, [], ◌∷◌, Option, Some, None, if◌then◌else◌, codes}
 use Rattle.std.specs.Option.{option_map}
 use Rattle.clap.specs.Words.{App, Rule, new_app, new_rule, with_rule}
 use Rattle.gprom_cli.specs.declared.words.Words as code
-use Rattle.gprom_cli.specs.Args.{Command, command_of_names, command_of_number, command_of_table}
+use Rattle.gprom_cli.specs.Args.{Command, are_words, command_of_names, command_of_number, command_of_three, command_of_words}
 
 -- two words, and two more that may be missing
 abbrev pub Found : Type 0
@@ -25,11 +25,15 @@ words_of (word ∷ first ∷ second ∷ third ∷ other ∷ others) = None
 abbrev pub command_of_parts : List ℕ → List ℕ → Option (List ℕ) → Option (List ℕ) → Option Command
 command_of_parts word first None third = command_of_number word first
 command_of_parts word first (Some second) None = command_of_names word first second
-command_of_parts word first (Some second) (Some third) = command_of_table word first second third
+command_of_parts word first (Some second) (Some third) = command_of_three word first second third
 
 abbrev pub command_of_found : Option Found → Option Command
 command_of_found None = None
 command_of_found (Some words) = command_of_parts words.0 words.1 words.2 words.3
+
+-- the command of arguments that are no word alone
+abbrev pub command_of_others : List (List ℕ) → Option Command
+command_of_others arguments = if are_words arguments then command_of_words arguments else None
 
 -- ---- the command line of clap: four positional arguments, of which the last two may be missing
 

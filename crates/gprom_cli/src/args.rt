@@ -4,9 +4,9 @@ ghost use Rattle.std.specs.Prelude.{◌≡◌, IfOk, map, nat_le, string_bytes};
 ghost use Rattle.std.specs.List.{list_all};
 ghost use Rattle.std.specs.Option.{option_map};
 ghost use Rattle.std.specs.Str.{bytes_eq};
-ghost use Rattle.gprom_cli.specs.Args.{command_of, command_of_names, command_of_number, command_of_table, is_word, rounds_of, table_name};
+ghost use Rattle.gprom_cli.specs.Args.{are_words, asks_help, asks_version, command_of, command_of_names, command_of_number, command_of_table, command_of_three, command_of_word, format_of, is_input, is_word, rounds_of, table_name};
 ghost use Rattle.gprom_cli.specs.Views.{command_view};
-ghost use Rattle.gprom_cli.specs.Words.{command_of_found, command_of_parts, words_view};
+ghost use Rattle.gprom_cli.specs.Words.{command_of_found, command_of_others, command_of_parts, words_view};
 
 use crate::generated::MAX_ROUNDS;
 use crate::words::{Words, read_words};
@@ -24,13 +24,13 @@ pub enum Command<'a> {
         /// The name of the dump.
         dump: &'a str,
     },
-    /// `ask DUMP QUESTIONS` and `export DUMP QUESTIONS`: both files are read.
+    /// `ask DUMP QUESTIONS` and `export DUMP QUESTIONS`, the latter with or without `names` behind them: both files are read.
     Ask {
-        /// How the answers are written: as text by `ask`, as CSV by `export`.
+        /// How the answers are written: as text by `ask`, as CSV by `export`, and with the names of columns where it says `names`.
         format: Format,
         /// The name of the dump.
         dump: &'a str,
-        /// The name of the questions.
+        /// The name of the questions; `-` is the standard input.
         questions: &'a str,
     },
     /// `gen N`: no file is read or replaced.
@@ -47,6 +47,10 @@ pub enum Command<'a> {
         /// The name of the script.
         script: &'a str,
     },
+    /// `help`: no file is read or replaced.
+    Help,
+    /// `version`: no file is read or replaced.
+    Version,
 }
 
 /// Whether the argument is a word: it is not empty, and no option.
@@ -60,7 +64,7 @@ fn is_word(argument: &str) -> bool
 }
 
 /// Whether all arguments are words.
-fn are_words(args: &[String]) -> bool
+fn all_words(args: &[String]) -> bool
     ensures { result ≡ list_all is_word (map string_bytes args.now) }
 {
     let mut rest = args;
@@ -80,29 +84,81 @@ fn is_same(argument: &str, word: &str) -> bool
     argument == word
 }
 
-/// The command of a word, if it is one, and two names.
+/// Whether the argument is the standard input.
+fn is_input(argument: &str) -> bool
+    ensures { result ≡ is_input argument.now }
+{
+    is_same(argument, "-")
+}
+
+/// Whether all arguments are words, of which the third may be the standard input.
+fn are_words(args: &[String]) -> bool
+    ensures { result ≡ are_words (map string_bytes args.now) }
+{
+    match args {
+        [word, first, second, others @ ..] => is_word(word)
+            && is_word(first)
+            && (is_word(second) || is_input(second))
+            && all_words(others),
+        _ => all_words(args),
+    }
+}
+
+fn asks_help(word: &str) -> bool
+    ensures { result ≡ asks_help word.now }
+{
+    is_same(word, "help") || is_same(word, "--help") || is_same(word, "-h")
+}
+
+fn asks_version(word: &str) -> bool
+    ensures { result ≡ asks_version word.now }
+{
+    is_same(word, "version") || is_same(word, "--version") || is_same(word, "-V")
+}
+
+/// The command of a word that stands alone, if it is one.
+fn command_of_word<'a>(word: &str) -> Option<Command<'a>>
+    ensures { option_map command_view result ≡ command_of_word word.now }
+{
+    if asks_help(word) {
+        Some(Command::Help)
+    } else if asks_version(word) {
+        Some(Command::Version)
+    } else {
+        None
+    }
+}
+
+/// How a word asks for answers, if it does.
+fn format_of(word: &str) -> Option<Format>
+    ensures { result ≡ format_of word.now }
+{
+    if is_same(word, "ask") {
+        Some(Format::Text)
+    } else if is_same(word, "export") {
+        Some(Format::Csv)
+    } else {
+        None
+    }
+}
+
+/// The command of a word, if it is one, and two names, of which that of questions may be the standard input.
 fn command_of_names<'a>(word: &str, first: &'a str, second: &'a str) -> Option<Command<'a>>
     ensures { option_map command_view result ≡ command_of_names word.now first.now second.now }
 {
-    if is_same(word, "run") {
-        Some(Command::Run {
+    if is_same(word, "run") && is_word(second) {
+        return Some(Command::Run {
             script: first,
             dump: second,
-        })
-    } else if is_same(word, "ask") {
-        Some(Command::Ask {
-            format: Format::Text,
+        });
+    }
+    match format_of(word) {
+        Some(format) => Some(Command::Ask {
+            format,
             dump: first,
             questions: second,
-        })
-    } else if is_same(word, "export") {
-        Some(Command::Ask {
-            format: Format::Csv,
-            dump: first,
-            questions: second,
-        })
-    } else {
-        None
+        }),
+        None => None,
     }
 }
 
@@ -174,6 +230,27 @@ fn command_of_table<'a>(
     }
 }
 
+/// The command of a word, if it is one, and three more: the last of an export may be the word `names`.
+fn command_of_three<'a>(
+    alloc: Global,
+    word: &str,
+    first: &'a str,
+    second: &'a str,
+    third: &'a str,
+) -> Result<Option<Command<'a>>, NoMemory>
+    ensures { IfOk result (λ command. option_map command_view command
+        ≡ command_of_three word.now first.now second.now third.now) }
+{
+    if is_same(word, "export") && is_same(third, "names") {
+        return Ok(Some(Command::Ask {
+            format: Format::Named,
+            dump: first,
+            questions: second,
+        }));
+    }
+    command_of_table(alloc, word, first, second, third)
+}
+
 /// The command of two to four words.
 fn command_of_parts<'a>(
     alloc: Global,
@@ -190,7 +267,7 @@ fn command_of_parts<'a>(
         None => Ok(command_of_number(word, first)),
         Some(second) => match third {
             None => Ok(command_of_names(word, first, second)),
-            Some(third) => command_of_table(alloc, word, first, second, third),
+            Some(third) => command_of_three(alloc, word, first, second, third),
         },
     }
 }
@@ -209,17 +286,29 @@ fn command_of_found(
     }
 }
 
-/// The command that the arguments ask for, or `None` where they are invalid: `run`, `ask` or `export` and two names that are not empty
-/// and do not begin with a hyphen, `gen` and a number from 1 to [`MAX_ROUNDS`], or `load` and three such names, of which the second is
-/// that of a table ([`is_name`], in letters of either case). Running out of memory is the only error.
+/// The command of arguments that are no word alone.
 #[tactic(auto, using(crate::proofs::WordsLemmas::words_command))]
-pub(crate) fn parse(alloc: Global, args: &[String]) -> Result<Option<Command<'_>>, NoMemory>
+fn command_of_others(alloc: Global, args: &[String]) -> Result<Option<Command<'_>>, NoMemory>
     ensures { IfOk result (λ command. option_map command_view command
-        ≡ command_of (map string_bytes args.now)) }
+        ≡ command_of_others (map string_bytes args.now)) }
 {
     if !are_words(args) {
         return Ok(None);
     }
     let command = command_of_found(alloc, read_words(alloc, args)?)?;
     Ok(command)
+}
+
+/// The command that the arguments ask for, or `None` where they are invalid: `help` or `version`, also as an option; `run`, `ask` or
+/// `export` and two names that are not empty and do not begin with a hyphen, but that of questions may be `-`, and behind those of an
+/// export the word `names`; `gen` and a number from 1 to [`MAX_ROUNDS`]; or `load` and three such names, of which the second is that of a table ([`is_name`], in letters of either case).
+/// Running out of memory is the only error.
+pub(crate) fn parse(alloc: Global, args: &[String]) -> Result<Option<Command<'_>>, NoMemory>
+    ensures { IfOk result (λ command. option_map command_view command
+        ≡ command_of (map string_bytes args.now)) }
+{
+    match args {
+        [word] => Ok(command_of_word(word)),
+        _ => command_of_others(alloc, args),
+    }
 }

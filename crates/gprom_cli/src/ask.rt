@@ -1,18 +1,16 @@
-//! `ask DUMP QUESTIONS` and `export DUMP QUESTIONS`: answers questions from a dump, as text or as CSV.
+//! `ask DUMP QUESTIONS` and `export DUMP QUESTIONS`: answers questions from a dump, as text or as CSV, also with the names of columns.
 
 ghost use Rattle.std.specs.Prelude.{◌≡◌, ◌≤◌, ℕ, List, [], ◌∷◌, ◌++◌, IfOk, length, Some, true};
 ghost use Rattle.gp_io.specs.Events.{Event};
 ghost use Rattle.gp_check.specs.Valid.{tables_are_valid};
 ghost use Rattle.gp_log.specs.LogFacts.{tables_in};
-ghost use Rattle.gp_ask.specs.Computed.{computed_answer};
-ghost use Rattle.gp_ask.specs.QuestionFiles.{answers_text, has_refused, line_answer_in, line_answer_text};
 ghost use Rattle.gp_ask.specs.Keeping.{AreKept};
 ghost use Rattle.gp_ask.specs.Questions.{is_refused};
 ghost use Rattle.gp_dump.specs.WholeDumps.{IsDump};
 ghost use Rattle.gp_dump.specs.Views.{dump_view};
 ghost use Rattle.gprom_cli.specs.Args.{Ask};
 ghost use Rattle.gprom_cli.specs.Call.{WritesOutput, answered_status, read_of};
-ghost use Rattle.gprom_cli.specs.Steps.{Answers, Ends, WritesAnswers};
+ghost use Rattle.gprom_cli.specs.Steps.{Answers, Ends, WritesAnswers, file_refused, file_text, line_answer, line_text};
 
 use crate::laws::dumps_answer_for_changed_histories;
 use crate::output::{stop_status, write_damage};
@@ -47,9 +45,9 @@ fn answered(
     requires kept { AreKept dump.now kept.old }
     ensures kept { AreKept dump.now kept.new }
     ensures text { IfOk result (λ answer. answer.text.items
-        ≡ line_answer_text format (computed_answer (dump_view dump.now)) (number, bytes.now)) }
+        ≡ line_text format (dump_view dump.now) (number, bytes.now)) }
     ensures refused { IfOk result (λ answer. answer.refused
-        ≡ is_refused (line_answer_in format (computed_answer (dump_view dump.now)) (number, bytes.now))) }
+        ≡ is_refused (line_answer format (dump_view dump.now) (number, bytes.now))) }
 {
     let answer = answer_line_in(alloc, format, dump, bytes, kept)?;
     let refused = answer.is_refused();
@@ -83,8 +81,8 @@ fn write_line<K: Sink>(
     requires kept { AreKept dump.now kept.old }
     ensures kept { AreKept dump.now kept.new }
     ensures written { WritesAnswers
-        (line_answer_text format (computed_answer (dump_view dump.now)) (number, bytes.now))
-        (is_refused (line_answer_in format (computed_answer (dump_view dump.now)) (number, bytes.now)))
+        (line_text format (dump_view dump.now) (number, bytes.now))
+        (is_refused (line_answer format (dump_view dump.now) (number, bytes.now)))
         (K.state out.old) (K.state out.new) result }
 {
     match answered(alloc, format, dump, number, bytes, kept) {
@@ -105,8 +103,8 @@ fn write_lines<K: Sink>(
     requires valid { tables_are_valid (tables_in (dump_view dump.now).entries) ≡ true }
     requires short { length questions.now ≤ MAX_SCRIPT_LENGTH }
     ensures { WritesAnswers
-        (answers_text format (computed_answer (dump_view dump.now)) questions.now)
-        (has_refused format (computed_answer (dump_view dump.now)) questions.now)
+        (file_text format (dump_view dump.now) questions.now)
+        (file_refused format (dump_view dump.now) questions.now)
         (K.state out.old) (K.state out.new) result }
 {
     let mut refused = false;
@@ -131,8 +129,8 @@ fn write_answers<K: Sink>(
     requires valid { tables_are_valid (tables_in (dump_view dump.now).entries) ≡ true }
     requires short { length questions.now ≤ MAX_SCRIPT_LENGTH }
     ensures { WritesOutput
-        (answers_text format (computed_answer (dump_view dump.now)) questions.now)
-        (answered_status (has_refused format (computed_answer (dump_view dump.now)) questions.now))
+        (file_text format (dump_view dump.now) questions.now)
+        (answered_status (file_refused format (dump_view dump.now) questions.now))
         (K.state out.old) (K.state out.new) result }
 {
     match write_lines(alloc, format, dump, questions, out) {

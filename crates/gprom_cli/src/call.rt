@@ -10,16 +10,17 @@ use crate::execute::execute;
 use crate::laws::{dumps_of_histories_are_known, scripts_have_well_formed_dumps};
 use gp_ask::{histories_are_isolated, programs_explain_their_questions};
 use gp_io::{Shelf, Sink};
+use gp_load::exported_sheets_load_again;
 use gp_plantext::texts_are_read_again;
 use std::alloc::Global;
 
 /// Does all that the program does: parses the arguments (those after the program's name), reads files from `shelf`, replaces the dump of
-/// `run` or the script of `load` there, writes replies, answers, a summary or a message to `out`, and returns the exit status. A step that
+/// `run` or the script of `load` there, writes replies, answers, a summary, a message or the page of `help` to `out`, and returns the exit status. A step that
 /// fails ends the call.
 ///
 /// | Status | Meaning |
 /// |---|---|
-/// | 0 | every line was answered, none was refused; or the summary was made; or the sheet was loaded |
+/// | 0 | every line was answered, none was refused; or the summary was made; or the sheet was loaded; or it was help or the version |
 /// | 1 | every line was answered, some were refused |
 /// | 2 | the arguments are invalid |
 /// | 3 | a file that is read does not exist |
@@ -40,6 +41,7 @@ pub fn gprom<H: Shelf, K: Sink>(alloc: Global, args: &[String], shelf: &mut H, o
     scripts_have_well_formed_dumps();
     dumps_of_histories_are_known();
     programs_explain_their_questions();
+    exported_sheets_load_again();
     histories_are_isolated();
     execute(alloc, args, shelf, out).number()
 }

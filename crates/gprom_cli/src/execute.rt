@@ -6,20 +6,16 @@ ghost use Rattle.gprom_cli.specs.Args.{command_of};
 ghost use Rattle.gprom_cli.specs.Steps.{Ends};
 ghost use Rattle.gprom_cli.specs.Views.{HasFewRounds, command_view};
 
+use crate::about::{write_help, write_usage, write_version};
 use crate::args::{Command, parse};
 use crate::ask::ask;
 use crate::load::load;
-use crate::output::write_output;
 use crate::run::run;
 use crate::status::Status;
 use crate::summary::generate;
 use gp_base::NoMemory;
 use gp_io::{Shelf, Sink};
 use std::alloc::Global;
-
-/// The usage line.
-const USAGE: &[u8] =
-    b"usage: gprom run SCRIPT DUMP, gprom ask DUMP QUESTIONS, gprom gen N, gprom load CSV TABLE SCRIPT, gprom export DUMP QUESTIONS\n";
 
 /// Does what a command asks for, or writes the usage line.
 fn execute_command<H: Shelf, K: Sink>(
@@ -43,7 +39,9 @@ fn execute_command<H: Shelf, K: Sink>(
         ) => ask(alloc, format, dump, questions, shelf, out),
         Some(Command::Generate { rounds }) => generate(alloc, rounds, out),
         Some(Command::Load { csv, table, script }) => load(alloc, csv, &table, script, shelf, out),
-        None => write_output(out, USAGE, Status::Usage),
+        Some(Command::Help) => write_help(alloc, out),
+        Some(Command::Version) => write_version(alloc, out),
+        None => write_usage(out),
     }
 }
 

@@ -7,6 +7,7 @@ ghost use Rattle.gp_io.specs.Contents.{contents_of};
 ghost use Rattle.gp_io.specs.MemoryFiles.{calm_files, mem_files};
 ghost use Rattle.gp_io.specs.declared.calm.CalmShelf.{CalmShelf};
 ghost use Rattle.gp_io.specs.declared.mem.MemShelf.{MemShelf};
+ghost use Rattle.gp_log.specs.LogFacts.{tables_in};
 ghost use Rattle.gp_log.specs.Parameters.{parameters};
 ghost use Rattle.gp_machine.specs.Event.{Line, after};
 ghost use Rattle.gp_machine.specs.State.{start};
@@ -24,6 +25,7 @@ ghost use Rattle.gprom_cli.specs.Call.{Call};
 ghost use Rattle.gprom_cli.specs.Consequences.{Consequences};
 ghost use Rattle.gprom_cli.specs.OverFiles.{OverFiles};
 ghost use Rattle.gprom_cli.specs.Promises.{Promises};
+ghost use Rattle.gprom_cli.specs.Steps.{file_refused, file_text};
 ghost use Rattle.gprom_cli.specs.Summaries.{rows_in};
 
 use gp_ask::{dumps_answer_as_changed_histories, histories_answer_as_their_dumps};
@@ -73,14 +75,14 @@ pub fn dumps_of_histories_are_known()
 }
 
 /// Every well-formed dump answers every file of questions with what the histories held that would have been, where a question asks what
-/// would be with a change: with the same text in either format, and refusing a question where that history refuses it.
+/// would be with a change: with the same text in each format, and refusing a question where that history refuses it.
 pub fn dumps_answer_for_changed_histories()
     ensures answers { (format : Format) (dump : Dump) (questions : List ℕ) → IsDump dump
-        → answers_text format (computed_answer dump) questions
-        ≡ answers_text format (answer_to dump) questions }
+        → file_text format dump questions
+        ≡ answers_text format (tables_in dump.entries) (answer_to dump) questions }
     ensures refusals { (format : Format) (dump : Dump) (questions : List ℕ) → IsDump dump
-        → has_refused format (computed_answer dump) questions
-        ≡ has_refused format (answer_to dump) questions }
+        → file_refused format dump questions
+        ≡ has_refused format (tables_in dump.entries) (answer_to dump) questions }
 {
     dumps_answer_as_changed_histories()
 }

@@ -1,7 +1,7 @@
 //! The program gprom as a library: one call, [`gprom`], does all that the program does, over any shelf of files and any sink of bytes.
 //!
 //! In reading order: `status.rt` (how a call ends), `words.rt` and `args.rt` (what the arguments ask for), `output.rt` and `read.rt` (what is
-//! written and read), `run.rt`, `ask.rt` and `load.rt` (the commands over files), `generated.rt` and `summary.rt` (scripts and
+//! written and read), `about.rt` (the usage line, `help` and `version`), `run.rt`, `ask.rt` and `load.rt` (the commands over files), `generated.rt` and `summary.rt` (scripts and
 //! questions that are generated, and what they come to), `laws.rt` (what dumps answer, and those of scripts; calls over files in memory),
 //! `execute.rt` (what the arguments ask for is done), `call.rt` (the call). The contract of [`gprom`] is `Promises` in `specs/Promises.antt`, and
 //! [`promises_have_consequences`] says what follows from it by command and status. What the summary of `gen` says is the contract of [`generate`]. In `specs/`,
@@ -14,6 +14,7 @@
 //! ```
 #![tactic(auto)]
 
+mod about;
 mod args;
 mod ask;
 mod call;
@@ -28,6 +29,7 @@ mod status;
 mod summary;
 mod words;
 
+pub use about::{HELP, VERSION};
 pub use call::gprom;
 pub use generated::{MAX_ROUNDS, generate_questions, generate_script};
 pub use laws::{

@@ -1,10 +1,9 @@
 //! The arguments as words, read by clap.
 
 ghost use Rattle.std.specs.Prelude.{◌≡◌, IfOk, true, map, string_bytes, codes, Some, None, List, ℕ};
-ghost use Rattle.std.specs.List.{list_all};
 ghost use Rattle.std.specs.Option.{option_map};
 ghost use Rattle.clap.specs.Words.{app_of, first_value, found_of, kind_of};
-ghost use Rattle.gprom_cli.specs.Args.{is_word};
+ghost use Rattle.gprom_cli.specs.Args.{are_words};
 ghost use Rattle.gprom_cli.specs.Words.{command_line, words_of, words_view};
 
 use clap::error::ErrorKind;
@@ -84,7 +83,7 @@ pub(crate) fn read_words<'a>(
     alloc: Global,
     args: &'a [String],
 ) -> Result<Option<Words<'a>>, NoMemory>
-    requires { list_all is_word (map string_bytes args.now) ≡ true }
+    requires { are_words (map string_bytes args.now) ≡ true }
     ensures { IfOk result (λ words. option_map words_view words
         ≡ words_of (map string_bytes args.now)) }
 {

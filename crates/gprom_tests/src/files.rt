@@ -6,7 +6,7 @@ use gp_io::{
 };
 use std::alloc::{AllocError, Allocator, Global};
 use std::fs::{Metadata, OpenFile, OpenOptions};
-use std::io::{ErrorKind, Read, Seek, SeekFrom, Write};
+use std::io::{BufRead, Cursor, ErrorKind, Lines, Read, Seek, SeekFrom, Write};
 use std::rt::Files;
 use std::test::Fail;
 use std::{fs, io};
@@ -191,9 +191,25 @@ impl OpenFile for TornFile {
     }
 }
 
-/// A file system in which each file fails in mid-stream.
+/// A file system in which each file fails in mid-stream, beside a standard input that does not.
 #[derive(Drop)]
 struct TornFiles;
+
+impl Input for TornFiles {
+    type Reader = Cursor<[u8; 5]>;
+
+    fn read_line<A: Allocator + Clone>(&self, _buf: &mut String<A>) -> io::Result<usize> {
+        Err(io::Error::from(ErrorKind::Other))
+    }
+
+    fn lines<A: Allocator>(&self, alloc: A) -> Lines<Cursor<[u8; 5]>, A> {
+        self.reader().lines(alloc)
+    }
+
+    fn reader(&self) -> Cursor<[u8; 5]> {
+        Cursor::new(*b"input")
+    }
+}
 
 impl Files for TornFiles {
     type File = TornFile;
@@ -248,6 +264,16 @@ fn disk_shelf_fails_in_mid_stream(rt: HostRuntime) {
     assert!(rt; gives(&mut shelf, "a", 1, b"a"));
     assert!(rt; shelf.replace("a", b"xy") == Err(ShelfStop::Failed));
     assert!(rt; shelf.replace("a", b"x").is_ok());
+}
+
+/// The name `-` is the standard input where it is read, and `./-` is a file, as `-` is where it is replaced.
+#[test]
+fn disk_shelf_reads_the_standard_input(rt: HostRuntime) {
+    let mut shelf = DiskShelf::new(TornFiles, rt.alloc());
+    assert!(rt; gives(&mut shelf, "-", 100, b"input"));
+    assert!(rt; gives(&mut shelf, "-", 2, b"in"));
+    assert!(rt; stops(&mut shelf, "./-", ShelfStop::Failed));
+    assert!(rt; shelf.replace("-", b"xy") == Err(ShelfStop::Failed));
 }
 
 /// A standard output that takes nothing.

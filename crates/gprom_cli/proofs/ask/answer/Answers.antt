@@ -14,8 +14,8 @@ returns-in-Ok g c =
     let rules = (whole-text c.args.bytes.now dump formed).rules in
     answered-read c.args.format c.args.bytes.now c.args.questions.now dump (g.K.Sink.state c.args.out.now) (g.K.Sink.state c.write_answers.new.out) c.write_answers.result
     formed
-    (λ format. c.dumps_answer_for_changed_histories.ensures.answers format dump c.args.questions.now rules)
-    (λ format. c.dumps_answer_for_changed_histories.ensures.refusals format dump c.args.questions.now rules)
+    (c.dumps_answer_for_changed_histories.ensures.answers c.args.format dump c.args.questions.now rules)
+    (c.dumps_answer_for_changed_histories.ensures.refusals c.args.format dump c.args.questions.now rules)
     c.write_answers.ensures
 
 pub returns-in-Err-Fault : goal.returns-in-Err-Fault

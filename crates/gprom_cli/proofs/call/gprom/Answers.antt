@@ -27,6 +27,7 @@ returns g c =
       held = histories.held;
       checked = histories.checked;
       explained = c.programs_explain_their_questions.ensures;
+      reloaded = c.exported_sheets_load_again.ensures;
       programs = c.texts_are_read_again.ensures.unique;
       isolated = isolated.reached;
       lost = isolated.lost;

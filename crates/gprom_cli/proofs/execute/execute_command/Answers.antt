@@ -4,7 +4,7 @@ use Rattle.gprom_cli.specs.declared.status.Status.TheVariants as exit
 use Rattle.gprom_cli.specs.declared.summary.Summary.{Summary}
 use Rattle.gprom_cli.specs.Args as spec
 use Rattle.gprom_cli.specs.Call as call
-use Rattle.gprom_cli.specs.Call.{WritesOutput, rounds_line, usage_text}
+use Rattle.gprom_cli.specs.Call.{WritesOutput, help_text, rounds_line, usage_text, version_text}
 use Rattle.gprom_cli.specs.Steps.{Ends}
 use Rattle.gprom_cli.specs.Summary.{summary_text}
 use Rattle.gprom_cli.specs.Views.{command_view}
@@ -34,9 +34,27 @@ pub returns-in-None : goal.returns-in-None
 returns-in-None g c =
     let events = g.H.Shelf.events c.args.shelf.now in
     let sink = g.K.Sink.state c.args.out.now in
-    let sink_after = g.K.Sink.state c.write_output.new.out in
-    subst (λ (command : Option spec.Command). Ends command events events sink sink_after c.write_output.result) (ap (option_map command_view) (sym c.in-None.is))
-    (quiet-end None events sink sink_after c.write_output.result usage_text exit.Usage call.usage c.write_output.ensures)
+    let sink_after = g.K.Sink.state c.write_usage.new.out in
+    subst (λ (command : Option spec.Command). Ends command events events sink sink_after c.write_usage.result) (ap (option_map command_view) (sym c.in-None.is))
+    (quiet-end None events sink sink_after c.write_usage.result usage_text exit.Usage call.usage c.write_usage.ensures)
+
+pub returns-in-Some-Help : goal.returns-in-Some-Help
+returns-in-Some-Help g c =
+    let events = g.H.Shelf.events c.args.shelf.now in
+    let sink = g.K.Sink.state c.args.out.now in
+    let sink_after = g.K.Sink.state c.write_help.new.out in
+    let is = ap (option_map command_view) (sym (c.in-Some-Help.is ∙ ap Some c.in-Some-Help.field-0-is)) in
+    subst (λ (command : Option spec.Command). Ends command events events sink sink_after c.write_help.result) is
+    (quiet-end (Some spec.Help) events sink sink_after c.write_help.result help_text exit.Done call.helped c.write_help.ensures)
+
+pub returns-in-Some-Version : goal.returns-in-Some-Version
+returns-in-Some-Version g c =
+    let events = g.H.Shelf.events c.args.shelf.now in
+    let sink = g.K.Sink.state c.args.out.now in
+    let sink_after = g.K.Sink.state c.write_version.new.out in
+    let is = ap (option_map command_view) (sym (c.in-Some-Version.is ∙ ap Some c.in-Some-Version.field-0-is)) in
+    subst (λ (command : Option spec.Command). Ends command events events sink sink_after c.write_version.result) is
+    (quiet-end (Some spec.Version) events sink sink_after c.write_version.result version_text exit.Done call.versioned c.write_version.ensures)
 
 pub returns-in-Some-Generate : goal.returns-in-Some-Generate
 returns-in-Some-Generate g c =

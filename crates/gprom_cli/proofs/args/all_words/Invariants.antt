@@ -1,7 +1,7 @@
 use Rattle.std.proofs.Common.{◌≡◌, length, map, string_bytes}
 use Rattle.std.specs.List.{list_all}
 use Rattle.gprom_cli.specs.Args.{is_word}
-use Rattle.gprom_cli.proofs.args.are_words.Given as goal
+use Rattle.gprom_cli.proofs.args.all_words.Given as goal
 
 -- the answer for the rest is the answer for all
 abbrev pub invariant-loop-rest : goal.invariant-loop-rest
