@@ -23,7 +23,7 @@ def run(program, script, dump):
 def ask(program, dump, questions):
     """The answers: for each question its first line without the number, and the lines under it."""
     answers = []
-    for line in call(program, 'ask', dump, '/dev/stdin', text='\n'.join(questions) + '\n').splitlines():
+    for line in call(program, 'ask', dump, '/dev/stdin', text='\n'.join(questions) + '\n').split('\n')[:-1]:
         if line.startswith('  '):
             answers[-1][1].append(line[2:])
         else:
