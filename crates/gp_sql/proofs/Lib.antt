@@ -1,0 +1,15 @@
+pub mod CodeLemmas
+pub mod ColumnLemmas
+pub mod IdentityTexts
+pub mod ItemLemmas
+pub mod ListLemmas
+pub mod NamedLemmas
+pub mod PublishLemmas
+pub mod QueryLemmas
+pub mod QuerySizes
+pub mod SourceLemmas
+pub mod TableLemmas
+pub mod TermLemmas
+pub mod TruthLemmas
+pub mod TypeLemmas
+pub mod WriterLemmas

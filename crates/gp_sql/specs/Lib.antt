@@ -1,0 +1,14 @@
+pub mod ItemTexts
+pub mod Meaning
+pub mod NamedQueries
+pub mod PlacedTables
+pub mod QueryParts
+pub mod Spelling
+pub mod Sql
+pub mod SqlCells
+pub mod StepLists
+pub mod TableTexts
+pub mod Translation
+pub mod Types
+pub mod VersionTables
+pub mod WrittenQueries

@@ -1,0 +1,17 @@
+-- Of the contract of `write_tables`: the text of the table at a place, where both have one.
+use Rattle.std.specs.Prelude.{ℕ, List, [], map, slice_get, Option, Some, None}
+use Rattle.gp_base.specs.declared.table.Table.{Table}
+use Rattle.gp_versions.specs.declared.span.Span.{Span}
+use Rattle.gp_versions.specs.Spans.{Versions}
+use Rattle.gp_sql.specs.TableTexts.{table_text}
+
+abbrev pub span_lists : List Versions → List (List Span)
+span_lists versions = map (λ (own : Versions). own.spans) versions
+
+abbrev pub text_of_both : Option Table → Option (List Span) → List ℕ
+text_of_both None spans = []
+text_of_both (Some table) None = []
+text_of_both (Some table) (Some spans) = table_text table spans
+
+abbrev pub place_text : List Table → List (List Span) → ℕ → List ℕ
+place_text tables lists place = text_of_both (slice_get tables place) (slice_get lists place)
