@@ -1,0 +1,9 @@
+pub mod TypeLists
+pub mod JoinedTypes
+pub mod MergedTypes
+pub mod RewrittenTypes
+pub mod ComposedTypes
+pub mod TermTypes
+pub mod CheckedTypes
+pub mod MoreTables
+pub mod DumpTypes
